@@ -1,0 +1,12 @@
+pub mod Examples
+pub mod ExamplesHashed
+pub mod ExampleSession
+pub mod ExampleExtended
+pub mod Congruence
+pub mod Sections
+pub mod Wires
+pub mod Gates
+pub mod Unique
+pub mod Session
+pub mod BitsSolve
+pub mod ExampleTexts
