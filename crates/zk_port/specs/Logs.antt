@@ -1,0 +1,19 @@
+-- What a sink has been given, and what has passed over a link.
+use Rattle.std.specs.Prelude.{◌≡◌, ℕ, List, ◌++◌, take, Option}
+use Rattle.std.specs.Option.{option_map}
+use Rattle.zk_model.specs.declared.Side.{Side}
+use Rattle.zk_model.specs.declared.Side.TheVariants.{Prover, Verifier}
+
+-- where the object tells, these come behind what was there
+abbrev pub appended : {T : Type 0} → List T → Option (List T) → Option (List T)
+appended more told = option_map (λ before. before ++ more) told
+
+-- a first part of these has come, and nothing else
+pub record AppendsPart {T : Type 0} (more : List T) (old new : Option (List T)) : Type 0 where
+  pub count : ℕ
+  pub part : new ≡ appended (take count more) old
+
+-- the other side
+abbrev pub peer_of : Side → Side
+peer_of Prover = Verifier
+peer_of Verifier = Prover

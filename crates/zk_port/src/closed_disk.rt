@@ -1,0 +1,67 @@
+// A disk whose calls all fail.
+ghost use Rattle.std.specs.Prelude.{◌≡◌, ◌≤◌};
+ghost use Rattle.zk_port.specs.Counts.{Rose};
+
+use crate::disk::Disk;
+use crate::fault::Failed;
+
+/// A disk that tells nothing and whose calls all fail.
+#[derive(Drop)]
+pub struct ClosedDisk {
+    faults: u64,
+}
+
+impl ClosedDisk {
+    /// A disk of which no call has failed yet.
+    pub fn new() -> Self
+        ensures { ⟦<ClosedDisk as Disk>⟧.faults result ≡ 0 }
+    {
+        ClosedDisk { faults: 0 }
+    }
+
+    fn fail(&mut self) -> Failed
+        ensures rose { Rose self.old.faults self.new.faults }
+        ensures later { self.old.faults ≤ self.new.faults }
+    {
+        self.faults = self.faults.saturating_add(1);
+        Failed
+    }
+}
+
+impl Disk for ClosedDisk {
+    ghost use Rattle.std.specs.Prelude.{None};
+
+    ghost content = { λ _. None };
+
+    ghost images = { λ _ _. Unit {0} };
+
+    ghost moment = { λ _. 0 };
+
+    ghost images_since = { λ _ _ _. Unit {0} };
+
+    ghost faults = { λ d. d.faults };
+
+    ghost counts_now = { λ d t c le now. tt };
+
+    ghost only_now = { λ d c left. tt };
+
+    fn faults(&self) -> u64 {
+        self.faults
+    }
+
+    fn choose(&mut self, _name: &str) -> Result<(), Failed> {
+        Err(self.fail())
+    }
+
+    fn read(&mut self, _at: u64, _buffer: &mut [u8]) -> Result<usize, Failed> {
+        Err(self.fail())
+    }
+
+    fn write_at(&mut self, _at: u64, _bytes: &[u8]) -> Result<(), Failed> {
+        Err(self.fail())
+    }
+
+    fn sync(&mut self) -> Result<(), Failed> {
+        Err(self.fail())
+    }
+}

@@ -1,0 +1,118 @@
+// Which calls of an object in memory fail.
+ghost use Rattle.std.specs.Prelude.{◌≡◌, ◌≤◌, ◌+◌, ℕ, Bool, true, false, not, MatchBool};
+ghost use Rattle.zk_port.specs.Counts.{Rose};
+
+use std::marker::Model;
+
+/// Says of each call of an object in memory whether it fails, and counts those that do.
+pub trait FaultPlan {
+    /// How many calls have failed; a count that has reached the end of a `u64` stays there.
+    ghost count: { Self → ℕ };
+
+    /// Whether the call behind so many further ones is to fail: at 0 the next.
+    ghost coming: { Self → ℕ → Bool };
+
+    /// Whether what isn't there is read as empty, since nothing may fail.
+    ghost forgiving: { Bool };
+
+    /// How many calls have failed.
+    fn faults(&self) -> u64
+        ensures { result ≡ count self.now };
+
+    /// Begins a call, and says whether it fails.
+    fn fails(&mut self) -> bool
+        ensures answer { result ≡ coming self.old 0 }
+        ensures onward { (n : ℕ) → coming self.new n ≡ coming self.old (n + 1) }
+        ensures count { MatchBool result (Rose (count self.old) (count self.new)) (count self.new ≡ count self.old) }
+        ensures later { count self.old ≤ count self.new };
+
+    /// Whether the call under way fails because something isn't there.
+    fn fails_without(&mut self) -> bool
+        ensures forgiving { result ≡ not forgiving }
+        ensures onward { (n : ℕ) → coming self.new n ≡ coming self.old n }
+        ensures count { MatchBool result (Rose (count self.old) (count self.new)) (count self.new ≡ count self.old) }
+        ensures later { count self.old ≤ count self.new };
+}
+
+/// The calls of these numbers fail, counted from 1, and those that ask for what isn't there.
+#[derive(Drop)]
+pub struct FailAt {
+    numbers: Vec<u64>,
+    calls: u64,
+    faults: u64,
+}
+
+impl Model for FailAt {
+    ghost use Rattle.zk_port.specs.Plans.{Schedule};
+
+    ghost Value = { Schedule };
+
+    ghost view = { λ p. record { numbers = p.numbers.items; calls = p.calls; faults = p.faults } };
+}
+
+impl FailAt {
+    /// A plan under which nothing has been called yet.
+    pub fn new(numbers: Vec<u64>) -> Self
+        ensures numbers { result.numbers ≡ numbers.items }
+        ensures calls { result.calls ≡ 0 }
+        ensures faults { result.faults ≡ 0 }
+    {
+        FailAt {
+            numbers,
+            calls: 0,
+            faults: 0,
+        }
+    }
+}
+
+impl FaultPlan for FailAt {
+    ghost use Rattle.zk_port.specs.Plans.{is_to_fail};
+
+    ghost count = { λ p. p.faults };
+
+    ghost coming = { is_to_fail };
+
+    ghost forgiving = { false };
+
+    fn faults(&self) -> u64 {
+        self.faults
+    }
+
+    fn fails(&mut self) -> bool {
+        self.calls = self.calls.saturating_add(1);
+        let fails = self.numbers.contains(&self.calls);
+        if fails {
+            self.faults = self.faults.saturating_add(1);
+        }
+        fails
+    }
+
+    fn fails_without(&mut self) -> bool {
+        self.faults = self.faults.saturating_add(1);
+        true
+    }
+}
+
+/// Nothing fails.
+#[derive(Clone, Copy)]
+pub struct NoFault;
+
+impl FaultPlan for NoFault {
+    ghost count = { λ _. 0 };
+
+    ghost coming = { λ _ _. false };
+
+    ghost forgiving = { true };
+
+    fn faults(&self) -> u64 {
+        0
+    }
+
+    fn fails(&mut self) -> bool {
+        false
+    }
+
+    fn fails_without(&mut self) -> bool {
+        false
+    }
+}
