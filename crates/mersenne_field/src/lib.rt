@@ -3,7 +3,7 @@
 
 ghost use Rattle.std.specs.Prelude.{◌≡◌, ◌*◌, ◌%◌, ◌<◌, ◌↔◌, IsSome, IfSome};
 ghost use Rattle.std.specs.Int.{w64, from_le_bytes};
-ghost use Rattle.zk_model.specs.Field.{IsElement, ◌+ₚ◌, ◌-ₚ◌, ◌*ₚ◌, from_word};
+ghost use Rattle.zk_model.specs.Field.{prime, IsElement, ◌+ₚ◌, ◌-ₚ◌, ◌*ₚ◌, from_word};
 ghost use Rattle.zk_model.specs.Bytes.{element_bytes};
 
 use std::marker::Model;
@@ -119,8 +119,8 @@ impl Fe {
 
 /// A number below twice the prime, modulo the prime.
 fn reduced(number: u64) -> u64
-    requires { number < 2 * PRIME }
-    ensures { result ≡ number % PRIME }
+    requires { number < 2 * prime }
+    ensures { result ≡ number % prime }
 {
     if number >= PRIME {
         number - PRIME

@@ -1,0 +1,5 @@
+pub mod Circuits
+pub mod GateSteps
+pub mod Headers
+pub mod Sizes
+pub mod Spelling

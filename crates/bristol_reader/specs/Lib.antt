@@ -1,0 +1,4 @@
+pub mod Bodies
+pub mod Circuits
+pub mod Reads
+pub mod Words

@@ -1,0 +1,72 @@
+//! The program: the real objects, and the top call.
+#![tactic(auto)]
+
+mod outside;
+
+use outside::{FileShelf, OutputSink, found_no_memory};
+use std::alloc::Global;
+use std::io::Read;
+use std::process::ExitCode;
+use std::rt::{Env, Files};
+use std::{env, fs, io};
+use zk_cli::{Finish, run_zk};
+use zk_port::{ClosedDisk, MemoryDoor, NoFault, QuietGate, ScriptedLink, Sink};
+
+/// The words after the program's name.
+fn words<R: Env + AllocGlobal>(rt: &R) -> io::Result<Vec<String>> {
+    let mut words = Vec::new(rt.alloc());
+    for word in env::args(rt)?.skip(1) {
+        words.push(word)?;
+    }
+    Ok(words)
+}
+
+/// The seed of this run: 32 bytes of the system's generator.
+fn read_seed(rt: &impl Files) -> io::Result<[u8; 32]> {
+    let mut seed = [0; 32];
+    fs::open(rt, "/dev/urandom")?.read_exact(&mut seed)?;
+    Ok(seed)
+}
+
+fn main(rt: HostRuntime) -> ExitCode {
+    let alloc: Global = rt.alloc();
+    let mut out = OutputSink::new(&rt);
+    let words = match words(&rt) {
+        Ok(words) => words,
+        Err(error) => {
+            if found_no_memory(&error) {
+                let _ = out.put(alloc, b"memory\n");
+                return ExitCode::from(7);
+            }
+            // Words that are no text ask for nothing.
+            Vec::new(alloc)
+        }
+    };
+    let Ok(seed) = read_seed(&rt) else {
+        let _ = out.put(alloc, b"failed seed\n");
+        return ExitCode::from(4);
+    };
+    let mut shelf = FileShelf::new(&rt);
+    let door: MemoryDoor<ScriptedLink<NoFault>, NoFault> = MemoryDoor::new(alloc, NoFault);
+    let finish = run_zk(
+        &rt,
+        alloc,
+        &words,
+        &mut shelf,
+        ClosedDisk::new(),
+        door,
+        &QuietGate,
+        &seed,
+        &mut out,
+    );
+    let Finish {
+        status,
+        journal: _,
+        door: _,
+        part: _,
+    } = finish;
+    ExitCode::from(status)
+}
+
+#[cfg(test)]
+mod tests;

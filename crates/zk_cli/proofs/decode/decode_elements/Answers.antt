@@ -1,0 +1,14 @@
+use Rattle.std.proofs.Common.{◌*◌, ap, sym, ◌∙◌, flat_map}
+use Rattle.zk_model.specs.Bytes.{element_bytes}
+use Rattle.zk_cli.proofs.FrameLemmas.{length-elements}
+use Rattle.zk_cli.proofs.Reading.{reads_elements, same_payload}
+use Rattle.zk_cli.proofs.decode.decode_elements.Goals as goal
+
+pub returns-in-Some : goal.returns-in-Some
+returns-in-Some c = λ elements sized all same.
+    reads_elements (λ v. v.items) c.in-Some.payload.now c.args.count c.elements_of.result elements c.elements_of.ensures.found c.elements_of.ensures.bad sized all
+    (same_payload c.args.kind c.in-Some.payload.now (flat_map element_bytes elements) (sym c.in-Some.ensures.some.0 ∙ same))
+
+pub returns-in-None : goal.returns-in-None
+returns-in-None c = λ elements sized all same.
+    c.in-None.ensures.none (flat_map element_bytes elements) (length-elements elements ∙ ap (λ n. 8 * n) sized) same

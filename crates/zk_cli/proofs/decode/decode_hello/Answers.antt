@@ -1,0 +1,16 @@
+use Rattle.std.proofs.Common.{◌≡◌, ◌++◌, ◌∷◌, [], sym, ◌∙◌, ap, get_or}
+use Rattle.std.specs.Prelude.{Some}
+use Rattle.zk_model.specs.Transcript.{Hello}
+use Rattle.zk_cli.proofs.Reading.{same_payload, hello_parts}
+use Rattle.zk_cli.proofs.decode.decode_hello.Goals as goal
+
+pub returns : goal.returns
+returns c = λ hello is same.
+    let payload = c.in_ok-payload.payload.now in
+    let parts : payload ≡ hello.id ++ hello.circuit ++ hello.outputs ++ hello.version ∷ [] =
+    same_payload 1 payload (hello.id ++ hello.circuit ++ hello.outputs ++ hello.version ∷ []) (sym c.in_ok-payload.ensures.some.0 ∙ same) in
+    let read : Hello = record { id = c.array_at.result; circuit = c.array_at-2.result; outputs = c.array_at-3.result; version = get_or payload 96 0 } in
+    let whole : read ≡ hello =
+    (λ i. record { id = c.array_at.ensures i; circuit = c.array_at-2.ensures i; outputs = c.array_at-3.ensures i; version = get_or payload 96 0 })
+    ∙ hello_parts payload hello is parts in
+    ap (λ h. Some h) whole

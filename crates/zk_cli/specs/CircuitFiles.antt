@@ -1,0 +1,47 @@
+-- Circuits that stand as files.
+use Rattle.std.specs.Prelude.{◌≡◌, ◌⊎◌, ◌≤◌, ℕ, List, length, Option, Some, IsSomeAnd}
+use Rattle.zk_model.specs.Circuit.{Circuit}
+use Rattle.zk_model.specs.Bristol.{IsText}
+use Rattle.zk_port.specs.Files.{Files, StandsAs, LoadCause}
+use Rattle.zk_port.specs.declared.fault.LoadFault.{LoadFault}
+use Rattle.bristol_reader.specs.Reads.{ReadCause}
+use Rattle.bristol_reader.specs.declared.fault.ReadError.{ReadError}
+use Rattle.zk_cli.specs.StopsOf.{load_stop, read_stop}
+use Rattle.zk_cli.specs.declared.stop.Stop.{Stop}
+use Rattle.zk_cli.specs.declared.TheConstants.{FILE_LIMIT}
+
+-- where a shelf tells, this text stands under the name, and it may be loaded
+pub record IsLoaded (told : Option Files) (name text : List ℕ) : Type 0 where
+  pub stands : StandsAs told name text
+  pub fits : length text ≤ FILE_LIMIT
+
+-- where a shelf tells, the text under the name says this circuit
+pub record IsCircuitFile (told : Option Files) (name : List ℕ) (circuit : Circuit) : Type 0 where
+  pub text : List ℕ
+  pub loaded : IsLoaded told name text
+  pub says : IsText circuit text
+
+-- the file of this name can't be loaded
+pub record IsUnloaded (told : Option Files) (name : List ℕ) (before now : ℕ) (stop : Stop) : Type 0 where
+  pub fault : LoadFault
+  pub cause : LoadCause told name FILE_LIMIT before now fault
+  pub stops : stop ≡ load_stop fault
+
+-- the text under the name can't be read
+pub record IsUnread (told : Option Files) (name : List ℕ) (stop : Stop) : Type 0 where
+  pub text : List ℕ
+  pub loaded : IsLoaded told name text
+  pub fault : ReadError
+  pub cause : ReadCause text fault
+  pub stops : stop ≡ read_stop fault
+
+-- why a run stops that needs the circuit under this name: the shelf's refusal, or the reader's
+abbrev pub CircuitStop : Option Files → List ℕ → ℕ → ℕ → Stop → Type 0
+CircuitStop told name before now stop = IsUnloaded told name before now stop ⊎ IsUnread told name stop
+
+-- a shelf that tells has this text under the name, it may be loaded, and it says this circuit
+pub record IsToldCircuit (told : Option Files) (name : List ℕ) (circuit : Circuit) : Type 0 where
+  pub text : List ℕ
+  pub stands : IsSomeAnd told (λ files. files name ≡ Some text)
+  pub fits : length text ≤ FILE_LIMIT
+  pub says : IsText circuit text

@@ -1,0 +1,26 @@
+-- How a run stops at a refusal of what it calls.
+use Rattle.zk_port.specs.declared.fault.LoadFault.{LoadFault}
+use Rattle.zk_port.specs.declared.fault.LoadFault.TheVariants as load
+use Rattle.bristol_reader.specs.declared.fault.ReadError.{ReadError}
+use Rattle.bristol_reader.specs.declared.fault.ReadError.TheVariants as text
+use Rattle.zk_cli.specs.declared.rehearsal.RehearseFault.{RehearseFault}
+use Rattle.zk_cli.specs.declared.rehearsal.RehearseFault.TheVariants as session
+use Rattle.zk_cli.specs.declared.stop.Stop.{Stop}
+use Rattle.zk_cli.specs.declared.stop.Stop.TheVariants as stop
+
+-- whose file can't be loaded
+abbrev pub load_stop : LoadFault → Stop
+load_stop load.Failed = stop.ShelfFailed
+load_stop load.NoMemory = stop.NoMemory
+load_stop (load.TooLong limit) = stop.TooLong limit
+
+-- whose circuit can't be read
+abbrev pub read_stop : ReadError → Stop
+read_stop (text.Fault fault) = stop.BadText fault
+read_stop text.NoMemory = stop.NoMemory
+
+-- whose session can't be rehearsed
+abbrev pub rehearse_stop : RehearseFault → Stop
+rehearse_stop (session.WrongLength need got) = stop.WrongLength need got
+rehearse_stop (session.TooLarge need units) = stop.TooLarge need units
+rehearse_stop session.NoMemory = stop.NoMemory

@@ -1,0 +1,95 @@
+// Coins: words of ChaCha20 by stream and place.
+ghost use Rattle.std.specs.Prelude.{◌≡◌, ◌+◌, ◌*◌, ◌^◌, ◌<◌, ◌≤◌, ◌++◌, length, map};
+ghost use Rattle.std.specs.Int.{w64, to_le_bytes};
+ghost use Rattle.std.specs.List.{range_with_len};
+ghost use Rattle.rand_chacha.specs.ChaCha.{word_at};
+ghost use Rattle.zk_model.specs.Coins.{coin_word};
+ghost use Rattle.zk_model.specs.Dealing.{stream_bytes};
+
+use rand_chacha::ChaCha20Rng;
+use rand_core::SeedableRng;
+use rand_core::utils::NextWord;
+use std::marker::Model;
+
+/// A source of coins under a key of 32 bytes: the words of ChaCha20 with a block counter and a stream number of
+/// 64 bits each, as `rand_chacha` counts them.
+#[derive(Clone, Copy, Debug)]
+pub struct CoinBox {
+    key: [u8; 32],
+}
+
+impl Model for CoinBox {
+    ghost use Rattle.std.specs.Prelude.{List, ℕ};
+
+    ghost Value = { List ℕ };
+
+    ghost view = { λ b. b.key };
+
+    ghost inverse = { λ key. record { key = key } };
+}
+
+/// The next two words of the generator as one, the low half first.
+fn next_pair(generator: &mut ChaCha20Rng) -> u64
+    requires { generator.old.word_pos + 2 ≤ 2 ^ 42 }
+    ensures value { result ≡ word_at 10 generator.old.key generator.old.stream generator.old.word_pos
+        + 2 ^ 32 * word_at 10 generator.old.key generator.old.stream (generator.old.word_pos + 1) }
+    ensures after { generator.new ≡ record generator.old { word_pos = generator.old.word_pos + 2 } }
+{
+    let low = u64::from(generator.next_word());
+    let high = u64::from(generator.next_word());
+    low + (high << 32)
+}
+
+impl CoinBox {
+    pub fn new(key: &[u8; 32]) -> Self
+        ensures { result ≡ key.now }
+    {
+        CoinBox { key: *key }
+    }
+
+    /// Fills the buffer with the words of a stream from a place on.
+    pub fn words(&self, stream: u64, first: u64, words: &mut [u64])
+        requires { first + length words.old ≤ 2 ^ 40 }
+        ensures { words.new ≡ map (λ i. coin_word self.now stream (first + i)) (range_with_len 0 (length words.old)) }
+    {
+        let mut generator = ChaCha20Rng::from_seed(self.key);
+        generator.set_stream(stream);
+        generator.set_word_pos(u128::from(first) * 2);
+        for word in words.iter_mut() {
+            *word = next_pair(&mut generator);
+        }
+    }
+
+    /// The word at a place of a stream.
+    pub fn word(&self, stream: u64, place: u64) -> u64
+        requires { place + 1 ≤ 2 ^ 40 }
+        ensures { result ≡ coin_word self.now stream place }
+    {
+        let mut words = [0; 1];
+        self.words(stream, place, &mut words);
+        words[0]
+    }
+
+    /// The first four words of a stream, each with its low byte first.
+    pub fn bytes(&self, stream: u64) -> [u8; 32]
+        ensures { result ≡ stream_bytes self.now stream }
+    {
+        let mut words = [0; 4];
+        self.words(stream, 0, &mut words);
+        let mut bytes = [0; 32];
+        let (front, back) = bytes.split_at_mut(16);
+        put_words(front, words[0], words[1]);
+        put_words(back, words[2], words[3]);
+        bytes
+    }
+}
+
+/// Writes two words over 16 bytes, the low byte of each first.
+fn put_words(bytes: &mut [u8], first: u64, second: u64)
+    requires { length bytes.old ≡ 16 }
+    ensures { bytes.new ≡ to_le_bytes w64 first ++ to_le_bytes w64 second }
+{
+    let (front, back) = bytes.split_at_mut(8);
+    front.copy_from_slice(&first.to_le_bytes());
+    back.copy_from_slice(&second.to_le_bytes());
+}

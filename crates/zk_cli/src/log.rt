@@ -1,0 +1,61 @@
+// What passed between both ends of a session.
+ghost use Rattle.std.specs.Prelude.{◌≡◌, ◌++◌, [], length, OnOk, OnErr};
+ghost use Rattle.zk_model.specs.Transcript.{bytes_from};
+
+use std::alloc::{AllocError, Global};
+use std::marker::Model;
+use zk_model::Side;
+
+/// Bytes in a row that one side sent.
+#[derive(Clone, Copy, Debug, PartialEq, Eq)]
+pub struct Run {
+    pub side: Side,
+    pub count: usize,
+}
+
+/// The bytes of a session in the order in which they passed, each with the side that sent it. They are kept as
+/// bytes and as runs of sides.
+#[derive(Debug, Drop)]
+pub struct Log {
+    bytes: Vec<u8>,
+    runs: Vec<Run>,
+}
+
+impl Model for Log {
+    ghost use Rattle.std.specs.Prelude.{◌≡◌, List, ℕ, length, sum_by};
+    ghost use Rattle.zk_model.specs.declared.Side.{Side};
+
+    ghost Value = { List (Side × ℕ) };
+
+    ghost use Rattle.zk_cli.specs.Runs.{entries, run_count};
+
+    ghost view = { λ l. entries l.runs.items l.bytes.items };
+
+    ghost invariant = { λ l. sum_by run_count l.runs.items ≡ length l.bytes.items };
+}
+
+impl Log {
+    /// A log of nothing.
+    pub fn new(alloc: Global) -> Self
+        ensures { result ≡ [] }
+    {
+        Log {
+            bytes: Vec::new(alloc),
+            runs: Vec::new(alloc),
+        }
+    }
+
+    /// Notes that a side sent these bytes. Where memory runs out nothing is noted.
+    pub fn push(&mut self, side: Side, bytes: &[u8]) -> Result<(), AllocError>
+        ensures noted { OnOk result (self.new ≡ self.old ++ bytes_from side bytes.now) }
+        ensures refused { OnErr result (self.new ≡ self.old) }
+    {
+        self.runs.reserve(1)?;
+        self.bytes.extend_from_slice(bytes)?;
+        self.runs.push_reserved(Run {
+            side,
+            count: bytes.len(),
+        });
+        Ok(())
+    }
+}

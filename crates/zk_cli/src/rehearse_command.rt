@@ -1,0 +1,141 @@
+// `rehearse CIRCUIT BITS --section 1`
+ghost use Rattle.std.specs.Prelude.{◌≡◌, ◌≤◌, ◌^◌, IfOk, IfErr, string_bytes};
+ghost use Rattle.zk_cli.specs.CircuitFiles.{IsCircuitFile, CircuitStop};
+ghost use Rattle.zk_cli.specs.RehearseRuns.{RehearseRuns, RehearseStop, IsRehearsed, counts_line, named_numbers, rehearsal_lines, verdict_line, verdict_status};
+
+use crate::FILE_LIMIT;
+use crate::bits::{Bits, write_bits};
+use crate::finish::Part;
+use crate::rehearsal::{Rehearsal, Verdict};
+use crate::rehearse::rehearse;
+use crate::say::{say, say_memory, say_stop};
+use crate::stop::Stop;
+use bristol_reader::{Circuit, read};
+use std::alloc::{AllocError, Global};
+use zk_port::{Shelf, Sink};
+
+/// The circuit that the file of this name says.
+fn load_circuit<F: Shelf>(alloc: Global, shelf: &mut F, name: &str) -> Result<Circuit, Stop>
+    ensures file { IfOk result (IsCircuitFile (F.told shelf.old) name.now) }
+    ensures stop { IfErr result (CircuitStop (F.told shelf.old) name.now (F.faults shelf.old) (F.faults shelf.new)) }
+    ensures same { F.told shelf.new ≡ F.told shelf.old }
+    ensures later { F.faults shelf.old ≤ F.faults shelf.new }
+{
+    let text = shelf.load(alloc, name, FILE_LIMIT)?;
+    Ok(read(alloc, &text)?)
+}
+
+/// A rehearsal of the circuit that the file of this name says, at these bits.
+fn rehearse_file<F: Shelf>(
+    alloc: Global,
+    shelf: &mut F,
+    name: &str,
+    bits: &[bool],
+    section: u32,
+    seed: &[u8; 32],
+) -> Result<Rehearsal, Stop>
+    requires some { 1 ≤ section }
+    requires most { section ≤ 2 ^ 20 }
+    ensures rehearsed { IfOk result (IsRehearsed (F.told shelf.old) name.now bits.now section seed.now) }
+    ensures stop { IfErr result (RehearseStop (F.told shelf.old) name.now bits.now section (F.faults shelf.old) (F.faults shelf.new)) }
+    ensures same { F.told shelf.new ≡ F.told shelf.old }
+{
+    let circuit = load_circuit(alloc, shelf, name)?;
+    Ok(rehearse(alloc, &circuit, bits, section, seed)?)
+}
+
+/// The line of the verdict.
+fn write_verdict(alloc: Global, verdict: Verdict) -> Result<String, AllocError>
+    ensures { IfOk result (λ line. string_bytes line ≡ verdict_line verdict) }
+{
+    match verdict {
+        Verdict::Accepted => String::from_str(alloc, "accepted\n"),
+        Verdict::RejectedSum { section } => Ok(format!(in alloc; "rejected sum {section}\n")?),
+        Verdict::RejectedOpening { output } => Ok(format!(in alloc;
+            "rejected opening {output}\n"
+        )?),
+    }
+}
+
+/// Two numbers behind their names.
+fn write_named(
+    alloc: Global,
+    name: &str,
+    number: u64,
+    other_name: &str,
+    other_number: u64,
+) -> Result<String, AllocError>
+    ensures { IfOk result (λ text. string_bytes text ≡ named_numbers name.now number other_name.now other_number) }
+{
+    Ok(format!(in alloc; "{name} {number} {other_name} {other_number}")?)
+}
+
+/// The line of the numbers.
+fn write_counts(alloc: Global, rehearsal: &Rehearsal) -> Result<String, AllocError>
+    ensures { IfOk result (λ line. string_bytes line ≡ counts_line rehearsal.now) }
+{
+    let made = write_named(
+        alloc,
+        "products",
+        rehearsal.products,
+        "sections",
+        rehearsal.sections,
+    )?;
+    let taken = write_named(
+        alloc,
+        "correlations",
+        rehearsal.need,
+        "units",
+        rehearsal.units,
+    )?;
+    Ok(format!(in alloc; "{made} {taken}\n")?)
+}
+
+/// The lines of the rehearsal.
+fn write_rehearsal(alloc: Global, rehearsal: &Rehearsal) -> Result<String, AllocError>
+    ensures { IfOk result (λ lines. string_bytes lines ≡ rehearsal_lines rehearsal.now) }
+{
+    let outputs = write_bits(alloc, rehearsal.outputs.as_slice())?;
+    let counts = write_counts(alloc, rehearsal)?;
+    let verdict = write_verdict(alloc, rehearsal.verdict)?;
+    Ok(format!(in alloc; "outputs {outputs}\n{counts}{verdict}")?)
+}
+
+/// The status of the verdict.
+fn status_of(verdict: Verdict) -> u8
+    ensures { result ≡ verdict_status verdict }
+{
+    match verdict {
+        Verdict::Accepted => 0,
+        Verdict::RejectedSum { .. } | Verdict::RejectedOpening { .. } => 1,
+    }
+}
+
+/// Rehearses a session over the circuit of this name at these bits, says what came of it and hands it back; or
+/// says why there is no rehearsal. Answers the status.
+pub fn run_rehearse<F: Shelf, O: Sink>(
+    alloc: Global,
+    shelf: &mut F,
+    out: &mut O,
+    name: &str,
+    bits: &[bool],
+    section: u32,
+    seed: &[u8; 32],
+) -> (u8, Part)
+    requires some { 1 ≤ section }
+    requires most { section ≤ 2 ^ 20 }
+    ensures runs { RehearseRuns (F.told shelf.old) name.now bits.now section seed.now (F.faults shelf.old) (F.faults shelf.new)
+        result.1 result.0 (O.written out.old) (O.written out.new) (O.faults out.old) (O.faults out.new) }
+    ensures same { F.told shelf.new ≡ F.told shelf.old }
+{
+    match rehearse_file(alloc, shelf, name, bits, section, seed) {
+        Ok(rehearsal) => {
+            let status = match write_rehearsal(alloc, &rehearsal) {
+                Ok(lines) => say(alloc, out, lines.as_bytes(), status_of(rehearsal.verdict)),
+                Err(_) => say_memory(alloc, out),
+            };
+            (status, Part::Rehearsed(rehearsal))
+        }
+        Err(stop) => (say_stop(alloc, out, stop), Part::Plain),
+    }
+}

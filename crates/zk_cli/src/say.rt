@@ -1,0 +1,111 @@
+// Writes what a run has to say.
+ghost use Rattle.std.specs.Prelude.{◌≡◌, ◌≤◌, ◌++◌, IfOk, codes, string_bytes};
+ghost use Rattle.std.specs.Fmt.{decimal};
+ghost use Rattle.zk_cli.specs.FaultLines.{fault_name, fault_number, fault_place, fault_line};
+ghost use Rattle.zk_cli.specs.Prints.{Prints};
+ghost use Rattle.zk_cli.specs.Stops.{PrintsStop, PrintsMade, stop_line, stop_status};
+ghost use Rattle.zk_cli.specs.declared.stop.Stop.TheVariants.{NoMemory};
+
+use crate::stop::Stop;
+use bristol_reader::ReadFault;
+use std::alloc::{AllocError, Global};
+use zk_port::{PortFault, Sink};
+
+/// Writes the text, and answers the status, or what a fault of the sink makes of it.
+pub fn say<O: Sink>(alloc: Global, out: &mut O, text: &[u8], status: u8) -> u8
+    ensures prints { Prints status text.now result (O.written out.old) (O.written out.new) (O.faults out.old) (O.faults out.new) }
+    ensures later { O.faults out.old ≤ O.faults out.new }
+{
+    match out.put(alloc, text) {
+        Ok(()) => status,
+        Err(PortFault::Failed) => { if status <= 1 { 4 } else { status } }
+        Err(PortFault::NoMemory) => 7,
+    }
+}
+
+/// The name of the fault, its number, and the token or the wire that it stands at.
+fn fault_parts(fault: ReadFault) -> (&'static str, u8, u64)
+    ensures name { result.0.now ≡ fault_name fault }
+    ensures number { result.1 ≡ fault_number fault }
+    ensures place { result.2 ≡ fault_place fault }
+{
+    match fault {
+        ReadFault::ShortText { token } => ("ShortText", 1, token),
+        ReadFault::BadNumber { token } => ("BadNumber", 2, token),
+        ReadFault::TooLarge { token } => ("TooLarge", 3, token),
+        ReadFault::BadGate { token } => ("BadGate", 4, token),
+        ReadFault::BadConstant { token } => ("BadConstant", 5, token),
+        ReadFault::WireRange { token } => ("WireRange", 6, token),
+        ReadFault::ReadBeforeSet { token } => ("ReadBeforeSet", 7, token),
+        ReadFault::SetTwice { token } => ("SetTwice", 8, token),
+        ReadFault::OutputUnset { wire } => ("OutputUnset", 9, u64::from(wire)),
+        ReadFault::ExtraText { token } => ("ExtraText", 10, token),
+    }
+}
+
+/// The line that says the fault.
+fn write_fault(alloc: Global, fault: ReadFault) -> Result<String, AllocError>
+    ensures { IfOk result (λ line. string_bytes line ≡ fault_line fault) }
+{
+    let (name, number, place) = fault_parts(fault);
+    Ok(format!(in alloc; "refused {name} {number} {place}\n")?)
+}
+
+/// A line of these words and two numbers.
+fn write_pair(alloc: Global, words: &str, first: u64, second: u64) -> Result<String, AllocError>
+    ensures { IfOk result (λ line. string_bytes line ≡ words.now ++ codes " " ++ decimal first ++ codes " " ++ decimal second ++ codes "\n") }
+{
+    Ok(format!(in alloc; "{words} {first} {second}\n")?)
+}
+
+/// The line of the stop.
+fn write_stop(alloc: Global, stop: Stop) -> Result<String, AllocError>
+    ensures { IfOk result (λ line. string_bytes line ≡ stop_line stop) }
+{
+    match stop {
+        Stop::Usage => {
+            String::from_str(
+                alloc,
+                "usage: zk deal, eval, rehearse, prove, serve or audit\n",
+            )
+        }
+        Stop::BadText(fault) => write_fault(alloc, fault),
+        Stop::TooLong { limit } => Ok(format!(in alloc; "refused TooLong 0 {limit}\n")?),
+        Stop::WrongLength { need, got } => write_pair(alloc, "refused bits", need, got),
+        Stop::TooLarge { need, units } => write_pair(alloc, "too large", need, units),
+        Stop::ShelfFailed => String::from_str(alloc, "failed shelf\n"),
+        Stop::NoMemory => String::from_str(alloc, "memory\n"),
+    }
+}
+
+/// The status of the stop.
+fn status_of(stop: Stop) -> u8
+    ensures { result ≡ stop_status stop }
+{
+    match stop {
+        Stop::Usage => 2,
+        Stop::BadText(_) | Stop::TooLong { .. } | Stop::WrongLength { .. } => 3,
+        Stop::ShelfFailed => 4,
+        Stop::NoMemory => 7,
+        Stop::TooLarge { .. } => 9,
+    }
+}
+
+/// Writes the line that says that memory is wanting, for which it needs none, and answers its status.
+pub fn say_memory<O: Sink>(alloc: Global, out: &mut O) -> u8
+    ensures prints { PrintsStop NoMemory result (O.written out.old) (O.written out.new) (O.faults out.old) (O.faults out.new) }
+    ensures later { O.faults out.old ≤ O.faults out.new }
+{
+    say(alloc, out, b"memory\n", 7)
+}
+
+/// Writes the line that says why the run stops, and answers its status; or says that there is no memory for the line.
+pub fn say_stop<O: Sink>(alloc: Global, out: &mut O, stop: Stop) -> u8
+    ensures prints { PrintsMade (stop_status stop) (stop_line stop) result (O.written out.old) (O.written out.new) (O.faults out.old) (O.faults out.new) }
+    ensures later { O.faults out.old ≤ O.faults out.new }
+{
+    match write_stop(alloc, stop) {
+        Ok(line) => say(alloc, out, line.as_bytes(), status_of(stop)),
+        Err(_) => say_memory(alloc, out),
+    }
+}

@@ -1,0 +1,76 @@
+// Why a run stops before its work is done.
+ghost use Rattle.std.specs.Prelude.{◌≡◌};
+ghost use Rattle.zk_cli.specs.declared.stop.Stop.TheVariants as stop;
+
+use crate::rehearsal::RehearseFault;
+use bristol_reader::{ReadError, ReadFault};
+use std::alloc::AllocError;
+use zk_port::LoadFault;
+
+/// Why a run stops before its work is done; each has its status and its line.
+#[derive(Clone, Copy, Debug, PartialEq, Eq)]
+pub enum Stop {
+    /// The words ask for nothing.
+    Usage,
+    /// A circuit's text is refused.
+    BadText(ReadFault),
+    /// A file has more bytes than this.
+    TooLong { limit: u64 },
+    /// There are `got` bits in place of `need`.
+    WrongLength { need: u64, got: u64 },
+    /// The session needs so many correlations, and units of them above 4,096.
+    TooLarge { need: u64, units: u64 },
+    /// A call of the shelf failed.
+    ShelfFailed,
+    /// Memory was wanting.
+    NoMemory,
+}
+
+impl From<AllocError> for Stop {
+    ghost from_gives = { λ _ e. e ≡ stop.NoMemory };
+
+    fn from(_: AllocError) -> Self {
+        Stop::NoMemory
+    }
+}
+
+impl From<LoadFault> for Stop {
+    ghost use Rattle.zk_cli.specs.StopsOf.{load_stop};
+
+    ghost from_gives = { λ fault e. e ≡ load_stop fault };
+
+    fn from(fault: LoadFault) -> Self {
+        match fault {
+            LoadFault::Failed => Stop::ShelfFailed,
+            LoadFault::NoMemory => Stop::NoMemory,
+            LoadFault::TooLong { limit } => Stop::TooLong { limit },
+        }
+    }
+}
+
+impl From<ReadError> for Stop {
+    ghost use Rattle.zk_cli.specs.StopsOf.{read_stop};
+
+    ghost from_gives = { λ fault e. e ≡ read_stop fault };
+
+    fn from(fault: ReadError) -> Self {
+        match fault {
+            ReadError::Fault(fault) => Stop::BadText(fault),
+            ReadError::NoMemory => Stop::NoMemory,
+        }
+    }
+}
+
+impl From<RehearseFault> for Stop {
+    ghost use Rattle.zk_cli.specs.StopsOf.{rehearse_stop};
+
+    ghost from_gives = { λ fault e. e ≡ rehearse_stop fault };
+
+    fn from(fault: RehearseFault) -> Self {
+        match fault {
+            RehearseFault::WrongLength { need, got } => Stop::WrongLength { need, got },
+            RehearseFault::TooLarge { need, units } => Stop::TooLarge { need, units },
+            RehearseFault::NoMemory => Stop::NoMemory,
+        }
+    }
+}
