@@ -71,3 +71,10 @@ count_key_triples circuit wires committed triples enough are =
     ∙ length-map (zip (circuit_products circuit) committed) (λ q. key_triple_of wires q.0 q.1)
     ∙ length-zip (circuit_products circuit) committed
     ∙ omega (arith, enough)
+
+-- as many corrections as products take as many pairs
+pub enough_pairs : (circuit : Circuit) (bits : List Bool) (pairs : List Pair) (corrections : List ℕ)
+    → corrections ≡ honest_corrections circuit bits pairs → length corrections ≡ product_count circuit → product_count circuit ≤ length pairs
+enough_pairs circuit bits pairs corrections are count =
+    let paired = ap length are ∙ length-map (zip (circuit_products circuit) pairs) (correction_of bits) ∙ length-zip (circuit_products circuit) pairs in
+    omega (arith, paired, count)

@@ -5,6 +5,7 @@ pub mod DealtLemmas
 pub mod Decimals
 pub mod FrameLemmas
 pub mod GateOrder
+pub mod HonestLaw
 pub mod OneCircuit
 pub mod Orders
 pub mod Outcomes

@@ -181,10 +181,8 @@ answers_calmly units status text answer old new before now (inl all) calm answer
 answers_calmly units status text answer old new before now (inr (inl fault)) calm answers = absurd (calm fault.1)
 answers_calmly units status text answer old new before now (inr (inr memory)) calm answers = inr (inr memory.0)
 
-verdict_answers : (verdict : Verdict) (units : ℕ) → units ≤ 4096 → AnswersFor units (verdict_status verdict)
-verdict_answers Accepted units few = inl (inl refl, few)
-verdict_answers (RejectedSum section) units few = inl (inr refl, few)
-verdict_answers (RejectedOpening output) units few = inl (inr refl, few)
+verdict_answers : (verdict : Verdict) (units : ℕ) → verdict ≡ Accepted → units ≤ 4096 → AnswersFor units (verdict_status verdict)
+verdict_answers verdict units accepted few = subst (λ v. AnswersFor units (verdict_status v)) (sym accepted) (inl (refl, few))
 
 pub rehearsed_done : (told : Option Files) (name : List ℕ) (bits : List Bool) (section : ℕ) (seed : List ℕ) (sb sn : ℕ) (part : Part) (status : ℕ) (old new : Option (List ℕ)) (before now : ℕ) (circuit : Circuit)
     → RehearseRuns told name bits section seed sb sn part status old new before now
@@ -193,7 +191,7 @@ pub rehearsed_done : (told : Option Files) (name : List ℕ) (bits : List Bool) 
 rehearsed_done told name bits section seed sb sn (Rehearsed r) status old new before now circuit (made, inl prints) is_told inputs calm quiet =
     let same = told_circuit told name circuit made.circuit is_told made.file in
     let few : direct_units circuit section ≤ 4096 = subst (λ c. direct_units c section ≤ 4096) same (subst (λ n. n ≤ 4096) made.rehearsal.units made.rehearsal.units_most) in
-    answers_calmly _ _ _ _ _ _ _ _ prints quiet (verdict_answers r.verdict _ few)
+    answers_calmly _ _ _ _ _ _ _ _ prints quiet (verdict_answers r.verdict _ made.rehearsal.accepted few)
 rehearsed_done told name bits section seed sb sn (Rehearsed r) status old new before now circuit (made, inr prints) is_told inputs calm quiet =
     answers_calmly _ _ _ _ _ _ _ _ prints quiet (inr (inr refl))
 rehearsed_done told name bits section seed sb sn Plain status old new before now circuit (stop, why, prints) is_told inputs calm quiet =

@@ -21,4 +21,5 @@ pub mod StepValues
 pub mod Stops
 pub mod StopsOf
 pub mod Triples
+pub mod Verdicts
 pub mod Words

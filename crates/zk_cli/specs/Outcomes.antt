@@ -21,17 +21,12 @@ UsageRuns Plain status old new before now =
     PrintsStop Usage status old new before now ⊎ PrintsStop NoMemory status old new before now
 UsageRuns (Rehearsed r) status old new before now = ⊥
 
--- ---- 0 and 1: a verdict
+-- ---- 0: a verdict
 
 -- 0: the part was accepted, and its lines are written
 abbrev pub Accepts : Part → Option (List ℕ) → Option (List ℕ) → Type 0
 Accepts (Rehearsed r) old new = (r.verdict ≡ Accepted) × (new ≡ appended (rehearsal_lines r) old)
 Accepts Plain old new = ⊥
-
--- 1: the part was rejected, and its lines are written
-abbrev pub Rejects : Part → Option (List ℕ) → Option (List ℕ) → Type 0
-Rejects (Rehearsed r) old new = (r.verdict ≢ Accepted) × (new ≡ appended (rehearsal_lines r) old)
-Rejects Plain old new = ⊥
 
 -- ---- 3: a file is refused, or words that do not fit it
 
@@ -69,12 +64,12 @@ IsTooMuch None told = ⊥
 
 -- ---- where nothing is refused and nothing fails
 
--- memory aside, a session that takes so many units is rehearsed exactly where they are at most 4,096
+-- memory aside, a session that takes so many units is rehearsed and accepted exactly where they are at most 4,096
 abbrev pub AnswersFor : ℕ → ℕ → Type 0
 AnswersFor units status =
-    (((status ≡ 0) ⊎ (status ≡ 1)) × (units ≤ 4096)) ⊎ ((status ≡ 9) × (4096 < units)) ⊎ (status ≡ 7)
+    ((status ≡ 0) × (units ≤ 4096)) ⊎ ((status ≡ 9) × (4096 < units)) ⊎ (status ≡ 7)
 
 -- the statuses that there are
 abbrev pub IsStatus : ℕ → Type 0
 IsStatus status =
-    (status ≡ 0) ⊎ (status ≡ 1) ⊎ (status ≡ 2) ⊎ (status ≡ 3) ⊎ (status ≡ 4) ⊎ (status ≡ 7) ⊎ (status ≡ 9)
+    (status ≡ 0) ⊎ (status ≡ 2) ⊎ (status ≡ 3) ⊎ (status ≡ 4) ⊎ (status ≡ 7) ⊎ (status ≡ 9)

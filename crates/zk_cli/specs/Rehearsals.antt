@@ -5,6 +5,7 @@ use Rattle.zk_model.specs.Products.{product_count}
 use Rattle.zk_model.specs.Transcript.{section_count, correlations_needed, units_for}
 use Rattle.zk_cli.specs.DirectFiles.{direct_params}
 use Rattle.zk_cli.specs.declared.rehearsal.Rehearsal.{Rehearsal}
+use Rattle.zk_cli.specs.declared.rehearsal.Verdict.TheVariants.{Accepted}
 use Rattle.zk_cli.specs.declared.rehearsal.RehearseFault.{RehearseFault}
 use Rattle.zk_cli.specs.declared.rehearsal.RehearseFault.TheVariants.{WrongLength, TooLarge, NoMemory}
 
@@ -12,7 +13,7 @@ use Rattle.zk_cli.specs.declared.rehearsal.RehearseFault.TheVariants.{WrongLengt
 abbrev pub direct_units : Circuit → ℕ → ℕ
 direct_units circuit section = units_for (direct_params 0) (correlations_needed circuit section)
 
--- the outputs are the circuit's at these bits, and the numbers are those of a session of these sections
+-- the outputs are the circuit's at these bits, the numbers are those of a session of these sections, and it is accepted
 pub record IsRehearsalOf (circuit : Circuit) (bits : List Bool) (section : ℕ) (seed : List ℕ) (r : Rehearsal) : Type 0 where
   pub satisfied : Satisfies circuit bits r.outputs
   pub products : r.products ≡ product_count circuit
@@ -20,6 +21,7 @@ pub record IsRehearsalOf (circuit : Circuit) (bits : List Bool) (section : ℕ) 
   pub need : r.need ≡ correlations_needed circuit section
   pub units : r.units ≡ direct_units circuit section
   pub units_most : r.units ≤ 4096
+  pub accepted : r.verdict ≡ Accepted
 
 -- the outputs are those that the bits of all wires end in, and the numbers are those of a session of these sections
 pub record IsHeld (circuit : Circuit) (bits : List Bool) (section : ℕ) (r : Rehearsal) : Type 0 where
@@ -29,6 +31,7 @@ pub record IsHeld (circuit : Circuit) (bits : List Bool) (section : ℕ) (r : Re
   pub need : r.need ≡ correlations_needed circuit section
   pub units : r.units ≡ direct_units circuit section
   pub units_most : r.units ≤ 4096
+  pub accepted : r.verdict ≡ Accepted
 
 -- the bits are not as many as the inputs
 pub record IsWrongLength (circuit : Circuit) (bits : List Bool) (need got : ℕ) : Type 0 where

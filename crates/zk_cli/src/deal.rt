@@ -165,6 +165,7 @@ pub fn deal(
     requires { total ≤ 2 ^ 32 }
     ensures prover { IfOk result (λ files. files.0 ≡ dealt_prover (direct_params total) seed.now) }
     ensures verifier { IfOk result (λ files. files.1 ≡ dealt_verifier (direct_params total) seed.now) }
+    ensures fit { IfOk result (λ files. all_keys files.1 ≡ map (fitting_key files.1.key) (all_pairs files.0)) }
     ensures twins { IfOk result (λ files. (files.0.params.total ≡ total) × (files.1.params.total ≡ total) × (files.0.id ≡ files.1.id)) }
 {
     let coins = CoinBox::new(seed);

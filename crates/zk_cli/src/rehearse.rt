@@ -4,6 +4,7 @@ ghost use Rattle.zk_model.specs.Products.{product_count};
 ghost use Rattle.zk_model.specs.Transcript.{section_count, correlations_needed, units_for};
 ghost use Rattle.zk_model.specs.Circuit.{AreWireBits, Satisfies};
 ghost use Rattle.zk_cli.specs.DirectFiles.{direct_params};
+ghost use Rattle.zk_cli.specs.Verdicts.{AreBitsOf};
 ghost use Rattle.zk_cli.specs.Rehearsals.{IsRehearsalOf, IsHeld, RehearseCause, direct_units};
 
 use crate::bits::Bits;
@@ -40,7 +41,7 @@ fn hold_session(
     requires some { 1 ≤ section }
     requires most { section ≤ 2 ^ 20 }
     requires translated { program.now ≡ circuit.now }
-    requires bits { length bits.now ≡ circuit.now.wires }
+    requires bits { AreBitsOf circuit.now bits.now }
     requires units { units ≡ direct_units circuit.now section }
     requires units_most { units ≤ 4096 }
     requires enough { correlations_needed circuit.now section ≤ 64 * units }

@@ -2,7 +2,7 @@
 ghost use Rattle.std.specs.Prelude.{◌≡◌, ◌⊎◌, ℕ, Bool, List, length};
 ghost use Rattle.zk_model.specs.Circuit.{Circuit};
 ghost use Rattle.zk_cli.specs.CircuitFiles.{IsToldCircuit};
-ghost use Rattle.zk_cli.specs.Outcomes.{Accepts, Rejects, IsRefused, IsTooMuch, AnswersFor, IsStatus, UsageRuns};
+ghost use Rattle.zk_cli.specs.Outcomes.{Accepts, IsRefused, IsTooMuch, AnswersFor, IsStatus, UsageRuns};
 ghost use Rattle.zk_cli.specs.Rehearsals.{direct_units};
 ghost use Rattle.zk_cli.specs.Words.{texts, asked, rehearse};
 ghost use Rattle.zk_cli.specs.RehearseRuns.{RehearseRuns};
@@ -21,8 +21,8 @@ use zk_port::{Disk, Door, Gate, Shelf, Sink};
 /// Does what the words behind the program's name ask for, over these files, this disk, this door and this output,
 /// and hands back the status, the disk, the door and what was made. Nothing but `rehearse` uses the seed.
 ///
-/// The status is 0 where a rehearsal is accepted and 1 where it is rejected; 2 for words of no command; 3 where a
-/// file, or bits for a file, are refused; 4 where the shelf failed, or the output before a 0 or a 1; 7 where memory
+/// The status is 0 where a rehearsal is accepted; 2 for words of no command; 3 where a
+/// file, or bits for a file, are refused; 4 where the shelf failed, or the output before a 0; 7 where memory
 /// is wanting; 9 where a session would take more than 4,096 units.
 pub fn run_zk<R, F, D, B, O, G>(
     _rt: &R,
@@ -53,8 +53,8 @@ where
         RehearseRuns (F.told shelf.old) circuit bits section seed.now (F.faults shelf.old) (F.faults shelf.new) result.part result.status
         (O.written out.old) (O.written out.new) (O.faults out.old) (O.faults out.new) }
 
-    // Where a shelf tells a circuit's text and the bits fit it, and nothing fails, there is a verdict unless memory
-    // runs out, or too many units are asked for.
+    // Where a shelf tells a circuit's text and the bits fit it, and nothing fails, the rehearsal is accepted unless
+    // memory runs out, or too many units are asked for.
     ensures rehearse_done { (name : List ℕ) (bits : List Bool) (section : ℕ) (circuit : Circuit) → asked (texts words.now) ≡ Some (rehearse name bits section) →
         IsToldCircuit (F.told shelf.old) name circuit → length bits ≡ circuit.inputs →
         ¬ Rose (F.faults shelf.old) (F.faults shelf.new) → ¬ Rose (O.faults out.old) (O.faults out.new) →
@@ -63,7 +63,6 @@ where
     // What each status says. 7, for want of memory, says nothing else.
     ensures statuses { IsStatus result.status }
     ensures status_0 { result.status ≡ 0 → Accepts result.part (O.written out.old) (O.written out.new) }
-    ensures status_1 { result.status ≡ 1 → Rejects result.part (O.written out.old) (O.written out.new) }
     ensures status_2 { result.status ≡ 2 → asked (texts words.now) ≡ None }
     ensures status_3 { result.status ≡ 3 → IsRefused (asked (texts words.now)) (F.told shelf.old) }
     ensures status_4 { result.status ≡ 4 → Rose (F.faults shelf.old) (F.faults shelf.new) ⊎ Rose (O.faults out.old) (O.faults out.new) }

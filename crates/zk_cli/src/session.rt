@@ -1,11 +1,17 @@
 // A session of both ends over a log: the prover's turns, the verifier's turns, and the verdict.
-ghost use Rattle.std.specs.Prelude.{◌≡◌, ◌+◌, ◌*◌, ◌≤◌, ◌<◌, ◌^◌, Bool, List, length, replicate, IfOk, OnOk};
+ghost use Rattle.std.specs.Prelude.{◌≡◌, ◌+◌, ◌*◌, ◌≤◌, ◌<◌, ◌^◌, Bool, List, length, replicate, take, drop, map, IfOk, OnOk};
 ghost use Rattle.zk_model.specs.Products.{product_count};
 ghost use Rattle.zk_model.specs.Files.{part_count};
 ghost use Rattle.zk_model.specs.Transcript.{section_count};
 ghost use Rattle.zk_model.specs.Honest.{hello_of};
 ghost use Rattle.zk_cli.specs.FrameRanges.{HasDigests};
+ghost use Rattle.zk_model.specs.Circuit.{output_wire};
+ghost use Rattle.zk_model.specs.Mac.{macs_of, fitting_key};
 ghost use Rattle.zk_cli.specs.Commitments.{IsCommitted};
+ghost use Rattle.zk_cli.specs.Sections.{sums_of_sections};
+ghost use Rattle.zk_cli.specs.DirectFiles.{all_pairs, all_keys};
+ghost use Rattle.zk_cli.specs.Verdicts.{IsJudged, AreBitsOf};
+ghost use Rattle.zk_cli.specs.declared.rehearsal.Verdict.TheVariants.{Accepted};
 
 use crate::deal::{ProverFile, VerifierFile};
 use crate::frame::{Grant, Hello};
@@ -15,7 +21,8 @@ use crate::passing::{
 };
 use crate::prover::{Committed, commit, macs, section_list};
 use crate::rehearsal::Verdict;
-use crate::verifier::{committed_keys, failing_opening, failing_section, key_triples};
+use crate::sections::{behind, masks_of};
+use crate::verifier::{committed_keys, key_triples, verdict_of};
 use crate::wires::carry;
 use gate_translate::FieldProgram;
 use mersenne_field::{Fe, Pair};
@@ -114,9 +121,11 @@ fn send_sums(
 ) -> Result<Vec<(Fe, Fe)>, AllocError>
     requires triples { length committed.now.triples.items ≡ product_count statement.now.program.now }
     requires pairs { statement.now.products + statement.now.sections ≤ length pairs.now }
-    ensures { IfOk result (λ sums. length sums.items ≡ statement.now.sections) }
+    ensures sums { IfOk result (λ sums. sums.items ≡ sums_of_sections statement.now.section challenge committed.now.triples.items
+        (take statement.now.sections (drop statement.now.products pairs.now))) }
+    ensures count { IfOk result (λ sums. length sums.items ≡ statement.now.sections) }
 {
-    let masks = &pairs[statement.products..statement.products + statement.sections];
+    let masks = masks_of(pairs, statement.products, statement.sections);
     let sums = section_list(
         alloc,
         &committed.triples,
@@ -136,10 +145,11 @@ fn send_openings(
     wires: &[Pair],
 ) -> Result<Vec<Fe>, AllocError>
     requires { length wires.now ≡ statement.now.program.now.wires }
-    ensures { IfOk result (λ macs. length macs.items ≡ statement.now.program.now.outputs) }
+    ensures macs { IfOk result (λ macs. macs.items ≡ macs_of (drop (output_wire statement.now.program.now 0) wires.now)) }
+    ensures count { IfOk result (λ macs. length macs.items ≡ statement.now.program.now.outputs) }
 {
     let first = statement.program.wires() - statement.outputs.len();
-    let openings = macs(alloc, &wires[first..])?;
+    let openings = macs(alloc, behind(wires, first))?;
     let taken = pass_elements(alloc, log, Side::Prover, 8, &openings)?;
     Ok(taken)
 }
@@ -149,42 +159,46 @@ fn send_openings(
 fn judge(
     alloc: Global,
     statement: &Statement<'_>,
-    verifier: &VerifierFile,
+    key: Fe,
+    keys: &[Fe],
     corrections: &[Fe],
     challenge: Fe,
     sums: &[(Fe, Fe)],
     openings: &[Fe],
 ) -> Result<Verdict, AllocError>
-    requires keys { statement.now.products + statement.now.sections ≤ 64 * verifier.now.params.total }
+    requires keys { statement.now.products + statement.now.sections ≤ length keys.now }
     requires corrections { length corrections.now ≡ product_count statement.now.program.now }
     requires sums { length sums.now ≡ statement.now.sections }
     requires openings { length openings.now ≡ statement.now.program.now.outputs }
+    ensures { IfOk result (IsJudged statement.now.program.now statement.now.section (record {
+      key = key;
+      keys = keys.now;
+      masks = take statement.now.sections (drop statement.now.products keys.now);
+      corrections = corrections.now;
+      challenge = challenge;
+      sums = sums.now;
+      openings = openings.now;
+      outputs = statement.now.outputs.now;
+    })) }
 {
-    let key = verifier.key();
-    let keys = verifier.keys();
-    let masks = &keys[statement.products..statement.products + statement.sections];
+    let masks = masks_of(keys, statement.products, statement.sections);
     let committed = committed_keys(alloc, keys, corrections, key)?;
     let wires = carry(alloc, statement.program, key, &committed)?;
     let triples = key_triples(alloc, statement.program, &wires, &committed)?;
-    if let Some(section) = failing_section(
+    let first = statement.program.wires() - statement.outputs.len();
+    let last = behind(&wires, first);
+    let verdict = verdict_of(
         &triples,
         statement.section,
         challenge,
         masks,
         sums,
+        last,
+        openings,
+        statement.outputs,
         key,
-    ) {
-        return Ok(Verdict::RejectedSum {
-            section: section as u32,
-        });
-    }
-    let last = &wires[statement.program.wires() - statement.outputs.len()..];
-    match failing_opening(last, openings, statement.outputs, key) {
-        Some(output) => Ok(Verdict::RejectedOpening {
-            output: output as u32,
-        }),
-        None => Ok(Verdict::Accepted),
-    }
+    );
+    Ok(verdict)
 }
 
 /// The code and the number of a verdict.
@@ -196,28 +210,35 @@ fn code_of(verdict: Verdict) -> (u8, u32) {
     }
 }
 
-/// The prover's turns once the verifier's grant is there, and the verifier's challenge and verdict.
+/// The prover's turns once the verifier's grant is there, and the verifier's challenge and verdict, where the keys fit the
+/// pairs and the prover claims what its bits give.
 fn exchange(
     alloc: Global,
     log: &mut Log,
     statement: &Statement<'_>,
     bits: &[bool],
-    prover: &ProverFile,
-    verifier: &VerifierFile,
+    pairs: &[Pair],
+    key: Fe,
+    keys: &[Fe],
+    coin: Fe,
 ) -> Result<Verdict, AllocError>
-    requires bits { length bits.now ≡ statement.now.program.now.wires }
-    requires pairs { statement.now.products + statement.now.sections ≤ 64 * prover.now.params.total }
-    requires keys { statement.now.products + statement.now.sections ≤ 64 * verifier.now.params.total }
+    requires bits { AreBitsOf statement.now.program.now bits.now }
+    requires claimed { statement.now.outputs.now ≡ drop (output_wire statement.now.program.now 0) bits.now }
+    requires pairs { statement.now.products + statement.now.sections ≤ length pairs.now }
+    requires fit { keys.now ≡ map (fitting_key key) pairs.now }
+    ensures { IfOk result (λ verdict. verdict ≡ Accepted) }
 {
-    let pairs = prover.pairs();
+    let _wires = statement.program.wires();
+    let _key = key.value();
     let fixed = fix(alloc, log, statement, bits, pairs)?;
-    let challenge = pass_challenge(alloc, log, verifier.challenge(0))?;
+    let challenge = pass_challenge(alloc, log, coin)?;
     let sums = send_sums(alloc, log, statement, &fixed.committed, challenge, pairs)?;
     let openings = send_openings(alloc, log, statement, &fixed.committed.wires)?;
     let verdict = judge(
         alloc,
         statement,
-        verifier,
+        key,
+        keys,
         &fixed.taken,
         challenge,
         &sums,
@@ -238,10 +259,12 @@ pub fn hold(
     prover: &ProverFile,
     verifier: &VerifierFile,
 ) -> Result<Verdict, AllocError>
-    requires bits { length bits.now ≡ statement.now.program.now.wires }
+    requires bits { AreBitsOf statement.now.program.now bits.now }
+    requires claimed { statement.now.outputs.now ≡ drop (output_wire statement.now.program.now 0) bits.now }
     requires pairs { statement.now.products + statement.now.sections ≤ 64 * prover.now.params.total }
-    requires keys { statement.now.products + statement.now.sections ≤ 64 * verifier.now.params.total }
+    requires fit { all_keys verifier.now ≡ map (fitting_key verifier.now.key) (all_pairs prover.now) }
     requires twin { prover.now.id ≡ verifier.now.id }
+    ensures { IfOk result (λ verdict. verdict ≡ Accepted) }
 {
     greet(alloc, log, prover, verifier, statement.outputs)?;
     let grant = Grant {
@@ -250,5 +273,15 @@ pub fn hold(
         section: statement.section as u32,
     };
     pass_grant(alloc, log, grant)?;
-    exchange(alloc, log, statement, bits, prover, verifier)
+    let verdict = exchange(
+        alloc,
+        log,
+        statement,
+        bits,
+        prover.pairs(),
+        verifier.key(),
+        verifier.keys(),
+        verifier.challenge(0),
+    )?;
+    Ok(verdict)
 }

@@ -1,12 +1,14 @@
 // What a verifier holds and tests.
-ghost use Rattle.std.specs.Prelude.{◌≡◌, ◌<◌, ◌≤◌, ℕ, length, IfOk, IfSome, IfNone, IsTrue, ◌↔◌};
+ghost use Rattle.std.specs.Prelude.{◌≡◌, ◌<◌, ◌≤◌, ◌^◌, ℕ, length, IfOk, IfSome, IfNone, IsTrue, ◌↔◌};
 ghost use Rattle.zk_model.specs.Products.{product_count};
 ghost use Rattle.zk_model.specs.Files.{part_count};
 ghost use Rattle.zk_model.specs.Mac.{corrected_keys};
 ghost use Rattle.zk_model.specs.Check.{key_triple_of, section_left, section_right, IsFirstFailure};
 ghost use Rattle.zk_cli.specs.Sections.{HoldsAt, OpensAt};
+ghost use Rattle.zk_cli.specs.Verdicts.{IsVerdictOf};
 ghost use Rattle.zk_cli.specs.Triples.{wire_key_triples, factors};
 
+use crate::rehearsal::Verdict;
 use crate::sections::section_at;
 use crate::sums::{KeyTriple, left_side, opening_side, right_side};
 use gate_translate::{FieldProgram, Product};
@@ -106,4 +108,39 @@ pub fn failing_opening(keys: &[Fe], macs: &[Fe], claimed: &[bool], key: Fe) -> O
         }
     }
     None
+}
+
+/// The verdict of the checks of all sections and outputs.
+pub fn verdict_of(
+    triples: &[KeyTriple],
+    section: usize,
+    challenge: Fe,
+    masks: &[Fe],
+    sums: &[(Fe, Fe)],
+    outputs: &[Fe],
+    macs: &[Fe],
+    claimed: &[bool],
+    key: Fe,
+) -> Verdict
+    requires section { 1 ≤ section }
+    requires masks { length masks.now ≡ part_count (length triples.now) section }
+    requires sums { length sums.now ≡ length masks.now }
+    requires few { length masks.now ≤ 2 ^ 32 }
+    requires macs { length macs.now ≡ length outputs.now }
+    requires claimed { length claimed.now ≡ length outputs.now }
+    requires few_outputs { length outputs.now ≤ 2 ^ 32 }
+    ensures { IsVerdictOf (HoldsAt key section challenge triples.now masks.now sums.now) (OpensAt key outputs.now macs.now claimed.now)
+        (length masks.now) (length claimed.now) result }
+{
+    if let Some(section) = failing_section(triples, section, challenge, masks, sums, key) {
+        return Verdict::RejectedSum {
+            section: section as u32,
+        };
+    }
+    match failing_opening(outputs, macs, claimed, key) {
+        Some(output) => Verdict::RejectedOpening {
+            output: output as u32,
+        },
+        None => Verdict::Accepted,
+    }
 }
