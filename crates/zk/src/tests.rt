@@ -1,10 +1,18 @@
-use mersenne_field::Fe;
+use crate::vectors::{AND_LOG, FILE_ID};
+use bristol_reader::read;
+use gate_translate::translate;
+use mersenne_field::{Fe, Pair};
 use std::alloc::{AllocError, Global};
 use std::collections::BTreeMap;
 use std::sync::Wait;
 use std::test::Fail;
 use std::thread::Threads;
-use zk_cli::{Finish, Part, Verdict, run_zk};
+use zk_cli::parts::{
+    CoinBox, KeyTriple, Triple, committed_keys, committed_pairs, corrections, deal,
+    encode_elements, left_side, opening_side, right_side, section_sums,
+};
+use zk_cli::{Finish, Part, Rehearsal, Run, Verdict, run_zk};
+use zk_model::Side;
 use zk_port::{
     ClosedDisk, FailAt, FaultPlan, MemoryDoor, MemoryShelf, MemorySink, NoFault, QuietGate,
     ScriptedLink,
@@ -136,16 +144,26 @@ fn refusals_have_their_lines(rt: HostRuntime) -> Result<(), Fail> {
     Ok(())
 }
 
-#[test]
-fn the_rehearsal_is_handed_back(rt: HostRuntime) -> Result<(), Fail> {
-    let alloc = rt.alloc();
-    let mut shelf = MemoryShelf::new(file_of(alloc, AND)?, NoFault);
+/// The rehearsal that is handed back for a circuit of this text at these bits.
+fn rehearsal_of<R: Threads + Wait>(
+    rt: &R,
+    alloc: Global,
+    text: &str,
+    bits: &str,
+) -> Result<Rehearsal, Fail> {
+    let mut shelf = MemoryShelf::new(file_of(alloc, text)?, NoFault);
     let mut out = MemorySink::new(alloc, NoFault);
-    let words = ["rehearse", "c", "11", "--section", "1"];
-    let (_, part) = run(&rt, alloc, &words, &mut shelf, &mut out)?;
+    let words = ["rehearse", "c", bits, "--section", "1"];
+    let (_, part) = run(rt, alloc, &words, &mut shelf, &mut out)?;
     let Part::Rehearsed(rehearsal) = part else {
         return Err(Fail::from("no rehearsal"));
     };
+    Ok(rehearsal)
+}
+
+#[test]
+fn the_rehearsal_is_handed_back(rt: HostRuntime) -> Result<(), Fail> {
+    let rehearsal = rehearsal_of(&rt, rt.alloc(), AND, "11")?;
     assert_eq!(rt; rehearsal.outputs.as_slice(), [true].as_slice());
     assert_eq!(rt; rehearsal.need, 6);
     assert_eq!(rt; rehearsal.verdict, Verdict::Accepted);
@@ -258,5 +276,155 @@ fn products_are_modulo_the_prime(rt: HostRuntime) -> Result<(), Fail> {
     assert_eq!(rt; Fe::from_word(1 << 60).mul(Fe::from_word(2)), Fe::ONE);
     assert_eq!(rt; Fe::from_le(&(prime - 1).to_le_bytes()), Some(last));
     assert_eq!(rt; Fe::from_le(&prime.to_le_bytes()), None);
+    assert_eq!(rt;
+        Fe::from_word(0xd59d_71f7_ff08_4737).value(),
+        0x159d_71f7_ff08_4737
+    );
+    Ok(())
+}
+
+/// The element of a small number.
+fn small(number: u64) -> Fe {
+    Fe::from_word(number)
+}
+
+/// The pair of two small numbers.
+fn small_pair(x: u64, m: u64) -> Pair {
+    Pair {
+        x: small(x),
+        m: small(m),
+    }
+}
+
+#[test]
+fn both_sides_of_a_check_agree(rt: HostRuntime) {
+    let key = small(5);
+    let triple = Triple {
+        a: small_pair(1, 10),
+        b: small_pair(1, 20),
+        c: small_pair(1, 7),
+    };
+    let keys = KeyTriple {
+        a: small(15),
+        b: small(25),
+        c: small(12),
+    };
+    let sums = section_sums(&[triple], small(2), small_pair(4, 9));
+    assert_eq!(rt; sums, (small(409), small(50)));
+    assert_eq!(rt; left_side(&[keys], small(2), small(29), key), small(659));
+    assert_eq!(rt; right_side(sums, key), small(659));
+    assert_eq!(rt; opening_side(small(7), true, key), small(12));
+    assert_eq!(rt; opening_side(small(7), false, key), small(7));
+}
+
+#[test]
+fn a_correction_changes_the_value_and_the_key(rt: HostRuntime) -> Result<(), Fail> {
+    let alloc = rt.alloc();
+    let Ok(circuit) = read(alloc, b"0 1 1 1 1 1") else {
+        return Err(Fail::from("no circuit"));
+    };
+    let program = translate(alloc, &circuit)?;
+    let bits = [true];
+    let pairs = [small_pair(3, 4)];
+    if program.wires() != bits.len() || program.products().len() != pairs.len() {
+        return Err(Fail::from("another circuit"));
+    }
+    let differences = corrections(alloc, &program, &bits, &pairs)?;
+    assert_eq!(rt; differences.as_slice(), [small((1 << 61) - 3)].as_slice());
+    let keys = committed_keys(alloc, &[small(19)], &differences, small(5))?;
+    assert_eq!(rt; keys.as_slice(), [small(9)].as_slice());
+    let committed = committed_pairs(alloc, &pairs, &differences)?;
+    assert_eq!(rt; committed.as_slice(), [small_pair(1, 4)].as_slice());
+    Ok(())
+}
+
+#[test]
+fn files_are_those_of_the_seed(rt: HostRuntime) -> Result<(), Fail> {
+    let alloc = rt.alloc();
+    let (prover, verifier) = deal(alloc, 1, &[7; 32])?;
+    assert_eq!(rt; prover.id(), FILE_ID);
+    assert_eq!(rt; verifier.id(), FILE_ID);
+    assert_eq!(rt; verifier.key().value(), 0x0915_3ca4_4e32_ed06);
+    assert_eq!(rt; verifier.challenge(0).value(), 0x01bc_6ff4_e472_2734);
+    let pairs = prover.pairs();
+    let keys = verifier.keys();
+    for (place, x, m, key) in [
+        (
+            0,
+            0x1c18_09bd_908f_f370,
+            0x1edc_cb76_5d6d_b1d9,
+            0x1af3_3887_b838_1960,
+        ),
+        (
+            1,
+            0x00fb_8ca3_403d_19bf,
+            0x1f7b_50c8_6eab_3d5f,
+            0x0928_91b6_a2ba_966d,
+        ),
+        (
+            63,
+            0x15ea_0783_fee7_1fbb,
+            0x196b_5f81_6bea_35f6,
+            0x005e_7969_eb96_b0ad,
+        ),
+    ] {
+        assert_eq!(rt; pairs.get(place), Some(&small_pair(x, m)), "{place}");
+        assert_eq!(rt; keys.get(place), Some(&small(key)), "{place}");
+    }
+    assert_eq!(rt; pairs.len(), 64);
+    assert_eq!(rt; keys.len(), 64);
+    Ok(())
+}
+
+#[test]
+fn words_of_coins_stand_low_byte_first(rt: HostRuntime) {
+    let coins = CoinBox::new(&[7; 32]);
+    let id = coins.bytes(0);
+    assert_eq!(rt; id, FILE_ID);
+    assert_eq!(rt; coins.seed16(0, 0).as_slice(), &FILE_ID[..16]);
+    assert_eq!(rt; coins.seed16(0, 1).as_slice(), &FILE_ID[16..]);
+    assert_eq!(rt; coins.word(0, 0), 0x41f6_aa57_7892_00f4);
+}
+
+#[test]
+fn a_log_is_the_session_byte_for_byte(rt: HostRuntime) -> Result<(), Fail> {
+    let rehearsal = rehearsal_of(&rt, rt.alloc(), AND, "11")?;
+    assert_eq!(rt; rehearsal.log.bytes(), AND_LOG.as_slice());
+    let runs = [
+        (Side::Prover, 102),
+        (Side::Verifier, 21),
+        (Side::Prover, 29),
+        (Side::Verifier, 13),
+        (Side::Prover, 53),
+        (Side::Prover, 13),
+        (Side::Verifier, 10),
+    ]
+    .map(|(side, count)| Run { side, count });
+    assert_eq!(rt; rehearsal.log.runs(), runs.as_slice());
+    Ok(())
+}
+
+#[test]
+fn elements_are_framed(rt: HostRuntime) -> Result<(), Fail> {
+    let alloc = rt.alloc();
+    let challenge = encode_elements(alloc, 6, &[small(2)])?;
+    assert_eq!(rt;
+        challenge.as_slice(),
+        [6, 8, 0, 0, 0, 2, 0, 0, 0, 0, 0, 0, 0].as_slice()
+    );
+    let corrections = encode_elements(alloc, 5, &[])?;
+    assert_eq!(rt; corrections.as_slice(), [5, 0, 0, 0, 0].as_slice());
+    Ok(())
+}
+
+#[test]
+fn a_circuit_without_wires_has_empty_frames(rt: HostRuntime) -> Result<(), Fail> {
+    let rehearsal = rehearsal_of(&rt, rt.alloc(), "0 0 0 0", "none")?;
+    let bytes = rehearsal.log.bytes();
+    assert_eq!(rt; bytes.len(), 161);
+    assert_eq!(rt; &bytes[123..128], [5, 0, 0, 0, 0].as_slice());
+    assert_eq!(rt; &bytes[128..133], [6, 8, 0, 0, 0].as_slice());
+    assert_eq!(rt; &bytes[141..151], [7, 0, 0, 0, 0, 8, 0, 0, 0, 0].as_slice());
+    assert_eq!(rt; &bytes[151..], [9, 5, 0, 0, 0, 0, 0, 0, 0, 0].as_slice());
     Ok(())
 }

@@ -72,9 +72,7 @@ count_key_triples circuit wires committed triples enough are =
     ∙ length-zip (circuit_products circuit) committed
     ∙ omega (arith, enough)
 
--- as many corrections as products take as many pairs
-pub enough_pairs : (circuit : Circuit) (bits : List Bool) (pairs : List Pair) (corrections : List ℕ)
-    → corrections ≡ honest_corrections circuit bits pairs → length corrections ≡ product_count circuit → product_count circuit ≤ length pairs
-enough_pairs circuit bits pairs corrections are count =
-    let paired = ap length are ∙ length-map (zip (circuit_products circuit) pairs) (correction_of bits) ∙ length-zip (circuit_products circuit) pairs in
-    omega (arith, paired, count)
+-- a pair for each wire
+pub count_wires : (circuit : Circuit) (bits : List Bool) (pairs : List Pair) (corrections : List ℕ) (wires : List Pair) (triples : List Triple)
+    → IsCommitted circuit bits pairs corrections wires triples → length wires ≡ circuit.wires
+count_wires circuit bits pairs corrections wires triples fixed = sym (length-map wires (λ pair. pair.x)) ∙ fixed.values.whole

@@ -1,11 +1,15 @@
+pub mod AreDealtLemmas
 pub mod BitSteps
 pub mod CoinWords
 pub mod Committing
+pub mod DealtFiles
 pub mod DealtLemmas
+pub mod DirectViews
 pub mod Decimals
 pub mod FrameLemmas
 pub mod GateOrder
-pub mod HonestLaw
+pub mod HonestExchange
+pub mod Judging
 pub mod OneCircuit
 pub mod Orders
 pub mod Outcomes
@@ -14,6 +18,7 @@ pub mod Ranges
 pub mod Reading
 pub mod RunLemmas
 pub mod Sectioning
+pub mod SentBytes
 pub mod StepOrder
 pub mod Stopping
 pub mod WeightedSums

@@ -1,5 +1,5 @@
 -- What the relation of a rehearsal says of each status.
-use Rattle.std.proofs.Common.{◌≡◌, ◌≢◌, ◌⊎◌, ◌<◌, ◌≤◌, ℕ, List, length, Bool, Option, Some, None, IsSomeAnd, refl, ap, sym, ◌∙◌, subst, inl, inr, arith, nat_le, cond, true, false}
+use Rattle.std.proofs.Common.{◌≡◌, ◌≢◌, ◌⊎◌, ◌<◌, ◌≤◌, ℕ, List, ◌++◌, length, Bool, Option, Some, None, IsSomeAnd, refl, ap, sym, ◌∙◌, subst, inl, inr, arith, nat_le, cond, true, false}
 use Rattle.std.proofs.lemmas.Bool.Decides.{nat_tests}
 use Rattle.zk_model.specs.Circuit.{Circuit}
 use Rattle.zk_model.specs.Bristol.{IsText}
@@ -12,9 +12,9 @@ use Rattle.bristol_reader.specs.Reads.{ReadCause}
 use Rattle.bristol_reader.specs.declared.fault.ReadError.{ReadError}
 use Rattle.bristol_reader.specs.declared.fault.ReadError.TheVariants as read
 use Rattle.zk_cli.specs.CircuitFiles.{IsLoaded, IsCircuitFile, IsToldCircuit}
-use Rattle.zk_cli.specs.Outcomes.{IsNoCircuitFile, IsOtherLength, IsRefused, TakesTooMany, AnswersFor}
+use Rattle.zk_cli.specs.Outcomes.{EndsWithVerdict, Accepts, IsNoCircuitFile, IsOtherLength, IsRefused, TakesTooMany, AnswersFor}
 use Rattle.zk_cli.specs.Prints.{Prints, after_sink_fault}
-use Rattle.zk_cli.specs.Rehearsals.{RehearseCause, direct_units}
+use Rattle.zk_cli.specs.Rehearsals.{IsRehearsalOf, RehearseCause, direct_units}
 use Rattle.zk_cli.specs.RehearseRuns.{RehearseRuns, RehearseStop, verdict_status, rehearsal_lines}
 use Rattle.zk_cli.specs.Stops.{PrintsStop, PrintsMade, stop_status}
 use Rattle.zk_cli.specs.Words.{Ask, rehearse}
@@ -29,7 +29,11 @@ use Rattle.zk_cli.specs.declared.rehearsal.Verdict.{Verdict}
 use Rattle.zk_cli.specs.declared.rehearsal.Verdict.TheVariants.{Accepted, RejectedSum, RejectedOpening}
 use Rattle.zk_cli.specs.declared.stop.Stop.{Stop}
 use Rattle.zk_cli.specs.declared.stop.Stop.TheVariants as stop
+use Rattle.zk_cli.specs.Verdicts.{verdict_code}
+use Rattle.zk_model.specs.Transcript.{bytes_from, verdict_frame}
+use Rattle.zk_model.specs.declared.Side.TheVariants.{Verifier}
 use Rattle.zk_cli.proofs.OneCircuit.{one_circuit}
+use Rattle.zk_cli.proofs.SentBytes.{before_verdict, ends_with_verdict}
 
 -- ---- what is answered
 
@@ -61,6 +65,16 @@ said_as status text answer old new before now wanted (inr (inl fault)) is_wanted
 said_as status text answer old new before now wanted (inr (inr memory)) is_wanted no_fault no_memory =
     absurd (no_memory (sym is_wanted ∙ memory.0))
 
+-- no stop has the status 0
+no_stop_of_0 : (stop : Stop) → 0 ≢ stop_status stop
+no_stop_of_0 stop.Usage is = absurd (omega (arith, is))
+no_stop_of_0 (stop.BadText fault) is = absurd (omega (arith, is))
+no_stop_of_0 (stop.TooLong limit) is = absurd (omega (arith, is))
+no_stop_of_0 (stop.WrongLength need got) is = absurd (omega (arith, is))
+no_stop_of_0 stop.ShelfFailed is = absurd (omega (arith, is))
+no_stop_of_0 stop.NoMemory is = absurd (omega (arith, is))
+no_stop_of_0 (stop.TooLarge need units) is = absurd (omega (arith, is))
+
 low_verdict : (verdict : Verdict) → verdict_status verdict ≤ 1
 low_verdict Accepted = omega arith
 low_verdict (RejectedSum section) = omega arith
@@ -70,6 +84,35 @@ no_memory_says : (wanted answer : ℕ) (old new : Option (List ℕ)) (before now
     → PrintsStop stop.NoMemory answer old new before now → answer ≡ wanted → wanted ≢ 4 → wanted ≢ 7 → ⊥
 no_memory_says wanted answer old new before now prints is_wanted no_fault no_memory =
     no_memory (sym (said_as _ _ _ _ _ _ _ wanted prints is_wanted no_fault no_memory).same)
+
+-- ---- 0
+
+-- the log of a rehearsal ends with a verdict that accepts
+accepting_log : (circuit : Circuit) (bits : List Bool) (section : ℕ) (seed : List ℕ) (r : Rehearsal)
+    → IsRehearsalOf circuit bits section seed r → EndsWithVerdict 0 0 r.log
+accepting_log circuit bits section seed r is = (
+  before_verdict is.transcript,
+  is.session.in_order.bytes ∙ ends_with_verdict is.transcript
+      ∙ (λ i. before_verdict is.transcript ++ bytes_from Verifier (verdict_frame (code i) (number i))),
+)
+  where
+    code : is.transcript.code ≡ 0
+    code = ap (λ (q : ℕ × ℕ). q.0) is.said ∙ ap (λ (v : Verdict). (verdict_code v).0) is.accepted
+
+    number : is.transcript.number ≡ 0
+    number = ap (λ (q : ℕ × ℕ). q.1) is.said ∙ ap (λ (v : Verdict). (verdict_code v).1) is.accepted
+
+-- a status of 0 stands for a log whose verdict accepts
+pub rehearsed_0 : (told : Option Files) (name : List ℕ) (bits : List Bool) (section : ℕ) (seed : List ℕ) (shelf_before shelf_now : ℕ) (part : Part) (status : ℕ)
+    (old new : Option (List ℕ)) (before now : ℕ) → RehearseRuns told name bits section seed shelf_before shelf_now part status old new before now
+    → status ≡ 0 → Accepts part old new
+rehearsed_0 told name bits section seed shelf_before shelf_now (Rehearsed r) status old new before now (made, inl prints) is_0 =
+    let said = said_as _ _ _ _ _ _ _ 0 prints is_0 (λ e. absurd (omega (arith, e))) (λ e. absurd (omega (arith, e))) in
+    (accepting_log made.circuit bits section seed r made.rehearsal, made.rehearsal.accepted, said.whole (omega arith))
+rehearsed_0 told name bits section seed shelf_before shelf_now (Rehearsed r) status old new before now (made, inr memory) is_0 =
+    absurd (no_memory_says 0 status old new before now memory is_0 (λ e. absurd (omega (arith, e))) (λ e. absurd (omega (arith, e))))
+rehearsed_0 told name bits section seed shelf_before shelf_now Plain status old new before now (stop, cause, prints) is_0 =
+    absurd (no_stop_of_0 stop (sym (said_as _ _ _ _ _ _ _ 0 prints is_0 (λ e. absurd (omega (arith, e))) (λ e. absurd (omega (arith, e)))).same))
 
 -- ---- what a stop says
 

@@ -1,9 +1,9 @@
 -- Payloads, read item by item.
-use Rattle.std.proofs.Common.{◌≡◌, ℕ, ◌+◌, ◌*◌, ◌<◌, List, [], ◌∷◌, ◌++◌, length, flat_map, drop, refl, ap, sym, ◌∙◌, arith, append_assoc, append-nil, length-append, take, subst, ◌^◌, get_or}
+use Rattle.std.proofs.Common.{◌≡◌, ℕ, ◌+◌, ◌*◌, ◌<◌, List, [], ◌∷◌, ◌++◌, length, flat_map, drop, refl, ap, sym, ◌∙◌, arith, append_assoc, append-nil, length-append, take, subst, ◌^◌, get_or, take-append-drop, length-drop}
 use Rattle.std.specs.Int.{w32, w64, from_le_bytes, to_le_bytes}
 use Rattle.std.proofs.lemmas.Nat.{from_le_bytes-to_le_bytes_8, from_le_bytes-to_le_bytes_4}
 use Rattle.std.proofs.Math.Seq.{take-append_seam, drop-append_seam, drop-drop}
-use Rattle.std.proofs.lemmas.List.{get_or-append_right}
+use Rattle.std.proofs.lemmas.List.{get_or-append_right, get_or-drop, get_or-take, take_all, length-take-le}
 use Rattle.zk_cli.specs.FrameRanges.{FitsGrant, HasDigests}
 use Rattle.std.specs.List.{AllByRecursion}
 use Rattle.std.proofs.lemmas.List.{flat_map_more}
@@ -126,6 +126,13 @@ reads_sums view payload count (Ok value) sums found bad sized all same =
 reads_sums view payload count (Err fault.NoMemory) sums found bad sized all same = tt
 reads_sums view payload count (Err fault.BadFrame) sums found bad sized all same = bad refl sums sized all same
 
+-- what was read is what the frame spells
+pub found_sums : {T : Type 0} (view : T → List (ℕ × ℕ)) (bytes payload : List ℕ) (count : ℕ) (result : Result T FrameFault) → bytes ≡ frame_bytes 7 payload
+    → IfOk result (λ v. SpellsElements payload (2 * count) (flattened (view v)) × (length (view v) ≡ count))
+    → IfOk result (λ v. (bytes ≡ frame_bytes 7 (sums_payload (view v))) × (length (view v) ≡ count))
+found_sums view bytes payload count (Ok value) is found = (is ∙ ap (frame_bytes 7) (found.0.bytes ∙ flattened_bytes (view value)), found.1)
+found_sums view bytes payload count (Err fault) is found = tt
+
 -- a frame of one kind has one payload
 pub same_payload : (kind : ℕ) (payload other : List ℕ) → frame_bytes kind payload ≡ frame_bytes kind other → payload ≡ other
 same_payload kind payload other same = ap (drop 5) same
@@ -158,12 +165,74 @@ hello_parts payload hello is same =
     behind_32 : (front rest : List ℕ) → length front ≡ 32 → drop 32 (front ++ rest) ≡ rest
     behind_32 front rest sized = ap (λ n. drop n (front ++ rest)) (sym sized) ∙ drop-append_seam front rest
 
--- a grant in its payload
-pub grant_parts : (grant : Grant) → FitsGrant grant → (start count section : ℕ)
-    → start ≡ from_le_bytes w64 (to_le_bytes w64 grant.start) → count ≡ from_le_bytes w32 (to_le_bytes w32 grant.count) → section ≡ from_le_bytes w32 (to_le_bytes w32 grant.section)
+-- a list is its first n items and those behind them
+front_and_rest : (n : ℕ) (l : List ℕ) → l ≡ take n l ++ drop n l
+front_and_rest n l = sym (take-append-drop n l)
+
+-- a list of one item
+one_item : (l : List ℕ) → length l ≡ 1 → l ≡ get_or l 0 0 ∷ []
+one_item [] sized = absurd (omega arith)
+one_item (x ∷ []) sized = refl
+one_item (x ∷ y ∷ l) sized = absurd (omega arith)
+
+-- a payload of a greeting's length is that of the greeting that is read from it
+pub hello_whole : (payload : List ℕ) → length payload ≡ 97
+    → payload ≡ take 32 (drop 0 payload) ++ take 32 (drop 32 payload) ++ take 32 (drop 64 payload) ++ get_or payload 96 0 ∷ []
+hello_whole payload sized =
+    front_and_rest 32 payload
+    ∙ ap (λ l. first ++ l) (front_and_rest 32 (drop 32 payload)
+    ∙ ap (λ l. second ++ l) (drop-drop 32 32 payload ∙ front_and_rest 32 (drop 64 payload)
+    ∙ ap (λ l. third ++ l) (drop-drop 32 64 payload ∙ last)))
+    ∙ sym (append_assoc first second (third ++ get_or payload 96 0 ∷ []))
+    ∙ sym (append_assoc (first ++ second) third (get_or payload 96 0 ∷ []))
+  where
+    first : List ℕ
+    first = take 32 payload
+
+    second : List ℕ
+    second = take 32 (drop 32 payload)
+
+    third : List ℕ
+    third = take 32 (drop 64 payload)
+
+    last : drop 96 payload ≡ get_or payload 96 0 ∷ []
+    last = one_item (drop 96 payload) (omega (arith, length-drop 96 payload, sized)) ∙ ap (λ x. x ∷ []) (get_or-drop 96 payload 0 0)
+
+-- a payload of a grant's length is that of the grant that is read from it
+pub grant_whole : (payload : List ℕ) (start count section : ℕ) → length payload ≡ 16
+    → to_le_bytes w64 start ≡ take 8 (drop 0 payload) → to_le_bytes w32 count ≡ take 4 (drop 8 payload) → to_le_bytes w32 section ≡ take 4 (drop 12 payload)
+    → payload ≡ to_le_bytes w64 start ++ to_le_bytes w32 count ++ to_le_bytes w32 section
+grant_whole payload start count section sized one two three =
+    front_and_rest 8 payload
+    ∙ ap (λ l. take 8 payload ++ l) (front_and_rest 4 (drop 8 payload)
+    ∙ ap (λ l. take 4 (drop 8 payload) ++ l) (drop-drop 4 8 payload ∙ sym (take_all 4 (drop 12 payload) (omega (arith, length-drop 12 payload, sized)))))
+    ∙ sym (append_assoc (take 8 payload) (take 4 (drop 8 payload)) (take 4 (drop 12 payload)))
+    ∙ (λ i. sym one i ++ sym two i ++ sym three i)
+
+-- a payload of a verdict's length is that of the verdict that is read from it
+pub verdict_whole : (payload : List ℕ) (number : ℕ) → length payload ≡ 5 → to_le_bytes w32 number ≡ take 4 (drop 1 payload)
+    → payload ≡ get_or payload 0 0 ∷ to_le_bytes w32 number
+verdict_whole payload number sized is =
+    front_and_rest 1 payload
+    ∙ (λ i. one_item (take 1 payload) (length-take-le 1 payload (omega (arith, sized))) i ++ sym (take_all 4 (drop 1 payload) (omega (arith, length-drop 1 payload, sized))) i)
+    ∙ (λ i. get_or-take 1 payload 0 0 (omega arith) i ∷ sym is i)
+
+-- numbers with the same bytes are the same
+pub same_word64 : (some other : ℕ) → some < 2 ^ 64 → other < 2 ^ 64 → to_le_bytes w64 some ≡ to_le_bytes w64 other → some ≡ other
+same_word64 some other left right same =
+    sym (from_le_bytes-to_le_bytes_8 some left) ∙ ap (from_le_bytes w64) same ∙ from_le_bytes-to_le_bytes_8 other right
+
+pub same_word32 : (some other : ℕ) → some < 2 ^ 32 → other < 2 ^ 32 → to_le_bytes w32 some ≡ to_le_bytes w32 other → some ≡ other
+same_word32 some other left right same =
+    sym (from_le_bytes-to_le_bytes_4 some left) ∙ ap (from_le_bytes w32) same ∙ from_le_bytes-to_le_bytes_4 other right
+
+-- a grant is read back from its payload
+pub grant_parts : (payload : List ℕ) (grant : Grant) → FitsGrant grant → (start count section : ℕ) → start < 2 ^ 64 → count < 2 ^ 32 → section < 2 ^ 32
+    → payload ≡ to_le_bytes w64 grant.start ++ to_le_bytes w32 grant.count ++ to_le_bytes w32 grant.section
+    → to_le_bytes w64 start ≡ take 8 (drop 0 payload) → to_le_bytes w32 count ≡ take 4 (drop 8 payload) → to_le_bytes w32 section ≡ take 4 (drop 12 payload)
     → record { start = start; count = count; section = section } ≡ grant
-grant_parts grant fits start count section one two three = λ i. record {
-  start = (one ∙ from_le_bytes-to_le_bytes_8 grant.start fits.start) i;
-  count = (two ∙ from_le_bytes-to_le_bytes_4 grant.count fits.count) i;
-  section = (three ∙ from_le_bytes-to_le_bytes_4 grant.section fits.section) i;
+grant_parts payload grant fits start count section start_fits count_fits section_fits parts one two three = λ i. record {
+  start = same_word64 start grant.start start_fits fits.start (one ∙ ap (λ l. take 8 (drop 0 l)) parts) i;
+  count = same_word32 count grant.count count_fits fits.count (two ∙ ap (λ l. take 4 (drop 8 l)) parts) i;
+  section = same_word32 section grant.section section_fits fits.section (three ∙ ap (λ l. take 4 (drop 12 l)) parts) i;
 }

@@ -4,6 +4,7 @@ pub mod CircuitFiles
 pub mod Commands
 pub mod Commitments
 pub mod DirectFiles
+pub mod Exchanges
 pub mod FaultLines
 pub mod FrameRanges
 pub mod Frames

@@ -1,7 +1,10 @@
 -- What each status says of a run.
-use Rattle.std.specs.Prelude.{◌≡◌, ◌≢◌, ◌⊎◌, ◌<◌, ◌≤◌, ℕ, List, length, Bool, Option, Some, None}
+use Rattle.std.specs.Prelude.{◌≡◌, ◌≢◌, ◌⊎◌, ◌<◌, ◌≤◌, ℕ, List, ◌++◌, length, Bool, Option, Some, None}
 use Rattle.zk_model.specs.Circuit.{Circuit}
 use Rattle.zk_model.specs.Bristol.{IsText}
+use Rattle.zk_model.specs.Transcript.{bytes_from, verdict_frame}
+use Rattle.zk_model.specs.declared.Side.{Side}
+use Rattle.zk_model.specs.declared.Side.TheVariants.{Verifier}
 use Rattle.zk_port.specs.Files.{Files, StandsLonger}
 use Rattle.zk_port.specs.Logs.{appended}
 use Rattle.zk_cli.specs.CircuitFiles.{IsLoaded, IsCircuitFile}
@@ -23,9 +26,13 @@ UsageRuns (Rehearsed r) status old new before now = ⊥
 
 -- ---- 0: a verdict
 
--- 0: the part was accepted, and its lines are written
+-- the last frame of the log is a verdict of this code and number
+abbrev pub EndsWithVerdict : ℕ → ℕ → List (Side × ℕ) → Type 0
+EndsWithVerdict code number log = (front : List (Side × ℕ)) × (log ≡ front ++ bytes_from Verifier (verdict_frame code number))
+
+-- 0: the log ends with a verdict that accepts, and its lines are written
 abbrev pub Accepts : Part → Option (List ℕ) → Option (List ℕ) → Type 0
-Accepts (Rehearsed r) old new = (r.verdict ≡ Accepted) × (new ≡ appended (rehearsal_lines r) old)
+Accepts (Rehearsed r) old new = EndsWithVerdict 0 0 r.log × (r.verdict ≡ Accepted) × (new ≡ appended (rehearsal_lines r) old)
 Accepts Plain old new = ⊥
 
 -- ---- 3: a file is refused, or words that do not fit it

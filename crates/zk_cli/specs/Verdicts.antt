@@ -1,6 +1,6 @@
 -- The verdict of a session's checks.
 use Rattle.std.specs.Prelude.{ℕ, ◌<◌, Bool, List, length, drop}
-use Rattle.zk_model.specs.Circuit.{Circuit, AreWireBits, output_wire}
+use Rattle.zk_model.specs.Circuit.{Circuit, output_wire}
 use Rattle.zk_model.specs.Products.{Carries}
 use Rattle.zk_model.specs.Mac.{corrected_keys}
 use Rattle.zk_model.specs.Check.{IsFirstFailure}
@@ -38,6 +38,8 @@ IsJudged circuit section taken verdict =
     (OpensAt taken.key (drop (output_wire circuit 0) wires) taken.openings taken.outputs)
     (length taken.masks) (length taken.outputs) verdict
 
--- the bits of all wires, from whatever inputs
-abbrev pub AreBitsOf : Circuit → List Bool → Type 0
-AreBitsOf circuit bits = (inputs : List Bool) × AreWireBits circuit inputs bits
+-- the code and the number of a verdict
+abbrev pub verdict_code : Verdict → ℕ × ℕ
+verdict_code Accepted = (0, 0)
+verdict_code (RejectedSum s) = (1, s)
+verdict_code (RejectedOpening o) = (2, o)

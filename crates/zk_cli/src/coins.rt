@@ -1,9 +1,8 @@
 // Coins: words of ChaCha20 by stream and place.
-ghost use Rattle.std.specs.Prelude.{◌≡◌, ◌+◌, ◌*◌, ◌^◌, ◌<◌, ◌≤◌, ◌++◌, length, map};
-ghost use Rattle.std.specs.Int.{w64, to_le_bytes};
+ghost use Rattle.std.specs.Prelude.{◌≡◌, ◌+◌, ◌*◌, ◌^◌, ◌≤◌, length, map};
 ghost use Rattle.std.specs.List.{range_with_len};
 ghost use Rattle.rand_chacha.specs.ChaCha.{word_at};
-ghost use Rattle.zk_model.specs.Coins.{coin_word};
+ghost use Rattle.zk_model.specs.Coins.{coin_word, seed16};
 ghost use Rattle.zk_model.specs.Dealing.{stream_bytes};
 
 use rand_chacha::ChaCha20Rng;
@@ -41,6 +40,7 @@ fn next_pair(generator: &mut ChaCha20Rng) -> u64
 }
 
 impl CoinBox {
+    /// The coins under this key.
     pub fn new(key: &[u8; 32]) -> Self
         ensures { result ≡ key.now }
     {
@@ -70,26 +70,28 @@ impl CoinBox {
         words[0]
     }
 
+    /// Words 2i and 2i + 1 of a stream as 16 bytes, each with its low byte first.
+    pub fn seed16(&self, stream: u64, i: u64) -> [u8; 16]
+        requires { 2 * i + 2 ≤ 2 ^ 40 }
+        ensures { result ≡ seed16 self.now stream i }
+    {
+        let mut words = [0; 2];
+        self.words(stream, 2 * i, &mut words);
+        let mut bytes = [0; 16];
+        let (front, back) = bytes.split_at_mut(8);
+        front.copy_from_slice(&words[0].to_le_bytes());
+        back.copy_from_slice(&words[1].to_le_bytes());
+        bytes
+    }
+
     /// The first four words of a stream, each with its low byte first.
     pub fn bytes(&self, stream: u64) -> [u8; 32]
         ensures { result ≡ stream_bytes self.now stream }
     {
-        let mut words = [0; 4];
-        self.words(stream, 0, &mut words);
         let mut bytes = [0; 32];
         let (front, back) = bytes.split_at_mut(16);
-        put_words(front, words[0], words[1]);
-        put_words(back, words[2], words[3]);
+        front.copy_from_slice(&self.seed16(stream, 0));
+        back.copy_from_slice(&self.seed16(stream, 1));
         bytes
     }
-}
-
-/// Writes two words over 16 bytes, the low byte of each first.
-fn put_words(bytes: &mut [u8], first: u64, second: u64)
-    requires { length bytes.old ≡ 16 }
-    ensures { bytes.new ≡ to_le_bytes w64 first ++ to_le_bytes w64 second }
-{
-    let (front, back) = bytes.split_at_mut(8);
-    front.copy_from_slice(&first.to_le_bytes());
-    back.copy_from_slice(&second.to_le_bytes());
 }

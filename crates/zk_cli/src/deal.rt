@@ -7,6 +7,7 @@ ghost use Rattle.zk_model.specs.Coins.{coin_word};
 ghost use Rattle.zk_model.specs.Dealing.{dealt_key, dealt_pair, dealt_prover, dealt_verifier};
 ghost use Rattle.zk_cli.specs.DirectFiles.{direct_params, word_pair, all_pairs, all_keys};
 ghost use Rattle.zk_model.specs.Honest.{challenge_coin};
+ghost use Rattle.zk_model.specs.Files.{IsProverFile, IsVerifierFile, AreDealt};
 
 use crate::coins::CoinBox;
 use mersenne_field::{Fe, Pair};
@@ -87,6 +88,13 @@ impl VerifierFile {
         self.id
     }
 
+    /// How many units the file has.
+    pub fn total(&self) -> u64
+        ensures { result ≡ self.now.params.total }
+    {
+        self.total
+    }
+
     /// The verifier's one key.
     pub fn key(&self) -> Fe
         ensures { result ≡ self.now.key }
@@ -156,7 +164,8 @@ fn deal_key(coins: &CoinBox) -> Fe
     if key == Fe::ZERO { Fe::ONE } else { key }
 }
 
-/// The two files of this many units, of kind direct, that a seed of 32 bytes gives.
+/// The two files of this many units, of kind direct, that a seed of 32 bytes gives: values x and MACs m for the prover, and
+/// keys `m + x * key` for the verifier (vector-OLE correlations: Weng, Yang, Katz and Wang, Wolverine, IEEE S&P 2021).
 pub fn deal(
     alloc: Global,
     total: u64,
@@ -165,7 +174,8 @@ pub fn deal(
     requires { total ≤ 2 ^ 32 }
     ensures prover { IfOk result (λ files. files.0 ≡ dealt_prover (direct_params total) seed.now) }
     ensures verifier { IfOk result (λ files. files.1 ≡ dealt_verifier (direct_params total) seed.now) }
-    ensures fit { IfOk result (λ files. all_keys files.1 ≡ map (fitting_key files.1.key) (all_pairs files.0)) }
+    ensures files { IfOk result (λ files. 1 ≤ total → IsProverFile files.0 × IsVerifierFile files.1) }
+    ensures dealt { IfOk result (λ files. AreDealt files.0 files.1) }
     ensures twins { IfOk result (λ files. (files.0.params.total ≡ total) × (files.1.params.total ≡ total) × (files.0.id ≡ files.1.id)) }
 {
     let coins = CoinBox::new(seed);

@@ -1,5 +1,6 @@
 // Frames, read back.
 ghost use Rattle.std.specs.Prelude.{◌≡◌, ◌*◌, ◌^◌, ◌≤◌, ◌<◌, ◌+◌, ◌++◌, ℕ, List, length, take, drop, flat_map, All, IfOk, IfSome, IfNone};
+ghost use Rattle.std.specs.Int.{w32, w64, to_le_bytes};
 ghost use Rattle.std.specs.List.{AllByRecursion};
 ghost use Rattle.zk_model.specs.Field.{IsElement};
 ghost use Rattle.zk_model.specs.Bytes.{element_bytes};
@@ -126,9 +127,30 @@ fn array_at(bytes: &[u8], at: usize) -> [u8; 32]
     array
 }
 
-/// Reads a greeting.
+/// The number that 8 bytes from a place on say, the low one first.
+fn word64_at(bytes: &[u8], at: usize) -> u64
+    requires { at + 8 ≤ length bytes.now }
+    ensures { to_le_bytes w64 result ≡ take 8 (drop at bytes.now) }
+{
+    let mut word = [0; 8];
+    word.copy_from_slice(&bytes[at..at + 8]);
+    u64::from_le_bytes(word)
+}
+
+/// The number that 4 bytes from a place on say, the low one first.
+fn word32_at(bytes: &[u8], at: usize) -> u32
+    requires { at + 4 ≤ length bytes.now }
+    ensures { to_le_bytes w32 result ≡ take 4 (drop at bytes.now) }
+{
+    let mut word = [0; 4];
+    word.copy_from_slice(&bytes[at..at + 4]);
+    u32::from_le_bytes(word)
+}
+
+/// Reads a greeting; none where the bytes are none.
 pub fn decode_hello(bytes: &[u8]) -> Option<Hello>
-    ensures { (hello : model.Hello) → HasDigests hello → bytes.now ≡ hello_frame hello → result ≡ Some hello }
+    ensures found { IfSome result (λ hello. bytes.now ≡ hello_frame hello) }
+    ensures reads { (hello : model.Hello) → HasDigests hello → bytes.now ≡ hello_frame hello → result ≡ Some hello }
 {
     let payload = payload_of(bytes, 1, 97)?;
     Some(Hello {
@@ -139,35 +161,16 @@ pub fn decode_hello(bytes: &[u8]) -> Option<Hello>
     })
 }
 
-/// Reads a grant.
+/// Reads a grant; none where the bytes are none.
 pub fn decode_grant(bytes: &[u8]) -> Option<Grant>
-    ensures { (grant : model.Grant) → FitsGrant grant → bytes.now ≡ grant_frame grant → result ≡ Some grant }
+    ensures found { IfSome result (λ grant. bytes.now ≡ grant_frame grant) }
+    ensures reads { (grant : model.Grant) → FitsGrant grant → bytes.now ≡ grant_frame grant → result ≡ Some grant }
 {
-    let [
-        s0,
-        s1,
-        s2,
-        s3,
-        s4,
-        s5,
-        s6,
-        s7,
-        c0,
-        c1,
-        c2,
-        c3,
-        g0,
-        g1,
-        g2,
-        g3,
-    ] = payload_of(bytes, 2, 16)?
-    else {
-        return None;
-    };
+    let payload = payload_of(bytes, 2, 16)?;
     Some(Grant {
-        start: u64::from_le_bytes([*s0, *s1, *s2, *s3, *s4, *s5, *s6, *s7]),
-        count: u32::from_le_bytes([*c0, *c1, *c2, *c3]),
-        section: u32::from_le_bytes([*g0, *g1, *g2, *g3]),
+        start: word64_at(payload, 0),
+        count: word32_at(payload, 8),
+        section: word32_at(payload, 12),
     })
 }
 
@@ -179,7 +182,8 @@ pub fn decode_elements(
     bytes: &[u8],
 ) -> Result<Vec<Fe>, FrameFault>
     requires { 8 * count ≤ 2 ^ 24 }
-    ensures { (elements : List ℕ) → length elements ≡ count → AllByRecursion IsElement elements →
+    ensures found { IfOk result (λ v. (bytes.now ≡ frame_bytes kind (flat_map element_bytes v.items)) × (length v.items ≡ count)) }
+    ensures reads { (elements : List ℕ) → length elements ≡ count → AllByRecursion IsElement elements →
         bytes.now ≡ frame_bytes kind (flat_map element_bytes elements) → Reads (λ v. v.items) result elements }
 {
     match payload_of(bytes, kind, 8 * count) {
@@ -191,7 +195,8 @@ pub fn decode_elements(
 /// Reads the sums of so many sections.
 pub fn decode_sums(alloc: Global, count: usize, bytes: &[u8]) -> Result<Vec<(Fe, Fe)>, FrameFault>
     requires { 16 * count ≤ 2 ^ 24 }
-    ensures { (sums : List (ℕ × ℕ)) → length sums ≡ count → AllByRecursion (λ both. IsElement both.0 × IsElement both.1) sums →
+    ensures found { IfOk result (λ v. (bytes.now ≡ sums_frame v.items) × (length v.items ≡ count)) }
+    ensures reads { (sums : List (ℕ × ℕ)) → length sums ≡ count → AllByRecursion (λ both. IsElement both.0 × IsElement both.1) sums →
         bytes.now ≡ sums_frame sums → Reads (λ v. v.items) result sums }
 {
     match payload_of(bytes, 7, 16 * count) {
@@ -200,12 +205,11 @@ pub fn decode_sums(alloc: Global, count: usize, bytes: &[u8]) -> Result<Vec<(Fe,
     }
 }
 
-/// Reads the code and the number of a verdict.
+/// Reads the code and the number of a verdict; none where the bytes are none.
 pub fn decode_verdict(bytes: &[u8]) -> Option<(u8, u32)>
-    ensures { (code number : ℕ) → code < 2 ^ 8 → number < 2 ^ 32 → bytes.now ≡ verdict_frame code number → result ≡ Some (code, number) }
+    ensures found { IfSome result (λ said. bytes.now ≡ verdict_frame said.0 said.1) }
+    ensures reads { (code number : ℕ) → code < 2 ^ 8 → number < 2 ^ 32 → bytes.now ≡ verdict_frame code number → result ≡ Some (code, number) }
 {
-    let [code, n0, n1, n2, n3] = payload_of(bytes, 9, 5)? else {
-        return None;
-    };
-    Some((*code, u32::from_le_bytes([*n0, *n1, *n2, *n3])))
+    let payload = payload_of(bytes, 9, 5)?;
+    Some((payload[0], word32_at(payload, 1)))
 }

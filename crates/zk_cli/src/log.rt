@@ -1,6 +1,7 @@
 // What passed between both ends of a session.
-ghost use Rattle.std.specs.Prelude.{◌≡◌, ◌++◌, [], length, OnOk, OnErr};
+ghost use Rattle.std.specs.Prelude.{◌≡◌, ◌++◌, [], length, map, sum_by, OnOk, OnErr};
 ghost use Rattle.zk_model.specs.Transcript.{bytes_from};
+ghost use Rattle.zk_cli.specs.Runs.{entries, run_count};
 
 use std::alloc::{AllocError, Global};
 use std::marker::Model;
@@ -43,6 +44,21 @@ impl Log {
             bytes: Vec::new(alloc),
             runs: Vec::new(alloc),
         }
+    }
+
+    /// The bytes of both sides, in the order in which they passed.
+    pub fn bytes(&self) -> &[u8]
+        ensures { result.now ≡ map (λ entry. entry.1) self.now }
+    {
+        &self.bytes
+    }
+
+    /// The runs of sides: which side sent the bytes, and how many in a row. Their counts add up to the number of bytes.
+    pub fn runs(&self) -> &[Run]
+        ensures sides { self.now ≡ entries result.now (map (λ entry. entry.1) self.now) }
+        ensures counts { sum_by run_count result.now ≡ length self.now }
+    {
+        &self.runs
     }
 
     /// Notes that a side sent these bytes. Where memory runs out nothing is noted.

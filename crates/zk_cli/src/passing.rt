@@ -1,6 +1,7 @@
 // Frames from one end of a session to the other, noted in the log: each is written by its sender and read back by its
 // receiver.
-ghost use Rattle.std.specs.Prelude.{◌≡◌, ◌*◌, ◌^◌, ◌<◌, ◌≤◌, ◌++◌, length, flat_map, IfOk, OnOk};
+ghost use Rattle.std.specs.Prelude.{◌≡◌, ◌*◌, ◌^◌, ◌<◌, ◌≤◌, ◌++◌, length, flat_map, All, IfOk, OnOk};
+ghost use Rattle.zk_model.specs.Field.{IsElement};
 ghost use Rattle.zk_model.specs.Bytes.{element_bytes};
 ghost use Rattle.zk_model.specs.Transcript.{frame_bytes, bytes_from, hello_frame, grant_frame, sums_frame, verdict_frame, challenge_frame};
 ghost use Rattle.zk_cli.specs.FrameRanges.{HasDigests};
@@ -55,6 +56,7 @@ pub fn pass_elements(
     requires { 8 * length elements.now ≤ 2 ^ 24 }
     ensures passed { IfOk result (λ read. read.items ≡ elements.now) }
     ensures logged { OnOk result (log.new ≡ log.old ++ bytes_from side (frame_bytes kind (flat_map element_bytes elements.now))) }
+    ensures ranged { OnOk result (All IsElement elements.now) }
 {
     let bytes = encode_elements(alloc, kind, elements)?;
     log.push(side, &bytes)?;
@@ -74,6 +76,7 @@ pub fn pass_sums(
     requires { 16 * length sums.now ≤ 2 ^ 24 }
     ensures passed { IfOk result (λ read. read.items ≡ sums.now) }
     ensures logged { OnOk result (log.new ≡ log.old ++ bytes_from Prover (sums_frame sums.now)) }
+    ensures ranged { OnOk result (All (λ both. IsElement both.0 × IsElement both.1) sums.now) }
 {
     let bytes = encode_sums(alloc, sums)?;
     log.push(Side::Prover, &bytes)?;
@@ -106,6 +109,7 @@ pub fn pass_verdict(
 pub fn pass_challenge(alloc: Global, log: &mut Log, challenge: Fe) -> Result<Fe, AllocError>
     ensures passed { IfOk result (λ read. read ≡ challenge) }
     ensures logged { OnOk result (log.new ≡ log.old ++ bytes_from Verifier (challenge_frame challenge)) }
+    ensures ranged { OnOk result (IsElement challenge) }
 {
     let read = pass_elements(alloc, log, Side::Verifier, 6, &[challenge])?;
     Ok(read[0])

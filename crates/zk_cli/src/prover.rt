@@ -35,7 +35,8 @@ fn correction(bits: &[bool], product: Product, pair: Pair) -> Fe
     value.sub(pair.x)
 }
 
-/// The corrections that turn the dealt values into the products of the wires' bits.
+/// The corrections that turn the dealt values into the products of the wires' bits, one for each product: the product
+/// less the dealt value.
 pub fn corrections(
     alloc: Global,
     program: &FieldProgram,
@@ -54,7 +55,7 @@ pub fn corrections(
     Ok(corrections)
 }
 
-/// The pairs of the products, as the corrections leave them.
+/// The pairs of the products, as the corrections leave them: each value with its correction added, and the same MAC.
 pub fn committed_pairs(
     alloc: Global,
     pairs: &[Pair],

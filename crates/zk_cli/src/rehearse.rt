@@ -1,18 +1,19 @@
 // A rehearsal: files of kind direct from a seed, and a session of both ends over them.
-ghost use Rattle.std.specs.Prelude.{◌≡◌, ◌≤◌, ◌+◌, ◌*◌, ◌^◌, length, IfOk, IfErr};
-ghost use Rattle.zk_model.specs.Products.{product_count};
-ghost use Rattle.zk_model.specs.Transcript.{section_count, correlations_needed, units_for};
-ghost use Rattle.zk_model.specs.Circuit.{AreWireBits, Satisfies};
+ghost use Rattle.std.specs.Prelude.{◌≡◌, ◌≤◌, ◌+◌, ◌*◌, ◌^◌, length, List, Bool, IfOk, IfErr};
+ghost use Rattle.zk_model.specs.Transcript.{correlations_needed, units_for};
+ghost use Rattle.zk_model.specs.Circuit.{AreWireBits};
+ghost use Rattle.zk_model.specs.Dealing.{dealt_prover, dealt_verifier};
 ghost use Rattle.zk_cli.specs.DirectFiles.{direct_params};
-ghost use Rattle.zk_cli.specs.Verdicts.{AreBitsOf};
-ghost use Rattle.zk_cli.specs.Rehearsals.{IsRehearsalOf, IsHeld, RehearseCause, direct_units};
+ghost use Rattle.zk_cli.specs.Exchanges.{IsExchange};
+ghost use Rattle.zk_cli.specs.Rehearsals.{IsRehearsalOf, RehearseCause, direct_units};
 
 use crate::bits::Bits;
 use crate::deal::deal;
 use crate::eval::wire_bits;
-use crate::log::Log;
 use crate::rehearsal::{Rehearsal, RehearseFault};
-use crate::session::{Statement, hold};
+use crate::sections::behind;
+use crate::session::{Session, hold};
+use crate::statement::Statement;
 use bristol_reader::Circuit;
 use gate_translate::{FieldProgram, translate};
 use std::alloc::{AllocError, Global};
@@ -24,12 +25,32 @@ pub const MOST_UNITS: u64 = 4096;
 fn units_of(need: u64) -> u64
     ensures least { result ≡ units_for (direct_params 0) need }
     ensures enough { need ≤ 64 * result }
+    ensures some { 1 ≤ result }
 {
     need.div_ceil(64).max(1)
 }
 
-/// A session over this many units, which are dealt from the seed, at the bits of all wires.
-fn hold_session(
+/// A session over this many units, which are dealt from the seed.
+fn hold_dealt(
+    alloc: Global,
+    statement: &Statement<'_>,
+    bits: &[bool],
+    units: u64,
+    seed: &[u8; 32],
+) -> Result<Session, AllocError>
+    requires wires { length bits.now ≡ statement.now.program.now.wires }
+    requires most { units ≤ 4096 }
+    requires enough { statement.now.products + statement.now.sections ≤ 64 * units }
+    ensures { IfOk result (λ s. IsExchange statement.now.program.now statement.now.section bits.now statement.now.outputs.now
+        (dealt_prover (direct_params units) seed.now) (dealt_verifier (direct_params units) seed.now) s.verdict s.log) }
+{
+    let (prover, verifier) = deal(alloc, units, seed)?;
+    let session = hold(alloc, statement, bits, &prover, &verifier)?;
+    Ok(session)
+}
+
+/// A rehearsal over this many units at the bits of all wires.
+fn rehearse_wires(
     alloc: Global,
     circuit: &Circuit,
     program: &FieldProgram,
@@ -41,14 +62,14 @@ fn hold_session(
     requires some { 1 ≤ section }
     requires most { section ≤ 2 ^ 20 }
     requires translated { program.now ≡ circuit.now }
-    requires bits { AreBitsOf circuit.now bits.now }
+    requires wires { length bits.now ≡ circuit.now.wires }
     requires units { units ≡ direct_units circuit.now section }
+    requires units_some { 1 ≤ units }
     requires units_most { units ≤ 4096 }
     requires enough { correlations_needed circuit.now section ≤ 64 * units }
-    ensures { IfOk result (IsHeld circuit.now bits.now section) }
+    ensures { IfOk result (λ r. (inputs : List Bool) → AreWireBits circuit.now inputs bits.now → IsRehearsalOf circuit.now inputs section seed.now r) }
 {
-    let (prover, verifier) = deal(alloc, units, seed)?;
-    let outputs = &bits[circuit.wires() - circuit.outputs()..];
+    let outputs = behind(bits, circuit.wires() - circuit.outputs());
     let products = program.products().len();
     let sections = program.sections(section as u64);
     let statement = Statement {
@@ -58,24 +79,16 @@ fn hold_session(
         products,
         sections: sections as usize,
     };
-    let mut log = Log::new(alloc);
-    let verdict = hold(
-        alloc,
-        &mut log,
-        &statement,
-        units as u32,
-        bits,
-        &prover,
-        &verifier,
-    )?;
+    let session = hold_dealt(alloc, &statement, bits, units, seed)?;
+    let claimed = Bits::copied(alloc, outputs)?;
     Ok(Rehearsal {
-        outputs: Bits::new(outputs.to_vec(alloc)?),
+        outputs: claimed,
         products: products as u64,
         sections,
         need: program.need(section as u64),
         units,
-        verdict,
-        log,
+        verdict: session.verdict,
+        log: session.log,
     })
 }
 
@@ -107,5 +120,6 @@ pub fn rehearse(
         return Err(RehearseFault::TooLarge { need, units });
     }
     let wires = wire_bits(alloc, circuit, bits)?;
-    Ok(hold_session(alloc, circuit, &program, &wires, section, units, seed)?)
+    let rehearsal = rehearse_wires(alloc, circuit, &program, &wires, section, units, seed)?;
+    Ok(rehearsal)
 }

@@ -48,7 +48,8 @@ where
     ensures usage { asked (texts words.now) ≡ None →
         UsageRuns result.part result.status (O.written out.old) (O.written out.new) (O.faults out.old) (O.faults out.new) }
 
-    // `rehearse CIRCUIT BITS --section 1`: the rehearsal and its lines, or why there is none.
+    // `rehearse CIRCUIT BITS --section 1`: the rehearsal, whose log is that of an honest session over the files of the seed,
+    // and its lines; or why there is none.
     ensures rehearse { (circuit : List ℕ) (bits : List Bool) (section : ℕ) → asked (texts words.now) ≡ Some (rehearse circuit bits section) →
         RehearseRuns (F.told shelf.old) circuit bits section seed.now (F.faults shelf.old) (F.faults shelf.new) result.part result.status
         (O.written out.old) (O.written out.new) (O.faults out.old) (O.faults out.new) }
@@ -60,7 +61,7 @@ where
         ¬ Rose (F.faults shelf.old) (F.faults shelf.new) → ¬ Rose (O.faults out.old) (O.faults out.new) →
         AnswersFor (direct_units circuit section) result.status }
 
-    // What each status says. 7, for want of memory, says nothing else.
+    // What each status says: 0, that the log ends with a verdict that accepts. 7, for want of memory, says nothing else.
     ensures statuses { IsStatus result.status }
     ensures status_0 { result.status ≡ 0 → Accepts result.part (O.written out.old) (O.written out.new) }
     ensures status_2 { result.status ≡ 2 → asked (texts words.now) ≡ None }

@@ -68,7 +68,8 @@ impl KeyTriple {
     }
 }
 
-/// U and V of a section under a mask, for the challenge.
+/// U and V of a section under a mask, for the challenge. With the i-th product times the i-th power of the challenge, from
+/// the first on, U adds up `a.m * b.m`, and V `a.x * b.m + b.x * a.m - c.m`; the mask's MAC joins U, and its value V.
 pub fn section_sums(triples: &[Triple], challenge: Fe, mask: Pair) -> (Fe, Fe)
     ensures { result ≡ honest_sums challenge triples.now mask }
 {
@@ -83,7 +84,8 @@ pub fn section_sums(triples: &[Triple], challenge: Fe, mask: Pair) -> (Fe, Fe)
     (constant.add(mask.m), linear.add(mask.x))
 }
 
-/// The left side of the check of a section, from its keys and that of its mask.
+/// The left side of the check of a section, from its keys and that of its mask: `a * b - c * key` of each product times
+/// its power of the challenge, and the mask's key.
 pub fn left_side(triples: &[KeyTriple], challenge: Fe, mask: Fe, key: Fe) -> Fe
     ensures { result ≡ section_left key challenge triples.now mask }
 {
@@ -96,14 +98,15 @@ pub fn left_side(triples: &[KeyTriple], challenge: Fe, mask: Fe, key: Fe) -> Fe
     sum.add(mask)
 }
 
-/// The right side of the check of a section, from the sums that were sent.
+/// The right side of the check of a section, from the sums that were sent: `U + V * key`.
 pub fn right_side(sums: (Fe, Fe), key: Fe) -> Fe
     ensures { result ≡ section_right key sums }
 {
     sums.0.add(sums.1.mul(key))
 }
 
-/// The right side of the check of an output, from the MAC that was sent and the claimed bit.
+/// The right side of the check of an output, from the MAC that was sent and the claimed bit: `mac + bit * key`. The left
+/// side is the key of the output's wire.
 pub fn opening_side(mac: Fe, claimed: bool, key: Fe) -> Fe
     ensures { result ≡ opening_right key mac claimed }
 {

@@ -15,7 +15,7 @@ use gate_translate::{FieldProgram, Product};
 use mersenne_field::Fe;
 use std::alloc::{AllocError, Global};
 
-/// The keys of the products, as the corrections leave them.
+/// The keys of the products, as the corrections leave them: each with its correction times the one key added.
 pub fn committed_keys(
     alloc: Global,
     keys: &[Fe],

@@ -4,11 +4,11 @@ use Rattle.zk_cli.proofs.FrameLemmas.{length-elements}
 use Rattle.zk_cli.proofs.Reading.{reads_elements, same_payload}
 use Rattle.zk_cli.proofs.decode.decode_elements.Goals as goal
 
-pub returns-in-Some : goal.returns-in-Some
-returns-in-Some c = λ elements sized all same.
+pub returns-in-Some-clause-reads : goal.returns-in-Some-clause-reads
+returns-in-Some-clause-reads c = λ elements sized all same.
     reads_elements (λ v. v.items) c.in-Some.payload.now c.args.count c.elements_of.result elements c.elements_of.ensures.found c.elements_of.ensures.bad sized all
     (same_payload c.args.kind c.in-Some.payload.now (flat_map element_bytes elements) (sym c.in-Some.ensures.some.0 ∙ same))
 
-pub returns-in-None : goal.returns-in-None
-returns-in-None c = λ elements sized all same.
+pub returns-in-None-clause-reads : goal.returns-in-None-clause-reads
+returns-in-None-clause-reads c = λ elements sized all same.
     c.in-None.ensures.none (flat_map element_bytes elements) (length-elements elements ∙ ap (λ n. 8 * n) sized) same

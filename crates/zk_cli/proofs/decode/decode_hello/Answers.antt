@@ -1,11 +1,18 @@
 use Rattle.std.proofs.Common.{◌≡◌, ◌++◌, ◌∷◌, [], sym, ◌∙◌, ap, get_or}
 use Rattle.std.specs.Prelude.{Some}
-use Rattle.zk_model.specs.Transcript.{Hello}
-use Rattle.zk_cli.proofs.Reading.{same_payload, hello_parts}
+use Rattle.zk_model.specs.Transcript.{Hello, frame_bytes}
+use Rattle.zk_cli.proofs.Reading.{same_payload, hello_parts, hello_whole}
 use Rattle.zk_cli.proofs.decode.decode_hello.Goals as goal
 
-pub returns : goal.returns
-returns c = λ hello is same.
+pub returns-clause-found : goal.returns-clause-found
+returns-clause-found c =
+    let payload = c.in_ok-payload.payload.now in
+    c.in_ok-payload.ensures.some.0
+    ∙ ap (frame_bytes 1) (hello_whole payload c.in_ok-payload.ensures.some.1
+    ∙ (λ i. sym c.array_at.ensures i ++ sym c.array_at-2.ensures i ++ sym c.array_at-3.ensures i ++ get_or payload 96 0 ∷ []))
+
+pub returns-clause-reads : goal.returns-clause-reads
+returns-clause-reads c = λ hello is same.
     let payload = c.in_ok-payload.payload.now in
     let parts : payload ≡ hello.id ++ hello.circuit ++ hello.outputs ++ hello.version ∷ [] =
     same_payload 1 payload (hello.id ++ hello.circuit ++ hello.outputs ++ hello.version ∷ []) (sym c.in_ok-payload.ensures.some.0 ∙ same) in

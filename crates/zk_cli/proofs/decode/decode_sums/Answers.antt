@@ -1,14 +1,18 @@
 use Rattle.std.proofs.Common.{◌*◌, ap, sym, ◌∙◌}
 use Rattle.zk_cli.specs.Frames.{sums_payload}
 use Rattle.zk_cli.proofs.FrameLemmas.{length-sums}
-use Rattle.zk_cli.proofs.Reading.{reads_sums, same_payload}
+use Rattle.zk_cli.proofs.Reading.{found_sums, reads_sums, same_payload}
 use Rattle.zk_cli.proofs.decode.decode_sums.Goals as goal
 
-pub returns-in-Some : goal.returns-in-Some
-returns-in-Some c = λ sums sized all same.
+pub returns-in-Some-clause-reads : goal.returns-in-Some-clause-reads
+returns-in-Some-clause-reads c = λ sums sized all same.
     reads_sums (λ v. v.items) c.in-Some.payload.now c.args.count c.sums_of.result sums c.sums_of.ensures.found c.sums_of.ensures.bad sized all
     (same_payload 7 c.in-Some.payload.now (sums_payload sums) (sym c.in-Some.ensures.some.0 ∙ same))
 
-pub returns-in-None : goal.returns-in-None
-returns-in-None c = λ sums sized all same.
+pub returns-in-None-clause-reads : goal.returns-in-None-clause-reads
+returns-in-None-clause-reads c = λ sums sized all same.
     c.in-None.ensures.none (sums_payload sums) (length-sums sums ∙ ap (λ n. 16 * n) sized) same
+
+pub returns-in-Some-clause-found : goal.returns-in-Some-clause-found
+returns-in-Some-clause-found c =
+    found_sums (λ v. v.items) c.args.bytes.now c.in-Some.payload.now c.args.count c.sums_of.result c.in-Some.ensures.some.0 c.sums_of.ensures.found

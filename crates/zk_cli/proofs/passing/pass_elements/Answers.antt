@@ -5,9 +5,9 @@ use Rattle.zk_cli.proofs.passing.pass_elements.Goals as goal
 
 pub returns-in-Ok-clause-passed : goal.returns-in-Ok-clause-passed
 returns-in-Ok-clause-passed c =
-    c.in-Ok.ensures c.args.elements.now refl (recursion_from_All IsElement c.args.elements.now c.in_ok-bytes.ensures.range) (c.deref-2.ensures.value ∙ c.in_ok-bytes.ensures.bytes)
+    c.in-Ok.ensures.reads c.args.elements.now refl (recursion_from_All IsElement c.args.elements.now c.in_ok-bytes.ensures.range) (c.deref-2.ensures.value ∙ c.in_ok-bytes.ensures.bytes)
 
 pub unreachable-requires : goal.unreachable-requires
 unreachable-requires c =
     rw c.in-Err-BadFrame.field-0-is at
-    (c.in-Err-BadFrame.ensures c.args.elements.now refl (recursion_from_All IsElement c.args.elements.now c.in_ok-bytes.ensures.range) (c.deref-2.ensures.value ∙ c.in_ok-bytes.ensures.bytes))
+    (c.in-Err-BadFrame.ensures.reads c.args.elements.now refl (recursion_from_All IsElement c.args.elements.now c.in_ok-bytes.ensures.range) (c.deref-2.ensures.value ∙ c.in_ok-bytes.ensures.bytes))

@@ -2,7 +2,7 @@ use Rattle.std.proofs.Common.{rules, ◌≢◌, None}
 use Rattle.zk_cli.specs.Words.{texts, asked}
 use Rattle.zk_cli.specs.RehearseRuns.{RehearseRuns}
 use Rattle.zk_cli.specs.declared.stop.Stop.TheVariants.{NoMemory}
-use Rattle.zk_cli.proofs.Outcomes.{rehearsed_3, rehearsed_done, refused_as_asked}
+use Rattle.zk_cli.proofs.Outcomes.{rehearsed_0, rehearsed_3, rehearsed_done, refused_as_asked}
 use Rattle.zk_cli.proofs.Stopping.{rehearse_lacks_memory}
 use Rattle.zk_cli.proofs.run.run_zk.Goals as goal
 
@@ -24,3 +24,7 @@ returns-in-Some-Rehearse-clause-status_3 g c = λ is_3.
     c.run_rehearse-status.result.1 c.run_rehearse-status.result.0 (g.O.Sink.written c.args.out.now) (g.O.Sink.written c.run_rehearse-status.new.out)
     (g.O.Sink.faults c.args.out.now) (g.O.Sink.faults c.run_rehearse-status.new.out) = search rules in
     rehearsed_3 _ name bits section c.args.seed.now _ _ c.run_rehearse-status.result.1 c.run_rehearse-status.result.0 _ _ _ _ runs is_3)
+
+pub returns-in-Some-Rehearse-clause-status_0 : goal.returns-in-Some-Rehearse-clause-status_0
+returns-in-Some-Rehearse-clause-status_0 g c = λ is_0.
+    rehearsed_0 _ _ _ _ c.args.seed.now _ _ c.run_rehearse-status.result.1 c.run_rehearse-status.result.0 _ _ _ _ c.run_rehearse-status.ensures.runs is_0
