@@ -13,7 +13,8 @@ use Rattle.bristol_reader.specs.declared.words.Word.TheVariants.{Number}
 use Rattle.bristol_reader.specs.declared.header.Header.{Header}
 use Rattle.bristol_reader.specs.Circuits.{circuit_of, IsCircuit}
 use Rattle.bristol_reader.specs.Words.{greatest, text_words, gate_words, header_words}
-use Rattle.bristol_reader.specs.Bodies.{SaysHeader, IsSetAfter, AreOrdered, IsBody}
+use Rattle.bristol_reader.specs.Headers.{SaysHeader}
+use Rattle.bristol_reader.specs.Bodies.{IsSetAfter, AreOrdered, IsBody}
 use Rattle.bristol_reader.proofs.GateSteps.{get_more, set_more, set_is_within}
 use Rattle.bristol_reader.proofs.Spelling.{IsSmallGate, IsSmall, spelled_circuit, words_from_lexemes, lexemes_from_words}
 
@@ -106,8 +107,9 @@ abbrev pub header_of : Circuit → Header
 header_of circuit = record { gates = length circuit.gates; wires = circuit.wires; inputs = circuit.inputs; outputs = circuit.outputs; words = 0 }
 
 pub text_header : (circuit : Circuit) (text : List ℕ) (words : List Word) → words ≡ text_words text → (is : IsText circuit text)
-    → SaysHeader words (header_of circuit) is.values (flat_map gate_words circuit.gates)
+    → SaysHeader words (header_of circuit) (flat_map gate_words circuit.gates)
 text_header circuit text words are is = record {
+  values = is.values;
   is = record {
     gates = is.limits.gates;
     wires = is.limits.wires;
@@ -143,8 +145,10 @@ pub record IsSameHeader (h k : Header) (some others : List Word) : Type 0 where
   pub outputs : h.outputs ≡ k.outputs
   pub behind : some ≡ others
 
-same_header : (words : List Word) (h k : Header) (v w : Values) (some others : List Word) → SaysHeader words h v some → SaysHeader words k w others → IsSameHeader h k some others
-same_header words h k v w some others left right =
+same_header : (words : List Word) (h k : Header) (some others : List Word) → SaysHeader words h some → SaysHeader words k others → IsSameHeader h k some others
+same_header words h k some others left right =
+    let v : Values = left.values in
+    let w : Values = right.values in
     let e = sym left.words_are ∙ right.words_are in
     let gates : h.gates ≡ k.gates = cc in
     let wires : h.wires ≡ k.wires = cc in
@@ -173,10 +177,10 @@ circuit_body circuit words order kinds are = record {
 }
 
 -- where the text says a circuit, the words behind the header that was read say its gates
-pub text_body : (circuit : Circuit) (text : List ℕ) (words behind : List Word) (h : Header) (v : Values) → words ≡ text_words text → SaysHeader words h v behind → IsText circuit text
+pub text_body : (circuit : Circuit) (text : List ℕ) (words behind : List Word) (h : Header) → words ≡ text_words text → SaysHeader words h behind → IsText circuit text
     → IsBody behind h circuit.gates
-text_body circuit text words behind h v are says is =
-    let same = same_header words h (header_of circuit) v is.values behind (flat_map gate_words circuit.gates) says (text_header circuit text words are is) in
+text_body circuit text words behind h are says is =
+    let same = same_header words h (header_of circuit) behind (flat_map gate_words circuit.gates) says (text_header circuit text words are is) in
     moved circuit.gates same.gates same.wires same.inputs same.outputs (circuit_body circuit behind is.well_formed is.gates same.behind)
   where
     moved : (gates : List GateRow) → h.gates ≡ length circuit.gates → h.wires ≡ circuit.wires → h.inputs ≡ circuit.inputs → h.outputs ≡ circuit.outputs
@@ -187,9 +191,10 @@ text_body circuit text words behind h v are says is =
 
 -- ---- from a header and gates to a text
 
-pub text_found : (text : List ℕ) (words behind : List Word) (h : Header) (v : Values) (gates : List GateRow) → words ≡ text_words text → SaysHeader words h v behind → IsBody behind h gates
+pub text_found : (text : List ℕ) (words behind : List Word) (h : Header) (gates : List GateRow) → words ≡ text_words text → SaysHeader words h behind → IsBody behind h gates
     → IsText (circuit_of h.wires h.inputs h.outputs gates) text
-text_found text words behind h v gates are says body =
+text_found text words behind h gates are says body =
+    let v : Values = says.values in
     let circuit : Circuit = circuit_of h.wires h.inputs h.outputs gates in
     let small : IsSmall circuit v = record {
       gates = omega (arith, says.is.gates, body.counted);

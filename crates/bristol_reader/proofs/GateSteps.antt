@@ -2,7 +2,7 @@
 use Rattle.std.proofs.Common.{◌≡◌, ◌≢◌, ℕ, zero, suc, ◌+◌, ◌-◌, ◌<◌, ◌≤◌, Bool, true, false, inl, inr, ◌⊎◌, List, [], ◌∷◌, ◌++◌, length, take, drop, set, flat_map, refl, ap, sym, ◌∙◌, subst, arith, append_assoc, append-nil, length-append, length-set, get_or-set_other, get_or-set_same}
 use Rattle.std.proofs.Math.Seq.{take-append_seam, drop-append_seam}
 use Rattle.std.proofs.lemmas.List.{take-append-le, flat_map_more}
-use Rattle.std.proofs.lemmas.List.Elements.{All-push, All-weaker, All-head, All-tail, All-nil}
+use Rattle.std.proofs.lemmas.List.Elements.{All-push, All-weaker, All-head, All-tail}
 use Rattle.std.proofs.lemmas.Option.{slice_get_within}
 use Rattle.std.specs.Prelude.{All, Some, slice_get}
 use Rattle.zk_model.specs.Bristol.{IsReadGate}
@@ -12,7 +12,7 @@ use Rattle.zk_model.specs.declared.GateRow.TheVariants.{And, Xor, Inv, Eqw, Eq}
 use Rattle.bristol_reader.specs.declared.words.Word.{Word}
 use Rattle.bristol_reader.specs.declared.header.Header.{Header}
 use Rattle.bristol_reader.specs.Words.{gate_words}
-use Rattle.bristol_reader.specs.Bodies.{IsSetAfter, MayFollow, AreOrdered, IsBody, FitsFlags, AreFlags, flag_of}
+use Rattle.bristol_reader.specs.Bodies.{SaysGate, IsSetAfter, MayFollow, AreOrdered, IsBody, IsUnsetOutput, FitsFlags, AreFlags, flag_of}
 
 -- ---- elements of lists
 
@@ -171,27 +171,19 @@ pub record IsBodySoFar (words rest : List Word) (header : Header) (flags : List 
   pub ordered : AreOrdered header.wires header.inputs gates
   pub flags_are : AreFlags flags header.wires header.inputs gates
 
-pub body_start : (words : List Word) (header : Header) (flags : List Bool) → AreFlags flags header.wires header.inputs [] → IsBodySoFar words words header flags [] 0
-body_start words header flags are = record {
-  words_are = refl;
-  counted = refl;
-  kinds = All-nil IsReadGate;
-  ordered = λ n gate is. absurd cc;
-  flags_are = are;
-}
-
-pub body_more : (words rest behind now_rest : List Word) (header : Header) (flags now_flags : List Bool) (gates now : List GateRow) (gate : GateRow) (count : ℕ)
-    → IsReadGate gate → rest ≡ gate_words gate ++ behind → now_rest ≡ drop (length (gate_words gate)) rest
+pub body_more : (words rest now_rest : List Word) (header : Header) (flags now_flags : List Bool) (gates now : List GateRow) (gate : GateRow) (count : ℕ)
+    → SaysGate rest gate → now_rest ≡ drop (length (gate_words gate)) rest
     → now ≡ gates ++ gate ∷ [] → now_flags ≡ set flags (wire_set gate) true → FitsFlags flags gate
     → IsBodySoFar words rest header flags gates count → IsBodySoFar words now_rest header now_flags now (count + 1)
-body_more words rest behind now_rest header flags now_flags gates now gate count kind is skipped pushed flagged fits far =
+body_more words rest now_rest header flags now_flags gates now gate count says skipped pushed flagged fits far =
     let may = fits_may flags header.wires header.inputs gates gate far.flags_are fits in
-    let behind_is : behind ≡ now_rest = sym (skipped ∙ ap (drop (length (gate_words gate))) is ∙ drop-append_seam (gate_words gate) behind) in
+    let behind : List Word = says.behind in
+    let behind_is : behind ≡ now_rest = sym (skipped ∙ ap (drop (length (gate_words gate))) says.words_are ∙ drop-append_seam (gate_words gate) behind) in
     let more : IsBodySoFar words behind header (set flags (wire_set gate) true) (gates ++ gate ∷ []) (count + 1) = record {
-      words_are = far.words_are ∙ ap (λ l. flat_map gate_words gates ++ l) is ∙ sym (append_assoc (flat_map gate_words gates) (gate_words gate) behind)
+      words_are = far.words_are ∙ ap (λ l. flat_map gate_words gates ++ l) says.words_are ∙ sym (append_assoc (flat_map gate_words gates) (gate_words gate) behind)
           ∙ ap (λ l. l ++ behind) (flat_map_more gate_words [] gates gate);
       counted = length-append gates (gate ∷ []) ∙ ap (λ n. n + 1) far.counted;
-      kinds = All-push IsReadGate gates gate far.kinds kind;
+      kinds = All-push IsReadGate gates gate far.kinds says.kind;
       ordered = ordered_push header.wires header.inputs gates gate far.ordered may;
       flags_are = flags_push flags header.wires header.inputs gates gate far.flags_are may.within;
     } in
@@ -200,38 +192,33 @@ body_more words rest behind now_rest header flags now_flags gates now gate count
     (subst (λ (l : List Word). IsBodySoFar words l header (set flags (wire_set gate) true) (gates ++ gate ∷ []) (count + 1)) behind_is more))
 
 -- the next of the gates that the words say
-pub record IsNext (rest : List Word) (header : Header) (gates : List GateRow) (gate : GateRow) (behind : List Word) : Type 0 where
-  pub kind : IsReadGate gate
-  pub words_are : rest ≡ gate_words gate ++ behind
+pub record IsNext (rest : List Word) (header : Header) (gates : List GateRow) (gate : GateRow) : Type 0 where
+  pub says : SaysGate rest gate
   pub may : MayFollow header.wires header.inputs gates gate
 
 pub body_next : (words rest : List Word) (header : Header) (flags : List Bool) (gates others : List GateRow) (count : ℕ) → count < header.gates
-    → IsBodySoFar words rest header flags gates count → IsBody words header others
-    → (gate : GateRow) × (behind : List Word) × IsNext rest header gates gate behind
+    → IsBodySoFar words rest header flags gates count → IsBody words header others → (gate : GateRow) × IsNext rest header gates gate
 body_next words rest header flags gates others count less far body =
     let first = read_first gates others rest (omega (arith, far.counted, body.counted)) far.kinds body.kinds (sym far.words_are ∙ body.words_are) in
     some first.0 first.1 first.2 first.3
   where
-    some : (more : List GateRow) → others ≡ gates ++ more → All IsReadGate more → rest ≡ flat_map gate_words more → (gate : GateRow) × (behind : List Word) × IsNext rest header gates gate behind
+    some : (more : List GateRow) → others ≡ gates ++ more → All IsReadGate more → rest ≡ flat_map gate_words more → (gate : GateRow) × IsNext rest header gates gate
     some [] is all same = absurd (omega (arith, far.counted, body.counted, ap length is, length-append gates []))
     some (gate ∷ more) is all same = (
       gate,
-      flat_map gate_words more,
       record {
-        kind = All-head IsReadGate gate more all;
-        words_are = same;
+        says = record { kind = All-head IsReadGate gate more all; behind = flat_map gate_words more; words_are = same };
         may = ordered_at header.wires header.inputs gates others more gate body.ordered is;
       },
     )
 
 -- a gate that is read there is that one, and fits
-pub body_fits : (words rest behind : List Word) (header : Header) (flags : List Bool) (gates others : List GateRow) (gate : GateRow) (count : ℕ) → count < header.gates → header.inputs ≤ header.wires
-    → IsReadGate gate → rest ≡ gate_words gate ++ behind
-    → IsBodySoFar words rest header flags gates count → IsBody words header others → FitsFlags flags gate
-body_fits words rest behind header flags gates others gate count less few kind is far body =
+pub body_fits : (words rest : List Word) (header : Header) (flags : List Bool) (gates others : List GateRow) (gate : GateRow) (count : ℕ) → count < header.gates → header.inputs ≤ header.wires
+    → SaysGate rest gate → IsBodySoFar words rest header flags gates count → IsBody words header others → FitsFlags flags gate
+body_fits words rest header flags gates others gate count less few says far body =
     let next = body_next words rest header flags gates others count less far body in
-    let same = same_gate next.0 gate next.1 behind next.2.kind kind (sym next.2.words_are ∙ is) in
-    may_fits flags header.wires header.inputs gates gate few far.ordered far.flags_are (subst (λ (g : GateRow). MayFollow header.wires header.inputs gates g) same.0 next.2.may)
+    let same = same_gate next.0 gate next.1.says.behind says.behind next.1.says.kind says.kind (sym next.1.says.words_are ∙ says.words_are) in
+    may_fits flags header.wires header.inputs gates gate few far.ordered far.flags_are (subst (λ (g : GateRow). MayFollow header.wires header.inputs gates g) same.0 next.1.may)
 
 -- at the end the gates are all that the words say
 pub body_end : (words rest : List Word) (header : Header) (flags : List Bool) (gates others : List GateRow) (count : ℕ) → count ≡ header.gates
@@ -245,26 +232,31 @@ body_end words rest header flags gates others count all far body =
     none (gate ∷ more) is same = absurd (omega (arith, far.counted, body.counted, ap length is, length-append gates (gate ∷ more)))
 
 pub body_done : (words rest : List Word) (header : Header) (flags : List Bool) (gates : List GateRow) (count : ℕ) → count ≡ header.gates → header.outputs ≤ header.wires → length rest ≡ 0
-    → ((o : ℕ) → o < header.outputs → flag_of flags (length flags - header.outputs + o) ≡ true)
-    → IsBodySoFar words rest header flags gates count → IsBody words header gates
+    → ((wire : ℕ) → ¬ IsUnsetOutput flags header.outputs wire) → IsBodySoFar words rest header flags gates count → IsBody words header gates
 body_done words rest header flags gates count all few none outputs far = record {
   words_are = far.words_are ∙ ap (λ l. flat_map gate_words gates ++ l) (empty rest none) ∙ append-nil (flat_map gate_words gates);
   counted = far.counted ∙ all;
   kinds = far.kinds;
   ordered = far.ordered;
   outputs_set = λ o below.
-      let at : length flags - header.outputs + o ≡ header.wires - header.outputs + o = ap (λ n. n - header.outputs + o) far.flags_are.whole in
-      far.flags_are.set (header.wires - header.outputs + o) (omega arith) (ap (flag_of flags) (sym at) ∙ outputs o below);
+      let wire : ℕ = header.wires - header.outputs + o in
+      far.flags_are.set wire (omega arith) (not_false (flag_of flags wire) (λ off. outputs wire (record {
+        is_last = omega (arith, far.flags_are.whole);
+        within = omega (arith, far.flags_are.whole);
+        unset = off;
+      })));
 }
   where
     empty : (l : List Word) → length l ≡ 0 → l ≡ []
     empty [] e = refl
     empty (x ∷ l) e = absurd (omega arith)
 
-pub output_off : (words rest : List Word) (header : Header) (flags : List Bool) (gates others : List GateRow) (count o : ℕ) → count ≡ header.gates → header.outputs ≤ header.wires
-    → o < header.outputs → flag_of flags (length flags - header.outputs + o) ≡ false → IsBodySoFar words rest header flags gates count → IsBody words header others → ⊥
-output_off words rest header flags gates others count o all few below off far body =
-    let at : length flags - header.outputs + o ≡ header.wires - header.outputs + o = ap (λ n. n - header.outputs + o) far.flags_are.whole in
+pub output_off : (words rest : List Word) (header : Header) (flags : List Bool) (gates others : List GateRow) (count wire : ℕ) → count ≡ header.gates → header.outputs ≤ header.wires
+    → IsUnsetOutput flags header.outputs wire → IsBodySoFar words rest header flags gates count → ¬ IsBody words header others
+output_off words rest header flags gates others count wire all few off far body =
+    let o : ℕ = wire + header.outputs - header.wires in
+    let within : wire < header.wires = omega (arith, off.within, far.flags_are.whole) in
+    let at : header.wires - header.outputs + o ≡ wire = omega (arith, off.is_last, far.flags_are.whole) in
     let same : others ≡ gates = (body_end words rest header flags gates others count all far body).1 in
-    far.flags_are.unset (header.wires - header.outputs + o) (omega arith) (ap (flag_of flags) (sym at) ∙ off)
-    (subst (λ (l : List GateRow). IsSetAfter header.inputs l (header.wires - header.outputs + o)) same (body.outputs_set o below))
+    far.flags_are.unset wire within off.unset (subst (λ (w : ℕ). IsSetAfter header.inputs gates w) at
+    (subst (λ (l : List GateRow). IsSetAfter header.inputs l (header.wires - header.outputs + o)) same (body.outputs_set o (omega arith))))

@@ -1,9 +1,29 @@
 -- A header, part by part.
-use Rattle.std.proofs.Common.{◌≡◌, ◌≤◌, refl, length-append, ℕ, ◌+◌, List, [], ◌∷◌, ◌++◌, map, length, drop, ap, sym, ◌∙◌, arith}
+use Rattle.std.proofs.Common.{◌≡◌, ◌≤◌, ◌^◌, refl, length-append, ℕ, ◌+◌, List, [], ◌∷◌, ◌++◌, map, length, sum, drop, ap, sym, ◌∙◌, arith}
+use Rattle.std.specs.Prelude.{Result, Ok, Err, IfErr}
 use Rattle.std.proofs.lemmas.List.{drop-drop}
+use Rattle.std.proofs.Math.Seq.{drop-append_seam}
 use Rattle.bristol_reader.specs.declared.words.Word.{Word}
 use Rattle.bristol_reader.specs.declared.words.Word.TheVariants.{Number}
-use Rattle.bristol_reader.specs.Words.{header_words}
+use Rattle.bristol_reader.specs.declared.header.Header.{Header}
+use Rattle.bristol_reader.specs.Words.{counted_words, values_words, header_words}
+use Rattle.bristol_reader.specs.Headers.{SaysCount, SaysSizes, SaysHeader}
+
+length_numbers : (sizes : List ℕ) → length (map Number sizes) ≡ length sizes
+length_numbers [] = refl
+length_numbers (x ∷ sizes) = omega (arith, length_numbers sizes)
+
+-- a count, and what is behind it
+pub count_first : {words : List Word} {limit number : ℕ} → SaysCount words limit number → words ≡ Number number ∷ drop 1 words
+count_first {words} {limit} {number} says = says.words_are ∙ ap (λ l. Number number ∷ l) (sym (ap (drop 1) says.words_are))
+
+-- sizes, and what is behind them
+pub sizes_first : {words : List Word} {count wires total : ℕ} (says : SaysSizes words count wires total) → words ≡ map Number says.sizes ++ drop count words
+sizes_first {words} {count} {wires} {total} says =
+    let counted : length (map Number says.sizes) ≡ count = length_numbers says.sizes ∙ says.counted in
+    let seam : drop (length (map Number says.sizes)) (map Number says.sizes ++ says.behind) ≡ says.behind = drop-append_seam (map Number says.sizes) says.behind in
+    let behind : drop count words ≡ says.behind = ap (drop count) says.words_are ∙ ap (λ n. drop n (map Number says.sizes ++ says.behind)) (sym counted) ∙ seam in
+    says.words_are ∙ ap (λ l. map Number says.sizes ++ l) (sym behind)
 
 -- what is behind four skips
 skipped : (I O : ℕ) (w0 w1 w2 w3 w4 w5 : List Word) → w1 ≡ drop 1 w0 → w2 ≡ drop 1 w1 → w3 ≡ drop 1 w2 → w4 ≡ drop I w3 → w5 ≡ drop 1 w4
@@ -30,12 +50,61 @@ header_found w0 w1 w2 w3 w4 w5 G W I O ins outs n0 e1 n1 e2 n2 e3 l3 s3 e4 n4 e5
         → w0 ≡ Number G ∷ Number W ∷ (Number (length ins) ∷ (is ++ (Number (length outs) ∷ (os ++ behind))))
     joined w0 w1 w2 w3 w4 w5 rest behind is os a b c d e f g h i = cc
 
-length_numbers : (sizes : List ℕ) → length (map Number sizes) ≡ length sizes
-length_numbers [] = refl
-length_numbers (x ∷ sizes) = omega (arith, length_numbers sizes)
-
 -- a header's words are among the words
 pub header_within : (words : List Word) (G W I O : ℕ) (ins outs : List ℕ) (behind : List Word) → length ins ≡ I → length outs ≡ O
     → words ≡ header_words G W (record { inputs = ins; outputs = outs }) behind → 3 + I + 1 + O ≤ length words
 header_within words G W I O ins outs behind e f is =
     omega (arith, ap length is, length-append (map Number ins) (Number (length outs) ∷ (map Number outs ++ behind)), length-append (map Number outs) behind, length_numbers ins, length_numbers outs)
+
+-- ---- the parts of a header that the words say, each where it is read
+
+-- every failure says what holds anyway
+pub fails : {T E A : Type 0} (r : Result T E) → A → IfErr r (λ _. A)
+fails (Ok value) holds = tt
+fails (Err error) holds = holds
+
+pub gates_said : {words behind : List Word} {header : Header} → SaysHeader words header behind → SaysCount words (2 ^ 20) header.gates
+gates_said {words} {behind} {header} said = record {
+  within = said.is.gates;
+  behind = Number header.wires ∷ values_words said.values behind;
+  words_are = said.words_are;
+}
+
+pub wires_said : {words after behind : List Word} {header : Header} → SaysHeader words header behind → after ≡ drop 1 words → SaysCount after (2 ^ 20) header.wires
+wires_said {words} {after} {behind} {header} said skip = record {
+  within = said.is.wires;
+  behind = values_words said.values behind;
+  words_are = skip ∙ ap (drop 1) said.words_are;
+}
+
+pub values_said : {words after now behind : List Word} {header : Header} (said : SaysHeader words header behind) → after ≡ drop 1 words → now ≡ drop 1 after
+    → now ≡ values_words said.values behind
+values_said {words} {after} {now} {behind} {header} said one two = two ∙ ap (drop 1) (one ∙ ap (drop 1) said.words_are)
+
+-- words that begin with a number say no other
+pub same_count : {words : List Word} {limit most m n : ℕ} → SaysCount words limit m → SaysCount words most n → m ≡ n
+same_count {words} {limit} {most} {m} {n} left right =
+    let same : Number m ∷ left.behind ≡ Number n ∷ right.behind = sym left.words_are ∙ right.words_are in
+    cc
+
+-- a value's sizes behind their number
+pub counted_said : {words : List Word} {limit : ℕ} (sizes : List ℕ) (more : List Word) → length sizes ≤ limit → words ≡ counted_words sizes ++ more → SaysCount words limit (length sizes)
+counted_said {words} {limit} sizes more few are = record { within = few; behind = map Number sizes ++ more; words_are = are }
+
+pub sizes_said : {words now : List Word} {count wires : ℕ} (sizes : List ℕ) (more : List Word) → length sizes ≡ count → sum sizes ≤ wires
+    → words ≡ counted_words sizes ++ more → now ≡ drop 1 words → SaysSizes now count wires (sum sizes)
+sizes_said {words} {now} {count} {wires} sizes more counted few are skip = record {
+  sizes = sizes;
+  counted = counted;
+  total_is = refl;
+  within = few;
+  behind = more;
+  words_are = skip ∙ ap (drop 1) are;
+}
+
+pub behind_sizes : {words now after : List Word} {count : ℕ} (sizes : List ℕ) (more : List Word) → length sizes ≡ count → words ≡ counted_words sizes ++ more
+    → now ≡ drop 1 words → after ≡ drop count now → after ≡ more
+behind_sizes {words} {now} {after} {count} sizes more counted are one all =
+    let numbers : length (map Number sizes) ≡ count = length_numbers sizes ∙ counted in
+    let seam : drop (length (map Number sizes)) (map Number sizes ++ more) ≡ more = drop-append_seam (map Number sizes) more in
+    all ∙ ap (drop count) (one ∙ ap (drop 1) are) ∙ ap (λ n. drop n (map Number sizes ++ more)) (sym numbers) ∙ seam

@@ -4,17 +4,22 @@ use Rattle.std.proofs.lemmas.List.Sums.{sum_by-cons}
 use Rattle.std.proofs.lemmas.List.{take_all}
 use Rattle.bristol_reader.specs.declared.words.Word.{Word}
 use Rattle.bristol_reader.specs.declared.words.Word.TheVariants.{Number}
+use Rattle.bristol_reader.specs.Headers.{SaysSizes}
 
--- the sizes that are read, and the words behind them
+-- the words begin with the sizes that are read, and the rest is behind them
 pub record AreSizes (words rest : List Word) (count total wires : ℕ) : Type 0 where
-  pub sizes : List ℕ
-  pub counted : length sizes ≡ count
-  pub total_is : sum sizes ≡ total
-  pub few : total ≤ wires
-  pub words_are : words ≡ map Number sizes ++ rest
+  pub says : SaysSizes words count wires total
+  pub rest_is : says.behind ≡ rest
 
 pub no_sizes : (words : List Word) (wires : ℕ) → AreSizes words words 0 0 wires
-no_sizes words wires = record { sizes = []; counted = refl; total_is = refl; few = omega arith; words_are = refl }
+no_sizes words wires = record {
+  says = record { sizes = []; counted = refl; total_is = refl; within = omega arith; behind = words; words_are = refl };
+  rest_is = refl;
+}
+
+-- the words, by what is behind the sizes
+words_then_rest : (words rest : List Word) (count total wires : ℕ) (far : AreSizes words rest count total wires) → words ≡ map Number far.says.sizes ++ rest
+words_then_rest words rest count total wires far = far.says.words_are ∙ ap (λ l. map Number far.says.sizes ++ l) far.rest_is
 
 pub sum-cons : (x : ℕ) (xs : List ℕ) → sum (x ∷ xs) ≡ x + sum xs
 sum-cons x xs = sum_by-cons (λ n. n) x xs
@@ -30,11 +35,15 @@ map_push (x ∷ sizes) n behind = ap (λ l. Number x ∷ l) (map_push sizes n be
 pub size_more : (words rest behind : List Word) (count total wires n : ℕ) → rest ≡ Number n ∷ behind → total + n ≤ wires
     → AreSizes words rest count total wires → AreSizes words behind (count + 1) (total + n) wires
 size_more words rest behind count total wires n is few far = record {
-  sizes = far.sizes ++ n ∷ [];
-  counted = length-append far.sizes (n ∷ []) ∙ ap (λ k. k + 1) far.counted;
-  total_is = sum_push far.sizes n ∙ ap (λ k. k + n) far.total_is;
-  few = few;
-  words_are = far.words_are ∙ ap (λ l. map Number far.sizes ++ l) is ∙ sym (map_push far.sizes n behind);
+  says = record {
+    sizes = far.says.sizes ++ n ∷ [];
+    counted = length-append far.says.sizes (n ∷ []) ∙ ap (λ k. k + 1) far.says.counted;
+    total_is = sum_push far.says.sizes n ∙ ap (λ k. k + n) far.says.total_is;
+    within = few;
+    behind = behind;
+    words_are = words_then_rest words rest count total wires far ∙ ap (λ l. map Number far.says.sizes ++ l) is ∙ sym (map_push far.says.sizes n behind);
+  };
+  rest_is = refl;
 }
 
 -- where there are more sizes, the rest begins with one of them
@@ -48,11 +57,12 @@ next_size (x ∷ sizes) (y ∷ others) rest behind less same =
     let next = next_size sizes others rest behind (omega arith) tails in
     (next.0, next.1, next.2, omega (arith, next.3, sum-cons x sizes, sum-cons y others))
 
-pub size_next : (words rest behind : List Word) (others : List ℕ) (count total wires : ℕ) → count < length others → words ≡ map Number others ++ behind
-    → AreSizes words rest count total wires → (n : ℕ) × (more : List Word) × (rest ≡ Number n ∷ more) × (total + n ≤ sum others)
-size_next words rest behind others count total wires less same far =
-    let next = next_size far.sizes others rest behind (omega (arith, far.counted)) (sym far.words_are ∙ same) in
-    (next.0, next.1, next.2, omega (arith, next.3, far.total_is))
+pub size_next : (words rest : List Word) (count total wires all whole : ℕ) → count < all → SaysSizes words all wires whole
+    → AreSizes words rest count total wires → (n : ℕ) × (more : List Word) × (rest ≡ Number n ∷ more) × (total + n ≤ wires)
+size_next words rest count total wires all whole less said far =
+    let next = next_size far.says.sizes said.sizes rest said.behind (omega (arith, far.says.counted, said.counted))
+    (sym (words_then_rest words rest count total wires far) ∙ said.words_are) in
+    (next.0, next.1, next.2, omega (arith, next.3, far.says.total_is, said.total_is, said.within))
 
 -- one size more, as a loop has it
 pub size_step : (words rest : List Word) (count total wires n : ℕ) → 1 ≤ length rest → get_or rest 0 (Number 0) ≡ Number n → total + n ≤ wires

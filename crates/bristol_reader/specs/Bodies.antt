@@ -1,27 +1,21 @@
--- What the words of a header and of gates say.
-use Rattle.std.specs.Prelude.{◌≡◌, ℕ, ◌+◌, ◌-◌, ◌<◌, ◌≤◌, ◌^◌, ◌⊎◌, Bool, true, false, List, length, sum, take, slice_get, slice_index_or, Some, All, flat_map}
-use Rattle.zk_model.specs.Bristol.{IsReadGate, Values}
+-- What the words of gates say.
+use Rattle.std.specs.Prelude.{◌≡◌, ℕ, ◌+◌, ◌-◌, ◌<◌, ◌≤◌, ◌⊎◌, Bool, true, false, List, ◌++◌, length, take, slice_get, slice_index_or, Some, All, flat_map}
+use Rattle.zk_model.specs.Bristol.{IsReadGate}
 use Rattle.zk_model.specs.Circuit.{wire_set, wires_read}
 use Rattle.zk_model.specs.declared.GateRow.{GateRow}
 use Rattle.bristol_reader.specs.declared.words.Word.{Word}
 use Rattle.bristol_reader.specs.declared.header.Header.{Header}
-use Rattle.bristol_reader.specs.Words.{header_words, gate_words}
+use Rattle.bristol_reader.specs.declared.fault.ReadError.{ReadError}
+use Rattle.bristol_reader.specs.declared.fault.ReadError.TheVariants.{Fault, NoMemory}
+use Rattle.bristol_reader.specs.Words.{gate_words}
 
--- a header's counts: within the limits, and no more input wires or output wires than wires
-pub record IsHeader (header : Header) (values : Values) : Type 0 where
-  pub gates : header.gates ≤ 2 ^ 20
-  pub wires : header.wires ≤ 2 ^ 20
-  pub input_values : length values.inputs ≤ 1024
-  pub output_values : length values.outputs ≤ 1024
-  pub inputs : sum values.inputs ≡ header.inputs
-  pub outputs : sum values.outputs ≡ header.outputs
-  pub inputs_within : header.inputs ≤ header.wires
-  pub outputs_within : header.outputs ≤ header.wires
+-- ---- the gates that words say
 
--- the words of this header, and what is behind them
-pub record SaysHeader (words : List Word) (header : Header) (values : Values) (behind : List Word) : Type 0 where
-  pub is : IsHeader header values
-  pub words_are : words ≡ header_words header.gates header.wires values behind
+-- the words begin with those of this gate, and it is one that is read
+pub record SaysGate (words : List Word) (gate : GateRow) : Type 0 where
+  pub kind : IsReadGate gate
+  pub behind : List Word
+  pub words_are : words ≡ gate_words gate ++ behind
 
 -- one of the gates sets a wire
 abbrev pub SetBy : List GateRow → ℕ → Type 0
@@ -39,7 +33,8 @@ pub record MayFollow (wires inputs : ℕ) (before : List GateRow) (gate : GateRo
 
 -- each gate may follow those before it
 abbrev pub AreOrdered : ℕ → ℕ → List GateRow → Type 0
-AreOrdered wires inputs gates = (n : ℕ) (gate : GateRow) → slice_get gates n ≡ Some gate → MayFollow wires inputs (take n gates) gate
+AreOrdered wires inputs gates =
+    (n : ℕ) (gate : GateRow) → slice_get gates n ≡ Some gate → MayFollow wires inputs (take n gates) gate
 
 -- the gates behind a header, and every output wire is set
 pub record IsBody (words : List Word) (header : Header) (gates : List GateRow) : Type 0 where
@@ -49,7 +44,14 @@ pub record IsBody (words : List Word) (header : Header) (gates : List GateRow) :
   pub ordered : AreOrdered header.wires header.inputs gates
   pub outputs_set : (o : ℕ) → o < header.outputs → IsSetAfter header.inputs gates (header.wires - header.outputs + o)
 
--- by its flags, a wire is set
+-- a fault says that the words are no gates behind this header
+abbrev pub BodyCause : List Word → Header → ReadError → Type 0
+BodyCause words header (Fault fault) = (gates : List GateRow) → ¬ IsBody words header gates
+BodyCause words header NoMemory = Unit {0}
+
+-- ---- which wires are set, by a flag for each
+
+-- by its flag, a wire is set
 abbrev pub flag_of : List Bool → ℕ → Bool
 flag_of flags wire = slice_index_or flags wire false
 
@@ -58,6 +60,12 @@ pub record FitsFlags (flags : List Bool) (gate : GateRow) : Type 0 where
   pub reads : All (λ wire. flag_of flags wire ≡ true) (wires_read gate)
   pub within : wire_set gate < length flags
   pub once : flag_of flags (wire_set gate) ≡ false
+
+-- by the flags, a wire is one of the last, which are the outputs, and it is not set
+pub record IsUnsetOutput (flags : List Bool) (outputs wire : ℕ) : Type 0 where
+  pub is_last : length flags ≤ wire + outputs
+  pub within : wire < length flags
+  pub unset : flag_of flags wire ≡ false
 
 -- which wires are set after the gates
 pub record AreFlags (flags : List Bool) (wires inputs : ℕ) (gates : List GateRow) : Type 0 where

@@ -1,4 +1,5 @@
 pub mod Bodies
 pub mod Circuits
+pub mod Headers
 pub mod Reads
 pub mod Words

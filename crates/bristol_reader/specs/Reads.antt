@@ -9,8 +9,3 @@ use Rattle.bristol_reader.specs.declared.fault.ReadError.TheVariants.{Fault, NoM
 abbrev pub ReadCause : List ℕ → ReadError → Type 0
 ReadCause text (Fault fault) = (circuit : Circuit) → ¬ IsText circuit text
 ReadCause text NoMemory = Unit {0}
-
--- the error is a fault
-abbrev pub IsFault : ReadError → Type 0
-IsFault (Fault fault) = Unit {0}
-IsFault NoMemory = ⊥

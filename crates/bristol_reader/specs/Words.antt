@@ -30,8 +30,10 @@ text_words text = map word_of (tokens text)
 
 -- the numbers of inputs and of outputs, the input wires, the output wire, and the name of a gate that is read
 abbrev pub gate_words : GateRow → List Word
-gate_words (row.And a b out) = word.Number 2 ∷ word.Number 1 ∷ word.Number a ∷ word.Number b ∷ word.Number out ∷ word.And ∷ []
-gate_words (row.Inv a out) = word.Number 1 ∷ word.Number 1 ∷ word.Number a ∷ word.Number out ∷ word.Inv ∷ []
+gate_words (row.And a b out) =
+    word.Number 2 ∷ word.Number 1 ∷ word.Number a ∷ word.Number b ∷ word.Number out ∷ word.And ∷ []
+gate_words (row.Inv a out) =
+    word.Number 1 ∷ word.Number 1 ∷ word.Number a ∷ word.Number out ∷ word.Inv ∷ []
 gate_words (row.Xor a b out) = []
 gate_words (row.Eqw a out) = []
 gate_words (row.Eq bit out) = []
@@ -40,6 +42,10 @@ gate_words (row.Eq bit out) = []
 abbrev pub counted_words : List ℕ → List Word
 counted_words sizes = word.Number (length sizes) ∷ map word.Number sizes
 
+-- the input values and the output values, and the words behind them
+abbrev pub values_words : Values → List Word → List Word
+values_words values behind = counted_words values.inputs ++ (counted_words values.outputs ++ behind)
+
 -- the numbers of gates and of wires, the values, and the words behind them
 abbrev pub header_words : ℕ → ℕ → Values → List Word → List Word
-header_words gates wires values behind = word.Number gates ∷ word.Number wires ∷ (counted_words values.inputs ++ (counted_words values.outputs ++ behind))
+header_words gates wires values behind = word.Number gates ∷ word.Number wires ∷ values_words values behind

@@ -1,12 +1,10 @@
 // The gates of a circuit's text.
-ghost use Rattle.std.specs.Prelude.{◌≡◌, ◌≤◌, ◌<◌, ◌^◌, ◌++◌, ◌+◌, ◌-◌, ◌↔◌, ℕ, IfOk, IfErr, IfSome, IfNone, IsTrue, List, [], length, drop, true, false};
+ghost use Rattle.std.specs.Prelude.{◌≡◌, ◌≤◌, ◌<◌, ◌^◌, ◌↔◌, ℕ, IfOk, IfErr, IfSome, IfNone, IsTrue, [], length, false};
 ghost use Rattle.zk_model.specs.Bristol.{IsReadGate};
 ghost use Rattle.zk_model.specs.Circuit.{wire_set};
 ghost use Rattle.zk_model.specs.declared.GateRow.{GateRow as Row};
 ghost use Rattle.bristol_reader.specs.Words.{gate_words};
-ghost use Rattle.bristol_reader.specs.Bodies.{AreFlags, FitsFlags, IsBody, flag_of};
-ghost use Rattle.bristol_reader.specs.Reads.{IsFault};
-ghost use Rattle.bristol_reader.specs.declared.words.Word.{Word};
+ghost use Rattle.bristol_reader.specs.Bodies.{AreFlags, BodyCause, FitsFlags, IsBody, IsUnsetOutput, SaysGate, flag_of};
 
 use crate::fault::{ReadError, ReadFault};
 use crate::header::Header;
@@ -16,8 +14,8 @@ use zk_model::GateRow;
 
 /// The gate that the first words say.
 fn gate_of(words: &[Word]) -> Option<GateRow>
-    ensures some { IfSome result (λ gate. IsReadGate gate × ((behind : List Word) × (words.now ≡ gate_words gate ++ behind))) }
-    ensures none { IfNone result ((gate : Row) (behind : List Word) → IsReadGate gate → words.now ≡ gate_words gate ++ behind → ⊥) }
+    ensures some { IfSome result (SaysGate words.now) }
+    ensures none { IfNone result ((gate : Row) → ¬ SaysGate words.now gate) }
 {
     match words {
         [
@@ -63,11 +61,11 @@ fn out_wire(gate: GateRow) -> u32
     ensures { result ≡ wire_set gate }
 {
     match gate {
-        GateRow::And { out, .. } => out,
-        GateRow::Xor { out, .. } => out,
-        GateRow::Inv { out, .. } => out,
-        GateRow::Eqw { out, .. } => out,
-        GateRow::Eq { out, .. } => out,
+        GateRow::And { out, .. }
+        | GateRow::Xor { out, .. }
+        | GateRow::Inv { out, .. }
+        | GateRow::Eqw { out, .. }
+        | GateRow::Eq { out, .. } => out,
     }
 }
 
@@ -90,10 +88,8 @@ fn gate_fits(set: &[bool], gate: GateRow) -> bool
     ensures { IsTrue result ↔ FitsFlags set.now gate }
 {
     let reads = match gate {
-        GateRow::And { a, b, .. } => is_set(set, a) && is_set(set, b),
-        GateRow::Xor { a, b, .. } => is_set(set, a) && is_set(set, b),
-        GateRow::Inv { a, .. } => is_set(set, a),
-        GateRow::Eqw { a, .. } => is_set(set, a),
+        GateRow::And { a, b, .. } | GateRow::Xor { a, b, .. } => is_set(set, a) && is_set(set, b),
+        GateRow::Inv { a, .. } | GateRow::Eqw { a, .. } => is_set(set, a),
         GateRow::Eq { .. } => true,
     };
     reads && is_free(set, out_wire(gate))
@@ -186,22 +182,23 @@ fn set_fault(set: &[bool], wire: u32, token: u64) -> ReadFault {
 
 /// Why a gate does not fit the wires that are set. `at` is the number of its first token in the text.
 fn order_fault(set: &[bool], gate: GateRow, at: usize) -> ReadFault {
+    let first = token(at, 2);
+    let second = token(at, 3);
+    let third = token(at, 4);
     let out = out_wire(gate);
     match gate {
-        GateRow::And { a, b, .. } => match read_fault(set, a, token(at, 2)) {
+        GateRow::And { a, b, .. } | GateRow::Xor { a, b, .. } => match read_fault(set, a, first) {
             Some(fault) => fault,
-            None => match read_fault(set, b, token(at, 3)) {
+            None => match read_fault(set, b, second) {
                 Some(fault) => fault,
-                None => set_fault(set, out, token(at, 4)),
+                None => set_fault(set, out, third),
             },
         },
-        GateRow::Inv { a, .. } => match read_fault(set, a, token(at, 2)) {
+        GateRow::Inv { a, .. } | GateRow::Eqw { a, .. } => match read_fault(set, a, first) {
             Some(fault) => fault,
-            None => set_fault(set, out, token(at, 3)),
+            None => set_fault(set, out, second),
         },
-        _ => ReadFault::BadGate {
-            token: token(at, 0),
-        },
+        GateRow::Eq { .. } => set_fault(set, out, second),
     }
 }
 
@@ -209,8 +206,8 @@ fn order_fault(set: &[bool], gate: GateRow, at: usize) -> ReadFault {
 fn unset_output(set: &[bool], outputs: u32) -> Option<u32>
     requires some_outputs { outputs ≤ length set.now }
     requires few { length set.now ≤ 2 ^ 20 }
-    ensures some { IfSome result (λ wire. (o : ℕ) × (o < outputs) × (flag_of set.now (length set.now - outputs + o) ≡ false)) }
-    ensures none { IfNone result ((o : ℕ) → o < outputs → flag_of set.now (length set.now - outputs + o) ≡ true) }
+    ensures some { IfSome result (IsUnsetOutput set.now outputs) }
+    ensures none { IfNone result ((wire : ℕ) → ¬ IsUnsetOutput set.now outputs wire) }
 {
     let first = set.len() - outputs as usize;
     for (i, is_set) in set[first..].iter().enumerate() {
@@ -232,7 +229,8 @@ fn first_flags(alloc: Global, header: Header) -> Result<Vec<bool>, AllocError>
     Ok(set)
 }
 
-/// The gates that the words say. `at` is the number of the first word in the text.
+/// The gates that the words say. `at` is the number of the first word in the text. The error says why they
+/// are no gates of this header's circuit, or that memory ran out.
 pub fn read_body(
     alloc: Global,
     words: &[Word],
@@ -243,7 +241,7 @@ pub fn read_body(
     requires outputs { header.outputs ≤ header.wires }
     requires few { header.wires ≤ 2 ^ 20 }
     ensures found { IfOk result (λ gates. IsBody words.now header gates.items) }
-    ensures fault { IfErr result (λ error. IsFault error → (gates : List Row) → IsBody words.now header gates → ⊥) }
+    ensures cause { IfErr result (BodyCause words.now header) }
 {
     let mut set = first_flags(alloc, header)?;
     let mut gates = Vec::with_capacity(alloc, header.gates as usize)?;

@@ -5,8 +5,8 @@ ghost use Rattle.bristol_reader.specs.Circuits.{circuit_of, IsCircuit};
 use std::marker::Model;
 use zk_model::GateRow;
 
-/// A circuit that was read: how many wires it has, how many of the first are inputs and of the last outputs, and
-/// its gates in order. It is well formed.
+/// A circuit that was read: how many wires it has, how many of the first are inputs and of the last outputs,
+/// and its gates in order. It is well formed, and within the limits of `read`.
 #[derive(Debug, Drop)]
 pub struct Circuit {
     wires: u32,
@@ -69,7 +69,7 @@ impl Circuit {
         self.gates.len()
     }
 
-    /// The gate of this number.
+    /// The gate of this number, from 0.
     pub fn gate(&self, i: usize) -> GateRow
         requires { i < length self.now.gates }
         ensures { slice_get self.now.gates i ≡ Some result }

@@ -1,21 +1,17 @@
 // The header of a circuit's text.
-ghost use Rattle.std.specs.Prelude.{◌≡◌, ◌≤◌, ◌^◌, ◌++◌, ◌∷◌, ◌<◌, ◌+◌, ℕ, IfOk, IfErr, List, length, sum, map, drop};
-ghost use Rattle.zk_model.specs.Bristol.{Values};
-ghost use Rattle.bristol_reader.specs.Bodies.{SaysHeader};
-ghost use Rattle.bristol_reader.specs.declared.header.Header as declared;
-ghost use Rattle.bristol_reader.specs.declared.words.Word.{Word};
-ghost use Rattle.bristol_reader.specs.declared.words.Word.TheVariants as word;
+ghost use Rattle.std.specs.Prelude.{◌≡◌, ◌≤◌, ℕ, IfOk, IfErr, length, drop};
+ghost use Rattle.bristol_reader.specs.Headers.{SaysCount, SaysHeader, SaysNoHeader, SaysSizes};
 
 use crate::fault::ReadFault;
 use crate::words::{Word, skip};
 
-/// How many gates a circuit may have.
+/// How many gates a circuit may have at most.
 const MOST_GATES: u32 = 1 << 20;
 
-/// How many wires a circuit may have.
+/// How many wires a circuit may have at most.
 const MOST_WIRES: u32 = 1 << 20;
 
-/// How many values its inputs may be, and its outputs.
+/// How many values its inputs may be at most, and its outputs.
 const MOST_VALUES: u32 = 1024;
 
 /// The numbers that a header says, and how many words it has.
@@ -28,29 +24,30 @@ pub struct Header {
     pub words: usize,
 }
 
-/// The number that the first word says, if it is within the limit. `at` is the number of that word in the text.
+/// The number that the first word says, if it is within the limit. `at` is the number of that word in the
+/// text.
 fn count(words: &[Word], at: usize, limit: u32) -> Result<u32, ReadFault>
-    ensures found { IfOk result (λ n. (n ≤ limit) × (words.now ≡ word.Number n ∷ drop 1 words.now)) }
-    ensures fault { IfErr result (λ _. (n : ℕ) (behind : List Word) → n ≤ limit → words.now ≡ word.Number n ∷ behind → ⊥) }
+    ensures found { IfOk result (SaysCount words.now limit) }
+    ensures fault { IfErr result (λ _. (number : ℕ) → ¬ SaysCount words.now limit number) }
 {
     let token = at as u64;
     let [first, ..] = words else {
         return Err(ReadFault::ShortText { token });
     };
-    let Word::Number(n) = *first else {
+    let Word::Number(number) = *first else {
         return Err(ReadFault::BadNumber { token });
     };
-    if n > limit {
+    if number > limit {
         return Err(ReadFault::TooLarge { token });
     }
-    Ok(n)
+    Ok(number)
 }
 
-/// The sum of the first `count` words, if they are numbers and their sum is within the wires. `at` is the number of
-/// the first word in the text.
+/// The sum of the first `count` words, if they are numbers and their sum is within the wires. `at` is the
+/// number of the first word in the text.
 fn total(words: &[Word], at: usize, count: u32, wires: u32) -> Result<u32, ReadFault>
-    ensures found { IfOk result (λ n. (sizes : List ℕ) × (length sizes ≡ count) × (sum sizes ≡ n) × (n ≤ wires) × (words.now ≡ map word.Number sizes ++ drop count words.now)) }
-    ensures fault { IfErr result (λ _. (sizes : List ℕ) (behind : List Word) → length sizes ≡ count → sum sizes ≤ wires → words.now ≡ map word.Number sizes ++ behind → ⊥) }
+    ensures found { IfOk result (SaysSizes words.now count wires) }
+    ensures fault { IfErr result (λ _. (total : ℕ) → ¬ SaysSizes words.now count wires total) }
 {
     let mut sum = 0;
     let mut rest = words;
@@ -59,24 +56,24 @@ fn total(words: &[Word], at: usize, count: u32, wires: u32) -> Result<u32, ReadF
         let [first, ..] = rest else {
             return Err(ReadFault::ShortText { token });
         };
-        let Word::Number(n) = *first else {
+        let Word::Number(size) = *first else {
             return Err(ReadFault::BadNumber { token });
         };
-        if n > wires - sum {
+        if size > wires - sum {
             return Err(ReadFault::WireRange { token });
         }
-        sum += n;
+        sum += size;
         rest = &rest[1..];
     }
     Ok(sum)
 }
 
-/// The header of a text: the numbers of gates and of wires, and the sizes of the input values and of the output
-/// values.
+/// The header of a text: the numbers of gates and of wires, and the sizes of the input values and of the
+/// output values. The error says why the words begin with no header.
 pub fn read_header(words: &[Word]) -> Result<Header, ReadFault>
     ensures within { IfOk result (λ h. h.words ≤ length words.now) }
-    ensures found { IfOk result (λ h. (values : Values) × SaysHeader words.now h values (drop h.words words.now)) }
-    ensures fault { IfErr result (λ _. (h : declared.Header) (values : Values) (behind : List Word) → SaysHeader words.now h values behind → ⊥) }
+    ensures found { IfOk result (λ h. SaysHeader words.now h (drop h.words words.now)) }
+    ensures fault { IfErr result (λ _. SaysNoHeader words.now) }
 {
     let gates = count(words, 0, MOST_GATES)?;
     let words = skip(words, 1);

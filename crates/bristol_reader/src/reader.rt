@@ -11,15 +11,17 @@ use crate::header::read_header;
 use crate::words::{skip, words};
 use std::alloc::Global;
 
-/// Reads a circuit in Bristol Fashion: the numbers of gates and of wires, the sizes of the input values and of the
-/// output values, and then each gate, by the numbers of its inputs and outputs, its wires and its name. Gates are AND
-/// and INV. Tokens stand between blanks, however many. The wires of a value and of a gate are checked in order: a gate
-/// reads wires that are set before it, and sets one that is not.
+/// Reads a circuit in Bristol Fashion: the numbers of gates and of wires, the sizes of the input values and
+/// of the output values, and then each gate, by the numbers of its inputs and outputs, its wires and its
+/// name. Gates are AND and INV. Tokens stand between blanks, however many: spaces, tabs, carriage returns and
+/// line feeds. The wires of a value and of a gate are checked in order: a gate reads wires that are inputs or
+/// that a gate before it sets, and sets one that is neither.
 ///
 /// # Errors
 ///
-/// `Fault` where the text is that of no circuit of at most 2^20 gates, 2^20 wires, and 1,024 values of inputs and of
-/// outputs: `ReadFault` says what is wrong at the first token that is wrong. `NoMemory` where memory runs out.
+/// `Fault` where the text is that of no circuit of at most 2^20 gates, 2^20 wires, and 1,024 values of inputs
+/// and of outputs: `ReadFault` says what is wrong at the first token that is wrong, or which output is not
+/// set. `NoMemory` where memory runs out.
 ///
 /// The format is that of the page "Bristol Fashion" MPC circuits, of Smart and others.
 pub fn read(alloc: Global, text: &[u8]) -> Result<Circuit, ReadError>

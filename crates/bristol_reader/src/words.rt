@@ -34,11 +34,13 @@ fn number(digits: &[u8]) -> u32
     requires { list_all is_digit digits.now ≡ true }
     ensures { result ≡ min (decimal_value digits.now) greatest }
 {
-    let mut n: u32 = 0;
+    let mut value: u32 = 0;
     for digit in digits {
-        n = n.saturating_mul(10).saturating_add((*digit - b'0') as u32);
+        value = value
+            .saturating_mul(10)
+            .saturating_add((*digit - b'0') as u32);
     }
-    n
+    value
 }
 
 /// What a name says.

@@ -1,3 +1,1 @@
-pub mod Numbering
-pub mod Rounding
-pub mod Saying
+pub mod Translating

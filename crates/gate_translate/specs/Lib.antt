@@ -1,3 +1,2 @@
-pub mod Meanings
 pub mod Programs
 pub mod Steps

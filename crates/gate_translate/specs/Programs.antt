@@ -1,17 +1,27 @@
--- A program over the field and the circuit that it says.
-use Rattle.std.specs.Prelude.{◌≡◌, ℕ, List, map}
-use Rattle.zk_model.specs.Circuit.{Circuit}
-use Rattle.bristol_reader.specs.Circuits.{IsCircuit}
-use Rattle.gate_translate.specs.declared.program.Product.{Product}
+-- The programs that are held.
+use Rattle.std.specs.Prelude.{ℕ, ◌^◌, ◌≤◌, List, length}
+use Rattle.zk_model.specs.Program.{Program, IsProgram}
+use Rattle.zk_model.specs.declared.Product.{Product}
+use Rattle.gate_translate.specs.Steps.{equations}
 use Rattle.gate_translate.specs.declared.program.Step.{Step}
-use Rattle.gate_translate.specs.Steps.{gate_of, circuit_steps, numbered_products}
 
--- the circuit of these counts and of the steps' gates
-abbrev pub program_circuit : ℕ → ℕ → ℕ → List Step → Circuit
-program_circuit wires inputs outputs steps = record { wires = wires; inputs = inputs; outputs = outputs; gates = map gate_of steps }
+-- the program of these parts: how many wires there are, how many are public and inputs, and how many values are given;
+-- the steps, the products, and the wires that are opened
+abbrev pub program_of : ℕ → ℕ → ℕ → ℕ → List Step → List Product → List ℕ → Program
+program_of wires public inputs givens steps products opened = record {
+  wires = wires;
+  public = public;
+  inputs = inputs;
+  steps = equations steps;
+  givens = givens;
+  products = products;
+  opened = opened;
+}
 
--- the steps and the products are those of the circuit
-pub record IsProgram (wires inputs outputs : ℕ) (steps : List Step) (products : List Product) : Type 0 where
-  pub steps_are : steps ≡ circuit_steps (program_circuit wires inputs outputs steps)
-  pub products_are : products ≡ numbered_products (program_circuit wires inputs outputs steps)
-  pub rules : IsCircuit (program_circuit wires inputs outputs steps)
+-- a program within the limits of the circuits that are read
+pub record IsHeld (program : Program) : Type 0 where
+  pub formed : IsProgram program
+  pub wires : program.wires ≤ 2 ^ 20
+  pub givens : program.givens ≤ 2 ^ 21
+  pub products : length program.products ≤ 2 ^ 21
+  pub opened : length program.opened ≤ 2 ^ 20

@@ -5,5 +5,6 @@
 mod program;
 mod translation;
 
-pub use program::{FieldProgram, Product, Step};
+pub use program::{FieldProgram, Step};
 pub use translation::translate;
+pub use zk_model::Product;

@@ -1,2 +1,5 @@
+pub mod Flatten
 pub mod Congruence
 pub mod FieldLaws
+pub mod UnitPowers
+pub mod Prime

@@ -1,8 +1,11 @@
 //! Arithmetic in the field of the integers modulo the prime 2^61 - 1, and authenticated values over it.
 #![tactic(auto)]
 
+pub mod laws;
+
 ghost use Rattle.std.specs.Prelude.{◌≡◌, ◌*◌, ◌%◌, ◌<◌, ◌↔◌, IsSome, IfSome};
 ghost use Rattle.std.specs.Int.{w64, from_le_bytes};
+ghost use Rattle.zk_model.specs.Bits.{from_bit};
 ghost use Rattle.zk_model.specs.Field.{prime, IsElement, ◌+ₚ◌, ◌-ₚ◌, ◌*ₚ◌, from_word};
 ghost use Rattle.zk_model.specs.Bytes.{element_bytes};
 
@@ -82,6 +85,13 @@ impl Fe {
         Fe {
             word: reduced(high + low),
         }
+    }
+
+    /// The element of a bit: one or zero.
+    pub fn from_bit(bit: bool) -> Fe
+        ensures { result ≡ from_bit bit }
+    {
+        if bit { Fe::ONE } else { Fe::ZERO }
     }
 
     /// The element of a 64-bit word: its low 61 bits, modulo the prime.

@@ -1,9 +1,7 @@
 //! The program: the real objects, and the top call.
 #![tactic(auto)]
 
-mod outside;
-
-use outside::{FileShelf, OutputSink, found_no_memory};
+use port_os::{FileShelf, OutputSink, found_no_memory};
 use std::alloc::Global;
 use std::io::Read;
 use std::process::ExitCode;
@@ -69,6 +67,10 @@ fn main(rt: HostRuntime) -> ExitCode {
 }
 
 #[cfg(test)]
-mod tests;
+mod outside_tests;
+#[cfg(test)]
+mod row_tests;
+#[cfg(test)]
+mod run_tests;
 #[cfg(test)]
 mod vectors;

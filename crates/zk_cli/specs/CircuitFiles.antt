@@ -6,6 +6,7 @@ use Rattle.zk_port.specs.Files.{Files, StandsAs, LoadCause}
 use Rattle.zk_port.specs.declared.fault.LoadFault.{LoadFault}
 use Rattle.bristol_reader.specs.Reads.{ReadCause}
 use Rattle.bristol_reader.specs.declared.fault.ReadError.{ReadError}
+use Rattle.zk_cli.specs.Changes.{ShelfChange}
 use Rattle.zk_cli.specs.StopsOf.{load_stop, read_stop}
 use Rattle.zk_cli.specs.declared.stop.Stop.{Stop}
 use Rattle.zk_cli.specs.declared.TheConstants.{FILE_LIMIT}
@@ -22,22 +23,23 @@ pub record IsCircuitFile (told : Option Files) (name : List ℕ) (circuit : Circ
   pub says : IsText circuit text
 
 -- the file of this name can't be loaded
-pub record IsUnloaded (told : Option Files) (name : List ℕ) (before now : ℕ) (stop : Stop) : Type 0 where
+pub record IsUnloaded (shelf : ShelfChange) (name : List ℕ) (stop : Stop) : Type 0 where
   pub fault : LoadFault
-  pub cause : LoadCause told name FILE_LIMIT before now fault
+  pub cause : LoadCause shelf.old.told name FILE_LIMIT
+      (shelf.old.faults_of name) (shelf.new.faults_of name) fault
   pub stops : stop ≡ load_stop fault
 
 -- the text under the name can't be read
-pub record IsUnread (told : Option Files) (name : List ℕ) (stop : Stop) : Type 0 where
+pub record IsUnread (shelf : ShelfChange) (name : List ℕ) (stop : Stop) : Type 0 where
   pub text : List ℕ
-  pub loaded : IsLoaded told name text
+  pub loaded : IsLoaded shelf.old.told name text
   pub fault : ReadError
   pub cause : ReadCause text fault
   pub stops : stop ≡ read_stop fault
 
 -- why a run stops that needs the circuit under this name: the shelf's refusal, or the reader's
-abbrev pub CircuitStop : Option Files → List ℕ → ℕ → ℕ → Stop → Type 0
-CircuitStop told name before now stop = IsUnloaded told name before now stop ⊎ IsUnread told name stop
+abbrev pub CircuitStop : ShelfChange → List ℕ → Stop → Type 0
+CircuitStop shelf name stop = IsUnloaded shelf name stop ⊎ IsUnread shelf name stop
 
 -- a shelf that tells has this text under the name, it may be loaded, and it says this circuit
 pub record IsToldCircuit (told : Option Files) (name : List ℕ) (circuit : Circuit) : Type 0 where

@@ -1,41 +1,38 @@
--- What each status says of a run.
-use Rattle.std.specs.Prelude.{◌≡◌, ◌≢◌, ◌⊎◌, ◌<◌, ◌≤◌, ℕ, List, ◌++◌, length, Bool, Option, Some, None}
+-- What each status of a rehearsal says.
+use Rattle.std.specs.Prelude.{◌≡◌, ◌≢◌, ◌⊎◌, ◌<◌, ◌≤◌, ℕ, List, length, Bool, Option}
 use Rattle.zk_model.specs.Circuit.{Circuit}
 use Rattle.zk_model.specs.Bristol.{IsText}
-use Rattle.zk_model.specs.Transcript.{bytes_from, verdict_frame}
-use Rattle.zk_model.specs.declared.Side.{Side}
-use Rattle.zk_model.specs.declared.Side.TheVariants.{Verifier}
 use Rattle.zk_port.specs.Files.{Files, StandsLonger}
 use Rattle.zk_port.specs.Logs.{appended}
-use Rattle.zk_cli.specs.CircuitFiles.{IsLoaded, IsCircuitFile}
-use Rattle.zk_cli.specs.Rehearsals.{direct_units}
+use Rattle.zk_cli.specs.Changes.{ShelfChange, SinkChange, NameFailed, SinkFailed}
+use Rattle.zk_cli.specs.CircuitFiles.{IsLoaded, IsCircuitFile, IsToldCircuit}
+use Rattle.session_core.specs.Rehearsals.{EndsWithVerdict, direct_units}
 use Rattle.zk_cli.specs.RehearseRuns.{rehearsal_lines}
-use Rattle.zk_cli.specs.Stops.{PrintsStop}
-use Rattle.zk_cli.specs.Words.{Ask, rehearse}
+use Rattle.zk_cli.specs.Words.{RehearseAsk}
 use Rattle.zk_cli.specs.declared.finish.Part.{Part}
-use Rattle.zk_cli.specs.declared.finish.Part.TheVariants.{Plain, Rehearsed}
-use Rattle.zk_cli.specs.declared.rehearsal.Verdict.TheVariants.{Accepted}
-use Rattle.zk_cli.specs.declared.stop.Stop.TheVariants.{Usage, NoMemory}
+use Rattle.zk_cli.specs.declared.finish.Part.TheVariants.{Rehearsed}
+use Rattle.session_core.specs.declared.rehearsal.Rehearsal.{Rehearsal}
+use Rattle.zk_model.specs.declared.Verdict.TheVariants.{Accepted}
 use Rattle.zk_cli.specs.declared.TheConstants.{FILE_LIMIT}
 
--- that the words are wrong is said, or that there was no memory to read them; nothing is handed back
-abbrev pub UsageRuns : Part → ℕ → Option (List ℕ) → Option (List ℕ) → ℕ → ℕ → Type 0
-UsageRuns Plain status old new before now =
-    PrintsStop Usage status old new before now ⊎ PrintsStop NoMemory status old new before now
-UsageRuns (Rehearsed r) status old new before now = ⊥
+-- the statuses that there are
+abbrev pub IsRehearseStatus : ℕ → Type 0
+IsRehearseStatus status = (status ≡ 0) ⊎ (status ≡ 3) ⊎ (status ≡ 4) ⊎ (status ≡ 7) ⊎ (status ≡ 9)
 
--- ---- 0: a verdict
+-- ---- 0: a rehearsal that is accepted
 
--- the last frame of the log is a verdict of this code and number
-abbrev pub EndsWithVerdict : ℕ → ℕ → List (Side × ℕ) → Type 0
-EndsWithVerdict code number log = (front : List (Side × ℕ)) × (log ≡ front ++ bytes_from Verifier (verdict_frame code number))
+-- the verifier accepts, and the log ends with that; all lines are written, and the sink did not fail
+pub record IsAccepted (r : Rehearsal) (sink : SinkChange) : Type 0 where
+  pub accepted : r.verdict ≡ Accepted
+  pub ends : EndsWithVerdict Accepted r.log
+  pub written : sink.new.written ≡ appended (rehearsal_lines r) sink.old.written
+  pub quiet : sink.new.faults ≡ sink.old.faults
 
--- 0: the log ends with a verdict that accepts, and its lines are written
-abbrev pub Accepts : Part → Option (List ℕ) → Option (List ℕ) → Type 0
-Accepts (Rehearsed r) old new = EndsWithVerdict 0 0 r.log × (r.verdict ≡ Accepted) × (new ≡ appended (rehearsal_lines r) old)
-Accepts Plain old new = ⊥
+abbrev pub Accepts : {L : Type 0} → Part L → SinkChange → Type 0
+Accepts (Rehearsed r) sink = IsAccepted r sink
+Accepts part sink = ⊥
 
--- ---- 3: a file is refused, or words that do not fit it
+-- ---- 3: a file is refused, or bits that do not fit it
 
 -- where a shelf tells, the text under the name says no circuit
 pub record IsNoCircuitFile (told : Option Files) (name : List ℕ) : Type 0 where
@@ -49,34 +46,35 @@ pub record IsOtherLength (told : Option Files) (name : List ℕ) (bits : List Bo
   pub file : IsCircuitFile told name circuit
   pub differ : circuit.inputs ≢ length bits
 
--- what the words ask for needs a file, or bits for a file, that are refused
-abbrev pub IsRefused : Option Ask → Option Files → Type 0
-IsRefused (Some (rehearse name bits section)) told =
+-- the file of this name, or these bits for it
+abbrev pub IsRefused : Option Files → List ℕ → List Bool → Type 0
+IsRefused told name bits =
     StandsLonger told name FILE_LIMIT ⊎ IsNoCircuitFile told name ⊎ IsOtherLength told name bits
-IsRefused None told = ⊥
+
+-- ---- 4: a call failed
+
+-- one for the file of this name, or one of the sink
+abbrev pub HasFailed : List ℕ → ShelfChange → SinkChange → Type 0
+HasFailed name shelf sink = NameFailed name shelf ⊎ SinkFailed sink
 
 -- ---- 9: too much is asked for
 
 -- where a shelf tells, the circuit under the name takes more units than a session may have
-pub record TakesTooMany (told : Option Files) (name : List ℕ) (bits : List Bool) (section : ℕ) : Type 0 where
+pub record TakesTooMany (told : Option Files) (ask : RehearseAsk) : Type 0 where
   pub circuit : Circuit
-  pub file : IsCircuitFile told name circuit
-  pub inputs : length bits ≡ circuit.inputs
-  pub many : 4096 < direct_units circuit section
-
--- what the words ask for takes too many units
-abbrev pub IsTooMuch : Option Ask → Option Files → Type 0
-IsTooMuch (Some (rehearse name bits section)) told = TakesTooMany told name bits section
-IsTooMuch None told = ⊥
+  pub file : IsCircuitFile told ask.circuit circuit
+  pub inputs : length ask.bits ≡ circuit.inputs
+  pub many : 4096 < direct_units circuit ask.section
 
 -- ---- where nothing is refused and nothing fails
 
--- memory aside, a session that takes so many units is rehearsed and accepted exactly where they are at most 4,096
+-- a shelf tells this circuit's text under the name, and the bits fit it
+pub record IsReady (told : Option Files) (name : List ℕ) (bits : List Bool) (circuit : Circuit) : Type 0 where
+  pub file : IsToldCircuit told name circuit
+  pub inputs : length bits ≡ circuit.inputs
+
+-- memory aside, a session that takes so many units is rehearsed and accepted exactly where they are at most
+-- 4,096
 abbrev pub AnswersFor : ℕ → ℕ → Type 0
 AnswersFor units status =
     ((status ≡ 0) × (units ≤ 4096)) ⊎ ((status ≡ 9) × (4096 < units)) ⊎ (status ≡ 7)
-
--- the statuses that there are
-abbrev pub IsStatus : ℕ → Type 0
-IsStatus status =
-    (status ≡ 0) ⊎ (status ≡ 2) ⊎ (status ≡ 3) ⊎ (status ≡ 4) ⊎ (status ≡ 7) ⊎ (status ≡ 9)

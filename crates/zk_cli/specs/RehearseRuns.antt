@@ -1,19 +1,24 @@
 -- `rehearse CIRCUIT BITS --section 1`: what it hands back, and what it says.
-use Rattle.std.specs.Prelude.{◌≡◌, ◌⊎◌, ℕ, List, ◌++◌, codes, Bool, Option}
+use Rattle.std.specs.Prelude.{◌≡◌, ◌⊎◌, ◌≤◌, ℕ, List, length, ◌++◌, codes, Bool, Option}
 use Rattle.std.specs.Fmt.{decimal}
-use Rattle.zk_model.specs.Circuit.{Circuit}
+use Rattle.zk_model.specs.Circuit.{Circuit, Satisfies}
+use Rattle.zk_model.specs.Program.{section_count}
+use Rattle.zk_model.specs.Boolean.{circuit_products, circuit_program}
 use Rattle.zk_port.specs.Files.{Files}
 use Rattle.zk_cli.specs.BitWords.{bits_word}
+use Rattle.zk_cli.specs.Changes.{ShelfChange, SinkChange}
 use Rattle.zk_cli.specs.CircuitFiles.{IsCircuitFile, CircuitStop}
-use Rattle.zk_cli.specs.Rehearsals.{IsRehearsalOf, RehearseCause}
+use Rattle.zk_cli.specs.Made.{Effects}
+use Rattle.session_core.specs.Rehearsals.{IsRehearsalOf, RehearseCause, rehearsal_need, direct_units}
 use Rattle.zk_cli.specs.Stops.{PrintsStop, PrintsMade}
 use Rattle.zk_cli.specs.StopsOf.{rehearse_stop}
+use Rattle.zk_cli.specs.Words.{RehearseAsk}
 use Rattle.zk_cli.specs.declared.finish.Part.{Part}
 use Rattle.zk_cli.specs.declared.finish.Part.TheVariants.{Plain, Rehearsed}
-use Rattle.zk_cli.specs.declared.rehearsal.Rehearsal.{Rehearsal}
-use Rattle.zk_cli.specs.declared.rehearsal.RehearseFault.{RehearseFault}
-use Rattle.zk_cli.specs.declared.rehearsal.Verdict.{Verdict}
-use Rattle.zk_cli.specs.declared.rehearsal.Verdict.TheVariants.{Accepted, RejectedSum, RejectedOpening}
+use Rattle.session_core.specs.declared.rehearsal.Rehearsal.{Rehearsal}
+use Rattle.session_core.specs.declared.rehearsal.RehearseFault.{RehearseFault}
+use Rattle.zk_model.specs.declared.Verdict.{Verdict}
+use Rattle.zk_model.specs.declared.Verdict.TheVariants.{Accepted, RejectedSum, RejectedOpening}
 use Rattle.zk_cli.specs.declared.stop.Stop.{Stop}
 
 -- ---- the lines
@@ -43,35 +48,62 @@ counts_line r =
 
 -- the outputs, the numbers and the verdict, a line each
 abbrev pub rehearsal_lines : Rehearsal → List ℕ
-rehearsal_lines r = codes "outputs " ++ bits_word r.outputs ++ codes "\n" ++ counts_line r ++ verdict_line r.verdict
+rehearsal_lines r =
+    codes "outputs " ++ bits_word r.outputs ++ codes "\n" ++ counts_line r ++ verdict_line r.verdict
 
--- ---- what happens
+-- ---- what is handed back
 
--- a rehearsal of the circuit under the name, at these bits
-pub record IsRehearsed (told : Option Files) (name : List ℕ) (bits : List Bool) (section : ℕ) (seed : List ℕ) (r : Rehearsal) : Type 0 where
+-- the outputs satisfy the circuit under the name at the bits, and no others do
+pub record HasOutputs (told : Option Files) (ask : RehearseAsk) (r : Rehearsal) : Type 0 where
   pub circuit : Circuit
-  pub file : IsCircuitFile told name circuit
-  pub rehearsal : IsRehearsalOf circuit bits section seed r
+  pub file : IsCircuitFile told ask.circuit circuit
+  pub satisfied : Satisfies circuit ask.bits r.outputs
+  pub only : (others : List Bool) → Satisfies circuit ask.bits others → others ≡ r.outputs
 
--- the circuit under the name can't be rehearsed at these bits
-pub record IsUnrehearsed (told : Option Files) (name : List ℕ) (bits : List Bool) (section : ℕ) (stop : Stop) : Type 0 where
+-- the numbers are those of the circuit under the name
+pub record HasNumbers (told : Option Files) (ask : RehearseAsk) (r : Rehearsal) : Type 0 where
   pub circuit : Circuit
-  pub file : IsCircuitFile told name circuit
+  pub file : IsCircuitFile told ask.circuit circuit
+  pub products : r.products ≡ length (circuit_products 0 circuit)
+  pub sections : r.sections ≡ section_count (circuit_program 0 circuit) ask.section
+  pub need : r.need ≡ rehearsal_need circuit ask.section
+  pub units : r.units ≡ direct_units circuit ask.section
+  pub units_most : r.units ≤ 4096
+
+-- one circuit under the name has these outputs and numbers, and this log is that of an honest session over it
+pub record IsRehearsed (told : Option Files) (ask : RehearseAsk) (seed : List ℕ) (r : Rehearsal)
+    : Type 0 where
+  pub circuit : Circuit
+  pub file : IsCircuitFile told ask.circuit circuit
+  pub rehearsal : IsRehearsalOf circuit ask.bits ask.section seed r
+
+-- ---- what is said
+
+-- the circuit under the name can't be rehearsed at the bits
+pub record IsUnrehearsed (told : Option Files) (ask : RehearseAsk) (stop : Stop) : Type 0 where
+  pub circuit : Circuit
+  pub file : IsCircuitFile told ask.circuit circuit
   pub fault : RehearseFault
-  pub cause : RehearseCause circuit bits section fault
+  pub cause : RehearseCause circuit ask.bits ask.section fault
   pub stops : stop ≡ rehearse_stop fault
 
 -- why there is no rehearsal: the circuit can't be had, or can't be rehearsed
-abbrev pub RehearseStop : Option Files → List ℕ → List Bool → ℕ → ℕ → ℕ → Stop → Type 0
-RehearseStop told name bits section before now stop =
-    CircuitStop told name before now stop ⊎ IsUnrehearsed told name bits section stop
+abbrev pub RehearseStop : RehearseAsk → ShelfChange → Stop → Type 0
+RehearseStop ask shelf stop = CircuitStop shelf ask.circuit stop ⊎ IsUnrehearsed shelf.old.told ask stop
 
--- A rehearsal is handed back and its lines are written; or nothing is, and the line says why.
-abbrev pub RehearseRuns : Option Files → List ℕ → List Bool → ℕ → List ℕ → ℕ → ℕ → Part → ℕ
-    → Option (List ℕ) → Option (List ℕ) → ℕ → ℕ → Type 0
-RehearseRuns told name bits section seed shelf_before shelf_now (Rehearsed r) status old new before now =
-    IsRehearsed told name bits section seed r
-    × PrintsMade (verdict_status r.verdict) (rehearsal_lines r) status old new before now
-RehearseRuns told name bits section seed shelf_before shelf_now Plain status old new before now =
-    (stop : Stop) × RehearseStop told name bits section shelf_before shelf_now stop
-    × PrintsStop stop status old new before now
+-- the line of a stop is written, and this is why
+pub record SaysStop (ask : RehearseAsk) (status : ℕ) (shelf : ShelfChange) (sink : SinkChange) : Type 0 where
+  pub stop : Stop
+  pub cause : RehearseStop ask shelf stop
+  pub prints : PrintsStop stop status sink
+
+-- of a rehearsal its lines are written; where nothing is handed back, why there is none; nothing else is handed
+-- back
+abbrev pub SaysPart : {L : Type 0} → Part L → RehearseAsk → ℕ → ShelfChange → SinkChange → Type 0
+SaysPart (Rehearsed r) ask status shelf sink =
+    PrintsMade (verdict_status r.verdict) (rehearsal_lines r) status sink
+SaysPart Plain ask status shelf sink = SaysStop ask status shelf sink
+SaysPart part ask status shelf sink = ⊥
+
+abbrev pub RehearseLines : {L : Type 0} → RehearseAsk → Effects L → Type 0
+RehearseLines ask run = SaysPart run.part ask run.status run.shelf run.sink

@@ -3,8 +3,8 @@ use Rattle.zk_port.specs.declared.fault.LoadFault.{LoadFault}
 use Rattle.zk_port.specs.declared.fault.LoadFault.TheVariants as load
 use Rattle.bristol_reader.specs.declared.fault.ReadError.{ReadError}
 use Rattle.bristol_reader.specs.declared.fault.ReadError.TheVariants as text
-use Rattle.zk_cli.specs.declared.rehearsal.RehearseFault.{RehearseFault}
-use Rattle.zk_cli.specs.declared.rehearsal.RehearseFault.TheVariants as session
+use Rattle.session_core.specs.declared.rehearsal.RehearseFault.{RehearseFault}
+use Rattle.session_core.specs.declared.rehearsal.RehearseFault.TheVariants as session
 use Rattle.zk_cli.specs.declared.stop.Stop.{Stop}
 use Rattle.zk_cli.specs.declared.stop.Stop.TheVariants as stop
 

@@ -12,9 +12,18 @@ use Rattle.zk_cli.specs.Arranged.{arranged, option_named, stand_once, Word}
 abbrev pub texts : List (String Global) → List (List ℕ)
 texts words = map (λ w. string_bytes w) words
 
+-- what the words of a rehearsal name: the circuit's file, the bits, and how many products a section has
+pub record RehearseAsk : Type 0 where
+  pub circuit : List ℕ
+  pub bits : List Bool
+  pub section : ℕ
+
+abbrev pub rehearse_ask : List ℕ → List Bool → ℕ → RehearseAsk
+rehearse_ask circuit bits section = record { circuit = circuit; bits = bits; section = section }
+
 -- what can be asked for
 pub data Ask : Type 0 where
-  rehearse : (circuit : List ℕ) (bits : List Bool) (section : ℕ) → Ask
+  rehearse : RehearseAsk → Ask
 
 -- each option has one of these names, and no two the same
 abbrev pub stand_once_among : List (List ℕ) → List Word → Bool
@@ -29,7 +38,8 @@ section_of options =
 -- `rehearse CIRCUIT BITS --section 1`
 abbrev pub rehearse_of : List (List ℕ) → List Word → Option Ask
 rehearse_of (circuit ∷ bits ∷ []) options =
-    option_and_then (λ section. option_map (λ read. rehearse circuit read section) (bits_of bits)) (section_of options)
+    option_and_then (λ section. option_map (λ read. rehearse (rehearse_ask circuit read section))
+    (bits_of bits)) (section_of options)
 rehearse_of places options = None
 
 -- what the words ask for, if they are valid

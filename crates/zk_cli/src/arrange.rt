@@ -110,7 +110,8 @@ fn is_among(names: &[&str], name: &str) -> bool
 
 /// Whether each option has one of these names, and no two have the same.
 pub fn are_once(options: &[Named], names: &[&str]) -> bool
-    ensures { result ≡ stand_once (λ w. list_any (λ n. bytes_eq n.now w) names.now) (map word_of options.now) }
+    ensures { result
+        ≡ stand_once (λ w. list_any (λ n. bytes_eq n.now w) names.now) (map word_of options.now) }
 {
     let mut rest = options;
     while let [option, behind @ ..] = rest {

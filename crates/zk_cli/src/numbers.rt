@@ -37,7 +37,8 @@ fn capped_value(word: &[u8], most: u64) -> u64
     value
 }
 
-/// The number that the digits of the word say, however many zeros lead it, where it lies between `low` and `high`.
+/// The number that the digits of the word say, however many zeros lead it, where it lies between `low` and
+/// `high`.
 pub fn read_number(word: &str, low: u32, high: u32) -> Option<u32>
     ensures { result ≡ number_within low high word.now }
 {

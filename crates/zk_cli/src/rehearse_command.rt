@@ -1,25 +1,29 @@
 // `rehearse CIRCUIT BITS --section 1`
 ghost use Rattle.std.specs.Prelude.{◌≡◌, ◌≤◌, ◌^◌, IfOk, IfErr, string_bytes};
+ghost use Rattle.zk_cli.specs.Changes.{shelf_change, sink_change, OnlyLoads};
 ghost use Rattle.zk_cli.specs.CircuitFiles.{IsCircuitFile, CircuitStop};
-ghost use Rattle.zk_cli.specs.RehearseRuns.{RehearseRuns, RehearseStop, IsRehearsed, counts_line, named_numbers, rehearsal_lines, verdict_line, verdict_status};
+ghost use Rattle.zk_cli.specs.Made.{IfRehearsed, effects};
+ghost use Rattle.zk_cli.specs.RehearseRuns.{RehearseLines, RehearseStop, IsRehearsed};
+ghost use Rattle.zk_cli.specs.RehearseRuns.{named_numbers, counts_line, rehearsal_lines};
+ghost use Rattle.zk_cli.specs.RehearseRuns.{verdict_line, verdict_status};
+ghost use Rattle.zk_cli.specs.Words.{rehearse_ask};
 
 use crate::FILE_LIMIT;
-use crate::bits::{Bits, write_bits};
-use crate::finish::Part;
-use crate::rehearsal::{Rehearsal, Verdict};
-use crate::rehearse::rehearse;
+use crate::bits::write_bits;
+use crate::finish::{Ending, Part};
 use crate::say::{say, say_memory, say_stop};
 use crate::stop::Stop;
 use bristol_reader::{Circuit, read};
+use session_core::{Rehearsal, Verdict, rehearse};
 use std::alloc::{AllocError, Global};
 use zk_port::{Shelf, Sink};
 
 /// The circuit that the file of this name says.
 fn load_circuit<F: Shelf>(alloc: Global, shelf: &mut F, name: &str) -> Result<Circuit, Stop>
     ensures file { IfOk result (IsCircuitFile (F.told shelf.old) name.now) }
-    ensures stop { IfErr result (CircuitStop (F.told shelf.old) name.now (F.faults shelf.old) (F.faults shelf.new)) }
-    ensures same { F.told shelf.new ≡ F.told shelf.old }
-    ensures later { F.faults shelf.old ≤ F.faults shelf.new }
+    ensures stop { IfErr result
+        (CircuitStop (shelf_change F.told F.faults F.faults_of shelf.old shelf.new) name.now) }
+    ensures kept { OnlyLoads name.now (shelf_change F.told F.faults F.faults_of shelf.old shelf.new) }
 {
     let text = shelf.load(alloc, name, FILE_LIMIT)?;
     Ok(read(alloc, &text)?)
@@ -36,9 +40,11 @@ fn rehearse_file<F: Shelf>(
 ) -> Result<Rehearsal, Stop>
     requires some { 1 ≤ section }
     requires most { section ≤ 2 ^ 20 }
-    ensures rehearsed { IfOk result (IsRehearsed (F.told shelf.old) name.now bits.now section seed.now) }
-    ensures stop { IfErr result (RehearseStop (F.told shelf.old) name.now bits.now section (F.faults shelf.old) (F.faults shelf.new)) }
-    ensures same { F.told shelf.new ≡ F.told shelf.old }
+    ensures rehearsed { IfOk result
+        (IsRehearsed (F.told shelf.old) (rehearse_ask name.now bits.now section) seed.now) }
+    ensures stop { IfErr result (RehearseStop (rehearse_ask name.now bits.now section)
+        (shelf_change F.told F.faults F.faults_of shelf.old shelf.new)) }
+    ensures kept { OnlyLoads name.now (shelf_change F.told F.faults F.faults_of shelf.old shelf.new) }
 {
     let circuit = load_circuit(alloc, shelf, name)?;
     Ok(rehearse(alloc, &circuit, bits, section, seed)?)
@@ -65,7 +71,8 @@ fn write_named(
     other_name: &str,
     other_number: u64,
 ) -> Result<String, AllocError>
-    ensures { IfOk result (λ text. string_bytes text ≡ named_numbers name.now number other_name.now other_number) }
+    ensures { IfOk result (λ text. string_bytes text
+        ≡ named_numbers name.now number other_name.now other_number) }
 {
     Ok(format!(in alloc; "{name} {number} {other_name} {other_number}")?)
 }
@@ -111,9 +118,9 @@ fn status_of(verdict: Verdict) -> u8
     }
 }
 
-/// Rehearses a session over the circuit of this name at these bits, says what came of it and hands it back; or
-/// says why there is no rehearsal. Answers the status.
-pub fn run_rehearse<F: Shelf, O: Sink>(
+/// Rehearses a session over the circuit of this name at these bits, says what came of it and hands it back, or
+/// says why there is no rehearsal.
+pub fn run_rehearse<F: Shelf, O: Sink, L: Drop>(
     alloc: Global,
     shelf: &mut F,
     out: &mut O,
@@ -121,12 +128,15 @@ pub fn run_rehearse<F: Shelf, O: Sink>(
     bits: &[bool],
     section: u32,
     seed: &[u8; 32],
-) -> (u8, Part)
+) -> Ending<L>
     requires some { 1 ≤ section }
     requires most { section ≤ 2 ^ 20 }
-    ensures runs { RehearseRuns (F.told shelf.old) name.now bits.now section seed.now (F.faults shelf.old) (F.faults shelf.new)
-        result.1 result.0 (O.written out.old) (O.written out.new) (O.faults out.old) (O.faults out.new) }
-    ensures same { F.told shelf.new ≡ F.told shelf.old }
+    ensures made { IfRehearsed result.part
+        (IsRehearsed (F.told shelf.old) (rehearse_ask name.now bits.now section) seed.now) }
+    ensures lines { RehearseLines (rehearse_ask name.now bits.now section)
+        (effects result.status result.part (shelf_change F.told F.faults F.faults_of shelf.old shelf.new)
+        (sink_change O.written O.faults out.old out.new)) }
+    ensures kept { OnlyLoads name.now (shelf_change F.told F.faults F.faults_of shelf.old shelf.new) }
 {
     match rehearse_file(alloc, shelf, name, bits, section, seed) {
         Ok(rehearsal) => {
@@ -134,8 +144,14 @@ pub fn run_rehearse<F: Shelf, O: Sink>(
                 Ok(lines) => say(alloc, out, lines.as_bytes(), status_of(rehearsal.verdict)),
                 Err(_) => say_memory(alloc, out),
             };
-            (status, Part::Rehearsed(rehearsal))
+            Ending {
+                status,
+                part: Part::Rehearsed(rehearsal),
+            }
         }
-        Err(stop) => (say_stop(alloc, out, stop), Part::Plain),
+        Err(stop) => Ending {
+            status: say_stop(alloc, out, stop),
+            part: Part::Plain,
+        },
     }
 }

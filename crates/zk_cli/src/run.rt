@@ -1,14 +1,17 @@
 // The top call.
-ghost use Rattle.std.specs.Prelude.{◌≡◌, ◌⊎◌, ℕ, Bool, List, length};
+ghost use Rattle.std.specs.Prelude.{◌≡◌, ℕ, List, None};
 ghost use Rattle.zk_model.specs.Circuit.{Circuit};
-ghost use Rattle.zk_cli.specs.CircuitFiles.{IsToldCircuit};
-ghost use Rattle.zk_cli.specs.Outcomes.{Accepts, IsRefused, IsTooMuch, AnswersFor, IsStatus, UsageRuns};
-ghost use Rattle.zk_cli.specs.Rehearsals.{direct_units};
-ghost use Rattle.zk_cli.specs.Words.{texts, asked, rehearse};
-ghost use Rattle.zk_cli.specs.RehearseRuns.{RehearseRuns};
-ghost use Rattle.zk_port.specs.Counts.{Rose};
+ghost use Rattle.zk_cli.specs.Changes.{shelf_change, sink_change, OnlyLoads};
+ghost use Rattle.zk_cli.specs.Guards.{OnUsage, OnRehearse};
+ghost use Rattle.zk_cli.specs.Made.{IsPlain, IfRehearsed, effects};
+ghost use Rattle.zk_cli.specs.Outcomes.{IsRehearseStatus, Accepts, IsRefused, HasFailed, TakesTooMany};
+ghost use Rattle.zk_cli.specs.Outcomes.{IsReady, AnswersFor};
+ghost use Rattle.session_core.specs.Rehearsals.{direct_units};
+ghost use Rattle.zk_cli.specs.RehearseRuns.{HasOutputs, HasNumbers, IsRehearsed, RehearseLines};
+ghost use Rattle.zk_cli.specs.Stops.{PrintsUsage};
+ghost use Rattle.zk_cli.specs.Words.{texts, asked};
 
-use crate::finish::{Finish, Part};
+use crate::finish::{Ending, Finish, Part};
 use crate::rehearse_command::run_rehearse;
 use crate::say::{say_memory, say_stop};
 use crate::stop::Stop;
@@ -18,12 +21,13 @@ use std::sync::Wait;
 use std::thread::Threads;
 use zk_port::{Disk, Door, Gate, Shelf, Sink};
 
-/// Does what the words behind the program's name ask for, over these files, this disk, this door and this output,
-/// and hands back the status, the disk, the door and what was made. Nothing but `rehearse` uses the seed.
+/// Does what the words behind the program's name ask for, over these files, this disk, this door and this
+/// output, and hands back the status, the disk, the door and what was made. Nothing but `rehearse` uses the seed.
 ///
-/// The status is 0 where a rehearsal is accepted; 2 for words of no command; 3 where a
-/// file, or bits for a file, are refused; 4 where the shelf failed, or the output before a 0; 7 where memory
-/// is wanting; 9 where a session would take more than 4,096 units.
+/// Words of no command end with 2, or with 7 where memory is wanting. `rehearse CIRCUIT BITS --section 1` ends
+/// with 0 where it is accepted; 3 where the file, or the bits for it, are refused; 4 where a load of the file
+/// failed, or the output before a 0; 7 where memory is wanting; 9 where the session would take more than 4,096
+/// units.
 pub fn run_zk<R, F, D, B, O, G>(
     _rt: &R,
     alloc: Global,
@@ -44,35 +48,52 @@ where
     O: Sink,
     G: Gate + Sync + Drop,
 
-    // The words of no command: the usage line, and nothing is handed back.
-    ensures usage { asked (texts words.now) ≡ None →
-        UsageRuns result.part result.status (O.written out.old) (O.written out.new) (O.faults out.old) (O.faults out.new) }
+    // Words of no command: the usage line is written, or `memory` where memory is wanting; nothing else is done.
+    ensures usage { OnUsage words.now
+        (PrintsUsage result.status (sink_change O.written O.faults out.old out.new)) }
+    ensures usage_kept { OnUsage words.now (IsPlain result.part × (shelf.new ≡ shelf.old)
+        × (result.journal ≡ journal) × (result.door ≡ door)) }
+    ensures usage_2 { result.status ≡ 2 → asked (texts words.now) ≡ None }
 
-    // `rehearse CIRCUIT BITS --section 1`: the rehearsal, whose log is that of an honest session over the files of the seed,
-    // and its lines; or why there is none.
-    ensures rehearse { (circuit : List ℕ) (bits : List Bool) (section : ℕ) → asked (texts words.now) ≡ Some (rehearse circuit bits section) →
-        RehearseRuns (F.told shelf.old) circuit bits section seed.now (F.faults shelf.old) (F.faults shelf.new) result.part result.status
-        (O.written out.old) (O.written out.new) (O.faults out.old) (O.faults out.new) }
+    // `rehearse CIRCUIT BITS --section 1`: the rehearsal that is handed back, if one is. Its outputs are the only
+    // ones that the circuit gives at the bits, its numbers are the circuit's, and its log is that of an honest
+    // session of that circuit over the files of the seed.
+    ensures rehearse_outputs { OnRehearse words.now
+        (λ ask. IfRehearsed result.part (HasOutputs (F.told shelf.old) ask)) }
+    ensures rehearse_numbers { OnRehearse words.now
+        (λ ask. IfRehearsed result.part (HasNumbers (F.told shelf.old) ask)) }
+    ensures rehearse_log { OnRehearse words.now
+        (λ ask. IfRehearsed result.part (IsRehearsed (F.told shelf.old) ask seed.now)) }
 
-    // Where a shelf tells a circuit's text and the bits fit it, and nothing fails, the rehearsal is accepted unless
-    // memory runs out, or too many units are asked for.
-    ensures rehearse_done { (name : List ℕ) (bits : List Bool) (section : ℕ) (circuit : Circuit) → asked (texts words.now) ≡ Some (rehearse name bits section) →
-        IsToldCircuit (F.told shelf.old) name circuit → length bits ≡ circuit.inputs →
-        ¬ Rose (F.faults shelf.old) (F.faults shelf.new) → ¬ Rose (O.faults out.old) (O.faults out.new) →
-        AnswersFor (direct_units circuit section) result.status }
+    // Its lines are written; or nothing is handed back, and the line of a stop with its cause is written.
+    ensures rehearse_lines { OnRehearse words.now (λ ask. RehearseLines ask
+        (effects result.status result.part (shelf_change F.told F.faults F.faults_of shelf.old shelf.new)
+        (sink_change O.written O.faults out.old out.new))) }
 
-    // What each status says: 0, that the log ends with a verdict that accepts. 7, for want of memory, says nothing else.
-    ensures statuses { IsStatus result.status }
-    ensures status_0 { result.status ≡ 0 → Accepts result.part (O.written out.old) (O.written out.new) }
-    ensures status_2 { result.status ≡ 2 → asked (texts words.now) ≡ None }
-    ensures status_3 { result.status ≡ 3 → IsRefused (asked (texts words.now)) (F.told shelf.old) }
-    ensures status_4 { result.status ≡ 4 → Rose (F.faults shelf.old) (F.faults shelf.new) ⊎ Rose (O.faults out.old) (O.faults out.new) }
-    ensures status_9 { result.status ≡ 9 → IsTooMuch (asked (texts words.now)) (F.told shelf.old) }
+    // Nothing but the circuit's file is asked of the shelf; the disk and the door are as they were.
+    ensures rehearse_kept { OnRehearse words.now (λ ask.
+        OnlyLoads ask.circuit (shelf_change F.told F.faults F.faults_of shelf.old shelf.new)
+        × (result.journal ≡ journal) × (result.door ≡ door)) }
 
-    // No command changes a file, the disk or the door.
-    ensures shelf { F.told shelf.new ≡ F.told shelf.old }
-    ensures journal { result.journal ≡ journal }
-    ensures door { result.door ≡ door }
+    // What each status says. 7, for want of memory, says nothing else.
+    ensures rehearse_statuses { OnRehearse words.now (λ ask. IsRehearseStatus result.status) }
+    ensures rehearse_0 { OnRehearse words.now (λ ask. result.status ≡ 0 →
+        Accepts result.part (sink_change O.written O.faults out.old out.new)) }
+    ensures rehearse_3 { OnRehearse words.now (λ ask. result.status ≡ 3 →
+        IsRefused (F.told shelf.old) ask.circuit ask.bits) }
+    ensures rehearse_4 { OnRehearse words.now (λ ask. result.status ≡ 4 →
+        HasFailed ask.circuit (shelf_change F.told F.faults F.faults_of shelf.old shelf.new)
+        (sink_change O.written O.faults out.old out.new)) }
+    ensures rehearse_9 { OnRehearse words.now (λ ask. result.status ≡ 9 →
+        TakesTooMany (F.told shelf.old) ask) }
+
+    // Where a shelf tells a circuit's text, the bits fit it and neither the load nor a write fails, the rehearsal
+    // is accepted unless memory runs out, or too many units are asked for.
+    ensures rehearse_done { OnRehearse words.now (λ ask. (circuit : Circuit) →
+        IsReady (F.told shelf.old) ask.circuit ask.bits circuit →
+        ¬ HasFailed ask.circuit (shelf_change F.told F.faults F.faults_of shelf.old shelf.new)
+        (sink_change O.written O.faults out.old out.new) →
+        AnswersFor (direct_units circuit ask.section) result.status) }
 {
     let found = match read_words(alloc, words) {
         Ok(found) => found,
@@ -85,28 +106,23 @@ where
             };
         }
     };
-    match found {
-        None => Finish {
+    let Some(command) = found else {
+        return Finish {
             status: say_stop(alloc, out, Stop::Usage),
             journal,
             door,
             part: Part::Plain,
-        },
-        Some(
-            Command::Rehearse {
-                circuit,
-                bits,
-                section,
-            },
-        ) => {
-            let (status, part) = run_rehearse(
-                alloc,
-                shelf,
-                out,
-                circuit,
-                bits.as_slice(),
-                section,
-                seed,
+        };
+    };
+    match command {
+        Command::Rehearse {
+            circuit,
+            bits,
+            section,
+        } => {
+            let bits = bits.as_slice();
+            let Ending { status, part } = run_rehearse(
+                alloc, shelf, out, circuit, bits, section, seed,
             );
             Finish {
                 status,

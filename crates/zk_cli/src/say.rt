@@ -1,6 +1,7 @@
 // Writes what a run has to say.
-ghost use Rattle.std.specs.Prelude.{◌≡◌, ◌≤◌, ◌++◌, IfOk, codes, string_bytes};
+ghost use Rattle.std.specs.Prelude.{◌≡◌, ◌++◌, IfOk, codes, string_bytes};
 ghost use Rattle.std.specs.Fmt.{decimal};
+ghost use Rattle.zk_cli.specs.Changes.{sink_change};
 ghost use Rattle.zk_cli.specs.FaultLines.{fault_name, fault_number, fault_place, fault_line};
 ghost use Rattle.zk_cli.specs.Prints.{Prints};
 ghost use Rattle.zk_cli.specs.Stops.{PrintsStop, PrintsMade, stop_line, stop_status};
@@ -13,8 +14,7 @@ use zk_port::{PortFault, Sink};
 
 /// Writes the text, and answers the status, or what a fault of the sink makes of it.
 pub fn say<O: Sink>(alloc: Global, out: &mut O, text: &[u8], status: u8) -> u8
-    ensures prints { Prints status text.now result (O.written out.old) (O.written out.new) (O.faults out.old) (O.faults out.new) }
-    ensures later { O.faults out.old ≤ O.faults out.new }
+    ensures { Prints status text.now result (sink_change O.written O.faults out.old out.new) }
 {
     match out.put(alloc, text) {
         Ok(()) => status,
@@ -53,7 +53,8 @@ fn write_fault(alloc: Global, fault: ReadFault) -> Result<String, AllocError>
 
 /// A line of these words and two numbers.
 fn write_pair(alloc: Global, words: &str, first: u64, second: u64) -> Result<String, AllocError>
-    ensures { IfOk result (λ line. string_bytes line ≡ words.now ++ codes " " ++ decimal first ++ codes " " ++ decimal second ++ codes "\n") }
+    ensures { IfOk result (λ line. string_bytes line
+        ≡ words.now ++ codes " " ++ decimal first ++ codes " " ++ decimal second ++ codes "\n") }
 {
     Ok(format!(in alloc; "{words} {first} {second}\n")?)
 }
@@ -93,16 +94,16 @@ fn status_of(stop: Stop) -> u8
 
 /// Writes the line that says that memory is wanting, for which it needs none, and answers its status.
 pub fn say_memory<O: Sink>(alloc: Global, out: &mut O) -> u8
-    ensures prints { PrintsStop NoMemory result (O.written out.old) (O.written out.new) (O.faults out.old) (O.faults out.new) }
-    ensures later { O.faults out.old ≤ O.faults out.new }
+    ensures { PrintsStop NoMemory result (sink_change O.written O.faults out.old out.new) }
 {
     say(alloc, out, b"memory\n", 7)
 }
 
-/// Writes the line that says why the run stops, and answers its status; or says that there is no memory for the line.
+/// Writes the line that says why the run stops, and answers its status; or says that there is no memory for the
+/// line.
 pub fn say_stop<O: Sink>(alloc: Global, out: &mut O, stop: Stop) -> u8
-    ensures prints { PrintsMade (stop_status stop) (stop_line stop) result (O.written out.old) (O.written out.new) (O.faults out.old) (O.faults out.new) }
-    ensures later { O.faults out.old ≤ O.faults out.new }
+    ensures { PrintsMade (stop_status stop) (stop_line stop) result
+        (sink_change O.written O.faults out.old out.new) }
 {
     match write_stop(alloc, stop) {
         Ok(line) => say(alloc, out, line.as_bytes(), status_of(stop)),

@@ -2,8 +2,8 @@
 ghost use Rattle.std.specs.Prelude.{◌≡◌};
 ghost use Rattle.zk_cli.specs.declared.stop.Stop.TheVariants as stop;
 
-use crate::rehearsal::RehearseFault;
 use bristol_reader::{ReadError, ReadFault};
+use session_core::RehearseFault;
 use std::alloc::AllocError;
 use zk_port::LoadFault;
 

@@ -6,8 +6,9 @@ ghost use Rattle.zk_cli.specs.PartsOf.{word_of};
 ghost use Rattle.zk_cli.specs.Commands.{ask_of, HasSectionSize, IsSectionSize};
 
 use crate::arrange::{Arranged, Named, are_once, arrange, find_option};
-use crate::bits::{Bits, read_bits};
+use crate::bits::read_bits;
 use crate::numbers::read_number;
+use session_core::Bits;
 use std::alloc::{AllocError, Global};
 
 /// A command with its words.
@@ -45,7 +46,8 @@ fn read_rehearse<'a>(
     places: &[&'a str],
     options: &[Named],
 ) -> Result<Option<Command<'a>>, AllocError>
-    ensures asked { IfOk result (λ found. option_map ask_of found ≡ rehearse_of (map (λ p. p.now) places.now) (map word_of options.now)) }
+    ensures asked { IfOk result (λ found. option_map ask_of found
+        ≡ rehearse_of (map (λ p. p.now) places.now) (map word_of options.now)) }
     ensures sections { IfOk result (λ found. IfSome found HasSectionSize) }
 {
     let [circuit, word] = places else {

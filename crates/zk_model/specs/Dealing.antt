@@ -3,6 +3,7 @@ use Rattle.std.specs.Prelude.{ℕ, ◌+◌, ◌*◌, ◌%◌, ◌==◌, nat_eq, 
 use Rattle.std.specs.List.{range_with_len}
 use Rattle.std.specs.Int.{w64, to_le_bytes}
 use Rattle.zk_model.specs.Field.{from_word}
+use Rattle.zk_model.specs.Bytes.{LeftRight}
 use Rattle.zk_model.specs.Coins.{coin_word, seed16}
 use Rattle.zk_model.specs.Mac.{Pair, fitting_key}
 use Rattle.zk_model.specs.Extension.{choice_of}
@@ -40,8 +41,9 @@ dealt_pair seed unit j = record {
 }
 
 -- both pads of transfer i of a unit
-abbrev pub dealt_pads : List ℕ → ℕ → ℕ → List ℕ × List ℕ
-dealt_pads seed unit i = (pad_at seed (17 + 2 * unit) (5 * i), pad_at seed (17 + 2 * unit) (5 * i + 2))
+abbrev pub dealt_pads : List ℕ → ℕ → ℕ → LeftRight
+dealt_pads seed unit i =
+    record { left = pad_at seed (17 + 2 * unit) (5 * i); right = pad_at seed (17 + 2 * unit) (5 * i + 2) }
 
 -- the prover's half of transfer i of a unit
 abbrev pub dealt_transfer : List ℕ → ℕ → ℕ → Transfer

@@ -1,5 +1,5 @@
 -- What a sink has been given, and what has passed over a link.
-use Rattle.std.specs.Prelude.{◌≡◌, ℕ, List, ◌++◌, take, Option}
+use Rattle.std.specs.Prelude.{◌≡◌, ℕ, List, ◌++◌, take, Option, Bool, ◌||◌, ◌&&◌, ◌==◌, nat_lt}
 use Rattle.std.specs.Option.{option_map}
 use Rattle.zk_model.specs.declared.Side.{Side}
 use Rattle.zk_model.specs.declared.Side.TheVariants.{Prover, Verifier}
@@ -12,6 +12,15 @@ appended more told = option_map (λ before. before ++ more) told
 pub record AppendsPart {T : Type 0} (more : List T) (old new : Option (List T)) : Type 0 where
   pub count : ℕ
   pub part : new ≡ appended (take count more) old
+
+-- where the object tells, these come before what is there
+abbrev pub put_before : {T : Type 0} → List T → Option (List T) → Option (List T)
+put_before more told = option_map (λ behind. more ++ behind) told
+
+-- whether the peer is seen to have ended once n bytes came into a buffer of this size: it was before, or none
+-- came where some would fit
+abbrev pub ended_after : ℕ → ℕ → Bool → Bool
+ended_after size n before = before || (nat_lt 0 size && n == 0)
 
 -- the other side
 abbrev pub peer_of : Side → Side

@@ -1,9 +1,14 @@
--- What objects in memory tell.
-use Rattle.std.specs.Prelude.{ℕ, ◌+◌, ◌-◌, ◌^◌, ◌==◌, min, List, [], Bool, true, false, Option, Some, None, Vec, String}
+-- What objects in memory tell, and what their calls do.
+use Rattle.std.specs.Prelude.{◌≡◌, ◌<◌, ◌≤◌, ℕ, ◌+◌, ◌-◌, ◌^◌, ◌==◌, min, List, [], length, Bool, true, false, Option, Some, None, IsSomeAnd, Result, Ok, Err, Vec, String}
 use Rattle.std.specs.Option.{option_map}
 use Rattle.std.specs.List.{list_any}
 use Rattle.std.specs.BTreeMap.{get_by_text, BTreeMap}
 use Rattle.std.specs.declared.alloc.Global.{Global}
+use Rattle.zk_port.specs.Files.{Files, stored, without}
+use Rattle.zk_port.specs.declared.fault.LoadFault.{LoadFault}
+use Rattle.zk_port.specs.declared.fault.LoadFault.TheVariants as load
+use Rattle.zk_port.specs.declared.fault.PortFault.{PortFault}
+use Rattle.zk_port.specs.declared.fault.PortFault.TheVariants as port
 
 -- the numbers of the calls that are to fail, and how many calls there were and have failed
 pub record Schedule : Type 0 where
@@ -21,6 +26,25 @@ found forgiving (Some bytes) = Some bytes
 found true None = Some []
 found false None = None
 
+-- a load fails where the plan says so, and where nothing stands under the name
+abbrev pub load_fails : Bool → Option (List ℕ) → Bool
+load_fails listed (Some bytes) = listed
+load_fails listed None = true
+
 -- what a map of files has under a name
 abbrev pub file_of : BTreeMap (String Global) (Vec ℕ Global) → List ℕ → Option (List ℕ)
 file_of files name = option_map (λ v. v.items) (get_by_text files name)
+
+-- what each answer of a load says of what stands under the name; of a failed one the plan says when
+abbrev pub LoadTells : ℕ → Option (List ℕ) → Result (Vec ℕ Global) LoadFault → Type 0
+LoadTells limit stands (Ok v) = (stands ≡ Some v.items) × (length v.items ≤ limit)
+LoadTells limit stands (Err load.Failed) = Unit {0}
+LoadTells limit stands (Err load.NoMemory) = IsSomeAnd stands (λ bytes. length bytes ≤ limit)
+LoadTells limit stands (Err (load.TooLong n)) = (n ≡ limit) × IsSomeAnd stands (λ bytes. limit < length bytes)
+
+-- what a store leaves: the bytes under the name; nothing there, where it failed; all as it was, where memory
+-- was wanting
+abbrev pub StoreLeaves : {T : Type 0} → List ℕ → List ℕ → Files → Files → Result T PortFault → Type 0
+StoreLeaves name bytes old new (Ok u) = (other : List ℕ) → new other ≡ stored name bytes old other
+StoreLeaves name bytes old new (Err port.Failed) = (other : List ℕ) → new other ≡ without name old other
+StoreLeaves name bytes old new (Err port.NoMemory) = (other : List ℕ) → new other ≡ old other

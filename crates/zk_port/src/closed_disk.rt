@@ -1,6 +1,7 @@
 // A disk whose calls all fail.
-ghost use Rattle.std.specs.Prelude.{◌≡◌, ◌≤◌};
-ghost use Rattle.zk_port.specs.Counts.{Rose};
+ghost use Rattle.std.specs.Prelude.{◌≡◌, ◌≤◌, true, length, is_err};
+ghost use Rattle.zk_port.specs.Counts.{counted};
+ghost use Rattle.zk_port.specs.Images.{Follows, IsTorn};
 
 use crate::disk::Disk;
 use crate::fault::Failed;
@@ -20,7 +21,7 @@ impl ClosedDisk {
     }
 
     fn fail(&mut self) -> Failed
-        ensures rose { Rose self.old.faults self.new.faults }
+        ensures count { self.new.faults ≡ counted true self.old.faults }
         ensures later { self.old.faults ≤ self.new.faults }
     {
         self.faults = self.faults.saturating_add(1);
@@ -32,6 +33,8 @@ impl Disk for ClosedDisk {
     ghost use Rattle.std.specs.Prelude.{None};
 
     ghost content = { λ _. None };
+
+    ghost room = { λ _. None };
 
     ghost images = { λ _ _. Unit {0} };
 
@@ -49,19 +52,36 @@ impl Disk for ClosedDisk {
         self.faults
     }
 
-    fn choose(&mut self, _name: &str) -> Result<(), Failed> {
+    fn choose(&mut self, _name: &str) -> Result<(), Failed>
+        ensures refused { is_err result ≡ true }
+        ensures count { self.new.faults ≡ counted true self.old.faults }
+        ensures later { self.old.faults ≤ self.new.faults }
+    {
         Err(self.fail())
     }
 
-    fn read(&mut self, _at: u64, _buffer: &mut [u8]) -> Result<usize, Failed> {
+    fn read(&mut self, _at: u64, _buffer: &mut [u8]) -> Result<usize, Failed>
+        ensures refused { is_err result ≡ true }
+        ensures count { self.new.faults ≡ counted true self.old.faults }
+        ensures later { self.old.faults ≤ self.new.faults }
+    {
         Err(self.fail())
     }
 
-    fn write_at(&mut self, _at: u64, _bytes: &[u8]) -> Result<(), Failed> {
+    fn write_at(&mut self, _at: u64, _bytes: &[u8]) -> Result<(), Failed>
+        ensures refused { is_err result ≡ true }
+        ensures count { self.new.faults ≡ counted true self.old.faults }
+        ensures later { self.old.faults ≤ self.new.faults }
+        ensures crash { Follows (IsTorn _at (length _bytes.now)) (λ _. Unit {0}) (λ _. Unit {0}) }
+    {
         Err(self.fail())
     }
 
-    fn sync(&mut self) -> Result<(), Failed> {
+    fn sync(&mut self) -> Result<(), Failed>
+        ensures refused { is_err result ≡ true }
+        ensures count { self.new.faults ≡ counted true self.old.faults }
+        ensures later { self.old.faults ≤ self.new.faults }
+    {
         Err(self.fail())
     }
 }

@@ -1,5 +1,5 @@
 // Where links come from.
-ghost use Rattle.std.specs.Prelude.{◌≡◌, ℕ, Option, IfSome, IfOk, OnOk, OnErr};
+ghost use Rattle.std.specs.Prelude.{◌≡◌, ℕ, IfSome, IfOk, OnOk, OnErr};
 ghost use Rattle.zk_port.specs.Counts.{HasCause};
 
 use crate::fault::PortFault;
@@ -14,11 +14,11 @@ pub trait Door {
     /// What a connection is made of.
     type Link: Link;
 
-    /// How many links `next` can still give, where the door tells it.
-    ghost left: { Self → Option ℕ };
+    /// How many links `next` can still give.
+    ghost left: { Self → ℕ };
 
     /// How many that will be after a listen for so many sessions.
-    ghost offers: { Self → ℕ → Option ℕ };
+    ghost offers: { Self → ℕ → ℕ };
 
     /// How often a call has failed.
     ghost faults: { Self → ℕ };
@@ -27,22 +27,27 @@ pub trait Door {
     fn faults(&self) -> u64
         ensures { result ≡ faults self.now };
 
-    /// Listens at the address, for so many sessions, which `next` then gives one by one.
+    /// Listens at the address, for so many sessions, whose links `next` then gives one by one.
     fn listen(&mut self, alloc: Global, address: &str, sessions: u32) -> Result<(), PortFault>
         ensures left { OnOk result (left self.new ≡ offers self.old sessions) }
+        ensures refused { OnErr result (left self.new ≡ left self.old) }
+        ensures offers { OnErr result ((n : ℕ) → offers self.new n ≡ offers self.old n) }
         ensures cause { HasCause (faults self.old) (faults self.new) result };
 
-    /// A fresh link to who listens at the address, as the prover's end of it.
+    /// A fresh link to who listens at the address, as the prover's end of it. What `next` gives is as it was.
     fn connect(&mut self, alloc: Global, address: &str) -> Result<Self::Link, PortFault>
-        ensures fresh { IfOk result (λ link. IsFresh (Self.Link.log link) (Self.Link.faults link)) }
+        ensures fresh { IfOk result (λ link. IsFresh (Self.Link.log link) (Self.Link.ended link)
+            (Self.Link.is_open link) (Self.Link.faults link)) }
         ensures side { IfOk result (λ link. Self.Link.side link ≡ Prover) }
         ensures left { left self.new ≡ left self.old }
+        ensures offers { (n : ℕ) → offers self.new n ≡ offers self.old n }
         ensures cause { HasCause (faults self.old) (faults self.new) result };
 
     /// The next of the links that were listened for, fresh, as the verifier's end of it; none exactly
     /// where none is left. A refused call uses none of them up.
     fn next(&mut self, alloc: Global) -> Result<Option<Self::Link>, PortFault>
-        ensures fresh { IfOk result (λ given. IfSome given (λ link. IsFresh (Self.Link.log link) (Self.Link.faults link))) }
+        ensures fresh { IfOk result (λ given. IfSome given (λ link. IsFresh (Self.Link.log link)
+            (Self.Link.ended link) (Self.Link.is_open link) (Self.Link.faults link))) }
         ensures side { IfOk result (λ given. IfSome given (λ link. Self.Link.side link ≡ Verifier)) }
         ensures given { IfOk result (λ given. TakesOne given (left self.old) (left self.new)) }
         ensures refused { OnErr result (left self.new ≡ left self.old) }

@@ -1,7 +1,9 @@
 // Files in memory.
-ghost use Rattle.std.specs.Prelude.{◌≡◌, ◌≢◌, ℕ, List, OnOk, OnErr};
-ghost use Rattle.zk_port.specs.Files.{stored};
-ghost use Rattle.zk_port.specs.Plans.{file_of, found};
+ghost use Rattle.std.specs.Prelude.{◌≡◌, ◌≤◌, ◌+◌, ℕ, List, length, OnOk, OnErr, IfOk, IfErr, IsErrOf};
+ghost use Rattle.std.specs.Option.{option_map};
+ghost use Rattle.zk_port.specs.Counts.{HasCause, CountsNames, counted, is_failed, is_load_failed};
+ghost use Rattle.zk_port.specs.Files.{OthersStay, StandsAs, LoadCause, stored, without};
+ghost use Rattle.zk_port.specs.Plans.{file_of, found, load_fails, LoadTells, StoreLeaves};
 
 use crate::fault::{LoadFault, PortFault};
 use crate::plan::FaultPlan;
@@ -9,7 +11,8 @@ use crate::shelf::Shelf;
 use std::alloc::{AllocError, Global};
 use std::collections::BTreeMap;
 
-/// Files in memory, of which the calls that the plan names fail. A store that fails takes the file away.
+/// Files in memory. Exactly the calls that the plan names fail, and loads of files that aren't there, unless
+/// by the plan nothing may fail. A store that fails takes the file away. One count serves all names.
 #[derive(Drop)]
 pub struct MemoryShelf<P> {
     files: BTreeMap<String, Vec<u8>>,
@@ -19,8 +22,10 @@ pub struct MemoryShelf<P> {
 impl<P: FaultPlan> MemoryShelf<P> {
     /// A shelf of these files. Under a plan by which nothing may fail, a missing file is read as empty.
     pub fn new(files: BTreeMap<String, Vec<u8>>, plan: P) -> Self
-        ensures told { ⟦<MemoryShelf<P> as Shelf>⟧.told result ≡ Some (λ name. found P.forgiving (file_of files name)) }
+        ensures told { ⟦<MemoryShelf<P> as Shelf>⟧.told result ≡ Some
+            (λ name. found P.forgiving (file_of files name)) }
         ensures faults { ⟦<MemoryShelf<P> as Shelf>⟧.faults result ≡ P.count plan }
+        ensures plan { result.plan ≡ plan }
     {
         MemoryShelf { files, plan }
     }
@@ -33,8 +38,10 @@ fn put_file(
     name: &str,
     bytes: &[u8],
 ) -> Result<(), AllocError>
-    ensures stored { OnOk result ((other : List ℕ) → file_of files.new other ≡ stored name.now bytes.now (file_of files.old) other) }
-    ensures refused { OnErr result ((other : List ℕ) → file_of files.new other ≡ file_of files.old other) }
+    ensures stored { OnOk result ((other : List ℕ) → file_of files.new other
+        ≡ stored name.now bytes.now (file_of files.old) other) }
+    ensures refused { OnErr result ((other : List ℕ) →
+        file_of files.new other ≡ file_of files.old other) }
 {
     let key = String::from_str(alloc, name)?;
     let value = bytes.to_vec(alloc)?;
@@ -44,7 +51,7 @@ fn put_file(
 
 /// Takes the file of this name away.
 fn take_file(files: &mut BTreeMap<String, Vec<u8>>, name: &str)
-    ensures { (other : List ℕ) → other ≢ name.now → file_of files.new other ≡ file_of files.old other }
+    ensures { (other : List ℕ) → file_of files.new other ≡ without name.now (file_of files.old) other }
 {
     files.remove(name);
 }
@@ -57,11 +64,21 @@ impl<P: FaultPlan> Shelf for MemoryShelf<P> {
 
     ghost faults = { λ s. P.count s.plan };
 
+    ghost faults_of = { λ s _. P.count s.plan };
+
     fn faults(&self) -> u64 {
         self.plan.faults()
     }
 
-    fn load(&mut self, alloc: Global, name: &str, limit: u64) -> Result<Vec<u8>, LoadFault> {
+    fn load(&mut self, alloc: Global, name: &str, limit: u64) -> Result<Vec<u8>, LoadFault>
+        ensures same { self.new.files ≡ self.old.files }
+        ensures tells { LoadTells limit (found P.forgiving (file_of self.old.files name.now)) result }
+        ensures fails { is_load_failed result ≡ load_fails (P.coming self.old.plan 0)
+            (found P.forgiving (file_of self.old.files name.now)) }
+        ensures onward { (n : ℕ) → P.coming self.new.plan n ≡ P.coming self.old.plan (n + 1) }
+        ensures count { P.count self.new.plan ≡ counted (is_load_failed result) (P.count self.old.plan) }
+        ensures later { P.count self.old.plan ≤ P.count self.new.plan }
+    {
         if self.plan.fails() {
             return Err(LoadFault::Failed);
         }
@@ -81,7 +98,14 @@ impl<P: FaultPlan> Shelf for MemoryShelf<P> {
         }
     }
 
-    fn store(&mut self, alloc: Global, name: &str, bytes: &[u8]) -> Result<(), PortFault> {
+    fn store(&mut self, alloc: Global, name: &str, bytes: &[u8]) -> Result<(), PortFault>
+        ensures leaves { StoreLeaves name.now bytes.now (file_of self.old.files)
+            (file_of self.new.files) result }
+        ensures fails { is_failed result ≡ P.coming self.old.plan 0 }
+        ensures onward { (n : ℕ) → P.coming self.new.plan n ≡ P.coming self.old.plan (n + 1) }
+        ensures count { P.count self.new.plan ≡ counted (is_failed result) (P.count self.old.plan) }
+        ensures later { P.count self.old.plan ≤ P.count self.new.plan }
+    {
         if self.plan.fails() {
             take_file(&mut self.files, name);
             return Err(PortFault::Failed);

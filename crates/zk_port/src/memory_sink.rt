@@ -1,12 +1,14 @@
 // Output kept in memory.
-ghost use Rattle.std.specs.Prelude.{◌≡◌, []};
+ghost use Rattle.std.specs.Prelude.{◌≡◌, ◌≤◌, ◌+◌, ◌/◌, ◌++◌, ℕ, [], length, OnOk, OnErr};
+ghost use Rattle.zk_port.specs.Counts.{HasCause, is_failed, counted};
+ghost use Rattle.zk_port.specs.Logs.{appended, AppendsPart};
 
 use crate::fault::PortFault;
 use crate::plan::FaultPlan;
 use crate::sink::Sink;
 use std::alloc::Global;
 
-/// Output kept in memory, of which the calls that the plan names fail halfway.
+/// Output kept in memory. Exactly the calls that the plan names fail, and write at most their first half.
 #[derive(Drop)]
 pub struct MemorySink<P> {
     bytes: Vec<u8>,
@@ -18,6 +20,7 @@ impl<P: FaultPlan> MemorySink<P> {
     pub fn new(alloc: Global, plan: P) -> Self
         ensures written { ⟦<MemorySink<P> as Sink>⟧.written result ≡ Some [] }
         ensures faults { ⟦<MemorySink<P> as Sink>⟧.faults result ≡ P.count plan }
+        ensures plan { result.plan ≡ plan }
     {
         MemorySink {
             bytes: Vec::new(alloc),
@@ -44,7 +47,18 @@ impl<P: FaultPlan> Sink for MemorySink<P> {
         self.plan.faults()
     }
 
-    fn put(&mut self, _alloc: Global, bytes: &[u8]) -> Result<(), PortFault> {
+    fn put(&mut self, _alloc: Global, bytes: &[u8]) -> Result<(), PortFault>
+        ensures written { OnOk result (Some self.new.bytes.items
+            ≡ appended bytes.now (Some self.old.bytes.items)) }
+        ensures refused { OnErr result (AppendsPart bytes.now
+            (Some self.old.bytes.items) (Some self.new.bytes.items)) }
+        ensures half { OnErr result
+            (length self.new.bytes.items ≤ length self.old.bytes.items + length bytes.now / 2) }
+        ensures cause { HasCause (P.count self.old.plan) (P.count self.new.plan) result }
+        ensures fails { is_failed result ≡ P.coming self.old.plan 0 }
+        ensures onward { (n : ℕ) → P.coming self.new.plan n ≡ P.coming self.old.plan (n + 1) }
+        ensures count { P.count self.new.plan ≡ counted (is_failed result) (P.count self.old.plan) }
+    {
         if self.plan.fails() {
             let half = bytes.len() / 2;
             let _ = self.bytes.extend_from_slice(&bytes[..half]);

@@ -1,12 +1,12 @@
 // Which calls of an object in memory fail.
-ghost use Rattle.std.specs.Prelude.{◌≡◌, ◌≤◌, ◌+◌, ℕ, Bool, true, false, not, MatchBool};
-ghost use Rattle.zk_port.specs.Counts.{Rose};
+ghost use Rattle.std.specs.Prelude.{◌≡◌, ◌≤◌, ◌+◌, ℕ, Bool, true, false, not};
+ghost use Rattle.zk_port.specs.Counts.{counted};
 
 use std::marker::Model;
 
 /// Says of each call of an object in memory whether it fails, and counts those that do.
 pub trait FaultPlan {
-    /// How many calls have failed; a count that has reached the end of a `u64` stays there.
+    /// How many calls have failed; a count that has reached the end of a `u64` stands still there.
     ghost count: { Self → ℕ };
 
     /// Whether the call behind so many further ones is to fail: at 0 the next.
@@ -19,18 +19,18 @@ pub trait FaultPlan {
     fn faults(&self) -> u64
         ensures { result ≡ count self.now };
 
-    /// Begins a call, and says whether it fails.
+    /// Begins a call, which uses up one number, and says whether it fails.
     fn fails(&mut self) -> bool
         ensures answer { result ≡ coming self.old 0 }
         ensures onward { (n : ℕ) → coming self.new n ≡ coming self.old (n + 1) }
-        ensures count { MatchBool result (Rose (count self.old) (count self.new)) (count self.new ≡ count self.old) }
+        ensures count { count self.new ≡ counted result (count self.old) }
         ensures later { count self.old ≤ count self.new };
 
-    /// Whether the call under way fails because something isn't there.
+    /// Whether the call under way fails because something isn't there; it uses up no number.
     fn fails_without(&mut self) -> bool
         ensures forgiving { result ≡ not forgiving }
         ensures onward { (n : ℕ) → coming self.new n ≡ coming self.old n }
-        ensures count { MatchBool result (Rose (count self.old) (count self.new)) (count self.new ≡ count self.old) }
+        ensures count { count self.new ≡ counted result (count self.old) }
         ensures later { count self.old ≤ count self.new };
 }
 

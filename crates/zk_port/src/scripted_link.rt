@@ -1,7 +1,8 @@
 // A link in memory whose peer sends what was stated at first.
-ghost use Rattle.std.specs.Prelude.{◌≤◌, ◌≡◌, ◌++◌, ℕ, length, vec_len, min, take, drop, [], IfOk, OnOk, OnErr};
+ghost use Rattle.std.specs.Prelude.{◌≤◌, ◌≡◌, ◌+◌, ◌-◌, ◌/◌, ◌++◌, ◌<◌, ◌↔◌, ℕ, true, false, length, vec_len, min, take, drop, [], IfOk, OnOk, OnErr, IsTrue};
 ghost use Rattle.zk_model.specs.Transcript.{bytes_from};
-ghost use Rattle.zk_port.specs.Logs.{peer_of};
+ghost use Rattle.zk_port.specs.Counts.{HasCause, counted, is_failed};
+ghost use Rattle.zk_port.specs.Logs.{AppendsPart, ended_after, peer_of};
 
 use crate::fault::PortFault;
 use crate::link::Link;
@@ -9,8 +10,9 @@ use crate::plan::FaultPlan;
 use std::alloc::{AllocError, Global};
 use zk_model::Side;
 
-/// A link in memory whose peer sends these bytes and ends, whatever is sent to it.
-/// The calls that the plan names fail; a send that fails sends the first half.
+/// A link in memory whose peer sends these bytes and ends, whatever is sent to it. A receive takes as many as
+/// there are and fit. Exactly the sends and receives that the plan names fail, and such a send sends at most
+/// its first half.
 #[derive(Drop)]
 pub struct ScriptedLink<P> {
     side: Side,
@@ -18,8 +20,10 @@ pub struct ScriptedLink<P> {
     script: Vec<u8>,
     place: usize,
     ended: bool,
+    is_open: bool,
     plan: P,
     ghost within: { place ≤ vec_len script },
+    ghost nothing_behind: { ended ≡ true → place ≡ vec_len script },
 }
 
 /// The other side.
@@ -56,7 +60,8 @@ fn note_bytes(
 
 /// Notes the first half, if there is memory for it.
 fn note_half(alloc: Global, log: &mut Vec<(Side, u8)>, side: Side, bytes: &[u8])
-    ensures { (n : ℕ) × (log.new.items ≡ log.old.items ++ take n (bytes_from side bytes.now)) }
+    ensures part { (n : ℕ) × (log.new.items ≡ log.old.items ++ take n (bytes_from side bytes.now)) }
+    ensures half { length log.new.items ≤ length log.old.items + length bytes.now / 2 }
 {
     let half = bytes.len() / 2;
     let _ = note_bytes(alloc, log, side, &bytes[..half]);
@@ -79,7 +84,11 @@ impl<P: FaultPlan> ScriptedLink<P> {
     pub fn new(alloc: Global, side: Side, script: Vec<u8>, plan: P) -> Self
         ensures side { ⟦<ScriptedLink<P> as Link>⟧.side result ≡ side }
         ensures log { ⟦<ScriptedLink<P> as Link>⟧.log result ≡ Some [] }
+        ensures to_come { ⟦<ScriptedLink<P> as Link>⟧.to_come result ≡ Some script.items }
+        ensures ended { ⟦<ScriptedLink<P> as Link>⟧.ended result ≡ Some false }
+        ensures is_open { ⟦<ScriptedLink<P> as Link>⟧.is_open result ≡ true }
         ensures faults { ⟦<ScriptedLink<P> as Link>⟧.faults result ≡ P.count plan }
+        ensures plan { result.plan ≡ plan }
     {
         ScriptedLink {
             side,
@@ -87,19 +96,24 @@ impl<P: FaultPlan> ScriptedLink<P> {
             script,
             place: 0,
             ended: false,
+            is_open: true,
             plan,
         }
     }
 }
 
 impl<P: FaultPlan> Link for ScriptedLink<P> {
-    ghost use Rattle.std.specs.Prelude.{Some};
+    ghost use Rattle.std.specs.Prelude.{Some, drop};
 
     ghost side = { λ l. l.side };
 
     ghost log = { λ l. Some l.log.items };
 
+    ghost to_come = { λ l. Some (drop l.place l.script.items) };
+
     ghost ended = { λ l. Some l.ended };
+
+    ghost is_open = { λ l. l.is_open };
 
     ghost faults = { λ l. P.count l.plan };
 
@@ -107,7 +121,20 @@ impl<P: FaultPlan> Link for ScriptedLink<P> {
         self.plan.faults()
     }
 
-    fn send(&mut self, alloc: Global, bytes: &[u8]) -> Result<(), PortFault> {
+    fn send(&mut self, alloc: Global, bytes: &[u8]) -> Result<(), PortFault>
+        requires { IsTrue self.old.is_open }
+        ensures sent { OnOk result (self.new.log.items
+            ≡ self.old.log.items ++ bytes_from self.old.side bytes.now) }
+        ensures refused { OnErr result (AppendsPart (bytes_from self.old.side bytes.now)
+            (Some self.old.log.items) (Some self.new.log.items)) }
+        ensures half { OnErr result
+            (length self.new.log.items ≤ length self.old.log.items + length bytes.now / 2) }
+        ensures rest { self.new ≡ record self.old { log = self.new.log; plan = self.new.plan } }
+        ensures fails { is_failed result ≡ P.coming self.old.plan 0 }
+        ensures onward { (n : ℕ) → P.coming self.new.plan n ≡ P.coming self.old.plan (n + 1) }
+        ensures count { P.count self.new.plan ≡ counted (is_failed result) (P.count self.old.plan) }
+        ensures later { P.count self.old.plan ≤ P.count self.new.plan }
+    {
         if self.plan.fails() {
             note_half(alloc, &mut self.log, self.side, bytes);
             return Err(PortFault::Failed);
@@ -116,20 +143,50 @@ impl<P: FaultPlan> Link for ScriptedLink<P> {
         Ok(())
     }
 
-    fn receive(&mut self, alloc: Global, buffer: &mut [u8]) -> Result<usize, PortFault> {
+    #[tactic(auto, using(crate::proofs::Scripts::no_piece))]
+    fn receive(&mut self, alloc: Global, buffer: &mut [u8]) -> Result<usize, PortFault>
+        requires { IsTrue self.old.is_open }
+        ensures count_taken { IfOk result (λ n. n ≡ min
+            (length buffer.old) (vec_len self.old.script - self.old.place)) }
+        ensures next { IfOk result (λ n. drop self.old.place self.old.script.items
+            ≡ take n buffer.new ++ drop self.new.place self.new.script.items) }
+        ensures none { IfOk result (λ n. 0 < length buffer.old
+            → (n ≡ 0) ↔ (drop self.old.place self.old.script.items ≡ [])) }
+        ensures stays_ended { IfOk result (λ n. IsTrue self.old.ended → n ≡ 0) }
+        ensures taken { IfOk result (λ n. self.new.log.items
+            ≡ self.old.log.items ++ bytes_from (peer_of self.old.side) (take n buffer.new)) }
+        ensures rest { IfOk result (λ n. drop n buffer.new ≡ drop n buffer.old) }
+        ensures ended { IfOk result (λ n.
+            self.new.ended ≡ ended_after (length buffer.old) n self.old.ended) }
+        ensures script { self.new.script ≡ self.old.script }
+        ensures side { self.new.side ≡ self.old.side }
+        ensures is_open { self.new.is_open ≡ self.old.is_open }
+        ensures refused { OnErr result (self.new.log.items ≡ self.old.log.items) }
+        ensures kept { OnErr result (self.new
+            ≡ record self.old { log = self.new.log; plan = self.new.plan }) }
+        ensures fails { is_failed result ≡ P.coming self.old.plan 0 }
+        ensures onward { (n : ℕ) → P.coming self.new.plan n ≡ P.coming self.old.plan (n + 1) }
+        ensures count { P.count self.new.plan ≡ counted (is_failed result) (P.count self.old.plan) }
+        ensures later { P.count self.old.plan ≤ P.count self.new.plan }
+    {
         if self.plan.fails() {
             return Err(PortFault::Failed);
         }
-        let count = buffer.len().min(self.script.len() - self.place);
-        let next = &self.script[self.place..self.place + count];
-        note_bytes(alloc, &mut self.log, peer(self.side), next)?;
-        let taken = copy_front(next, buffer);
-        self.place += count;
+        let rest = &self.script[self.place..];
+        let count = buffer.len().min(rest.len());
+        note_bytes(alloc, &mut self.log, peer(self.side), &rest[..count])?;
+        let taken = copy_front(rest, buffer);
+        self.place += taken;
         if !buffer.is_empty() {
             self.ended = taken == 0;
         }
         Ok(taken)
     }
 
-    fn end(&mut self) {}
+    fn end(&mut self)
+        requires { IsTrue self.old.is_open }
+        ensures { self.new ≡ record self.old { is_open = false } }
+    {
+        self.is_open = false;
+    }
 }

@@ -4,4 +4,4 @@ use Rattle.bristol_reader.specs.Words.{greatest}
 use Rattle.bristol_reader.proofs.words.number.Given as goal
 
 abbrev pub invariant-loop-digit : goal.invariant-loop-digit
-invariant-loop-digit l = l.n ≡ min (decimal_value (take l.digit-index l.digits)) greatest
+invariant-loop-digit l = l.value ≡ min (decimal_value (take l.digit-index l.digits)) greatest

@@ -1,5 +1,6 @@
-use Rattle.gate_translate.proofs.Numbering.{AreTranslated}
+use Rattle.std.proofs.Common.{take}
+use Rattle.gate_translate.proofs.Translating.{AreTranslated}
 use Rattle.gate_translate.proofs.translation.translate.Given as goal
 
 abbrev pub invariant-loop-gate : goal.invariant-loop-gate
-invariant-loop-gate l = AreTranslated l.circuit l.steps.items l.products.items l.gate-index
+invariant-loop-gate l = AreTranslated l.inputs (take l.gate-index l.circuit.gates) l.steps.items l.products.items

@@ -1,0 +1,2 @@
+pub mod GateOrder
+pub mod BitSteps

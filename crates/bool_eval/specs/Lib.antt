@@ -1,0 +1,2 @@
+pub mod GateBits
+pub mod Answers

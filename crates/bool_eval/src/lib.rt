@@ -1,0 +1,89 @@
+//! What a circuit gives at input bits.
+#![tactic(auto)]
+
+ghost use Rattle.std.specs.Prelude.{◌≡◌, Bool, List, length, take, IfOk, IfErr, slice_set};
+ghost use Rattle.zk_model.specs.Circuit.{AreWireBits, Satisfies, wire_set};
+ghost use Rattle.bool_eval.specs.GateBits.{gate_bit, IsWithin, AreBlankBehind, LeavesUnset};
+ghost use Rattle.bool_eval.specs.Answers.{IsCause, AreOnlyOutputs};
+ghost use Rattle.bool_eval.specs.declared.EvalFault.TheVariants as fault;
+
+use bristol_reader::{Circuit, GateRow};
+use std::alloc::{AllocError, Global};
+use zk_laws::one_outcome;
+
+/// Why a circuit is not evaluated.
+#[derive(Clone, Copy, Debug, PartialEq, Eq)]
+pub enum EvalFault {
+    /// The bits are not as many as the circuit's inputs: so many are needed, and so many were given.
+    WrongLength { need: usize, got: usize },
+    /// Memory ran out.
+    NoMemory,
+}
+
+impl From<AllocError> for EvalFault {
+    ghost from_gives = { λ _ e. e ≡ fault.NoMemory };
+
+    fn from(_: AllocError) -> Self {
+        EvalFault::NoMemory
+    }
+}
+
+/// The output bits that a circuit gives at these input bits: the only ones that satisfy it. A wrong number of bits is
+/// told, memory or not.
+pub fn eval(alloc: Global, circuit: &Circuit, bits: &[bool]) -> Result<Vec<bool>, EvalFault>
+    ensures satisfies { IfOk result (λ outputs. Satisfies circuit.now bits.now outputs.items) }
+    ensures only { IfOk result (λ outputs. AreOnlyOutputs circuit.now bits.now outputs.items) }
+    ensures count { IfOk result (λ outputs. length outputs.items ≡ circuit.now.outputs) }
+    ensures length { IfOk result (λ _. length bits.now ≡ circuit.now.inputs) }
+    ensures cause { IfErr result (IsCause circuit.now bits.now) }
+{
+    one_outcome();
+    let wires = eval_wires(alloc, circuit, bits)?;
+    let outputs = wires[circuit.wires() - circuit.outputs()..].to_vec(alloc)?;
+    Ok(outputs)
+}
+
+/// One bit for each wire, the input bits first, such that every gate's truth table is met. A wire that is no input and
+/// that no gate sets is 0. A wrong number of bits is told, memory or not.
+pub fn eval_wires(alloc: Global, circuit: &Circuit, bits: &[bool]) -> Result<Vec<bool>, EvalFault>
+    ensures wires { IfOk result (λ wires. AreWireBits circuit.now bits.now wires.items) }
+    ensures unset { IfOk result (λ wires. LeavesUnset circuit.now wires.items) }
+    ensures length { IfOk result (λ _. length bits.now ≡ circuit.now.inputs) }
+    ensures cause { IfErr result (IsCause circuit.now bits.now) }
+{
+    let need = circuit.inputs();
+    let got = bits.len();
+    if need != got {
+        return Err(EvalFault::WrongLength { need, got });
+    }
+    let mut wires = bits.to_vec(alloc)?;
+    wires.resize(circuit.wires(), false)?;
+    set_gates(circuit, &mut wires);
+    Ok(wires)
+}
+
+/// Sets the bits behind the inputs, gate by gate.
+fn set_gates(circuit: &Circuit, bits: &mut [bool])
+    requires whole { length bits.old ≡ circuit.now.wires }
+    requires blank { AreBlankBehind circuit.now.inputs bits.old }
+    ensures wires { AreWireBits circuit.now (take circuit.now.inputs bits.old) bits.new }
+    ensures unset { LeavesUnset circuit.now bits.new }
+{
+    for gate in circuit.rows() {
+        set_gate(bits, *gate);
+    }
+}
+
+/// Sets the bit of the wire that a gate sets, by its truth table.
+fn set_gate(bits: &mut [bool], gate: GateRow)
+    requires { IsWithin (length bits.old) gate }
+    ensures { bits.new ≡ slice_set bits.old (wire_set gate) (gate_bit bits.old gate) }
+{
+    match gate {
+        GateRow::And { a, b, out } => bits[out as usize] = bits[a as usize] && bits[b as usize],
+        GateRow::Xor { a, b, out } => bits[out as usize] = bits[a as usize] != bits[b as usize],
+        GateRow::Inv { a, out } => bits[out as usize] = !bits[a as usize],
+        GateRow::Eqw { a, out } => bits[out as usize] = bits[a as usize],
+        GateRow::Eq { value, out } => bits[out as usize] = value,
+    }
+}

@@ -1,0 +1,9 @@
+pub mod Pieces
+pub mod DealtLists
+pub mod DealtFiles
+pub mod DealtPairs
+pub mod FlatFiles
+pub mod ByteLists
+pub mod Zips
+pub mod Matching
+pub mod Fitting

@@ -1,0 +1,6 @@
+use Rattle.std.proofs.Common.{◌≡◌, ◌++◌, take, flat_map}
+use Rattle.zk_model.specs.Bytes.{element_bytes}
+use Rattle.dealer_files.proofs.encoding.push_elements.Given as goal
+
+abbrev pub invariant-loop-element : goal.invariant-loop-element
+invariant-loop-element l = l.bytes.items ≡ l.fn.bytes.items ++ flat_map element_bytes (take l.element-index l.elements)

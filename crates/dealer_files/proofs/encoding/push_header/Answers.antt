@@ -1,0 +1,13 @@
+use Rattle.std.proofs.Common.{[], ◌∷◌}
+use Rattle.std.specs.Prelude.{codes}
+use Rattle.zk_model.specs.FileBytes.{params_bytes}
+use Rattle.dealer_files.proofs.ByteLists.{six_appended}
+use Rattle.dealer_files.proofs.encoding.push_header.Goals as goal
+
+pub returns : goal.returns
+returns c =
+    six_appended (codes "WQSFILE1") (c.args.side ∷ []) (params_bytes c.args.params.now) c.args.id.now c.args.coin_key.now c.args.code_seed.now
+    c.args.bytes.now.items c.extend_from_slice.new.self.items c.push.new.self.items c.push_params.new.bytes.items
+    c.extend_from_slice-2.new.self.items c.extend_from_slice-3.new.self.items c.extend_from_slice-4.new.self.items
+    c.in_ok-extend_from_slice.ensures.items c.in_ok-push.ensures.items c.in_ok-push_params.ensures
+    c.in_ok-extend_from_slice-2.ensures.items c.in_ok-extend_from_slice-3.ensures.items c.in_ok-extend_from_slice-4.ensures.items

@@ -1,0 +1,50 @@
+-- The payloads of frames.
+use Rattle.std.proofs.Common.{◌≡◌, ℕ, ◌+◌, ◌*◌, ◌<◌, List, [], ◌∷◌, ◌++◌, length, flat_map, take, get_or, refl, ap, sym, ◌∙◌, arith, append_assoc, subst}
+use Rattle.std.specs.Prelude.{All}
+use Rattle.std.proofs.lemmas.List.Elements.{All-more}
+use Rattle.std.specs.Int.{w32, to_le_bytes}
+use Rattle.std.proofs.lemmas.List.{flat_map_more, take_more}
+use Rattle.zk_model.specs.Bytes.{element_bytes}
+use Rattle.zk_model.specs.Transcript.{kind_number, frame_bytes}
+use Rattle.zk_model.specs.declared.FrameKind.{FrameKind}
+use Rattle.proof_frames.specs.Frames.{sums_payload}
+
+pub length-elements : (elements : List ℕ) → length (flat_map element_bytes elements) ≡ 8 * length elements
+length-elements [] = refl
+length-elements (element ∷ elements) = omega (arith, length-elements elements)
+
+pub length-sums : (sums : List (ℕ × ℕ)) → length (sums_payload sums) ≡ 16 * length sums
+length-sums [] = refl
+length-sums (both ∷ sums) = omega (arith, length-sums sums)
+
+-- what begins with a kind and the length of a payload, and goes on with the payload, is a frame
+pub frame_is : (kind : FrameKind) (count : ℕ) (begun whole payload : List ℕ) → count ≡ length payload → begun ≡ kind_number kind ∷ to_le_bytes w32 count
+    → whole ≡ begun ++ payload → whole ≡ frame_bytes kind payload
+frame_is kind count begun whole payload counted first all =
+    all ∙ (λ i. first i ++ payload) ∙ ap (λ n. (kind_number kind ∷ to_le_bytes w32 n) ++ payload) counted
+
+-- the sums of one more section
+pub sums_more : (sums : List (ℕ × ℕ)) (i : ℕ) (both : ℕ × ℕ) (old before one two a b : List ℕ) → i < length sums → both ≡ get_or sums i both
+    → before ≡ old ++ sums_payload (take i sums) → one ≡ before ++ a → two ≡ one ++ b → a ≡ element_bytes both.0 → b ≡ element_bytes both.1
+    → two ≡ old ++ sums_payload (take (i + 1) sums)
+sums_more sums i both old before one two a b within at far first second is_a is_b =
+    let bytes = λ (q : ℕ × ℕ). element_bytes q.0 ++ element_bytes q.1 in
+    let last : take i sums ++ both ∷ [] ≡ take (i + 1) sums = ap (λ q. take i sums ++ q ∷ []) at ∙ sym (take_more sums i both within) in
+    second ∙ (λ j. (first ∙ (λ k. far k ++ is_a k)) j ++ is_b j)
+    ∙ append_assoc (old ++ sums_payload (take i sums)) (element_bytes both.0) (element_bytes both.1)
+    ∙ flat_map_more bytes old (take i sums) both
+    ∙ ap (λ l. old ++ flat_map bytes l) last
+
+-- what holds of the first items and of the next holds of one more
+pub all_more : {A : Type 0} (P : A → Type 0) (items : List A) (i : ℕ) (item : A) → i < length items → item ≡ get_or items i item
+    → All P (take i items) → P item → All P (take (i + 1) items)
+all_more P items i item within at all holds =
+    All-more P items i item within all (subst P at holds)
+
+-- the bytes of one element more
+pub elements_more : (elements : List ℕ) (i element : ℕ) (old before now a : List ℕ) → i < length elements → element ≡ get_or elements i element
+    → before ≡ old ++ flat_map element_bytes (take i elements) → now ≡ before ++ a → a ≡ element_bytes element
+    → now ≡ old ++ flat_map element_bytes (take (i + 1) elements)
+elements_more elements i element old before now a within at far pushed is_a =
+    let last : take i elements ++ element ∷ [] ≡ take (i + 1) elements = ap (λ q. take i elements ++ q ∷ []) at ∙ sym (take_more elements i element within) in
+    pushed ∙ (λ j. far j ++ is_a j) ∙ flat_map_more element_bytes old (take i elements) element ∙ ap (λ l. old ++ flat_map element_bytes l) last

@@ -1,0 +1,133 @@
+-- A rehearsal's statement and witness, and what its session makes.
+use Rattle.std.proofs.Common.{◌≡◌, ℕ, ◌+◌, ◌-◌, ◌^◌, ◌<◌, ◌≤◌, Bool, List, [], ◌++◌, map, take, drop, length, replicate, max, refl, sym, ◌∙◌, ap, subst, arith, length-drop, zero-add}
+use Rattle.std.specs.Prelude.{All}
+use Rattle.std.proofs.lemmas.List.{length-map}
+use Rattle.std.proofs.lemmas.List.Elements.{All-replicate}
+use Rattle.sha2.specs.Sha256.{sha256}
+use Rattle.zk_model.specs.Bits.{from_bit, digits_of}
+use Rattle.zk_model.specs.Bytes.{AreBytes}
+use Rattle.zk_model.specs.Circuit.{Circuit, IsWellFormed, AreWireBits, Satisfies, output_wire}
+use Rattle.zk_model.specs.Program.{Program, Solves, section_count, opened_values}
+use Rattle.zk_model.specs.Boolean.{circuit_program, circuit_products, products_of_bits, bits_of_products}
+use Rattle.zk_model.specs.Statement.{Statement, IsStatement, circuit_statement}
+use Rattle.zk_model.specs.Transcript.{Grant, Transcript, IsGrant, bytes_from, verdict_frame}
+use Rattle.zk_model.specs.HonestProver.{IsWitness, IsHonest}
+use Rattle.zk_model.specs.ServedVerifier.{VerifierTask, IsServed}
+use Rattle.zk_model.specs.BothEnds.{IsHonestSession}
+use Rattle.zk_model.specs.declared.Kind.TheVariants.{Direct}
+use Rattle.zk_model.specs.declared.Side.{Side}
+use Rattle.zk_model.specs.declared.Side.TheVariants.{Verifier}
+use Rattle.zk_model.specs.declared.Verdict.{Verdict}
+use Rattle.zk_model.specs.declared.Verdict.TheVariants.{Accepted}
+use Rattle.zk_laws.specs.Booleans.{CircuitIsStatement, BitsSolve, OneOutcome}
+use Rattle.zk_laws.specs.Rehearsing.{HonestSessionIsAccepted}
+use Rattle.std.proofs.lemmas.List.FromFn.{length-range_with_len}
+use Rattle.zk_laws.proofs.CircuitIsProgram.{numbered}
+use Rattle.zk_laws.proofs.BitsSolve.{value_of_bit}
+use Rattle.zk_laws.proofs.Satisfied.{inputs_are, outputs_are}
+use Rattle.session_core.proofs.Spelled.{before_verdict, ends_with_verdict}
+use Rattle.session_core.specs.Ends.{whole_grant}
+use Rattle.session_core.specs.Holding.{IsSessionOf}
+use Rattle.session_core.specs.Rehearsals.{direct_params, direct_units, AreRehearsedFiles, EndsWithVerdict, rehearsed_prover, rehearsed_verifier, rehearsed_ends}
+
+-- ---- the statement
+
+pub statement_is : (circuit : Circuit) (program : Program) (claims digest : List ℕ) (outputs : List Bool) → program ≡ circuit_program 0 circuit
+    → claims ≡ map from_bit outputs → digest ≡ sha256 (digits_of outputs)
+    → record { program = program; public = []; claims = claims; version = 1; circuit = replicate 32 0; outputs = digest }
+    ≡ circuit_statement circuit (replicate 32 0) outputs
+statement_is circuit program claims digest outputs p c d =
+    λ i. record { program = p i; public = []; claims = c i; version = 1; circuit = replicate 32 0; outputs = d i }
+
+zeros : AreBytes 32 (replicate 32 0)
+zeros = (refl, All-replicate (λ byte. byte < 256) 32 0 (omega arith))
+
+pub stated : (circuit : Circuit) (program : Program) (claims digest : List ℕ) (outputs : List Bool) → CircuitIsStatement → IsWellFormed circuit
+    → length outputs ≡ circuit.outputs → program ≡ circuit_program 0 circuit → claims ≡ map from_bit outputs → digest ≡ sha256 (digits_of outputs)
+    → IsStatement (record { program = program; public = []; claims = claims; version = 1; circuit = replicate 32 0; outputs = digest })
+stated circuit program claims digest outputs law formed counted p c d =
+    subst IsStatement (sym (statement_is circuit program claims digest outputs p c d)) (law circuit (replicate 32 0) outputs formed zeros counted)
+
+-- the claimed bits are as many as the outputs
+pub claimed_count : (circuit : Circuit) (bits : List Bool) → IsWellFormed circuit → length bits ≡ circuit.wires
+    → length (drop (output_wire circuit 0) bits) ≡ circuit.outputs
+claimed_count circuit bits formed whole =
+    let dropped = length-drop (output_wire circuit 0) bits in
+    let within = formed.outputs_within in
+    omega (arith, dropped, whole, within)
+
+-- there is a product for each given value
+pub products_count : (circuit : Circuit) → length (circuit_program 0 circuit).products ≡ (circuit_program 0 circuit).givens
+products_count circuit =
+    sym (length-map (circuit_program 0 circuit).products (λ product. product.c)) ∙ ap length (numbered 0 circuit)
+    ∙ length-range_with_len 0 (circuit_program 0 circuit).givens
+
+-- ---- the grant
+
+-- all units are granted
+pub granted_all : (circuit : Circuit) (section units : ℕ) → 1 ≤ section → section ≤ 2 ^ 20 → units ≡ direct_units circuit section → units ≤ 4096
+    → IsGrant (direct_params units) (circuit_program 0 circuit) (whole_grant units section)
+granted_all circuit section units some most counted few =
+    record { section_some = some; section_most = most; count = counted; count_most = few; within = omega arith }
+
+-- ---- the witness
+
+-- bits of all wires are a witness
+witness_is : (circuit : Circuit) (digest : List ℕ) (inputs outputs bits : List Bool) → BitsSolve → IsWellFormed circuit → AreWireBits circuit inputs bits
+    → IsWitness (circuit_statement circuit digest outputs) (map from_bit inputs) (map from_bit bits) (products_of_bits 0 circuit bits)
+witness_is circuit digest inputs outputs bits law formed met =
+    let solved : Solves (circuit_program 0 circuit) [] (map from_bit bits) (products_of_bits 0 circuit bits) = law 0 circuit inputs bits formed (omega arith) met in
+    let all : circuit.inputs - 0 ≡ circuit.inputs = omega arith in
+    record {
+      solves = solved;
+      inputs_are =
+          sym solved.carried.inputs
+          ∙ inputs_are 0 (circuit.inputs - 0) bits (map from_bit bits) (sym (length-map bits from_bit)) (λ i below. value_of_bit bits (0 + i))
+          ∙ ap (λ n. map from_bit (take n bits)) all
+          ∙ ap (map from_bit) met.first;
+    }
+
+-- and give the claims
+claims_are : (circuit : Circuit) (bits : List Bool) → IsWellFormed circuit → length bits ≡ circuit.wires
+    → opened_values (circuit_program 0 circuit) (map from_bit bits) ≡ map from_bit (drop (output_wire circuit 0) bits)
+claims_are circuit bits formed whole =
+    outputs_are 0 circuit bits (map from_bit bits) whole formed.outputs_within (λ o below. value_of_bit bits (output_wire circuit o))
+
+-- ---- the session
+
+-- a rehearsal's session is that of an honest prover, and is accepted
+pub record IsAcceptedSession (circuit : Circuit) (inputs outputs : List Bool) (section units : ℕ) (seed : List ℕ) (verdict : Verdict) (log : List (Side × ℕ)) : Type 0 where
+  pub transcript : Transcript
+  pub session : IsHonestSession (rehearsed_prover circuit inputs outputs units seed) (rehearsed_verifier circuit outputs units seed)
+      (whole_grant units section) transcript verdict log
+  pub accepted : verdict ≡ Accepted
+
+pub accepted_session : (circuit : Circuit) (inputs outputs bits : List Bool) (section units : ℕ) (seed : List ℕ) (verdict : Verdict) (log : List (Side × ℕ))
+    → BitsSolve → HonestSessionIsAccepted → IsWellFormed circuit → AreWireBits circuit inputs bits → outputs ≡ drop (output_wire circuit 0) bits
+    → AreRehearsedFiles units seed
+    → IsSessionOf (rehearsed_ends circuit bits units seed) (whole_grant units section) verdict log
+    → IsAcceptedSession circuit inputs outputs section units seed verdict log
+accepted_session circuit inputs outputs bits section units seed verdict log solve law formed met claimed files held =
+    let last : List Bool = drop (output_wire circuit 0) bits in
+    let honest = held.honest (map from_bit inputs) (map from_bit bits) (witness_is circuit (replicate 32 0) inputs last bits solve formed met) in
+    let claims : opened_values (circuit_program 0 circuit) honest.honest.wires ≡ map from_bit last =
+    ap (opened_values (circuit_program 0 circuit)) honest.wires_are ∙ claims_are circuit bits formed met.whole in
+    let both = law (rehearsed_prover circuit inputs last units seed) (rehearsed_verifier circuit last units seed) held.t verdict log
+    (record { statement = refl; prover_file = files.prover; verifier_file = files.verifier; dealt = files.dealt }) honest.honest claims held.served in
+    subst (λ (claim : List Bool). IsAcceptedSession circuit inputs claim section units seed verdict log) (sym claimed) (record {
+      transcript = held.t;
+      session = subst (λ (grant : Grant). IsHonestSession (rehearsed_prover circuit inputs last units seed) (rehearsed_verifier circuit last units seed) grant held.t verdict log)
+          held.granted both.1;
+      accepted = both.0;
+    })
+
+-- a session that a verifier leads ends with its verdict
+pub session_ends : (task : VerifierTask) (t : Transcript) (verdict : Verdict) (log : List (Side × ℕ))
+    → IsServed task t verdict log → EndsWithVerdict verdict log
+session_ends task t verdict log served =
+    let said = served.judged.said in
+    record {
+      before = before_verdict t;
+      ends = served.in_order.bytes ∙ ends_with_verdict t
+          ∙ (λ i. before_verdict t ++ bytes_from Verifier (verdict_frame (said.code i) (said.number i)));
+    }

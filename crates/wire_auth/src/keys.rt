@@ -1,0 +1,194 @@
+// The verifier's side: keys of all wires.
+ghost use Rattle.std.specs.Prelude.{◌≡◌, ◌<◌, ◌≤◌, ◌+◌, ℕ, List, length, map, take, drop, All, IfOk, slice_index, slice_get, Some};
+ghost use Rattle.zk_model.specs.Field.{IsElement, ◌*ₚ◌};
+ghost use Rattle.zk_model.specs.Program.{Carries, MeetsStep, step_value};
+ghost use Rattle.zk_model.specs.Mac.{corrected_keys};
+ghost use Rattle.zk_model.specs.Check.{AreKeysFor, key_triple};
+ghost use Rattle.gate_translate.specs.Steps.{step_equation};
+ghost use Rattle.wire_auth.specs.Sides.{IsWithin, IsBegun};
+ghost use Rattle.zk_model.specs.declared.Product as zk;
+
+use crate::triples::KeyTriple;
+use gate_translate::{FieldProgram, Step};
+use mersenne_field::Fe;
+use std::alloc::{AllocError, Global};
+use std::marker::Model;
+
+/// The keys of a program's given values and of all its wires. Under the verifier's one key a value x with the MAC m has the
+/// key `m + x * key` (Weng, Yang, Katz and Wang, Wolverine, IEEE S&P 2021).
+#[derive(Debug, Drop)]
+pub struct VerifierWires<'a> {
+    program: &'a FieldProgram,
+    given: Vec<Fe>,
+    wires: Vec<Fe>,
+}
+
+impl<'a> Model for VerifierWires<'a> {
+    ghost use Rattle.std.specs.Prelude.{◌≡◌, length};
+    ghost use Rattle.wire_auth.specs.Sides as sides;
+
+    ghost Value = { sides.VerifierSide };
+
+    ghost view = { λ w. record {
+      program = w.program.now;
+      keys = record { given = w.given.items; wires = w.wires.items };
+    } };
+
+    ghost invariant = { λ w. (length w.given.items ≡ w.program.now.givens)
+        × (length w.wires.items ≡ w.program.now.wires) };
+}
+
+/// The key, which is an element.
+fn known(key: Fe) -> Fe
+    ensures same { result ≡ key }
+    ensures element { IsElement key }
+{
+    let _key = key.value();
+    key
+}
+
+/// The key that a step gives its wire, from those that it reads. That of the constant 1 is `one`.
+fn step_key(step: Step, one: Fe, wires: &[Fe], given: &[Fe]) -> Fe
+    requires { IsWithin (length wires.now) (length given.now) step }
+    ensures { result ≡ step_value one wires.now given.now (step_equation step) }
+{
+    match step {
+        Step::Const { value, .. } => value * one,
+        Step::Copy { a, .. } => known(wires[a as usize]),
+        Step::Not { a, .. } => one - wires[a as usize],
+        Step::Mul { product, .. } => known(given[product as usize]),
+        Step::XorFrom { a, b, product, .. } => {
+            let c = given[product as usize];
+            wires[a as usize] + wires[b as usize] - (c + c)
+        }
+    }
+}
+
+/// The keys of public values: each times the one key.
+fn public_keys(alloc: Global, public: &[Fe], key: Fe) -> Result<Vec<Fe>, AllocError>
+    ensures { IfOk result (λ keys. keys.items ≡ map (λ value. value *ₚ key) public.now) }
+{
+    public.iter().map(|value| *value * key).collect(alloc)
+}
+
+/// The keys of the first wires: those of the public values, and then the first given ones; and 0 for the others.
+fn begun_keys(
+    alloc: Global,
+    program: &FieldProgram,
+    public: &[Fe],
+    key: Fe,
+    given: &[Fe],
+) -> Result<Vec<Fe>, AllocError>
+    requires public { length public.now ≡ program.now.public }
+    requires given { length given.now ≡ program.now.givens }
+    ensures { IfOk result (λ wires. IsBegun key program.now public.now given.now wires.items) }
+{
+    let mut wires = public_keys(alloc, public, key)?;
+    wires.extend_from_slice(&given[..program.inputs()])?;
+    wires.resize(program.wires(), Fe::ZERO)?;
+    Ok(wires)
+}
+
+/// The keys of all wires, from those of the first ones: each step gives that of its wire.
+fn follow_keys(program: &FieldProgram, key: Fe, given: &[Fe], begun: Vec<Fe>) -> Vec<Fe>
+    requires begun { length begun.items ≡ program.now.wires }
+    requires given { length given.now ≡ program.now.givens }
+    ensures { (public : List ℕ) → IsBegun key program.now public given.now begun.items
+        → Carries key program.now public given.now result.items }
+{
+    let mut wires = begun;
+    for step in program.steps() {
+        wires[step.out() as usize] = step_key(*step, key, &wires, given);
+    }
+    wires
+}
+
+/// The keys of all wires. A wire that no step sets has 0.
+fn carry_keys(
+    alloc: Global,
+    program: &FieldProgram,
+    public: &[Fe],
+    key: Fe,
+    given: &[Fe],
+) -> Result<Vec<Fe>, AllocError>
+    requires public { length public.now ≡ program.now.public }
+    requires given { length given.now ≡ program.now.givens }
+    ensures { IfOk result (λ wires. Carries key program.now public.now given.now wires.items) }
+{
+    let begun = begun_keys(alloc, program, public, key, given)?;
+    Ok(follow_keys(program, key, given, begun))
+}
+
+/// As many keys as there are corrections, each with its correction times the one key added.
+fn corrected(alloc: Global, keys: &[Fe], corrections: &[Fe], key: Fe) -> Result<Vec<Fe>, AllocError>
+    ensures { IfOk result (λ v. v.items ≡ corrected_keys key keys.now corrections.now) }
+{
+    keys.iter()
+        .zip(corrections)
+        .map(|(k, correction)| *k + *correction * key)
+        .collect(alloc)
+}
+
+impl<'a> VerifierWires<'a> {
+    /// The keys of all wires of a program with these public values, under the verifier's one key: those of the given values
+    /// are the dealt ones, as the corrections leave them.
+    ///
+    /// `keys` are those of the session's correlations, as many as `need` tells, or at least one for each given value; there
+    /// is one correction for each given value.
+    ///
+    /// # Errors
+    ///
+    /// Only where memory runs out.
+    pub fn run(
+        alloc: Global,
+        program: &'a FieldProgram,
+        public: &[Fe],
+        keys: &[Fe],
+        key: Fe,
+        corrections: &[Fe],
+    ) -> Result<VerifierWires<'a>, AllocError>
+        requires public { length public.now ≡ program.now.public }
+        requires keys { program.now.givens ≤ length keys.now }
+        requires corrections { length corrections.now ≡ program.now.givens }
+        ensures program { IfOk result (λ w. w.program ≡ program.now) }
+        ensures given { IfOk result (λ w. w.keys.given ≡ corrected_keys key keys.now corrections.now) }
+        ensures carried { IfOk result (λ w. AreKeysFor key program.now public.now w.keys) }
+    {
+        let given = corrected(alloc, keys, corrections, key)?;
+        let wires = carry_keys(alloc, program, public, key, &given)?;
+        Ok(VerifierWires {
+            program,
+            given,
+            wires,
+        })
+    }
+
+    /// The program.
+    pub fn program(&self) -> &'a FieldProgram
+        ensures { result.now ≡ self.now.program }
+    {
+        self.program
+    }
+
+    /// The keys of the factors of product i, and of its value.
+    pub fn triple(&self, i: usize) -> KeyTriple
+        requires { i < length self.now.program.products }
+        ensures { (product : zk.Product) → slice_get self.now.program.products i ≡ Some product
+            → result ≡ key_triple self.now.keys product }
+    {
+        let product = self.program.products()[i];
+        KeyTriple {
+            a: self.wires[product.a as usize],
+            b: self.wires[product.b as usize],
+            c: self.given[product.c as usize],
+        }
+    }
+
+    /// The key of opened wire o.
+    pub fn output(&self, o: usize) -> Fe
+        requires { o < length self.now.program.opened }
+        ensures { result ≡ slice_index self.now.keys.wires (slice_index self.now.program.opened o) }
+    {
+        self.wires[self.program.opened()[o] as usize]
+    }
+}

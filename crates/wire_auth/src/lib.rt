@@ -1,0 +1,13 @@
+//! Authenticated wires: from the pairs, or the keys, of a program's given values those of all its wires (Weng, Yang, Katz
+//! and Wang, Wolverine, IEEE S&P 2021; Yang, Sarkar, Weng and Wang, QuickSilver, ACM CCS 2021).
+#![tactic(auto)]
+
+mod corrections;
+mod keys;
+mod pairs;
+mod triples;
+
+pub use corrections::bit_products;
+pub use keys::VerifierWires;
+pub use pairs::ProverWires;
+pub use triples::{KeyTriple, Triple};

@@ -1,0 +1,291 @@
+// Each part of a session at rows that the program did not make, and the log of one session.
+use crate::run_tests::{AND, rehearsal_of};
+use crate::vectors::{AND_LOG, FILE_ID};
+use bool_eval::{eval, eval_wires};
+use bristol_reader::read;
+use dealer_files::{NotDealt, Pads, deal, dealt};
+use gate_translate::{FieldProgram, translate};
+use mersenne_field::{Fe, Pair};
+use mult_check::{check_openings, section_left, section_sums};
+use proof_frames::{
+    Run, decode_elements, decode_grant, decode_hello, decode_sums, decode_verdict, encode_elements,
+};
+use std::alloc::Global;
+use std::test::Fail;
+use wire_auth::{KeyTriple, ProverWires, Triple, VerifierWires, bit_products};
+use zk_coins::CoinBox;
+use zk_model::{FrameKind, Kind, Params, Side, Span};
+
+/// The element of a small number.
+fn small(number: u64) -> Fe {
+    Fe::from_word(number)
+}
+
+/// The pair of two small numbers.
+fn small_pair(x: u64, m: u64) -> Pair {
+    Pair {
+        x: small(x),
+        m: small(m),
+    }
+}
+
+/// The program of a circuit's text.
+fn program_of(alloc: Global, text: &[u8]) -> Result<FieldProgram, Fail> {
+    let Ok(circuit) = read(alloc, text) else {
+        return Err(Fail::new("no circuit"));
+    };
+    Ok(translate(alloc, &circuit)?)
+}
+
+#[test]
+fn products_are_modulo_the_prime(rt: HostRuntime) -> Result<(), Fail> {
+    let prime: u64 = (1 << 61) - 1;
+    let last = Fe::from_word(prime - 1);
+    assert_eq!(rt; last * last, Fe::ONE);
+    assert_eq!(rt; Fe::from_word(1 << 60) * Fe::from_word(2), Fe::ONE);
+    assert_eq!(rt; Fe::from_le(&(prime - 1).to_le_bytes()), Some(last));
+    assert_eq!(rt; Fe::from_le(&prime.to_le_bytes()), None);
+    assert_eq!(rt;
+        Fe::from_word(0xd59d_71f7_ff08_4737).value(),
+        0x159d_71f7_ff08_4737
+    );
+    Ok(())
+}
+
+#[test]
+fn both_sides_of_a_check_agree(rt: HostRuntime) {
+    let key = small(5);
+    let triple = Triple {
+        a: small_pair(1, 10),
+        b: small_pair(1, 20),
+        c: small_pair(1, 7),
+    };
+    let keys = KeyTriple {
+        a: small(15),
+        b: small(25),
+        c: small(12),
+    };
+    let (u, v) = section_sums(&[triple], small(2), small_pair(4, 9));
+    assert_eq!(rt; (u, v), (small(409), small(50)));
+    assert_eq!(rt; section_left(&[keys], small(2), small(29), key), small(659));
+    assert_eq!(rt; u + v * key, small(659));
+}
+
+#[test]
+fn a_correction_changes_the_value_and_the_key(rt: HostRuntime) -> Result<(), Fail> {
+    let alloc = rt.alloc();
+    let program = program_of(alloc, b"0 1 1 1 1 1")?;
+    let key = small(5);
+    let given = [small(1)];
+    let pairs = [small_pair(3, 4)];
+    if program.public() != 0 || program.givens() != 1 || program.opened().len() != 1 {
+        return Err(Fail::new("another program"));
+    }
+    let (prover, corrections) = ProverWires::run(alloc, &program, &[], &given, &pairs)?;
+    assert_eq!(rt; corrections.as_slice(), [small((1 << 61) - 3)].as_slice());
+    assert_eq!(rt; prover.output(0), small_pair(1, 4));
+    let verifier = VerifierWires::run(alloc, &program, &[], &[small(19)], key, &corrections)?;
+    assert_eq!(rt; verifier.output(0), small(9));
+    assert!(rt; check_openings(&verifier, key, &[small(4)], &[small(1)]).is_ok());
+    let Err(differs) = check_openings(&verifier, key, &[small(4)], &[small(0)]) else {
+        return Err(Fail::new("a wrong claim opens"));
+    };
+    assert_eq!(rt;
+        (differs.output, differs.left, differs.right),
+        (0, small(9), small(4))
+    );
+    Ok(())
+}
+
+#[test]
+fn a_circuit_gives_its_outputs(rt: HostRuntime) -> Result<(), Fail> {
+    let alloc = rt.alloc();
+    let Ok(circuit) = read(alloc, b"2 4 1 2 1 2 2 1 0 1 2 AND 1 1 2 3 INV") else {
+        return Err(Fail::new("no circuit"));
+    };
+    let Ok(outputs) = eval(alloc, &circuit, &[true, true]) else {
+        return Err(Fail::new("no outputs"));
+    };
+    assert_eq!(rt; outputs.as_slice(), [true, false].as_slice());
+    let Ok(wires) = eval_wires(alloc, &circuit, &[true, false]) else {
+        return Err(Fail::new("no wires"));
+    };
+    assert_eq!(rt; wires.as_slice(), [true, false, false, true].as_slice());
+    Ok(())
+}
+
+#[test]
+fn values_of_products_are_those_of_the_bits(rt: HostRuntime) -> Result<(), Fail> {
+    let alloc = rt.alloc();
+    let Ok(circuit) = read(alloc, AND.as_bytes()) else {
+        return Err(Fail::new("no circuit"));
+    };
+    let program = translate(alloc, &circuit)?;
+    let Ok(bits) = eval_wires(alloc, &circuit, &[true, false]) else {
+        return Err(Fail::new("no bits"));
+    };
+    assert_eq!(rt; bits.as_slice(), [true, false, false].as_slice());
+    if bits.len() != program.wires() {
+        return Err(Fail::new("another program"));
+    }
+    let values = bit_products(alloc, &program, &bits)?;
+    assert_eq!(rt;
+        values.as_slice(),
+        [small(1), small(0), small(0)].as_slice()
+    );
+    Ok(())
+}
+
+/// Files of kind direct with one unit.
+const DIRECT: Params = Params {
+    kind: Kind::Direct,
+    height: 0,
+    trees: 0,
+    base: 0,
+    total: 1,
+};
+
+/// Files of kind extended: trees of height 1, one a round, base pairs for one round, and two units.
+const EXTENDED: Params = Params {
+    kind: Kind::Extended,
+    height: 1,
+    trees: 1,
+    base: 10,
+    total: 2,
+};
+
+#[test]
+fn files_are_those_of_the_seed(rt: HostRuntime) -> Result<(), Fail> {
+    let (prover, verifier) = deal(rt.alloc(), &DIRECT, &[7; 32])?;
+    assert_eq!(rt; prover.id(), FILE_ID);
+    assert_eq!(rt; verifier.id(), FILE_ID);
+    assert_eq!(rt; verifier.key().value(), 0x0915_3ca4_4e32_ed06);
+    assert_eq!(rt; verifier.challenge(0).value(), 0x01bc_6ff4_e472_2734);
+    let whole = Span { start: 0, end: 1 };
+    let pairs = prover.pairs(whole);
+    let keys = verifier.keys(whole);
+    for (place, x, m, key) in [
+        (
+            0,
+            0x1c18_09bd_908f_f370,
+            0x1edc_cb76_5d6d_b1d9,
+            0x1af3_3887_b838_1960,
+        ),
+        (
+            1,
+            0x00fb_8ca3_403d_19bf,
+            0x1f7b_50c8_6eab_3d5f,
+            0x0928_91b6_a2ba_966d,
+        ),
+        (
+            63,
+            0x15ea_0783_fee7_1fbb,
+            0x196b_5f81_6bea_35f6,
+            0x005e_7969_eb96_b0ad,
+        ),
+    ] {
+        assert_eq!(rt; pairs.get(place), Some(&small_pair(x, m)), "{place}");
+        assert_eq!(rt; keys.get(place), Some(&small(key)), "{place}");
+    }
+    assert_eq!(rt; pairs.len(), 64);
+    assert_eq!(rt; keys.len(), 64);
+    Ok(())
+}
+
+#[test]
+fn files_of_one_dealing_are_told_from_others(rt: HostRuntime) -> Result<(), Fail> {
+    let alloc = rt.alloc();
+    let (prover, verifier) = deal(alloc, &EXTENDED, &[7; 32])?;
+    assert_eq!(rt; prover.params(), verifier.params());
+    assert_eq!(rt; prover.pairs(Span { start: 1, end: 2 }).len(), 11);
+    let pads: &[Pads] = verifier.pads(1);
+    assert_eq!(rt; prover.transfers(0).len(), pads.len());
+    assert_eq!(rt; prover.encode(alloc)?.len(), 353 + 193);
+    assert_eq!(rt; verifier.encode(alloc)?.len(), 288 + 120);
+    assert_eq!(rt; dealt(&prover, &verifier), Ok(()));
+    let (other, _) = deal(alloc, &EXTENDED, &[8; 32])?;
+    assert_eq!(rt; dealt(&other, &verifier), Err(NotDealt { unit: 0 }));
+    Ok(())
+}
+
+#[test]
+fn words_of_coins_stand_low_byte_first(rt: HostRuntime) {
+    let coins = CoinBox::new(&[7; 32]);
+    let id = coins.bytes(0);
+    assert_eq!(rt; id, FILE_ID);
+    assert_eq!(rt; coins.seed16(0, 0).as_slice(), &FILE_ID[..16]);
+    assert_eq!(rt; coins.seed16(0, 1).as_slice(), &FILE_ID[16..]);
+    assert_eq!(rt; coins.word(0, 0), 0x41f6_aa57_7892_00f4);
+}
+
+#[test]
+fn a_log_is_the_session_byte_for_byte(rt: HostRuntime) -> Result<(), Fail> {
+    let rehearsal = rehearsal_of(&rt, rt.alloc(), AND, "11")?;
+    assert_eq!(rt; rehearsal.log.bytes(), AND_LOG.as_slice());
+    let runs = [
+        (Side::Prover, 102),
+        (Side::Verifier, 21),
+        (Side::Prover, 29),
+        (Side::Verifier, 13),
+        (Side::Prover, 53),
+        (Side::Prover, 13),
+        (Side::Verifier, 10),
+    ]
+    .map(|(side, count)| Run { side, count });
+    assert_eq!(rt; rehearsal.log.runs(), runs.as_slice());
+    Ok(())
+}
+
+/// The bytes of a frame, from one place up to another.
+fn frame_of(bytes: &[u8], first: usize, end: usize) -> Result<&[u8], Fail> {
+    let Some(frame) = bytes.get(first..end) else {
+        return Err(Fail::new("a short log"));
+    };
+    Ok(frame)
+}
+
+#[test]
+fn a_log_is_read_back(rt: HostRuntime) -> Result<(), Fail> {
+    let alloc = rt.alloc();
+    let rehearsal = rehearsal_of(&rt, alloc, AND, "11")?;
+    let bytes = rehearsal.log.bytes();
+    let Some(hello) = decode_hello(frame_of(bytes, 0, 102)?) else {
+        return Err(Fail::new("no hello"));
+    };
+    assert_eq!(rt; hello.id, FILE_ID);
+    let Some(grant) = decode_grant(frame_of(bytes, 102, 123)?) else {
+        return Err(Fail::new("no grant"));
+    };
+    assert_eq!(rt; (grant.start, grant.count, grant.section), (0, 1, 1));
+    let corrections = decode_elements(alloc, FrameKind::Corrections, 3, frame_of(bytes, 123, 152)?);
+    assert!(rt; matches!(corrections, Ok(_)));
+    assert!(rt; decode_sums(alloc, 3, frame_of(bytes, 165, 218)?).is_ok());
+    assert!(rt; decode_sums(alloc, 2, frame_of(bytes, 165, 218)?).is_err());
+    assert_eq!(rt; decode_verdict(frame_of(bytes, 231, 241)?), Some((0, 0)));
+    Ok(())
+}
+
+#[test]
+fn elements_are_framed(rt: HostRuntime) -> Result<(), Fail> {
+    let alloc = rt.alloc();
+    let challenge = encode_elements(alloc, FrameKind::Challenge, &[small(2)])?;
+    assert_eq!(rt;
+        challenge.as_slice(),
+        [6, 8, 0, 0, 0, 2, 0, 0, 0, 0, 0, 0, 0].as_slice()
+    );
+    let corrections = encode_elements(alloc, FrameKind::Corrections, &[])?;
+    assert_eq!(rt; corrections.as_slice(), [5, 0, 0, 0, 0].as_slice());
+    Ok(())
+}
+
+#[test]
+fn a_circuit_without_wires_has_empty_frames(rt: HostRuntime) -> Result<(), Fail> {
+    let rehearsal = rehearsal_of(&rt, rt.alloc(), "0 0 0 0", "none")?;
+    let bytes = rehearsal.log.bytes();
+    assert_eq!(rt; bytes.len(), 161);
+    assert_eq!(rt; &bytes[123..128], [5, 0, 0, 0, 0].as_slice());
+    assert_eq!(rt; &bytes[128..133], [6, 8, 0, 0, 0].as_slice());
+    assert_eq!(rt; &bytes[141..151], [7, 0, 0, 0, 0, 8, 0, 0, 0, 0].as_slice());
+    assert_eq!(rt; &bytes[151..], [9, 5, 0, 0, 0, 0, 0, 0, 0, 0].as_slice());
+    Ok(())
+}

@@ -1,0 +1,57 @@
+-- The shelf and the sink of a run, before and after it.
+use Rattle.std.specs.Prelude.{◌≡◌, ◌⊎◌, ◌≤◌, ℕ, List, Option}
+use Rattle.zk_port.specs.Counts.{Rose}
+use Rattle.zk_port.specs.Files.{Files}
+
+-- a shelf: its files where it tells them, how often a call has failed, and how often one for each name has
+pub record ShelfState : Type 0 where
+  pub told : Option Files
+  pub faults : ℕ
+  pub faults_of : List ℕ → ℕ
+
+-- a sink: what is written where it tells that, and how often a call has failed
+pub record SinkState : Type 0 where
+  pub written : Option (List ℕ)
+  pub faults : ℕ
+
+pub record ShelfChange : Type 0 where
+  pub old : ShelfState
+  pub new : ShelfState
+
+pub record SinkChange : Type 0 where
+  pub old : SinkState
+  pub new : SinkState
+
+-- what a shelf tells of itself at two moments
+abbrev pub shelf_change : {S : Type 0} → (S → Option Files) → (S → ℕ) → (S → List ℕ → ℕ) → S → S → ShelfChange
+shelf_change told faults faults_of old new = record {
+  old = record { told = told old; faults = faults old; faults_of = faults_of old };
+  new = record { told = told new; faults = faults new; faults_of = faults_of new };
+}
+
+-- what a sink tells of itself at two moments
+abbrev pub sink_change : {S : Type 0} → (S → Option (List ℕ)) → (S → ℕ) → S → S → SinkChange
+sink_change written faults old new = record {
+  old = record { written = written old; faults = faults old };
+  new = record { written = written new; faults = faults new };
+}
+
+-- a call for this name failed
+abbrev pub NameFailed : List ℕ → ShelfChange → Type 0
+NameFailed name shelf = Rose (shelf.old.faults_of name) (shelf.new.faults_of name)
+
+-- a call of the sink failed
+abbrev pub SinkFailed : SinkChange → Type 0
+SinkFailed sink = Rose sink.old.faults sink.new.faults
+
+-- all counts of the shelf are as they were
+pub record CountsStay (shelf : ShelfChange) : Type 0 where
+  pub all : shelf.new.faults ≡ shelf.old.faults
+  pub each : (name : List ℕ) → shelf.new.faults_of name ≡ shelf.old.faults_of name
+
+-- The files are as they were, and so are all counts, unless that of this name rose. So no other file is asked
+-- for: a call for it may fail, and need not raise this count.
+pub record OnlyLoads (name : List ℕ) (shelf : ShelfChange) : Type 0 where
+  pub told : shelf.new.told ≡ shelf.old.told
+  pub later : (other : List ℕ) → shelf.old.faults_of other ≤ shelf.new.faults_of other
+  pub counts : NameFailed name shelf ⊎ CountsStay shelf

@@ -1,0 +1,12 @@
+-- What holds of a run for the words that it is given.
+use Rattle.std.specs.Prelude.{◌≡◌, List, Some, None, String}
+use Rattle.std.specs.declared.alloc.Global.{Global}
+use Rattle.zk_cli.specs.Words.{RehearseAsk, rehearse, asked, texts}
+
+-- where the words ask for nothing
+abbrev pub OnUsage : List (String Global) → Type 0 → Type 0
+OnUsage words Holds = asked (texts words) ≡ None → Holds
+
+-- where the words ask for a rehearsal, of what they name
+abbrev pub OnRehearse : List (String Global) → (RehearseAsk → Type 0) → Type 0
+OnRehearse words Holds = (ask : RehearseAsk) → asked (texts words) ≡ Some (rehearse ask) → Holds ask

@@ -1,0 +1,26 @@
+-- What a run hands back beside its status.
+use Rattle.std.specs.Prelude.{ℕ}
+use Rattle.zk_cli.specs.Changes.{ShelfChange, SinkChange}
+use Rattle.zk_cli.specs.declared.finish.Part.{Part}
+use Rattle.zk_cli.specs.declared.finish.Part.TheVariants.{Plain, Rehearsed}
+use Rattle.session_core.specs.declared.rehearsal.Rehearsal.{Rehearsal}
+
+-- of the rehearsal, if one is handed back
+abbrev pub IfRehearsed : {L : Type 0} → Part L → (Rehearsal → Type 0) → Type 0
+IfRehearsed (Rehearsed r) Holds = Holds r
+IfRehearsed part Holds = Unit {0}
+
+-- nothing is handed back
+abbrev pub IsPlain : {L : Type 0} → Part L → Type 0
+IsPlain Plain = Unit {0}
+IsPlain part = ⊥
+
+-- what a run does: the status that it answers, what it hands back, and what becomes of the shelf and the sink
+pub record Effects (L : Type 0) : Type 0 where
+  pub status : ℕ
+  pub part : Part L
+  pub shelf : ShelfChange
+  pub sink : SinkChange
+
+abbrev pub effects : {L : Type 0} → ℕ → Part L → ShelfChange → SinkChange → Effects L
+effects status part shelf sink = record { status = status; part = part; shelf = shelf; sink = sink }

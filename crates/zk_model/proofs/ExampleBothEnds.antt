@@ -1,0 +1,97 @@
+-- The session of kind direct is one of an honest prover and a verifier.
+use Rattle.std.proofs.Common.{◌≡◌, ℕ, zero, suc, ◌≤◌, List, [], ◌∷◌, ◌++◌, take, drop, inl, inr, refl, sym, ap, subst, ◌∙◌, arith, lit<, lit≤}
+use Rattle.sha2.specs.Sha256.{sha256, digest_bytes, hash_after, compress, rounds, schedule, first_words}
+use Rattle.zk_model.proofs.ExampleTools.{same_count}
+use Rattle.zk_model.proofs.ExamplePrograms.{and_program, and_solved}
+use Rattle.zk_model.proofs.ExampleSession.{direct, prover, verifier, statement, commitment, session, the_challenge, transcript, in_order, view, viewed, keys, carried, sections_hold, openings_hold, checked}
+use Rattle.zk_model.specs.Transcript.{spelling, sent_by, bytes_from, turn_bytes, session_turns, hello_frame, grant_frame, corrections_frame, challenge_frame, sums_frame, openings_frame, verdict_frame}
+use Rattle.zk_model.specs.HonestProver.{ProverTask, IsHonest, AreHonestBytes, SentAfter}
+use Rattle.zk_model.specs.ServedVerifier.{VerifierTask, IsServed, IsAccepted, ServesWith}
+use Rattle.zk_model.specs.BothEnds.{IsHonestSession}
+use Rattle.zk_model.specs.declared.Side.TheVariants.{Prover, Verifier}
+use Rattle.zk_model.specs.declared.Verdict.TheVariants.{Accepted}
+
+abbrev prover_task : ProverTask
+prover_task = record { file = prover; statement = statement; inputs = 1 ∷ 1 ∷ [] }
+
+abbrev verifier_task : VerifierTask
+verifier_task = record { file = verifier; statement = statement }
+
+honest : IsHonest prover_task session
+honest = record {
+  hello = refl;
+  asks = λ k d below. absurd (omega arith);
+  wires = 1 ∷ 1 ∷ 1 ∷ [];
+  given = 1 ∷ 1 ∷ 1 ∷ [];
+  witness = record { solves = and_solved; inputs_are = refl };
+  view = view;
+  seen = viewed;
+  corrections = refl;
+  sums = refl;
+  openings = refl;
+}
+
+served : IsServed verifier_task session Accepted (spelling session)
+served = record {
+  in_order = in_order;
+  replies = λ k d below. absurd (omega arith);
+  challenge = sym the_challenge;
+  judged = record { keys = keys; carried = carried; judged = (sections_hold, openings_hold); said = record { code = refl; number = refl } };
+}
+
+accepted : IsAccepted verifier_task (spelling session)
+accepted = record { t = session; in_order = in_order; checks = checked; said = record { code = refl; number = refl } }
+
+-- ---- the bytes of each side
+
+received : List ℕ
+received = grant_frame commitment.setup.grant ++ challenge_frame session.challenge ++ verdict_frame 0 0
+
+sent : List ℕ
+sent = hello_frame commitment.setup.hello ++ corrections_frame commitment.corrections ++ sums_frame session.sums ++ openings_frame session.openings
+
+at_most_three : (more : ℕ) (other : List ℕ) → SentAfter prover_task received more other → more ≤ 3
+at_most_three zero other after = omega arith
+at_most_three (suc n) other after = let three = same_count direct and_program after.0 after.1 in omega (arith, three, after.3)
+
+-- after the grant, the challenge and the verdict the prover has sent all it has to say
+sent_all : AreHonestBytes prover_task received sent
+unfolding received sent sha256 digest_bytes hash_after compress rounds schedule first_words
+sent_all = record { turns = 3; answer = (session, transcript, honest, lit< tt, ([], refl), refl); most = at_most_three }
+
+sent_by_prover : sent_by Prover (spelling session) ≡ sent
+unfolding sent sha256 digest_bytes hash_after compress rounds schedule first_words
+sent_by_prover = refl
+
+sent_by_verifier : sent_by Verifier (spelling session) ≡ received
+unfolding received sha256 digest_bytes hash_after compress rounds schedule first_words
+sent_by_verifier = refl
+
+whole : IsHonestSession prover_task verifier_task commitment.setup.grant session Accepted (spelling session)
+unfolding received
+whole = record {
+  served = served;
+  granted = refl;
+  checks = checked;
+  honest = honest;
+  honest_bytes = subst (λ (bytes : List ℕ). AreHonestBytes prover_task bytes (sent_by Prover (spelling session))) (sym sent_by_verifier)
+      (subst (λ (bytes : List ℕ). AreHonestBytes prover_task received bytes) (sym sent_by_prover) sent_all);
+  served_bytes = sent_by_verifier ∙ ap (λ coin. grant_frame commitment.setup.grant ++ challenge_frame coin ++ verdict_frame 0 0) (sym the_challenge);
+}
+
+-- ---- sessions that end early
+
+-- the log ends in the middle of the hello
+cut_off : ServesWith verifier_task commitment.setup.grant (take 9 (spelling session))
+unfolding sha256 digest_bytes hash_after compress rounds schedule first_words
+cut_off = record { t = session; verdict = Accepted; served = served; granted = refl; bytes = inl (drop 9 (spelling session), refl) }
+
+-- after the grant come three bytes that are no corrections
+gone_wrong : ServesWith verifier_task commitment.setup.grant (turn_bytes (take 1 (session_turns session)) ++ bytes_from Prover (1 ∷ 2 ∷ 3 ∷ []))
+gone_wrong = record {
+  t = session;
+  verdict = Accepted;
+  served = served;
+  granted = refl;
+  bytes = inr (record { whole = 1; more = lit< tt; rest = 1 ∷ 2 ∷ 3 ∷ []; most = lit≤ tt; bytes = refl });
+}

@@ -1,0 +1,211 @@
+-- A whole session of kind extended about the circuit of one AND, with all hashes and coins: in order, served by the verifier,
+-- and of an honest prover.
+use Rattle.std.proofs.Common.{◌≡◌, ℕ, zero, suc, ◌≤◌, List, [], ◌∷◌, ◌++◌, length, flat_map, slice_index, drop, refl, sym, ap, subst, ◌∙◌, replicate, arith, lit<, lit≤}
+use Rattle.std.specs.Prelude.{All}
+use Rattle.std.proofs.lemmas.List.Elements.{All-from_recursion}
+use Rattle.sha2.specs.Sha256.{sha256, digest_bytes, hash_after, compress, rounds, schedule, first_words}
+use Rattle.rand_chacha.specs.Block.{block_word, double_rounds, column_round, diagonal_round, quarter_round}
+use Rattle.rand_core.specs.Steps.{u32_at}
+use Rattle.zk_model.proofs.ExampleTools.{one_only, bytes_of, bytes_by_test, same_count}
+use Rattle.zk_model.proofs.ExamplePrograms.{and_program, and_solved}
+use Rattle.zk_model.proofs.ExampleSession.{statement, stated, digest_bytes_fit}
+use Rattle.zk_model.proofs.ExampleRound.{params, prover, verifier, grant, first_ask, second_ask, first_messages, first_reply, second_messages, second_reply, round, asked, replied}
+use Rattle.zk_model.proofs.ExampleFound.{pairs, seen}
+use Rattle.zk_model.specs.Field.{IsElement}
+use Rattle.zk_model.specs.Bytes.{LeftRight, AreBothBytes}
+use Rattle.zk_model.specs.Mac.{corrected_keys}
+use Rattle.zk_model.specs.Coins.{coin_word}
+use Rattle.zk_model.specs.Tree.{child_of}
+use Rattle.zk_model.specs.Program.{MeetsStep}
+use Rattle.zk_model.specs.Transcript.{TreeAsk, TreeReply, Setup, Commitment, Transcript, IsTreeAsk, IsTreeReply, IsRound, IsTranscript, wanted_hello, hello_frame, grant_frame, ask_frame, reply_frame, corrections_frame, challenge_frame, sums_frame, openings_frame, verdict_frame, spelling, sent_by}
+use Rattle.zk_model.specs.Check.{WireKeys, section_left, section_keys, SectionHolds, AllSectionsHold, OpeningHolds, AllOpeningsHold}
+use Rattle.zk_model.specs.View.{View, IsView, session_keys, AreSessionKeys, session_products, session_openings}
+use Rattle.zk_model.specs.HonestProver.{ProverTask, IsHonest, SentAfter, AreHonestBytes, round_asks}
+use Rattle.zk_model.specs.ServedVerifier.{VerifierTask, challenge_coin, round_replies, IsServed}
+use Rattle.zk_model.specs.BothEnds.{IsHonestSession}
+use Rattle.zk_model.specs.declared.Side.TheVariants.{Prover, Verifier}
+use Rattle.zk_model.specs.declared.Verdict.TheVariants.{Accepted}
+
+-- ---- the session
+
+abbrev setup : Setup
+setup = record { hello = wanted_hello (replicate 32 1) statement; grant = grant; rounds = round ∷ [] }
+
+-- 1 less each of the first three values
+abbrev commitment : Commitment
+commitment = record { setup = setup; corrections = 2305843009213693884 ∷ 2266386089951480102 ∷ 1502920062593609024 ∷ [] }
+
+abbrev session : Transcript
+session = record {
+  commitment = commitment;
+  challenge = 2260894008942260198;
+  sums = (2250538639952329407, 276242780300017579) ∷ [];
+  openings = 674248719802933514 ∷ [];
+  code = 0;
+  number = 0;
+}
+
+the_challenge : challenge_coin verifier 0 ≡ session.challenge
+unfolding coin_word block_word double_rounds column_round diagonal_round quarter_round u32_at
+the_challenge = refl
+
+ask_fits : (ask : TreeAsk) → length ask.flips ≡ 1 → IsElement ask.base_correction
+    → (length (ask ∷ []) ≡ 1) × All (IsTreeAsk params) (ask ∷ [])
+ask_fits ask flips element = (refl, All-from_recursion (IsTreeAsk params) (ask ∷ []) (record { flips = flips; base_correction = element }, tt))
+
+reply_fits : (both : LeftRight) (leaf_offset : ℕ) → AreBothBytes 16 both → IsElement leaf_offset
+    → All (IsTreeReply params) (record { messages = both ∷ []; leaf_offset = leaf_offset } ∷ [])
+reply_fits both leaf_offset bytes element =
+    All-from_recursion (IsTreeReply params) (record { messages = both ∷ []; leaf_offset = leaf_offset } ∷ [])
+    (record { count = refl; messages = All-from_recursion (AreBothBytes 16) (both ∷ []) (bytes, tt); leaf_offset = element }, tt)
+
+round_fits : IsRound params grant round
+round_fits = record {
+  asks = (
+    refl,
+    All-from_recursion (λ (trees : List TreeAsk). (length trees ≡ 1) × All (IsTreeAsk params) trees) round.asks
+        (ask_fits first_ask refl (lit< tt), (ask_fits second_ask refl (lit< tt), tt)),
+  );
+  replies = (
+    refl,
+    All-from_recursion (λ (trees : List TreeReply). (length trees ≡ 1) × All (IsTreeReply params) trees) round.replies (
+      (refl, reply_fits first_messages first_reply.leaf_offset (bytes_by_test 16 first_messages.left refl refl, bytes_by_test 16 first_messages.right refl refl) (lit< tt)),
+      ((refl, reply_fits second_messages second_reply.leaf_offset (bytes_by_test 16 second_messages.left refl refl, bytes_by_test 16 second_messages.right refl refl) (lit< tt)), tt),
+    ),
+  );
+}
+
+transcript : IsTranscript params and_program session
+transcript = record {
+  commitment = record {
+    setup = record {
+      hello = record { id = bytes_of 32 1 (lit< tt); circuit = bytes_of 32 2 (lit< tt); outputs = digest_bytes_fit; version = lit< tt };
+      grant = record { section_some = lit≤ tt; section_most = lit≤ tt; count = refl; count_most = lit≤ tt; within = lit≤ tt };
+      round_count = refl;
+      rounds = All-from_recursion (IsRound params grant) setup.rounds (round_fits, tt);
+    };
+    count = refl;
+    elements = All-from_recursion IsElement commitment.corrections (lit< tt, (lit< tt, (lit< tt, tt)));
+  };
+  challenge = lit< tt;
+  sum_count = refl;
+  sums = All-from_recursion (λ both. IsElement both.0 × IsElement both.1) session.sums ((lit< tt, lit< tt), tt);
+  opening_count = refl;
+  openings = All-from_recursion IsElement session.openings (lit< tt, tt);
+  code = lit≤ tt;
+  number = lit< tt;
+}
+
+-- ---- an honest prover
+
+abbrev view : View
+view = record {
+  pairs = pairs;
+  carried = record {
+    given = record { x = 1; m = 40599947921909244 } ∷ record { x = 1; m = 1425776292189221082 } ∷ record { x = 1; m = 674248719802933514 } ∷ [];
+    wires = record { x = 1; m = 40599947921909244 } ∷ record { x = 1; m = 1425776292189221082 } ∷ record { x = 1; m = 674248719802933514 } ∷ [];
+  };
+}
+
+viewed : IsView prover statement commitment view
+viewed = record {
+  pairs = seen setup.hello;
+  given = refl;
+  carried = record {
+    values = and_solved.carried;
+    macs = record { whole = refl; constants = refl; inputs = refl; steps = All-from_recursion (MeetsStep 0 (40599947921909244 ∷ 1425776292189221082 ∷ 674248719802933514 ∷ []) (40599947921909244 ∷ 1425776292189221082 ∷ 674248719802933514 ∷ [])) and_program.steps (refl, tt) };
+  };
+}
+
+abbrev prover_task : ProverTask
+prover_task = record { file = prover; statement = statement; inputs = 1 ∷ 1 ∷ [] }
+
+honest : IsHonest prover_task session
+honest = record {
+  hello = refl;
+  asks = All-from_recursion (λ r. r.asks ≡ round_asks prover grant) setup.rounds (asked, tt);
+  wires = 1 ∷ 1 ∷ 1 ∷ [];
+  given = 1 ∷ 1 ∷ 1 ∷ [];
+  witness = record { solves = and_solved; inputs_are = refl };
+  view = view;
+  seen = viewed;
+  corrections = refl;
+  sums = refl;
+  openings = refl;
+}
+
+-- ---- the verifier
+
+abbrev all_keys : List ℕ
+all_keys = 40599947921909584 ∷ 1623060888500290332 ∷ 77177434475970252 ∷ 2205882858090765111 ∷ []
+
+keys_are : session_keys verifier commitment ≡ all_keys
+unfolding coin_word block_word double_rounds column_round diagonal_round quarter_round u32_at child_of sha256 digest_bytes hash_after compress rounds schedule first_words
+keys_are = refl
+
+abbrev keys : WireKeys
+keys = record { given = 40599947921909249 ∷ 1425776292189221087 ∷ 674248719802933519 ∷ []; wires = 40599947921909249 ∷ 1425776292189221087 ∷ 674248719802933519 ∷ [] }
+
+carried : AreSessionKeys verifier statement commitment keys
+carried = record {
+  given = ap (λ l. corrected_keys 5 l commitment.corrections) (sym keys_are);
+  carried = record { whole = refl; constants = refl; inputs = refl; steps = All-from_recursion (MeetsStep 5 keys.wires keys.given) and_program.steps (refl, tt) };
+}
+
+-- both sides of the section, by its mask
+section_holds : SectionHolds (session_products verifier statement session keys) 0
+section_holds = ap (λ l. section_left 5 session.challenge (section_keys and_program 1048576 keys 0) (slice_index (drop 3 l) 0)) keys_are
+
+openings_hold : AllOpeningsHold (session_openings verifier statement session keys)
+openings_hold = one_only (OpeningHolds (session_openings verifier statement session keys)) refl
+
+sections_hold : AllSectionsHold (session_products verifier statement session keys)
+sections_hold = one_only (SectionHolds (session_products verifier statement session keys)) section_holds
+
+abbrev verifier_task : VerifierTask
+verifier_task = record { file = verifier; statement = statement }
+
+served : IsServed verifier_task session Accepted (spelling session)
+served = record {
+  in_order = record { stated = stated; hello = refl; transcript = transcript; bytes = refl };
+  replies = All-from_recursion (λ r. r.replies ≡ round_replies verifier grant r.asks) setup.rounds (replied, tt);
+  challenge = sym the_challenge;
+  judged = record { keys = keys; carried = carried; judged = (sections_hold, openings_hold); said = record { code = refl; number = refl } };
+}
+
+-- ---- the bytes of each side
+
+received : List ℕ
+received = grant_frame grant ++ flat_map reply_frame round.replies ++ challenge_frame session.challenge ++ verdict_frame 0 0
+
+sent : List ℕ
+sent = hello_frame setup.hello ++ flat_map ask_frame round.asks ++ corrections_frame commitment.corrections ++ sums_frame session.sums ++ openings_frame session.openings
+
+at_most_four : (more : ℕ) (other : List ℕ) → SentAfter prover_task received more other → more ≤ 4
+at_most_four zero other after = omega arith
+at_most_four (suc n) other after = let four = same_count params and_program after.0 after.1 in omega (arith, four, after.3)
+
+sent_all : AreHonestBytes prover_task received sent
+unfolding received sent sha256 digest_bytes hash_after compress rounds schedule first_words
+sent_all = record { turns = 4; answer = (session, transcript, honest, lit< tt, ([], refl), refl); most = at_most_four }
+
+sent_by_prover : sent_by Prover (spelling session) ≡ sent
+unfolding sent sha256 digest_bytes hash_after compress rounds schedule first_words
+sent_by_prover = refl
+
+sent_by_verifier : sent_by Verifier (spelling session) ≡ received
+unfolding received sha256 digest_bytes hash_after compress rounds schedule first_words
+sent_by_verifier = refl
+
+whole : IsHonestSession prover_task verifier_task grant session Accepted (spelling session)
+unfolding received
+whole = record {
+  served = served;
+  granted = refl;
+  checks = record { keys = keys; carried = carried; sections = sections_hold; openings = openings_hold };
+  honest = honest;
+  honest_bytes = subst (λ (bytes : List ℕ). AreHonestBytes prover_task bytes (sent_by Prover (spelling session))) (sym sent_by_verifier)
+      (subst (λ (bytes : List ℕ). AreHonestBytes prover_task received bytes) (sym sent_by_prover) sent_all);
+  served_bytes = sent_by_verifier
+      ∙ ap (λ coin. grant_frame grant ++ flat_map reply_frame round.replies ++ challenge_frame coin ++ verdict_frame 0 0) (sym the_challenge);
+}

@@ -1,0 +1,151 @@
+-- Sessions of kind direct about one product of field elements, under the key 5 and the challenge 2: what they are over.
+use Rattle.std.proofs.Common.{ℕ, List, [], ◌∷◌, refl, replicate, lit<}
+use Rattle.std.proofs.lemmas.List.Elements.{All-from_recursion, All-nil}
+use Rattle.zk_model.proofs.ExampleTools.{one_only, bytes_of}
+use Rattle.zk_model.proofs.ExamplePrograms.{multiply, multiply_is_program}
+use Rattle.zk_model.specs.Field.{IsElement}
+use Rattle.zk_model.specs.Program.{MeetsStep}
+use Rattle.zk_model.specs.Statement.{Statement, IsStatement}
+use Rattle.zk_model.specs.Mac.{Pair}
+use Rattle.zk_model.specs.Files.{ProverFile, VerifierFile, AreDealt}
+use Rattle.zk_model.specs.Transcript.{Setup, Transcript, wanted_hello}
+use Rattle.zk_model.specs.Correlations.{IsProverView}
+use Rattle.zk_model.specs.Check.{WireKeys}
+use Rattle.zk_model.specs.View.{View, IsView, AreSessionKeys}
+use Rattle.zk_model.specs.declared.Kind.TheVariants.{Direct}
+use Rattle.zk_model.specs.declared.Params.{Params}
+
+-- ---- the files
+
+abbrev pub direct : Params
+direct = record { kind = Direct; height = 0; trees = 0; base = 0; total = 1 }
+
+abbrev pub pair : ℕ → ℕ → Pair
+pair x m = record { x = x; m = m }
+
+abbrev pub dealt : List Pair
+dealt = pair 1 10 ∷ pair 1 20 ∷ pair 1 7 ∷ pair 4 9 ∷ replicate 60 (pair 3 4)
+
+abbrev pub prover : ProverFile
+prover = record {
+  id = replicate 32 1;
+  params = direct;
+  coin_key = replicate 32 8;
+  code_seed = replicate 32 0;
+  units = record { pairs = dealt; trees = [] } ∷ [];
+}
+
+abbrev pub verifier : VerifierFile
+verifier = record {
+  id = replicate 32 1;
+  params = direct;
+  coin_key = replicate 32 9;
+  code_seed = replicate 32 0;
+  key = 5;
+  units = record { keys = 15 ∷ 25 ∷ 12 ∷ 29 ∷ replicate 60 19; trees = [] } ∷ [];
+}
+
+files_dealt : AreDealt prover verifier
+files_dealt = record {
+  id = refl;
+  params = refl;
+  code_seed = refl;
+  key = λ e. cc;
+  units = (record { keys = refl; pads = tt }, tt);
+}
+
+-- ---- sessions about the product of two inputs
+
+-- that the opened product is this
+abbrev pub claiming : ℕ → Statement
+claiming claim = record {
+  program = multiply;
+  public = [];
+  claims = claim ∷ [];
+  version = 1;
+  circuit = replicate 32 2;
+  outputs = replicate 32 3;
+}
+
+stated : (claim : ℕ) → IsElement claim → IsStatement (claiming claim)
+stated claim element = record {
+  program = multiply_is_program;
+  public_count = refl;
+  public = All-nil IsElement;
+  claim_count = refl;
+  claims = All-from_recursion IsElement (claim ∷ []) (element, tt);
+  version = lit< tt;
+  circuit = bytes_of 32 2 (lit< tt);
+  outputs = bytes_of 32 3 (lit< tt);
+}
+
+abbrev pub setup : Statement → Setup
+setup statement = record {
+  hello = wanted_hello (replicate 32 1) statement;
+  grant = record { start = 0; count = 1; section_length = 1048576 };
+  rounds = [];
+}
+
+-- what differs: the claim, the correction of the product's value, the first sum and the opening
+abbrev pub session : ℕ → ℕ → ℕ → ℕ → ℕ → Transcript
+session claim correction sum opening code = record {
+  commitment = record { setup = setup (claiming claim); corrections = 0 ∷ 0 ∷ correction ∷ [] };
+  challenge = 2;
+  sums = (sum, 50) ∷ [];
+  openings = opening ∷ [];
+  code = code;
+  number = 0;
+}
+
+-- the correction that leaves the product 1, and the one that makes it 0
+abbrev pub to_one : ℕ
+to_one = 0
+
+abbrev pub to_zero : ℕ
+to_zero = 2305843009213693950
+
+-- what the prover sees where the product has this value
+abbrev pub view : ℕ → View
+view value = record {
+  pairs = dealt;
+  carried = record { given = pair 1 10 ∷ pair 1 20 ∷ pair value 7 ∷ []; wires = pair 1 10 ∷ pair 1 20 ∷ pair value 7 ∷ [] };
+}
+
+pub seen : (statement : Statement) → IsProverView prover (setup statement) dealt
+seen statement = record { units = dealt ∷ []; count = refl; each = one_only _ refl; joined = refl }
+
+pub view_of_one : (claim : ℕ) → IsView prover (claiming claim) (record { setup = setup (claiming claim); corrections = 0 ∷ 0 ∷ to_one ∷ [] }) (view 1)
+view_of_one claim = record {
+  pairs = seen (claiming claim);
+  given = refl;
+  carried = record {
+    values = record { whole = refl; constants = refl; inputs = refl; steps = All-from_recursion (MeetsStep 1 (1 ∷ 1 ∷ 1 ∷ []) (1 ∷ 1 ∷ 1 ∷ [])) multiply.steps (refl, tt) };
+    macs = record { whole = refl; constants = refl; inputs = refl; steps = All-from_recursion (MeetsStep 0 (10 ∷ 20 ∷ 7 ∷ []) (10 ∷ 20 ∷ 7 ∷ [])) multiply.steps (refl, tt) };
+  };
+}
+
+pub view_of_zero : (claim : ℕ) → IsView prover (claiming claim) (record { setup = setup (claiming claim); corrections = 0 ∷ 0 ∷ to_zero ∷ [] }) (view 0)
+view_of_zero claim = record {
+  pairs = seen (claiming claim);
+  given = refl;
+  carried = record {
+    values = record { whole = refl; constants = refl; inputs = refl; steps = All-from_recursion (MeetsStep 1 (1 ∷ 1 ∷ 0 ∷ []) (1 ∷ 1 ∷ 0 ∷ [])) multiply.steps (refl, tt) };
+    macs = record { whole = refl; constants = refl; inputs = refl; steps = All-from_recursion (MeetsStep 0 (10 ∷ 20 ∷ 7 ∷ []) (10 ∷ 20 ∷ 7 ∷ [])) multiply.steps (refl, tt) };
+  };
+}
+
+-- the keys: the last one is that of the product
+abbrev pub keys : ℕ → WireKeys
+keys last = record { given = 15 ∷ 25 ∷ last ∷ []; wires = 15 ∷ 25 ∷ last ∷ [] }
+
+pub keys_of_one : (claim : ℕ) → AreSessionKeys verifier (claiming claim) (record { setup = setup (claiming claim); corrections = 0 ∷ 0 ∷ to_one ∷ [] }) (keys 12)
+keys_of_one claim = record {
+  given = refl;
+  carried = record { whole = refl; constants = refl; inputs = refl; steps = All-from_recursion (MeetsStep 5 (15 ∷ 25 ∷ 12 ∷ []) (15 ∷ 25 ∷ 12 ∷ [])) multiply.steps (refl, tt) };
+}
+
+pub keys_of_zero : (claim : ℕ) → AreSessionKeys verifier (claiming claim) (record { setup = setup (claiming claim); corrections = 0 ∷ 0 ∷ to_zero ∷ [] }) (keys 7)
+keys_of_zero claim = record {
+  given = refl;
+  carried = record { whole = refl; constants = refl; inputs = refl; steps = All-from_recursion (MeetsStep 5 (15 ∷ 25 ∷ 7 ∷ []) (15 ∷ 25 ∷ 7 ∷ [])) multiply.steps (refl, tt) };
+}
