@@ -7,3 +7,6 @@ pub mod ByteLists
 pub mod Zips
 pub mod Matching
 pub mod Fitting
+pub mod ReadItems
+pub mod ReadBlocks
+pub mod ReadFiles

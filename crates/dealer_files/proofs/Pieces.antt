@@ -24,7 +24,7 @@ map_range_same f g a (suc n) same =
     (λ i. same a (omega arith) (omega arith) i ∷ map_range_same f g (a + 1) n (λ j low high. same j (omega arith) (omega arith)) i)
 
 -- and lists that do
-flat_map_range_same : {X : Type 0} (f g : ℕ → List X) (a n : ℕ) → ((i : ℕ) → a ≤ i → i < a + n → f i ≡ g i) → flat_map f (range_with_len a n) ≡ flat_map g (range_with_len a n)
+pub flat_map_range_same : {X : Type 0} (f g : ℕ → List X) (a n : ℕ) → ((i : ℕ) → a ≤ i → i < a + n → f i ≡ g i) → flat_map f (range_with_len a n) ≡ flat_map g (range_with_len a n)
 flat_map_range_same f g a zero same = refl
 flat_map_range_same f g a (suc n) same =
     (λ i. same a (omega arith) (omega arith) i ++ flat_map_range_same f g (a + 1) n (λ j low high. same j (omega arith) (omega arith)) i)

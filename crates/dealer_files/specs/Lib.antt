@@ -1,3 +1,5 @@
 pub mod Flat
 pub mod Words
 pub mod Dealt
+pub mod Faults
+pub mod Reading

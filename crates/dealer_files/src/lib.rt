@@ -4,14 +4,20 @@
 
 mod dealing;
 mod dealt_files;
+mod decoding;
 mod encoding;
+mod fault;
+mod head;
 mod prover_file;
+mod reading;
 mod transfer;
 mod unit;
 mod verifier_file;
 
 pub use dealing::deal;
 pub use dealt_files::{NotDealt, dealt};
+pub use decoding::{decode_prover, decode_verifier};
+pub use fault::FileFault;
 pub use prover_file::ProverFile;
 pub use transfer::{Pads, Transfer};
 pub use verifier_file::VerifierFile;

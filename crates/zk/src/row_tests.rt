@@ -3,14 +3,14 @@ use crate::run_tests::{AND, rehearsal_of};
 use crate::vectors::{AND_LOG, FILE_ID};
 use bool_eval::{eval, eval_wires};
 use bristol_reader::read;
-use dealer_files::{NotDealt, Pads, deal, dealt};
+use dealer_files::{FileFault, NotDealt, Pads, deal, dealt, decode_prover, decode_verifier};
 use gate_translate::{FieldProgram, translate};
 use mersenne_field::{Fe, Pair};
 use mult_check::{check_openings, section_left, section_sums};
 use proof_frames::{
     Run, decode_elements, decode_grant, decode_hello, decode_sums, decode_verdict, encode_elements,
 };
-use std::alloc::Global;
+use std::alloc::{AllocError, Global};
 use std::test::Fail;
 use wire_auth::{KeyTriple, ProverWires, Triple, VerifierWires, bit_products};
 use zk_coins::CoinBox;
@@ -205,6 +205,34 @@ fn files_of_one_dealing_are_told_from_others(rt: HostRuntime) -> Result<(), Fail
     assert_eq!(rt; dealt(&prover, &verifier), Ok(()));
     let (other, _) = deal(alloc, &EXTENDED, &[8; 32])?;
     assert_eq!(rt; dealt(&other, &verifier), Err(NotDealt { unit: 0 }));
+    Ok(())
+}
+
+/// Whether files as bytes are read by their own side alone, and not with a byte behind them.
+fn are_read_back(alloc: Global, prover: &[u8], verifier: &[u8]) -> Result<bool, AllocError> {
+    let mut longer = prover.to_vec(alloc)?;
+    longer.push(0)?;
+    Ok(
+        decode_prover(alloc, prover).is_ok()
+            && decode_verifier(alloc, verifier).is_ok()
+            && matches!(decode_prover(alloc, verifier), Err(FileFault::BadKind))
+            && matches!(decode_verifier(alloc, prover), Err(FileFault::BadKind))
+            && matches!(decode_prover(alloc, &longer), Err(FileFault::Length { .. })),
+    )
+}
+
+#[test]
+fn files_are_read_back(rt: HostRuntime) -> Result<(), Fail> {
+    let alloc = rt.alloc();
+    let (prover, verifier) = deal(alloc, &DIRECT, &[7; 32])?;
+    let left = prover.encode(alloc)?;
+    let right = verifier.encode(alloc)?;
+    assert_eq!(rt; (left.len(), right.len()), (1184, 680));
+    assert!(rt; are_read_back(alloc, &left, &right)?);
+    let (prover, verifier) = deal(alloc, &EXTENDED, &[7; 32])?;
+    let left = prover.encode(alloc)?;
+    let right = verifier.encode(alloc)?;
+    assert!(rt; are_read_back(alloc, &left, &right)?);
     Ok(())
 }
 

@@ -19,6 +19,7 @@ pub mod Extension
 pub mod Statement
 pub mod Files
 pub mod FileBytes
+pub mod FileFaults
 pub mod Dealing
 pub mod Transcript
 pub mod Correlations
