@@ -1,74 +1,43 @@
--- What the words of gates say.
-use Rattle.std.specs.Prelude.{◌≡◌, ℕ, ◌+◌, ◌-◌, ◌<◌, ◌≤◌, ◌⊎◌, Bool, true, false, List, ◌++◌, length, take, slice_get, slice_index_or, Some, All, flat_map}
-use Rattle.zk_model.specs.Bristol.{IsReadGate}
-use Rattle.zk_model.specs.Circuit.{wire_set, wires_read}
+-- What the tokens of gates say.
+use Rattle.std.specs.Prelude.{◌≡◌, ℕ, ◌+◌, ◌<◌, ◌≤◌, Bool, false, true, List, length}
+use Rattle.zk_model.specs.Bristol.{IsText}
 use Rattle.zk_model.specs.declared.GateRow.{GateRow}
-use Rattle.bristol_reader.specs.declared.words.Word.{Word}
 use Rattle.bristol_reader.specs.declared.header.Header.{Header}
 use Rattle.bristol_reader.specs.declared.fault.ReadError.{ReadError}
-use Rattle.bristol_reader.specs.declared.fault.ReadError.TheVariants.{Fault, NoMemory}
-use Rattle.bristol_reader.specs.Words.{gate_words}
+use Rattle.bristol_reader.specs.Words.{Place, place_of}
+use Rattle.bristol_reader.specs.Circuits.{circuit_of}
+use Rattle.bristol_reader.specs.Gates.{flag_of}
+use Rattle.bristol_reader.specs.Headers.{TakesHeader}
+use Rattle.bristol_reader.specs.Reads.{TextCause}
 
--- ---- the gates that words say
+-- behind the header of a text, this holds of the text
+abbrev pub BehindHeader : Header → Place → (List ℕ → Type 0) → Type 0
+BehindHeader header before P = (text : List ℕ) → TakesHeader (place_of text 0) before header → P text
 
--- the words begin with those of this gate, and it is one that is read
-pub record SaysGate (words : List Word) (gate : GateRow) : Type 0 where
-  pub kind : IsReadGate gate
-  pub behind : List Word
-  pub words_are : words ≡ gate_words gate ++ behind
+-- the gates behind the header of a text make this circuit
+abbrev pub IsBody : Header → Place → List GateRow → Type 0
+IsBody header before gates =
+    BehindHeader header before (IsText (circuit_of header.wires header.inputs header.outputs gates))
 
--- one of the gates sets a wire
-abbrev pub SetBy : List GateRow → ℕ → Type 0
-SetBy gates wire = (k : ℕ) × (gate : GateRow) × (slice_get gates k ≡ Some gate) × (wire_set gate ≡ wire)
+-- why the text of this header is not read
+abbrev pub BodyCause : Header → Place → ReadError → Type 0
+BodyCause header before error = BehindHeader header before (λ text. TextCause text error)
 
--- a wire is an input, or one of the gates sets it
-abbrev pub IsSetAfter : ℕ → List GateRow → ℕ → Type 0
-IsSetAfter inputs gates wire = (wire < inputs) ⊎ SetBy gates wire
+-- only the inputs are set
+pub record AreFirstFlags (flags : List Bool) (wires inputs : ℕ) : Type 0 where
+  pub whole : length flags ≡ wires
+  pub set : (wire : ℕ) → wire < wires → flag_of flags wire ≡ true → wire < inputs
+  pub unset : (wire : ℕ) → wire < wires → flag_of flags wire ≡ false → inputs ≤ wire
 
--- a gate behind others: it reads wires that are set, and sets one that is not
-pub record MayFollow (wires inputs : ℕ) (before : List GateRow) (gate : GateRow) : Type 0 where
-  pub reads : All (IsSetAfter inputs before) (wires_read gate)
-  pub within : wire_set gate < wires
-  pub once : ¬ IsSetAfter inputs before (wire_set gate)
-
--- each gate may follow those before it
-abbrev pub AreOrdered : ℕ → ℕ → List GateRow → Type 0
-AreOrdered wires inputs gates =
-    (n : ℕ) (gate : GateRow) → slice_get gates n ≡ Some gate → MayFollow wires inputs (take n gates) gate
-
--- the gates behind a header, and every output wire is set
-pub record IsBody (words : List Word) (header : Header) (gates : List GateRow) : Type 0 where
-  pub words_are : words ≡ flat_map gate_words gates
-  pub counted : length gates ≡ header.gates
-  pub kinds : All IsReadGate gates
-  pub ordered : AreOrdered header.wires header.inputs gates
-  pub outputs_set : (o : ℕ) → o < header.outputs → IsSetAfter header.inputs gates (header.wires - header.outputs + o)
-
--- a fault says that the words are no gates behind this header
-abbrev pub BodyCause : List Word → Header → ReadError → Type 0
-BodyCause words header (Fault fault) = (gates : List GateRow) → ¬ IsBody words header gates
-BodyCause words header NoMemory = Unit {0}
-
--- ---- which wires are set, by a flag for each
-
--- by its flag, a wire is set
-abbrev pub flag_of : List Bool → ℕ → Bool
-flag_of flags wire = slice_index_or flags wire false
-
--- by the flags, the wires that a gate reads are set, and the one that it sets is not
-pub record FitsFlags (flags : List Bool) (gate : GateRow) : Type 0 where
-  pub reads : All (λ wire. flag_of flags wire ≡ true) (wires_read gate)
-  pub within : wire_set gate < length flags
-  pub once : flag_of flags (wire_set gate) ≡ false
-
--- by the flags, a wire is one of the last, which are the outputs, and it is not set
+-- by the flags, this is the first of the last wires, which are the outputs, that is not set
 pub record IsUnsetOutput (flags : List Bool) (outputs wire : ℕ) : Type 0 where
   pub is_last : length flags ≤ wire + outputs
   pub within : wire < length flags
   pub unset : flag_of flags wire ≡ false
+  pub before : (other : ℕ) → length flags ≤ other + outputs → other < wire
+      → flag_of flags other ≡ true
 
--- which wires are set after the gates
-pub record AreFlags (flags : List Bool) (wires inputs : ℕ) (gates : List GateRow) : Type 0 where
-  pub whole : length flags ≡ wires
-  pub set : (wire : ℕ) → wire < wires → flag_of flags wire ≡ true → IsSetAfter inputs gates wire
-  pub unset : (wire : ℕ) → wire < wires → flag_of flags wire ≡ false → ¬ IsSetAfter inputs gates wire
+-- by the flags, all outputs are set
+abbrev pub AreOutputsSet : List Bool → ℕ → Type 0
+AreOutputsSet flags outputs =
+    (wire : ℕ) → length flags ≤ wire + outputs → wire < length flags → flag_of flags wire ≡ true

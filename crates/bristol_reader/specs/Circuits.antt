@@ -1,16 +1,15 @@
 -- The circuits that are read.
-use Rattle.std.specs.Prelude.{ℕ, ◌^◌, ◌≤◌, List, length, All}
+use Rattle.std.specs.Prelude.{ℕ, ◌^◌, ◌≤◌, List, length}
 use Rattle.zk_model.specs.Circuit.{Circuit, IsWellFormed}
-use Rattle.zk_model.specs.Bristol.{IsReadGate}
 use Rattle.zk_model.specs.declared.GateRow.{GateRow}
 
--- well formed, of gates that are read, and within the limits
+-- well formed, and within the limits
 pub record IsCircuit (circuit : Circuit) : Type 0 where
   pub well_formed : IsWellFormed circuit
-  pub kinds : All IsReadGate circuit.gates
   pub wires : circuit.wires ≤ 2 ^ 20
   pub gates : length circuit.gates ≤ 2 ^ 20
 
 -- the circuit of these counts and gates
 abbrev pub circuit_of : ℕ → ℕ → ℕ → List GateRow → Circuit
-circuit_of wires inputs outputs gates = record { wires = wires; inputs = inputs; outputs = outputs; gates = gates }
+circuit_of wires inputs outputs gates =
+    record { wires = wires; inputs = inputs; outputs = outputs; gates = gates }

@@ -1,25 +1,23 @@
--- What the words of a header say.
-use Rattle.std.specs.Prelude.{◌≡◌, ℕ, ◌≤◌, ◌^◌, List, ◌∷◌, ◌++◌, map, length, sum}
-use Rattle.zk_model.specs.Bristol.{Values}
-use Rattle.bristol_reader.specs.declared.words.Word.{Word}
-use Rattle.bristol_reader.specs.declared.words.Word.TheVariants.{Number}
+-- What the tokens of a header say.
+use Rattle.std.specs.Prelude.{◌≡◌, ℕ, ◌-◌, ◌<◌, ◌≤◌, ◌^◌, List, [], ◌∷◌, map, length, sum}
+use Rattle.zk_model.specs.Bristol.{Lexeme, number, Values, counted_lexemes, header_lexemes}
+use Rattle.zk_model.specs.TextFaults.{Want, a_count, a_size}
 use Rattle.bristol_reader.specs.declared.header.Header.{Header}
-use Rattle.bristol_reader.specs.Words.{header_words}
+use Rattle.bristol_reader.specs.Words.{Place, Takes}
 
--- the words begin with this number, and it is within the limit
-pub record SaysCount (words : List Word) (limit number : ℕ) : Type 0 where
-  pub within : number ≤ limit
-  pub behind : List Word
-  pub words_are : words ≡ Number number ∷ behind
+-- what a list of values wants behind these of its tokens, which are all right: their number, or a size
+pub data ListWants (wires : ℕ) (part : List Lexeme) (want : Want) : Type 0 where
+  the_number : part ≡ [] → want ≡ a_count 1024 → ListWants wires part want
+  one_size : (values : ℕ) (sizes : List ℕ) → values ≤ 1024 → sum sizes ≤ wires
+      → length sizes < values → part ≡ number values ∷ map number sizes
+      → want ≡ a_size (wires - sum sizes) → ListWants wires part want
 
--- the words begin with the sizes of this count of values, whose wires are so many in all, and within the circuit
-pub record SaysSizes (words : List Word) (count wires total : ℕ) : Type 0 where
+-- a list of values, which have so many wires in all
+pub record TakesList (before after : Place) (total : ℕ) : Type 0 where
   pub sizes : List ℕ
-  pub counted : length sizes ≡ count
+  pub few : length sizes ≤ 1024
   pub total_is : sum sizes ≡ total
-  pub within : total ≤ wires
-  pub behind : List Word
-  pub words_are : words ≡ map Number sizes ++ behind
+  pub takes : Takes (counted_lexemes sizes) before after
 
 -- a header's counts: within the limits, and no more input wires or output wires than wires
 pub record IsHeader (header : Header) (values : Values) : Type 0 where
@@ -32,12 +30,8 @@ pub record IsHeader (header : Header) (values : Values) : Type 0 where
   pub inputs_within : header.inputs ≤ header.wires
   pub outputs_within : header.outputs ≤ header.wires
 
--- the words are this header's, for some values, and then those behind it
-pub record SaysHeader (words : List Word) (header : Header) (behind : List Word) : Type 0 where
+-- a header, for some values
+pub record TakesHeader (before after : Place) (header : Header) : Type 0 where
   pub values : Values
   pub is : IsHeader header values
-  pub words_are : words ≡ header_words header.gates header.wires values behind
-
--- the words begin with no header
-abbrev pub SaysNoHeader : List Word → Type 0
-SaysNoHeader words = (header : Header) (behind : List Word) → ¬ SaysHeader words header behind
+  pub takes : Takes (header_lexemes header.gates header.wires values) before after

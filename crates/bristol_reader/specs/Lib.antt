@@ -1,5 +1,9 @@
 pub mod Bodies
 pub mod Circuits
+pub mod Gates
 pub mod Headers
+pub mod Laws
 pub mod Reads
+pub mod Scans
+pub mod Wants
 pub mod Words

@@ -1,51 +1,66 @@
--- Tokens as words, whose numbers fit 32 bits.
-use Rattle.std.specs.Prelude.{ℕ, if◌then◌else◌, List, [], ◌∷◌, ◌++◌, map, length, codes, min}
+-- A text as words, whose numbers fit 32 bits, one after another.
+use Rattle.std.specs.Prelude.{◌≡◌, ℕ, ◌+◌, true, false, if◌then◌else◌, List, [], ◌∷◌, ◌++◌, length, codes, min}
 use Rattle.std.specs.Str.{bytes_eq}
-use Rattle.zk_model.specs.Bristol.{Lexeme, number, name, lexeme, tokens, Values}
-use Rattle.zk_model.specs.declared.GateRow.{GateRow}
-use Rattle.zk_model.specs.declared.GateRow.TheVariants as row
-use Rattle.bristol_reader.specs.declared.words.Word.{Word}
-use Rattle.bristol_reader.specs.declared.words.Word.TheVariants as word
+use Rattle.zk_model.specs.Bristol.{Lexeme, number, name, lexemes, is_blank}
+use Rattle.bristol_reader.specs.declared.tokens.GateName.{GateName}
+use Rattle.bristol_reader.specs.declared.tokens.GateName.TheVariants.{And, Xor, Inv, Eq, Eqw, Other}
+use Rattle.bristol_reader.specs.declared.tokens.Word.{Word}
+use Rattle.bristol_reader.specs.declared.tokens.Word.TheVariants.{Number, Name}
 
--- the largest number of a word, which also stands for all greater numbers
+-- ---- words
+
+-- the greatest number of a word, which also stands for all greater numbers
 abbrev pub greatest : ℕ
 greatest = 4294967295
 
 -- what a name says
-unfoldable pub word_of_name : List ℕ → Word
-word_of_name text = if bytes_eq text (codes "AND") then word.And else if bytes_eq text (codes "INV") then word.Inv else word.Other
+unfoldable pub name_of : List ℕ → GateName
+name_of text =
+    if bytes_eq text (codes "AND") then And
+    else if bytes_eq text (codes "XOR") then Xor
+    else if bytes_eq text (codes "INV") then Inv
+    else if bytes_eq text (codes "EQ") then Eq
+    else if bytes_eq text (codes "EQW") then Eqw
+    else Other
 
 -- what a lexeme says
-unfoldable pub word_of_lexeme : Lexeme → Word
-word_of_lexeme (number n) = word.Number (min n greatest)
-word_of_lexeme (name text) = word_of_name text
+unfoldable pub word_of : Lexeme → Word
+word_of (number n) = Number (min n greatest)
+word_of (name text) = Name (name_of text)
 
--- what a token says
-abbrev pub word_of : List ℕ → Word
-word_of token = word_of_lexeme (lexeme token)
+-- ---- where blanks end and begin
 
--- the text, word by word
-unfoldable pub text_words : List ℕ → List Word
-text_words text = map word_of (tokens text)
+-- a text that is empty or begins with no blank
+abbrev pub BeginsToken : List ℕ → Type 0
+BeginsToken [] = Unit {0}
+BeginsToken (byte ∷ text) = is_blank byte ≡ false
 
--- the numbers of inputs and of outputs, the input wires, the output wire, and the name of a gate that is read
-abbrev pub gate_words : GateRow → List Word
-gate_words (row.And a b out) =
-    word.Number 2 ∷ word.Number 1 ∷ word.Number a ∷ word.Number b ∷ word.Number out ∷ word.And ∷ []
-gate_words (row.Inv a out) =
-    word.Number 1 ∷ word.Number 1 ∷ word.Number a ∷ word.Number out ∷ word.Inv ∷ []
-gate_words (row.Xor a b out) = []
-gate_words (row.Eqw a out) = []
-gate_words (row.Eq bit out) = []
+-- a text that is empty or begins with a blank
+abbrev pub EndsToken : List ℕ → Type 0
+EndsToken [] = Unit {0}
+EndsToken (byte ∷ text) = is_blank byte ≡ true
 
--- how many numbers, and the numbers
-abbrev pub counted_words : List ℕ → List Word
-counted_words sizes = word.Number (length sizes) ∷ map word.Number sizes
+-- ---- places in a text
 
--- the input values and the output values, and the words behind them
-abbrev pub values_words : Values → List Word → List Word
-values_words values behind = counted_words values.inputs ++ (counted_words values.outputs ++ behind)
+-- the lexemes of what is left of a text
+unfoldable pub left_of : List ℕ → List Lexeme
+left_of rest = lexemes rest
 
--- the numbers of gates and of wires, the values, and the words behind them
-abbrev pub header_words : ℕ → ℕ → Values → List Word → List Word
-header_words gates wires values behind = word.Number gates ∷ word.Number wires ∷ values_words values behind
+-- what is left of a text behind its first tokens, and how many those are
+pub record Place : Type 0 where
+  pub left : List Lexeme
+  pub taken : ℕ
+
+abbrev pub place_of : List ℕ → ℕ → Place
+place_of rest taken = record { left = left_of rest; taken = taken }
+
+-- these tokens stand between two places
+pub record Takes (part : List Lexeme) (before after : Place) : Type 0 where
+  pub left : before.left ≡ part ++ after.left
+  pub taken : after.taken ≡ before.taken + length part
+
+-- one token stands there, which says this word
+pub record TakesWord (before after : Place) (word : Word) : Type 0 where
+  pub lexeme : Lexeme
+  pub word_is : word ≡ word_of lexeme
+  pub takes : Takes (lexeme ∷ []) before after

@@ -4,11 +4,15 @@
 mod body;
 mod circuit;
 mod fault;
+mod gate;
 mod header;
+mod laws;
 mod reader;
-mod words;
+mod tokens;
+mod wants;
 
 pub use circuit::Circuit;
-pub use fault::{ReadError, ReadFault};
+pub use fault::ReadError;
+pub use laws::{fault_or_circuit, one_circuit, one_first_fault};
 pub use reader::read;
-pub use zk_model::GateRow;
+pub use zk_model::{GateRow, ReadFault};

@@ -170,8 +170,8 @@ pub(crate) fn block_length(side: Side, params: &Params) -> u64
     }
 }
 
-/// How many bytes a file has.
-fn file_length(side: Side, params: &Params) -> u64
+/// How many bytes the file of this side has.
+pub fn file_length(side: Side, params: &Params) -> u64
     requires { AreParams params.now }
     ensures { result ≡ file_length side params.now }
 {

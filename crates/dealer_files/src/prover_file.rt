@@ -5,13 +5,14 @@ ghost use Rattle.zk_model.specs.FileBytes.{prover_unit_bytes, prover_file_bytes}
 ghost use Rattle.dealer_files.specs.Flat.{flat_prover, AreWhole};
 
 use crate::encoding::{push_digest, push_header, push_pairs, push_transfers};
+use crate::head::file_length;
 use crate::transfer::Transfer;
 use crate::unit::{first_dealt, first_transfer};
 use mersenne_field::Pair;
 use std::alloc::{AllocError, Global};
 use std::marker::Model;
 use zk_coins::CoinBox;
-use zk_model::{Params, Span};
+use zk_model::{Params, Side, Span};
 
 /// A prover's file: an id, what it was made for, the key of the prover's coins, the seed of the code (zero bytes in kind
 /// direct), and for each unit pairs of a value and its MAC and, in kind extended, transfers. The file keeps within its
@@ -131,7 +132,8 @@ impl ProverFile {
     pub fn encode(&self, alloc: Global) -> Result<Vec<u8>, AllocError>
         ensures { IfOk result (λ bytes. bytes.items ≡ prover_file_bytes self.now) }
     {
-        let mut bytes = Vec::new(alloc);
+        let length = file_length(Side::Prover, &self.params) as usize;
+        let mut bytes = Vec::with_capacity(alloc, length)?;
         push_header(
             &mut bytes,
             0,

@@ -7,13 +7,14 @@ ghost use Rattle.zk_model.specs.FileBytes.{verifier_unit_bytes, verifier_file_by
 ghost use Rattle.dealer_files.specs.Flat.{flat_verifier, AreWhole};
 
 use crate::encoding::{push_digest, push_elements, push_header, push_pads};
+use crate::head::file_length;
 use crate::transfer::Pads;
 use crate::unit::{first_dealt, first_transfer};
 use mersenne_field::Fe;
 use std::alloc::{AllocError, Global};
 use std::marker::Model;
 use zk_coins::CoinBox;
-use zk_model::{Params, Span};
+use zk_model::{Params, Side, Span};
 
 /// A verifier's file: an id, what it was made for, the key of the verifier's coins, the seed of the code (zero bytes in
 /// kind direct), the verifier's one key, which is not 0, and for each unit keys of correlations and, in kind extended,
@@ -153,7 +154,8 @@ impl VerifierFile {
     pub fn encode(&self, alloc: Global) -> Result<Vec<u8>, AllocError>
         ensures { IfOk result (λ bytes. bytes.items ≡ verifier_file_bytes self.now) }
     {
-        let mut bytes = Vec::new(alloc);
+        let length = file_length(Side::Verifier, &self.params) as usize;
+        let mut bytes = Vec::with_capacity(alloc, length)?;
         push_header(
             &mut bytes,
             1,

@@ -67,6 +67,8 @@ fn main(rt: HostRuntime) -> ExitCode {
 }
 
 #[cfg(test)]
+mod dealing_tests;
+#[cfg(test)]
 mod outside_tests;
 #[cfg(test)]
 mod row_tests;

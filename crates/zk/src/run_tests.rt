@@ -15,6 +15,8 @@ pub const AND: &str = "1 3\n2 1 1\n1 1\n\n2 1 0 1 2 AND\n";
 
 const AND_LINES: &str = "outputs 1\nproducts 3 sections 3 correlations 6 units 1\naccepted\n";
 
+const FILE_ID_HEX: &str = "f400927857aaf64114f561baacb379708c79a1dc1476ab573216a4020764bde5";
+
 const USAGE: &str = "usage: zk deal, eval, rehearse, prove, serve or audit\n";
 
 /// A gate that counts the phases that it is told.
@@ -112,41 +114,6 @@ fn rehearsed<R: Threads + Wait>(
     Ok((ran.status, out.bytes().to_vec(alloc)?))
 }
 
-#[test]
-fn circuits_are_rehearsed(rt: HostRuntime) -> Result<(), Fail> {
-    let alloc = rt.alloc();
-    for (text, bits, lines) in [
-        (AND, "11", AND_LINES),
-        (
-            AND,
-            "10",
-            "outputs 0\nproducts 3 sections 3 correlations 6 units 1\naccepted\n",
-        ),
-        // Line ends carry no meaning, and leading zeros don't count.
-        ("01\t003 2 1 1 1 1 2\r\n1 00 1 2 AND", "11", AND_LINES),
-        (
-            "0 1 1 1 1 1",
-            "1",
-            "outputs 1\nproducts 1 sections 1 correlations 2 units 1\naccepted\n",
-        ),
-        (
-            "1 2 1 1 1 1 1 1 0 1 INV",
-            "1",
-            "outputs 0\nproducts 1 sections 1 correlations 2 units 1\naccepted\n",
-        ),
-        (
-            "0 0 0 0",
-            "none",
-            "outputs none\nproducts 0 sections 0 correlations 0 units 1\naccepted\n",
-        ),
-    ] {
-        let (status, written) = rehearsed(&rt, alloc, text.as_bytes(), bits)?;
-        assert_eq!(rt; written.as_slice(), lines.as_bytes(), "{text}");
-        assert_eq!(rt; status, 0, "{text}");
-    }
-    Ok(())
-}
-
 /// A circuit's text that begins and ends so. Between stand 6,000 gates, 33,000 tokens: pairs of an INV of the
 /// last wire and an AND of that and wire 0, which set the wires 2 to 6,001.
 fn chain(alloc: Global, header: &str, tail: &str) -> Result<String, AllocError> {
@@ -162,73 +129,20 @@ fn chain(alloc: Global, header: &str, tail: &str) -> Result<String, AllocError> 
     Ok(text)
 }
 
-#[test]
-fn at_most_4096_units_are_rehearsed(rt: HostRuntime) -> Result<(), Fail> {
-    let alloc = rt.alloc();
-    for (inputs, status, lines) in [
-        (
-            131_072u32,
-            0,
-            "outputs 1\nproducts 131072 sections 131072 correlations 262144 units 4096\naccepted\n",
-        ),
-        (131_073, 9, "too large 262146 4097\n"),
-    ] {
-        let text = format!(in alloc; "0 {inputs} 1 {inputs} 1 1")?;
-        let mut bits = String::new(alloc);
-        for _ in 0..inputs {
-            bits.push_str("1")?;
-        }
-        let (answered, written) = rehearsed(&rt, alloc, text.as_bytes(), &bits)?;
-        assert_eq!(rt; written.as_slice(), lines.as_bytes());
-        assert_eq!(rt; answered, status, "{inputs}");
-    }
-    Ok(())
+/// A circuit's text of size, the bits that it is rehearsed at, and what comes of it.
+#[derive(Drop)]
+struct Case {
+    text: Vec<u8>,
+    bits: String,
+    status: u8,
+    lines: &'static str,
 }
 
-#[test]
-fn refusals_have_their_lines(rt: HostRuntime) -> Result<(), Fail> {
-    let alloc = rt.alloc();
-    for (text, bits, line) in [
-        (AND, "1", "refused bits 2 1\n"),
-        (AND, "none", "refused bits 2 0\n"),
-        ("1 3", "11", "refused ShortText 1 2\n"),
-        (
-            "1 3 2 1 1 1 1 2 1 0 x 2 AND",
-            "11",
-            "refused BadNumber 2 10\n",
-        ),
-        ("1048577 3", "11", "refused TooLarge 3 0\n"),
-        (
-            "1 3 2 1 1 1 1 2 1 0 1 2 MAND",
-            "11",
-            "refused BadGate 4 12\n",
-        ),
-        ("0 1 1 2 1 1", "11", "refused WireRange 6 3\n"),
-        (
-            "1 6 1 1 1 1 1 1 5 1 INV",
-            "1",
-            "refused ReadBeforeSet 7 8\n",
-        ),
-        (
-            "1 3 2 1 1 1 1 2 1 0 1 1 AND",
-            "11",
-            "refused SetTwice 8 11\n",
-        ),
-        ("0 2 1 1 1 1", "1", "refused OutputUnset 9 1\n"),
-        ("0 1 1 1 1 1 7", "1", "refused ExtraText 10 6\n"),
-    ] {
-        let (status, written) = rehearsed(&rt, alloc, text.as_bytes(), bits)?;
-        assert_eq!(rt; written.as_slice(), line.as_bytes(), "{text}");
-        assert_eq!(rt; status, 3, "{text}");
-    }
-    Ok(())
-}
-
-#[test]
-fn texts_of_thousands_of_tokens_are_read(rt: HostRuntime) -> Result<(), Fail> {
-    let alloc = rt.alloc();
+/// Behind thousands of tokens: outputs, and each fault that can come there.
+fn chain_cases(alloc: Global) -> Result<Vec<Case>, AllocError> {
+    let mut cases = Vec::new(alloc);
     let more = "6001 6004\n1 2\n1 1\n";
-    for (header, tail, status, line) in [
+    for (header, tail, status, lines) in [
         (
             "6000 6002\n1 2\n1 4\n",
             "",
@@ -238,6 +152,7 @@ fn texts_of_thousands_of_tokens_are_read(rt: HostRuntime) -> Result<(), Fail> {
         (more, "", 3, "refused ShortText 1 33006\n"),
         (more, "1 x 0 6003 INV", 3, "refused BadNumber 2 33007\n"),
         (more, "3 1 0 1 6003 AND", 3, "refused BadGate 4 33006\n"),
+        (more, "1 1 2 6003 EQ", 3, "refused BadConstant 5 33008\n"),
         (more, "1 1 0 6004 INV", 3, "refused WireRange 6 33009\n"),
         (
             more,
@@ -249,27 +164,76 @@ fn texts_of_thousands_of_tokens_are_read(rt: HostRuntime) -> Result<(), Fail> {
         (more, "1 1 0 6002 INV", 3, "refused OutputUnset 9 6003\n"),
         (more, "1 1 0 6003 INV 7", 3, "refused ExtraText 10 33011\n"),
     ] {
-        let text = chain(alloc, header, tail)?;
-        let (answered, written) = rehearsed(&rt, alloc, text.as_bytes(), "10")?;
-        assert_eq!(rt; written.as_slice(), line.as_bytes(), "{tail}");
-        assert_eq!(rt; answered, status, "{tail}");
+        cases.push(Case {
+            text: chain(alloc, header, tail)?.into_bytes(),
+            bits: String::from_str(alloc, "10")?,
+            status,
+            lines,
+        })?;
     }
-    Ok(())
+    Ok(cases)
+}
+
+/// A circuit of inputs alone, all of which are 1.
+fn inputs_case(
+    alloc: Global,
+    inputs: u32,
+    status: u8,
+    lines: &'static str,
+) -> Result<Case, AllocError> {
+    let mut bits = String::new(alloc);
+    for _ in 0..inputs {
+        bits.push_str("1")?;
+    }
+    let text = format!(in alloc; "0 {inputs} 1 {inputs} 1 1")?;
+    Ok(Case {
+        text: text.into_bytes(),
+        bits,
+        status,
+        lines,
+    })
+}
+
+/// The and gate, with line feeds up to this size.
+fn long_case(
+    alloc: Global,
+    size: usize,
+    status: u8,
+    lines: &'static str,
+) -> Result<Case, AllocError> {
+    let mut text = AND.as_bytes().to_vec(alloc)?;
+    text.resize(size, b'\n')?;
+    Ok(Case {
+        text,
+        bits: String::from_str(alloc, "11")?,
+        status,
+        lines,
+    })
+}
+
+/// 4,096 units and one more, and 64 MiB and one byte more.
+fn limit_cases(alloc: Global) -> Result<Vec<Case>, AllocError> {
+    let most =
+        "outputs 1\nproducts 131072 sections 131072 correlations 262144 units 4096\naccepted\n";
+    let limit = 67_108_864;
+    let mut cases = Vec::new(alloc);
+    cases.push(inputs_case(alloc, 131_072, 0, most)?)?;
+    cases.push(inputs_case(alloc, 131_073, 9, "too large 262146 4097\n")?)?;
+    cases.push(long_case(alloc, limit, 0, AND_LINES)?)?;
+    let too_long = "refused TooLong 0 67108864\n";
+    cases.push(long_case(alloc, limit + 1, 3, too_long)?)?;
+    Ok(cases)
 }
 
 #[test]
-fn a_file_has_at_most_64_mebibytes(rt: HostRuntime) -> Result<(), Fail> {
+fn texts_of_any_size_are_rehearsed_or_refused(rt: HostRuntime) -> Result<(), Fail> {
     let alloc = rt.alloc();
-    let limit = 67_108_864;
-    for (size, status, lines) in [
-        (limit, 0, AND_LINES),
-        (limit + 1, 3, "refused TooLong 0 67108864\n"),
-    ] {
-        let mut text = AND.as_bytes().to_vec(alloc)?;
-        text.resize(size, b'\n')?;
-        let (answered, written) = rehearsed(&rt, alloc, &text, "11")?;
-        assert_eq!(rt; written.as_slice(), lines.as_bytes(), "{size}");
-        assert_eq!(rt; answered, status, "{size}");
+    let mut cases = chain_cases(alloc)?;
+    cases.append(&mut limit_cases(alloc)?)?;
+    for case in &cases {
+        let (answered, written) = rehearsed(&rt, alloc, &case.text, &case.bits)?;
+        assert_eq!(rt; written.as_slice(), case.lines.as_bytes());
+        assert_eq!(rt; answered, case.status, "{}", case.lines);
     }
     Ok(())
 }
@@ -284,7 +248,11 @@ pub fn rehearsal_of<R: Threads + Wait>(
     let mut shelf = MemoryShelf::new(file_of(alloc, "c", text.as_bytes())?, NoFault);
     let mut out = MemorySink::new(alloc, NoFault);
     let words = ["rehearse", "c", bits, "--section", "1"];
-    let Ran { part, .. } = run(rt, alloc, &words, &mut shelf, &mut out)?;
+    let Ran { part, phases, .. } = run(rt, alloc, &words, &mut shelf, &mut out)?;
+    // A session that is rehearsed is none that a gate is told of.
+    if phases > 0 {
+        return Err(Fail::from("a gate is told"));
+    }
     let Part::Rehearsed(rehearsal) = part else {
         return Err(Fail::from("no rehearsal"));
     };
@@ -304,84 +272,87 @@ fn the_rehearsal_is_handed_back(rt: HostRuntime) -> Result<(), Fail> {
 fn a_fault_of_the_outside_is_named(rt: HostRuntime) -> Result<(), Fail> {
     let alloc = rt.alloc();
     let half = &AND_LINES.as_bytes()[..AND_LINES.len() / 2];
-    for (name, shelf_fails, sink_fails, status, written) in [
-        ("c", 1, 2, 4, b"failed shelf\n".as_slice()),
-        ("d", 2, 2, 4, b"failed shelf\n"),
-        ("", 2, 2, 4, b"failed shelf\n"),
-        ("c", 2, 1, 4, half),
-        ("c", 2, 2, 0, AND_LINES.as_bytes()),
+    let half_usage = &USAGE.as_bytes()[..USAGE.len() / 2];
+    let rehearse = ["rehearse", "c", "11", "--section", "1"].as_slice();
+    let deal = ["deal", "c", "--units", "1"].as_slice();
+    for (words, shelf_fails, sink_fails, status, written) in [
+        (rehearse, 1, 2, 4, b"failed shelf\n".as_slice()),
+        (
+            &["rehearse", "d", "11", "--section", "1"],
+            2,
+            2,
+            4,
+            b"failed shelf\n",
+        ),
+        (&["eval", "", "11"], 2, 2, 4, b"failed shelf\n"),
+        (rehearse, 2, 1, 4, half),
+        (&["eval", "c", "11"], 2, 1, 4, b"1"),
+        (rehearse, 2, 2, 0, AND_LINES.as_bytes()),
+        (deal, 1, 2, 4, b"failed shelf\n"),
+        (deal, 2, 2, 4, b"failed shelf\n"),
+        (deal, 3, 2, 4, b"failed shelf\n"),
+        (deal, 4, 2, 4, b"failed shelf\n"),
+        // Words of no command ask nothing of the shelf.
+        (
+            &["rehearsal", "c", "11", "--section", "1"],
+            1,
+            1,
+            2,
+            half_usage,
+        ),
     ] {
-        let mut shelf = MemoryShelf::new(
-            file_of(alloc, "c", AND.as_bytes())?,
-            fail_at(alloc, &[shelf_fails])?,
-        );
+        let text = file_of(alloc, "c", AND.as_bytes())?;
+        let mut shelf = MemoryShelf::new(text, fail_at(alloc, &[shelf_fails])?);
         let mut out = MemorySink::new(alloc, fail_at(alloc, &[sink_fails])?);
-        let words = ["rehearse", name, "11", "--section", "1"];
-        let ran = run(&rt, alloc, &words, &mut shelf, &mut out)?;
-        assert_eq!(rt; out.bytes(), written, "{name}");
-        assert_eq!(rt; ran.status, status, "{name}");
+        let ran = run(&rt, alloc, words, &mut shelf, &mut out)?;
+        assert_eq!(rt; out.bytes(), written, "{words:?}");
+        assert_eq!(rt; ran.status, status, "{words:?}");
+        let is_failed = written == b"failed shelf\n".as_slice();
+        assert_eq!(rt; shelf.faults() > 0, is_failed, "{words:?}");
     }
     Ok(())
 }
 
-#[test]
-fn usage_asks_nothing_of_the_shelf(rt: HostRuntime) -> Result<(), Fail> {
-    let alloc = rt.alloc();
-    let mut shelf = MemoryShelf::new(file_of(alloc, "c", AND.as_bytes())?, fail_at(alloc, &[1])?);
-    let mut out = MemorySink::new(alloc, fail_at(alloc, &[1])?);
-    let words = ["rehearsal", "c", "11", "--section", "1"];
-    let ran = run(&rt, alloc, &words, &mut shelf, &mut out)?;
-    assert_eq!(rt; out.bytes(), &USAGE.as_bytes()[..USAGE.len() / 2]);
-    assert_eq!(rt; ran.status, 2);
-    assert_eq!(rt; shelf.faults(), 0);
-    // The first call is still to come.
-    assert!(rt; shelf.load(alloc, "c", 99).is_err());
-    Ok(())
+/// The length of the file of this name, or none.
+fn length_of<P: FaultPlan>(alloc: Global, shelf: &mut MemoryShelf<P>, name: &str) -> Option<usize> {
+    match shelf.load(alloc, name, 1 << 30) {
+        Ok(bytes) => Some(bytes.len()),
+        Err(_) => None,
+    }
 }
 
 #[test]
-fn words_are_valid_or_usage(rt: HostRuntime) -> Result<(), Fail> {
+fn dealt_files_stand_under_their_names(rt: HostRuntime) -> Result<(), Fail> {
     let alloc = rt.alloc();
-    for (words, is_valid) in [
-        (["rehearse", "c", "11", "--section", "1"].as_slice(), true),
-        (&["rehearse", "--section", "1", "c", "11"], true),
-        (&["rehearse", "c", "--section", "1", "11"], true),
-        (&["rehearse", "c", "11", "--section", "01"], true),
-        (&[], false),
-        (&["rehearse"], false),
-        (&["rehearse", "c", "11"], false),
-        (&["rehearse", "c", "11", "--section"], false),
-        (&["rehearse", "c", "--section", "1"], false),
-        (&["rehearse", "c", "11", "11", "--section", "1"], false),
+    for (options, kind, prover, verifier) in [
+        (["--units", "1"].as_slice(), "1 direct", 1184, 680),
         (
-            &["rehearse", "c", "11", "--section", "1", "--section", "1"],
-            false,
+            &[
+                "--base", "10", "--units", "1", "--trees", "1", "--height", "1",
+            ],
+            "1 extended",
+            353,
+            288,
         ),
-        (&["rehearse", "c", "11", "--section", "0"], false),
-        (&["rehearse", "c", "11", "--section", "2"], false),
-        (
-            &["rehearse", "c", "11", "--section", "36893488147419103233"],
-            false,
-        ),
-        (&["rehearse", "c", "11", "--section", "x"], false),
-        (&["rehearse", "c", "11", "--section", ""], false),
-        (&["rehearse", "c", "11", "--section", "-1"], false),
-        (&["rehearse", "c", "11", "--section=1"], false),
-        (&["rehearse", "c", "11", "--sections", "1"], false),
-        (&["rehearse", "c", "12", "--section", "1"], false),
-        (&["rehearse", "c", "", "--section", "1"], false),
-        (&["rehearse", "-", "11", "--section", "1"], false),
-        (&["--section", "1", "rehearse", "c", "11"], false),
-        (&["Rehearse", "c", "11", "--section", "1"], false),
-        (&["eval", "c", "11"], false),
     ] {
-        let mut shelf = MemoryShelf::new(file_of(alloc, "c", AND.as_bytes())?, NoFault);
-        let mut out = MemorySink::new(alloc, NoFault);
-        let ran = run(&rt, alloc, words, &mut shelf, &mut out)?;
-        assert_eq!(rt; ran.status == 2, !is_valid, "{words:?}");
-        assert_eq!(rt; out.bytes() == USAGE.as_bytes(), !is_valid, "{words:?}");
-        // No session of these is one that a gate is told of.
-        assert_eq!(rt; ran.phases, 0, "{words:?}");
+        let mut shelf = MemoryShelf::new(file_of(alloc, "x.prover", b"old")?, NoFault);
+        let mut out = MemorySink::new(alloc, fail_at(alloc, &[2])?);
+        let mut words: Vec<&str> = Vec::new(alloc);
+        for word in ["deal", "x"].iter().chain(options.iter()) {
+            words.push(*word)?;
+        }
+        let ran = run(&rt, alloc, &words, &mut shelf, &mut out)?;
+        assert_eq!(rt; ran.status, 0, "{kind}");
+        let lines = format!(in alloc; "id {FILE_ID_HEX}\nunits {kind}\n")?;
+        assert_eq!(rt; out.bytes(), lines.as_bytes(), "{kind}");
+        for (name, length) in [
+            ("x.prover", prover),
+            ("x.verifier", verifier),
+            ("x.prover.journal", 96),
+            ("x.verifier.journal", 96),
+        ] {
+            assert_eq!(rt; length_of(alloc, &mut shelf, name), Some(length), "{name}");
+        }
     }
     Ok(())
 }

@@ -1,5 +1,10 @@
+pub mod Answering
+pub mod DealOutcomes
 pub mod Decimals
-pub mod OneCircuit
+pub mod EvalOutcomes
 pub mod Orders
 pub mod Outcomes
+pub mod Refusals
 pub mod Stopping
+pub mod Storing
+pub mod ToldCircuits

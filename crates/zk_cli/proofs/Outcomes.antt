@@ -1,25 +1,17 @@
 -- What is handed back and said of a rehearsal gives what each status says.
-use Rattle.std.proofs.Common.{◌≡◌, ◌⊎◌, ◌<◌, ◌≤◌, ℕ, List, length, Option, Some, None, IsSomeAnd, refl, ap, sym, ◌∙◌, subst, inl, inr, arith, nat_le, cond, true, false}
-use Rattle.std.proofs.lemmas.Bool.Decides.{nat_tests}
+use Rattle.std.proofs.Common.{◌≡◌, ◌⊎◌, ◌<◌, ◌≤◌, ℕ, List, Option, refl, ap, sym, ◌∙◌, subst, inl, inr, arith}
 use Rattle.zk_model.specs.Circuit.{Circuit}
-use Rattle.zk_model.specs.Bristol.{IsText}
-use Rattle.zk_port.specs.Files.{Files, StandsAs, StandsLonger, LoadCause}
-use Rattle.zk_port.specs.declared.fault.LoadFault.{LoadFault}
-use Rattle.zk_port.specs.declared.fault.LoadFault.TheVariants as load
-use Rattle.bristol_reader.specs.Reads.{ReadCause}
-use Rattle.bristol_reader.specs.declared.fault.ReadError.{ReadError}
-use Rattle.bristol_reader.specs.declared.fault.ReadError.TheVariants as read
-use Rattle.zk_cli.specs.Changes.{ShelfChange, SinkChange, NameFailed}
-use Rattle.zk_cli.specs.CircuitFiles.{IsLoaded, IsCircuitFile, IsToldCircuit}
+use Rattle.zk_port.specs.Files.{Files}
+use Rattle.zk_cli.specs.Changes.{ShelfChange, SinkChange}
+use Rattle.zk_cli.specs.CircuitFiles.{IsCircuitFile}
 use Rattle.zk_cli.specs.Made.{IfRehearsed, Effects}
 use Rattle.zk_cli.specs.Outcomes.{Accepts, IsRefused, TakesTooMany, IsReady, AnswersFor, HasFailed, IsRehearseStatus}
-use Rattle.zk_cli.specs.Prints.{Prints, after_sink_fault}
+use Rattle.zk_cli.specs.Prints.{after_sink_fault}
 use Rattle.session_core.specs.Rehearsals.{EndsWithVerdict, RehearseCause, direct_units}
 use Rattle.zk_cli.specs.RehearseRuns.{HasOutputs, HasNumbers, IsRehearsed, SaysPart, RehearseLines, RehearseStop, verdict_status, rehearsal_lines}
-use Rattle.zk_cli.specs.Stops.{PrintsStop, PrintsMade, stop_status, stop_line}
-use Rattle.zk_cli.specs.StopsOf.{load_stop, read_stop, rehearse_stop}
+use Rattle.zk_cli.specs.Stops.{PrintsMade, stop_status, stop_line}
+use Rattle.zk_cli.specs.StopsOf.{rehearse_stop}
 use Rattle.zk_cli.specs.Words.{RehearseAsk}
-use Rattle.zk_cli.specs.declared.TheConstants.{FILE_LIMIT}
 use Rattle.zk_cli.specs.declared.finish.Part.{Part}
 use Rattle.zk_cli.specs.declared.finish.Part.TheVariants.{Plain, Rehearsed, Served}
 use Rattle.session_core.specs.declared.rehearsal.Rehearsal.{Rehearsal}
@@ -27,8 +19,10 @@ use Rattle.session_core.specs.declared.rehearsal.RehearseFault.{RehearseFault}
 use Rattle.session_core.specs.declared.rehearsal.RehearseFault.TheVariants as session
 use Rattle.zk_model.specs.declared.Verdict.TheVariants.{Accepted}
 use Rattle.zk_cli.specs.declared.stop.Stop.{Stop}
-use Rattle.zk_cli.specs.declared.stop.Stop.TheVariants as stop
-use Rattle.zk_cli.proofs.OneCircuit.{one_circuit}
+use Rattle.zk_cli.proofs.Answering.{stop_answers, high_stop, memory_answers}
+use Rattle.zk_cli.proofs.Refusals.{CircuitMeans, circuit_stop_means}
+use Rattle.zk_cli.proofs.ToldCircuits.{told_circuit, not_refused}
+use Rattle.bristol_reader.specs.Laws.{OneCircuit}
 
 -- ---- what is handed back
 
@@ -61,36 +55,22 @@ has_numbers (Served links) told ask seed is = tt
 
 abbrev StopMeans : RehearseAsk → ShelfChange → ℕ → Type 0
 StopMeans ask shelf status =
-    ((status ≡ 3) × IsRefused shelf.old.told ask.circuit ask.bits) ⊎ ((status ≡ 4) × NameFailed ask.circuit shelf)
-    ⊎ (status ≡ 7) ⊎ ((status ≡ 9) × TakesTooMany shelf.old.told ask)
-
-unloaded_means : (ask : RehearseAsk) (shelf : ShelfChange) (fault : LoadFault)
-    → LoadCause shelf.old.told ask.circuit FILE_LIMIT (shelf.old.faults_of ask.circuit) (shelf.new.faults_of ask.circuit) fault
-    → StopMeans ask shelf (stop_status (load_stop fault))
-unloaded_means ask shelf load.Failed cause = inr (inl (refl, cause))
-unloaded_means ask shelf load.NoMemory cause = inr (inr (inl refl))
-unloaded_means ask shelf (load.TooLong limit) cause = inl (refl, inl cause.1)
-
-unread_means : (ask : RehearseAsk) (shelf : ShelfChange) (text : List ℕ) (fault : ReadError)
-    → IsLoaded shelf.old.told ask.circuit text → ReadCause text fault → StopMeans ask shelf (stop_status (read_stop fault))
-unread_means ask shelf text (read.Fault fault) loaded cause =
-    inl (refl, inr (inl record { text = text; loaded = loaded; says_none = cause }))
-unread_means ask shelf text read.NoMemory loaded cause = inr (inr (inl refl))
+    CircuitMeans ask.circuit ask.bits shelf status ⊎ ((status ≡ 9) × TakesTooMany shelf.old.told ask)
 
 unrehearsed_means : (ask : RehearseAsk) (shelf : ShelfChange) (circuit : Circuit) (fault : RehearseFault)
     → IsCircuitFile shelf.old.told ask.circuit circuit → RehearseCause circuit ask.bits ask.section fault
     → StopMeans ask shelf (stop_status (rehearse_stop fault))
 unrehearsed_means ask shelf circuit (session.WrongLength need got) file cause =
-    inl (
+    inl (inl (
       refl,
       inr (inr record {
         circuit = circuit;
         file = file;
         differ = λ e. cause.differ (cause.needed ∙ e ∙ sym cause.given);
       }),
-    )
+    ))
 unrehearsed_means ask shelf circuit (session.TooLarge need units) file cause =
-    inr (inr (inr (
+    inr (
       refl,
       record {
         circuit = circuit;
@@ -98,16 +78,12 @@ unrehearsed_means ask shelf circuit (session.TooLarge need units) file cause =
         inputs = cause.inputs;
         many = subst (λ n. 4096 < n) cause.counted cause.many;
       },
-    )))
-unrehearsed_means ask shelf circuit session.NoMemory file cause = inr (inr (inl refl))
+    )
+unrehearsed_means ask shelf circuit session.NoMemory file cause = inl (inr (inr refl))
 
 stop_means : (ask : RehearseAsk) (shelf : ShelfChange) (stop : Stop) → RehearseStop ask shelf stop
     → StopMeans ask shelf (stop_status stop)
-stop_means ask shelf stop (inl (inl why)) =
-    subst (λ s. StopMeans ask shelf (stop_status s)) (sym why.stops) (unloaded_means ask shelf why.fault why.cause)
-stop_means ask shelf stop (inl (inr why)) =
-    subst (λ s. StopMeans ask shelf (stop_status s)) (sym why.stops)
-    (unread_means ask shelf why.text why.fault why.loaded why.cause)
+stop_means ask shelf stop (inl why) = inl (circuit_stop_means ask.circuit ask.bits shelf stop why)
 stop_means ask shelf stop (inr why) =
     subst (λ s. StopMeans ask shelf (stop_status s)) (sym why.stops)
     (unrehearsed_means ask shelf why.circuit why.fault why.file why.cause)
@@ -123,45 +99,14 @@ RunMeans ask run =
     ⊎ (run.status ≡ 7)
     ⊎ ((run.status ≡ 9) × TakesTooMany run.shelf.old.told ask)
 
--- a status above 1 is left by a fault of the sink
-high_stays : (status : ℕ) → 2 ≤ status → after_sink_fault status ≡ status
-high_stays status high =
-    elim (nat_le status 1) as (λ b. nat_le status 1 ≡ b → cond b 4 status ≡ status) [
-      | true ↦ λ low. absurd (low_from_test status low high)
-      | false ↦ λ low. refl
-    ] refl
-  where
-    low_from_test : (status : ℕ) → nat_le status 1 ≡ true → 2 ≤ status → ⊥
-    low_from_test status low high = grind (arith, nat_tests)
-
--- a stop's line gives the stop's status, or 7
-stop_answers : (status : ℕ) (text : List ℕ) (answer : ℕ) (sink : SinkChange) → 2 ≤ status → Prints status text answer sink
-    → (answer ≡ status) ⊎ (answer ≡ 7)
-stop_answers status text answer sink high (inl whole) = inl whole.answered
-stop_answers status text answer sink high (inr (inl fault)) = inl (fault.answered ∙ high_stays status high)
-stop_answers status text answer sink high (inr (inr short)) = inr short.answered
-
-high_stop : (stop : Stop) → 2 ≤ stop_status stop
-high_stop stop.Usage = omega arith
-high_stop (stop.BadText fault) = omega arith
-high_stop (stop.TooLong limit) = omega arith
-high_stop (stop.WrongLength need got) = omega arith
-high_stop stop.ShelfFailed = omega arith
-high_stop stop.NoMemory = omega arith
-high_stop (stop.TooLarge need units) = omega arith
-
-memory_answers : (answer : ℕ) (sink : SinkChange) → PrintsStop stop.NoMemory answer sink → answer ≡ 7
-memory_answers answer sink prints =
-    elim (stop_answers 7 (stop_line stop.NoMemory) answer sink (omega arith) prints) [ inl e ↦ e | inr e ↦ e ]
-
 -- the run of a stop
 stopped : {L : Type 0} (ask : RehearseAsk) (run : Effects L) (status : ℕ) → StopMeans ask run.shelf status
     → (run.status ≡ status) ⊎ (run.status ≡ 7) → RunMeans ask run
 stopped ask run status means (inr e) = inr (inr (inr (inl e)))
-stopped ask run status (inl m) (inl e) = inr (inl (e ∙ m.0, m.1))
-stopped ask run status (inr (inl m)) (inl e) = inr (inr (inl (e ∙ m.0, inl m.1)))
-stopped ask run status (inr (inr (inl m))) (inl e) = inr (inr (inr (inl (e ∙ m))))
-stopped ask run status (inr (inr (inr m))) (inl e) = inr (inr (inr (inr (e ∙ m.0, m.1))))
+stopped ask run status (inl (inl m)) (inl e) = inr (inl (e ∙ m.0, m.1))
+stopped ask run status (inl (inr (inl m))) (inl e) = inr (inr (inl (e ∙ m.0, inl m.1)))
+stopped ask run status (inl (inr (inr m))) (inl e) = inr (inr (inr (inl (e ∙ m))))
+stopped ask run status (inr m) (inl e) = inr (inr (inr (inr (e ∙ m.0, m.1))))
 
 -- the run of a rehearsal that is accepted
 accepted : (L : Type 0) (ask : RehearseAsk) (r : Rehearsal) (status : ℕ) (shelf : ShelfChange) (sink : SinkChange)
@@ -246,57 +191,33 @@ statuses_mean ask seed run made says =
 
 -- ---- where nothing is refused and nothing fails
 
-told_text : (told : Option Files) (name : List ℕ) (some other : List ℕ) → IsSomeAnd told (λ files. files name ≡ Some some) → StandsAs told name other → other ≡ some
-told_text None name some other is_told stands = absurd is_told
-told_text (Some files) name some other is_told stands = cc
-
-told_circuit : (told : Option Files) (name : List ℕ) (circuit other : Circuit) → IsToldCircuit told name circuit → IsCircuitFile told name other → other ≡ circuit
-told_circuit told name circuit other is_told file =
-    let same = told_text told name is_told.text file.text is_told.stands file.loaded.stands in
-    one_circuit other circuit is_told.text (subst (IsText other) same file.says) is_told.says
-
-no_longer : (told : Option Files) (name : List ℕ) (text : List ℕ) → IsSomeAnd told (λ files. files name ≡ Some text) → length text ≤ FILE_LIMIT → StandsLonger told name FILE_LIMIT → ⊥
-no_longer None name text is_told fits longer = absurd is_told
-no_longer (Some files) name text is_told fits longer =
-    let lt : FILE_LIMIT < length text = subst (λ o. IsSomeAnd o (λ bytes. FILE_LIMIT < length bytes)) is_told longer in
-    omega (arith, lt, fits)
-
-not_refused : (told : Option Files) (ask : RehearseAsk) (circuit : Circuit) → IsReady told ask.circuit ask.bits circuit → IsRefused told ask.circuit ask.bits → ⊥
-not_refused told ask circuit ready (inl longer) =
-    no_longer told ask.circuit ready.file.text ready.file.stands ready.file.fits longer
-not_refused told ask circuit ready (inr (inl none)) =
-    let same = told_text told ask.circuit ready.file.text none.text ready.file.stands none.loaded.stands in
-    none.says_none circuit (subst (IsText circuit) (sym same) ready.file.says)
-not_refused told ask circuit ready (inr (inr other)) =
-    other.differ (ap (λ c. c.inputs) (told_circuit told ask.circuit circuit other.circuit ready.file other.file) ∙ sym ready.inputs)
-
 -- a rehearsal that is handed back takes few enough units
-few_units : {L : Type 0} (part : Part L) (told : Option Files) (ask : RehearseAsk) (seed : List ℕ) (circuit : Circuit) (sink : SinkChange)
+few_units : {L : Type 0} → OneCircuit → (part : Part L) (told : Option Files) (ask : RehearseAsk) (seed : List ℕ) (circuit : Circuit) (sink : SinkChange)
     → IsReady told ask.circuit ask.bits circuit → IfRehearsed part (IsRehearsed told ask seed) → Accepts part sink
     → direct_units circuit ask.section ≤ 4096
-few_units (Rehearsed r) told ask seed circuit sink ready made accepts =
-    let same = told_circuit told ask.circuit circuit made.circuit ready.file made.file in
+few_units one (Rehearsed r) told ask seed circuit sink ready made accepts =
+    let same = told_circuit one told ask.circuit circuit made.circuit ready.file made.file in
     subst (λ c. direct_units c ask.section ≤ 4096) same
     (subst (λ n. n ≤ 4096) made.rehearsal.units made.rehearsal.units_most)
-few_units Plain told ask seed circuit sink ready made accepts = absurd accepts
-few_units (Served links) told ask seed circuit sink ready made accepts = absurd accepts
+few_units one Plain told ask seed circuit sink ready made accepts = absurd accepts
+few_units one (Served links) told ask seed circuit sink ready made accepts = absurd accepts
 
 -- the status of a run where the shelf tells the circuit and nothing fails
-completed : {L : Type 0} (ask : RehearseAsk) (seed : List ℕ) (run : Effects L) (circuit : Circuit)
+completed : {L : Type 0} → OneCircuit → (ask : RehearseAsk) (seed : List ℕ) (run : Effects L) (circuit : Circuit)
     → IfRehearsed run.part (IsRehearsed run.shelf.old.told ask seed) → IsReady run.shelf.old.told ask.circuit ask.bits circuit
     → ¬ HasFailed ask.circuit run.shelf run.sink → RunMeans ask run → AnswersFor (direct_units circuit ask.section) run.status
-completed ask seed run circuit made ready calm (inl m) =
-    inl (m.0, few_units run.part run.shelf.old.told ask seed circuit run.sink ready made m.1)
-completed ask seed run circuit made ready calm (inr (inl m)) = absurd (not_refused run.shelf.old.told ask circuit ready m.1)
-completed ask seed run circuit made ready calm (inr (inr (inl m))) = absurd (calm m.1)
-completed ask seed run circuit made ready calm (inr (inr (inr (inl m)))) = inr (inr m)
-completed ask seed run circuit made ready calm (inr (inr (inr (inr m)))) =
-    let same = told_circuit run.shelf.old.told ask.circuit circuit m.1.circuit ready.file m.1.file in
+completed one ask seed run circuit made ready calm (inl m) =
+    inl (m.0, few_units one run.part run.shelf.old.told ask seed circuit run.sink ready made m.1)
+completed one ask seed run circuit made ready calm (inr (inl m)) = absurd (not_refused one run.shelf.old.told ask.circuit ask.bits circuit ready m.1)
+completed one ask seed run circuit made ready calm (inr (inr (inl m))) = absurd (calm m.1)
+completed one ask seed run circuit made ready calm (inr (inr (inr (inl m)))) = inr (inr m)
+completed one ask seed run circuit made ready calm (inr (inr (inr (inr m)))) =
+    let same = told_circuit one run.shelf.old.told ask.circuit circuit m.1.circuit ready.file m.1.file in
     inr (inl (m.0, subst (λ c. 4096 < direct_units c ask.section) same m.1.many))
 
-pub rehearse_done : {L : Type 0} (ask : RehearseAsk) (seed : List ℕ) (run : Effects L) (circuit : Circuit)
+pub rehearse_done : {L : Type 0} → OneCircuit → (ask : RehearseAsk) (seed : List ℕ) (run : Effects L) (circuit : Circuit)
     → IfRehearsed run.part (IsRehearsed run.shelf.old.told ask seed) → RehearseLines ask run
     → IsReady run.shelf.old.told ask.circuit ask.bits circuit → ¬ HasFailed ask.circuit run.shelf run.sink
     → AnswersFor (direct_units circuit ask.section) run.status
-rehearse_done ask seed run circuit made says ready calm =
-    completed ask seed run circuit made ready calm (run_means run.part ask seed run.status run.shelf run.sink made says)
+rehearse_done one ask seed run circuit made says ready calm =
+    completed one ask seed run circuit made ready calm (run_means run.part ask seed run.status run.shelf run.sink made says)

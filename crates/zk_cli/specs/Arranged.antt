@@ -1,5 +1,5 @@
 -- The words behind a command's name: those that stand in their places, and the options among them.
-use Rattle.std.specs.Prelude.{ℕ, List, [], ◌∷◌, ◌++◌, Bool, true, false, if◌then◌else◌, Option, Some, None, codes, is_some, not, ◌&&◌}
+use Rattle.std.specs.Prelude.{ℕ, List, [], ◌∷◌, ◌++◌, Bool, true, false, if◌then◌else◌, Option, Some, None, codes, is_some, not, ◌&&◌, ◌||◌}
 use Rattle.std.specs.Option.{option_map}
 use Rattle.std.specs.Str.{bytes_eq}
 use Rattle.zk_cli.specs.declared.arrange.Kind.{Kind}
@@ -10,11 +10,15 @@ abbrev pub begins_with_dash : List ℕ → Bool
 begins_with_dash [] = false
 begins_with_dash (c ∷ word) = bytes_eq (c ∷ []) (codes "-")
 
+-- the options that a value follows
+abbrev pub is_valued : List ℕ → Bool
+is_valued word =
+    bytes_eq word (codes "--section") || bytes_eq word (codes "--units") || bytes_eq word (codes "--trees")
+    || bytes_eq word (codes "--height") || bytes_eq word (codes "--base")
+
 -- what a word is, by itself
 abbrev pub kind_of : List ℕ → Kind
-kind_of word =
-    if bytes_eq word (codes "--section") then Valued
-    else if begins_with_dash word then Unknown else Place
+kind_of word = if is_valued word then Valued else if begins_with_dash word then Unknown else Place
 
 -- an option's name and its value
 abbrev pub Word : Type 0

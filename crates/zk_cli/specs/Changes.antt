@@ -1,5 +1,5 @@
 -- The shelf and the sink of a run, before and after it.
-use Rattle.std.specs.Prelude.{◌≡◌, ◌⊎◌, ◌≤◌, ℕ, List, Option}
+use Rattle.std.specs.Prelude.{◌≡◌, ◌⊎◌, ◌≤◌, ℕ, List, Option, None, Some, IsSomeAnd}
 use Rattle.zk_port.specs.Counts.{Rose}
 use Rattle.zk_port.specs.Files.{Files}
 
@@ -55,3 +55,19 @@ pub record OnlyLoads (name : List ℕ) (shelf : ShelfChange) : Type 0 where
   pub told : shelf.new.told ≡ shelf.old.told
   pub later : (other : List ℕ) → shelf.old.faults_of other ≤ shelf.new.faults_of other
   pub counts : NameFailed name shelf ⊎ CountsStay shelf
+
+-- all names but these have what they had
+abbrev pub OthersStay : (List ℕ → Type 0) → Option Files → Option Files → Type 0
+OthersStay IsNamed None new = new ≡ None
+OthersStay IsNamed (Some old) new = IsSomeAnd new (λ files. (other : List ℕ) → ¬ IsNamed other → files other ≡ old other)
+
+-- a call for one of these names failed
+abbrev pub SomeFailed : (List ℕ → Type 0) → ShelfChange → Type 0
+SomeFailed IsNamed shelf = (name : List ℕ) × IsNamed name × NameFailed name shelf
+
+-- No other file is changed, and all counts are as they were, unless that of one of these names rose. So no other file
+-- is asked for.
+pub record OnlyStores (IsNamed : List ℕ → Type 0) (shelf : ShelfChange) : Type 0 where
+  pub others : OthersStay IsNamed shelf.old.told shelf.new.told
+  pub later : (other : List ℕ) → shelf.old.faults_of other ≤ shelf.new.faults_of other
+  pub counts : SomeFailed IsNamed shelf ⊎ CountsStay shelf

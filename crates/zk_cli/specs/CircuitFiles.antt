@@ -1,6 +1,6 @@
 -- Circuits that stand as files.
-use Rattle.std.specs.Prelude.{◌≡◌, ◌⊎◌, ◌≤◌, ℕ, List, length, Option, Some, IsSomeAnd}
-use Rattle.zk_model.specs.Circuit.{Circuit}
+use Rattle.std.specs.Prelude.{◌≡◌, ◌⊎◌, ◌≤◌, ℕ, List, length, Bool, Option, Some, IsSomeAnd}
+use Rattle.zk_model.specs.Circuit.{Circuit, Satisfies}
 use Rattle.zk_model.specs.Bristol.{IsText}
 use Rattle.zk_port.specs.Files.{Files, StandsAs, LoadCause}
 use Rattle.zk_port.specs.declared.fault.LoadFault.{LoadFault}
@@ -21,6 +21,13 @@ pub record IsCircuitFile (told : Option Files) (name : List ℕ) (circuit : Circ
   pub text : List ℕ
   pub loaded : IsLoaded told name text
   pub says : IsText circuit text
+
+-- the circuit under the name gives these outputs at the bits, and no others
+pub record GivesOutputs (told : Option Files) (name : List ℕ) (bits outputs : List Bool) : Type 0 where
+  pub circuit : Circuit
+  pub file : IsCircuitFile told name circuit
+  pub satisfied : Satisfies circuit bits outputs
+  pub only : (others : List Bool) → Satisfies circuit bits others → others ≡ outputs
 
 -- the file of this name can't be loaded
 pub record IsUnloaded (shelf : ShelfChange) (name : List ℕ) (stop : Stop) : Type 0 where

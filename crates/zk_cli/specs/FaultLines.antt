@@ -1,8 +1,8 @@
 -- How a fault of a circuit's text is said.
 use Rattle.std.specs.Prelude.{ℕ, List, ◌++◌, codes}
 use Rattle.std.specs.Fmt.{decimal}
-use Rattle.bristol_reader.specs.declared.fault.ReadFault.{ReadFault}
-use Rattle.bristol_reader.specs.declared.fault.ReadFault.TheVariants.{ShortText, BadNumber, TooLarge, BadGate, BadConstant, WireRange, ReadBeforeSet, SetTwice, OutputUnset, ExtraText}
+use Rattle.zk_model.specs.declared.ReadFault.{ReadFault}
+use Rattle.zk_model.specs.declared.ReadFault.TheVariants.{ShortText, BadNumber, TooLarge, BadGate, BadConstant, WireRange, ReadBeforeSet, SetTwice, OutputUnset, ExtraText}
 
 -- its name
 abbrev pub fault_name : ReadFault → List ℕ

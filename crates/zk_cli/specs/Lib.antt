@@ -3,6 +3,8 @@ pub mod BitWords
 pub mod Changes
 pub mod CircuitFiles
 pub mod Commands
+pub mod DealRuns
+pub mod EvalRuns
 pub mod FaultLines
 pub mod Guards
 pub mod Made

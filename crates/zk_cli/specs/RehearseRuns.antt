@@ -1,13 +1,13 @@
 -- `rehearse CIRCUIT BITS --section 1`: what it hands back, and what it says.
-use Rattle.std.specs.Prelude.{◌≡◌, ◌⊎◌, ◌≤◌, ℕ, List, length, ◌++◌, codes, Bool, Option}
+use Rattle.std.specs.Prelude.{◌≡◌, ◌⊎◌, ◌≤◌, ℕ, List, length, ◌++◌, codes, Option}
 use Rattle.std.specs.Fmt.{decimal}
-use Rattle.zk_model.specs.Circuit.{Circuit, Satisfies}
+use Rattle.zk_model.specs.Circuit.{Circuit}
 use Rattle.zk_model.specs.Program.{section_count}
 use Rattle.zk_model.specs.Boolean.{circuit_products, circuit_program}
 use Rattle.zk_port.specs.Files.{Files}
 use Rattle.zk_cli.specs.BitWords.{bits_word}
 use Rattle.zk_cli.specs.Changes.{ShelfChange, SinkChange}
-use Rattle.zk_cli.specs.CircuitFiles.{IsCircuitFile, CircuitStop}
+use Rattle.zk_cli.specs.CircuitFiles.{IsCircuitFile, GivesOutputs, CircuitStop}
 use Rattle.zk_cli.specs.Made.{Effects}
 use Rattle.session_core.specs.Rehearsals.{IsRehearsalOf, RehearseCause, rehearsal_need, direct_units}
 use Rattle.zk_cli.specs.Stops.{PrintsStop, PrintsMade}
@@ -54,11 +54,8 @@ rehearsal_lines r =
 -- ---- what is handed back
 
 -- the outputs satisfy the circuit under the name at the bits, and no others do
-pub record HasOutputs (told : Option Files) (ask : RehearseAsk) (r : Rehearsal) : Type 0 where
-  pub circuit : Circuit
-  pub file : IsCircuitFile told ask.circuit circuit
-  pub satisfied : Satisfies circuit ask.bits r.outputs
-  pub only : (others : List Bool) → Satisfies circuit ask.bits others → others ≡ r.outputs
+abbrev pub HasOutputs : Option Files → RehearseAsk → Rehearsal → Type 0
+HasOutputs told ask r = GivesOutputs told ask.circuit ask.bits r.outputs
 
 -- the numbers are those of the circuit under the name
 pub record HasNumbers (told : Option Files) (ask : RehearseAsk) (r : Rehearsal) : Type 0 where

@@ -1,8 +1,12 @@
 -- How a run stops at a refusal of what it calls.
 use Rattle.zk_port.specs.declared.fault.LoadFault.{LoadFault}
 use Rattle.zk_port.specs.declared.fault.LoadFault.TheVariants as load
+use Rattle.zk_port.specs.declared.fault.PortFault.{PortFault}
+use Rattle.zk_port.specs.declared.fault.PortFault.TheVariants as port
 use Rattle.bristol_reader.specs.declared.fault.ReadError.{ReadError}
 use Rattle.bristol_reader.specs.declared.fault.ReadError.TheVariants as text
+use Rattle.bool_eval.specs.declared.EvalFault.{EvalFault}
+use Rattle.bool_eval.specs.declared.EvalFault.TheVariants as evaluation
 use Rattle.session_core.specs.declared.rehearsal.RehearseFault.{RehearseFault}
 use Rattle.session_core.specs.declared.rehearsal.RehearseFault.TheVariants as session
 use Rattle.zk_cli.specs.declared.stop.Stop.{Stop}
@@ -24,3 +28,13 @@ abbrev pub rehearse_stop : RehearseFault → Stop
 rehearse_stop (session.WrongLength need got) = stop.WrongLength need got
 rehearse_stop (session.TooLarge need units) = stop.TooLarge need units
 rehearse_stop session.NoMemory = stop.NoMemory
+
+-- whose circuit can't be evaluated
+abbrev pub eval_stop : EvalFault → Stop
+eval_stop (evaluation.WrongLength need got) = stop.WrongLength need got
+eval_stop evaluation.NoMemory = stop.NoMemory
+
+-- whose file can't be stored
+abbrev pub store_stop : PortFault → Stop
+store_stop port.Failed = stop.ShelfFailed
+store_stop port.NoMemory = stop.NoMemory

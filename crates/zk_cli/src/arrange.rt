@@ -5,7 +5,7 @@ ghost use Rattle.std.specs.List.{list_any};
 ghost use Rattle.std.specs.Str.{bytes_eq};
 ghost use Rattle.zk_cli.specs.PartsOf.{parts_of, word_of};
 ghost use Rattle.zk_cli.specs.Words.{texts};
-ghost use Rattle.zk_cli.specs.Arranged.{kind_of, begins_with_dash, arranged, stand_once, option_named};
+ghost use Rattle.zk_cli.specs.Arranged.{kind_of, is_valued, begins_with_dash, arranged, stand_once, option_named};
 
 use std::alloc::{AllocError, Global};
 
@@ -41,19 +41,27 @@ fn has_dash(word: &str) -> bool
     matches!(word.as_bytes(), [b'-', ..])
 }
 
+/// Whether a value follows the word.
+fn is_valued(word: &str) -> bool
+    ensures { result ≡ is_valued word.now }
+{
+    word == "--section"
+        || word == "--units"
+        || word == "--trees"
+        || word == "--height"
+        || word == "--base"
+}
+
 /// What a word behind the name is, by itself.
 fn word_kind(word: &str) -> Kind
     ensures { result ≡ kind_of word.now }
 {
-    match word {
-        "--section" => Kind::Valued,
-        _ => {
-            if has_dash(word) {
-                Kind::Unknown
-            } else {
-                Kind::Place
-            }
-        }
+    if is_valued(word) {
+        Kind::Valued
+    } else if has_dash(word) {
+        Kind::Unknown
+    } else {
+        Kind::Place
     }
 }
 

@@ -3,6 +3,9 @@
 
 mod arrange;
 mod bits;
+mod circuit_file;
+mod deal_command;
+mod eval_command;
 mod finish;
 mod laws;
 mod numbers;

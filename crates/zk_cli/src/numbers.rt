@@ -1,5 +1,5 @@
 // Numbers of the command line.
-ghost use Rattle.std.specs.Prelude.{◌≡◌, ◌+◌, ◌-◌, ◌*◌, min};
+ghost use Rattle.std.specs.Prelude.{◌≡◌, ◌+◌, ◌-◌, ◌*◌, ◌^◌, ◌≤◌, min, IfSome};
 ghost use Rattle.std.specs.List.{list_all};
 ghost use Rattle.zk_model.specs.Bristol.{decimal_value, is_digit};
 ghost use Rattle.zk_cli.specs.Numbers.{is_number, number_within};
@@ -39,15 +39,18 @@ fn capped_value(word: &[u8], most: u64) -> u64
 
 /// The number that the digits of the word say, however many zeros lead it, where it lies between `low` and
 /// `high`.
-pub fn read_number(word: &str, low: u32, high: u32) -> Option<u32>
-    ensures { result ≡ number_within low high word.now }
+pub fn read_number(word: &str, low: u64, high: u64) -> Option<u64>
+    requires { high ≤ 2 ^ 32 }
+    ensures number { result ≡ number_within low high word.now }
+    ensures most { IfSome result (λ number. number ≤ high) }
+    ensures least { IfSome result (λ number. low ≤ number) }
 {
     if !is_number(word) {
         return None;
     }
-    let value = capped_value(word.as_bytes(), u64::from(high) + 1);
-    if u64::from(low) <= value && value <= u64::from(high) {
-        Some(value as u32)
+    let value = capped_value(word.as_bytes(), high + 1);
+    if low <= value && value <= high {
+        Some(value)
     } else {
         None
     }

@@ -1,33 +1,20 @@
 // `rehearse CIRCUIT BITS --section 1`
 ghost use Rattle.std.specs.Prelude.{◌≡◌, ◌≤◌, ◌^◌, IfOk, IfErr, string_bytes};
 ghost use Rattle.zk_cli.specs.Changes.{shelf_change, sink_change, OnlyLoads};
-ghost use Rattle.zk_cli.specs.CircuitFiles.{IsCircuitFile, CircuitStop};
 ghost use Rattle.zk_cli.specs.Made.{IfRehearsed, effects};
 ghost use Rattle.zk_cli.specs.RehearseRuns.{RehearseLines, RehearseStop, IsRehearsed};
 ghost use Rattle.zk_cli.specs.RehearseRuns.{named_numbers, counts_line, rehearsal_lines};
 ghost use Rattle.zk_cli.specs.RehearseRuns.{verdict_line, verdict_status};
 ghost use Rattle.zk_cli.specs.Words.{rehearse_ask};
 
-use crate::FILE_LIMIT;
 use crate::bits::write_bits;
+use crate::circuit_file::load_circuit;
 use crate::finish::{Ending, Part};
 use crate::say::{say, say_memory, say_stop};
 use crate::stop::Stop;
-use bristol_reader::{Circuit, read};
 use session_core::{Rehearsal, Verdict, rehearse};
 use std::alloc::{AllocError, Global};
 use zk_port::{Shelf, Sink};
-
-/// The circuit that the file of this name says.
-fn load_circuit<F: Shelf>(alloc: Global, shelf: &mut F, name: &str) -> Result<Circuit, Stop>
-    ensures file { IfOk result (IsCircuitFile (F.told shelf.old) name.now) }
-    ensures stop { IfErr result
-        (CircuitStop (shelf_change F.told F.faults F.faults_of shelf.old shelf.new) name.now) }
-    ensures kept { OnlyLoads name.now (shelf_change F.told F.faults F.faults_of shelf.old shelf.new) }
-{
-    let text = shelf.load(alloc, name, FILE_LIMIT)?;
-    Ok(read(alloc, &text)?)
-}
 
 /// A rehearsal of the circuit that the file of this name says, at these bits.
 fn rehearse_file<F: Shelf>(

@@ -1,33 +1,41 @@
 // The top call.
 ghost use Rattle.std.specs.Prelude.{◌≡◌, ℕ, List, None};
 ghost use Rattle.zk_model.specs.Circuit.{Circuit};
-ghost use Rattle.zk_cli.specs.Changes.{shelf_change, sink_change, OnlyLoads};
-ghost use Rattle.zk_cli.specs.Guards.{OnUsage, OnRehearse};
+ghost use Rattle.zk_cli.specs.Changes.{shelf_change, sink_change, OnlyLoads, OnlyStores};
+ghost use Rattle.zk_cli.specs.Guards.{OnUsage, OnDeal, OnEval, OnRehearse};
 ghost use Rattle.zk_cli.specs.Made.{IsPlain, IfRehearsed, effects};
 ghost use Rattle.zk_cli.specs.Outcomes.{IsRehearseStatus, Accepts, IsRefused, HasFailed, TakesTooMany};
-ghost use Rattle.zk_cli.specs.Outcomes.{IsReady, AnswersFor};
+ghost use Rattle.zk_cli.specs.Outcomes.{IsReady, AnswersFor, IsEvalStatus, WritesOutputs, IsDone};
+ghost use Rattle.zk_cli.specs.Outcomes.{IsDealStatus, DealsAll, HasStoreFailed};
+ghost use Rattle.zk_cli.specs.DealRuns.{DealLines, IsDealName};
+ghost use Rattle.zk_cli.specs.EvalRuns.{EvalLines};
 ghost use Rattle.session_core.specs.Rehearsals.{direct_units};
 ghost use Rattle.zk_cli.specs.RehearseRuns.{HasOutputs, HasNumbers, IsRehearsed, RehearseLines};
 ghost use Rattle.zk_cli.specs.Stops.{PrintsUsage};
 ghost use Rattle.zk_cli.specs.Words.{texts, asked};
 
+use crate::deal_command::run_deal;
+use crate::eval_command::run_eval;
 use crate::finish::{Ending, Finish, Part};
 use crate::rehearse_command::run_rehearse;
 use crate::say::{say_memory, say_stop};
 use crate::stop::Stop;
 use crate::words::{Command, read_words};
+use bristol_reader::one_circuit;
 use std::alloc::Global;
 use std::sync::Wait;
 use std::thread::Threads;
 use zk_port::{Disk, Door, Gate, Shelf, Sink};
 
 /// Does what the words behind the program's name ask for, over these files, this disk, this door and this
-/// output, and hands back the status, the disk, the door and what was made. Nothing but `rehearse` uses the seed.
+/// output, and hands back the status, the disk, the door and what was made. `deal` and `rehearse` use the seed.
 ///
 /// Words of no command end with 2, or with 7 where memory is wanting. `rehearse CIRCUIT BITS --section 1` ends
 /// with 0 where it is accepted; 3 where the file, or the bits for it, are refused; 4 where a load of the file
 /// failed, or the output before a 0; 7 where memory is wanting; 9 where the session would take more than 4,096
-/// units.
+/// units. `eval CIRCUIT BITS` ends with 0 where it wrote the outputs, and with 3, 4 and 7 in the same cases. `deal NAME
+/// --units N [--trees T --height H --base K]` ends with 0 where all is stored and said, 4 where a store or the output
+/// failed, and 7.
 pub fn run_zk<R, F, D, B, O, G>(
     _rt: &R,
     alloc: Global,
@@ -94,7 +102,64 @@ where
         ¬ HasFailed ask.circuit (shelf_change F.told F.faults F.faults_of shelf.old shelf.new)
         (sink_change O.written O.faults out.old out.new) →
         AnswersFor (direct_units circuit ask.section) result.status) }
+
+    // `eval CIRCUIT BITS`: the line of the only outputs that the circuit gives at the bits is written, or that of a
+    // stop with its cause.
+    ensures eval_lines { OnEval words.now (λ ask. EvalLines ask result.status
+        (shelf_change F.told F.faults F.faults_of shelf.old shelf.new)
+        (sink_change O.written O.faults out.old out.new)) }
+
+    // Nothing is handed back, nothing but the circuit's file is asked of the shelf, and the disk and the door are as
+    // they were.
+    ensures eval_kept { OnEval words.now (λ ask. IsPlain result.part
+        × OnlyLoads ask.circuit (shelf_change F.told F.faults F.faults_of shelf.old shelf.new)
+        × (result.journal ≡ journal) × (result.door ≡ door)) }
+
+    // What each status says. 7, for want of memory, says nothing else.
+    ensures eval_statuses { OnEval words.now (λ ask. IsEvalStatus result.status) }
+    ensures eval_0 { OnEval words.now (λ ask. result.status ≡ 0 →
+        WritesOutputs (F.told shelf.old) ask (sink_change O.written O.faults out.old out.new)) }
+    ensures eval_3 { OnEval words.now (λ ask. result.status ≡ 3 →
+        IsRefused (F.told shelf.old) ask.circuit ask.bits) }
+    ensures eval_4 { OnEval words.now (λ ask. result.status ≡ 4 →
+        HasFailed ask.circuit (shelf_change F.told F.faults F.faults_of shelf.old shelf.new)
+        (sink_change O.written O.faults out.old out.new)) }
+
+    // Where a shelf tells a circuit's text, the bits fit it and neither the load nor a write fails, the outputs are
+    // written unless memory runs out.
+    ensures eval_done { OnEval words.now (λ ask. (circuit : Circuit) →
+        IsReady (F.told shelf.old) ask.circuit ask.bits circuit →
+        ¬ HasFailed ask.circuit (shelf_change F.told F.faults F.faults_of shelf.old shelf.new)
+        (sink_change O.written O.faults out.old out.new) →
+        IsDone result.status) }
+
+    // `deal NAME --units N [--trees T --height H --base K]`: the files of the seed and their journals are stored under
+    // the four names, and their lines are written; or the line of a stop with its cause is.
+    ensures deal_lines { OnDeal words.now (λ ask. DealLines ask seed.now result.status
+        (shelf_change F.told F.faults F.faults_of shelf.old shelf.new)
+        (sink_change O.written O.faults out.old out.new)) }
+
+    // Nothing is handed back, nothing but the four files is asked of the shelf or changed there, and the disk and the
+    // door are as they were.
+    ensures deal_kept { OnDeal words.now (λ ask. IsPlain result.part
+        × OnlyStores (IsDealName ask.name) (shelf_change F.told F.faults F.faults_of shelf.old shelf.new)
+        × (result.journal ≡ journal) × (result.door ≡ door)) }
+
+    // What each status says. 7, for want of memory, says nothing else.
+    ensures deal_statuses { OnDeal words.now (λ ask. IsDealStatus result.status) }
+    ensures deal_0 { OnDeal words.now (λ ask. result.status ≡ 0 → DealsAll ask seed.now
+        (shelf_change F.told F.faults F.faults_of shelf.old shelf.new)
+        (sink_change O.written O.faults out.old out.new)) }
+    ensures deal_4 { OnDeal words.now (λ ask. result.status ≡ 4 → HasStoreFailed ask.name
+        (shelf_change F.told F.faults F.faults_of shelf.old shelf.new)
+        (sink_change O.written O.faults out.old out.new)) }
+
+    // Where neither a store nor a write fails, all is stored and said unless memory runs out.
+    ensures deal_done { OnDeal words.now (λ ask. ¬ HasStoreFailed ask.name
+        (shelf_change F.told F.faults F.faults_of shelf.old shelf.new)
+        (sink_change O.written O.faults out.old out.new) → IsDone result.status) }
 {
+    one_circuit();
     let found = match read_words(alloc, words) {
         Ok(found) => found,
         Err(_) => {
@@ -115,6 +180,18 @@ where
         };
     };
     match command {
+        Command::Deal { name, params } => Finish {
+            status: run_deal(alloc, shelf, out, name, &params, seed),
+            journal,
+            door,
+            part: Part::Plain,
+        },
+        Command::Eval { circuit, bits } => Finish {
+            status: run_eval(alloc, shelf, out, circuit, bits.as_slice()),
+            journal,
+            door,
+            part: Part::Plain,
+        },
         Command::Rehearse {
             circuit,
             bits,

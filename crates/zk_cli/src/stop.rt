@@ -2,10 +2,11 @@
 ghost use Rattle.std.specs.Prelude.{◌≡◌};
 ghost use Rattle.zk_cli.specs.declared.stop.Stop.TheVariants as stop;
 
+use bool_eval::EvalFault;
 use bristol_reader::{ReadError, ReadFault};
 use session_core::RehearseFault;
 use std::alloc::AllocError;
-use zk_port::LoadFault;
+use zk_port::{LoadFault, PortFault};
 
 /// Why a run stops before its work is done; each has its status and its line.
 #[derive(Clone, Copy, Debug, PartialEq, Eq)]
@@ -71,6 +72,35 @@ impl From<RehearseFault> for Stop {
             RehearseFault::WrongLength { need, got } => Stop::WrongLength { need, got },
             RehearseFault::TooLarge { need, units } => Stop::TooLarge { need, units },
             RehearseFault::NoMemory => Stop::NoMemory,
+        }
+    }
+}
+
+impl From<EvalFault> for Stop {
+    ghost use Rattle.zk_cli.specs.StopsOf.{eval_stop};
+
+    ghost from_gives = { λ fault e. e ≡ eval_stop fault };
+
+    fn from(fault: EvalFault) -> Self {
+        match fault {
+            EvalFault::WrongLength { need, got } => Stop::WrongLength {
+                need: need as u64,
+                got: got as u64,
+            },
+            EvalFault::NoMemory => Stop::NoMemory,
+        }
+    }
+}
+
+impl From<PortFault> for Stop {
+    ghost use Rattle.zk_cli.specs.StopsOf.{store_stop};
+
+    ghost from_gives = { λ fault e. e ≡ store_stop fault };
+
+    fn from(fault: PortFault) -> Self {
+        match fault {
+            PortFault::Failed => Stop::ShelfFailed,
+            PortFault::NoMemory => Stop::NoMemory,
         }
     }
 }

@@ -4,7 +4,7 @@ use Rattle.std.specs.Prelude.{All}
 use Rattle.std.proofs.lemmas.List.Elements.{All-from_recursion}
 use Rattle.zk_model.proofs.ExampleTools.{each_item, one_only}
 use Rattle.zk_model.proofs.ExamplePrograms.{and_circuit}
-use Rattle.zk_model.specs.Bristol.{lexemes, circuit_lexemes, IsReadGate, IsText}
+use Rattle.zk_model.specs.Bristol.{lexemes, circuit_lexemes, IsText}
 use Rattle.zk_model.specs.Circuit.{IsSet, IsWellFormed, wire_set, wires_read, output_wire}
 use Rattle.zk_model.specs.declared.GateRow.TheVariants.{And, Inv}
 
@@ -48,7 +48,6 @@ and_is_text = record {
   says = and_text;
   inputs = refl;
   outputs = refl;
-  gates = All-from_recursion IsReadGate and_circuit.gates (tt, tt);
   limits = record { gates = lit≤ tt; wires = lit≤ tt; inputs = lit≤ tt; outputs = lit≤ tt };
   well_formed = and_well_formed;
 }

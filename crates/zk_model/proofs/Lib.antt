@@ -15,3 +15,4 @@ pub mod ExampleExtended
 pub mod ExampleRound
 pub mod ExampleFound
 pub mod ExampleExtendedSession
+pub mod ExampleFaults

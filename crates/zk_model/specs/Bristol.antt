@@ -1,5 +1,5 @@
 -- The text of a circuit in Bristol Fashion (Smart and others, the page of MPC circuits in that format).
-use Rattle.std.specs.Prelude.{◌≡◌, ℕ, ◌+◌, ◌-◌, ◌*◌, ◌^◌, ◌≤◌, ◌==◌, ◌||◌, ◌&&◌, nat_le, nat_lt, Bool, if◌then◌else◌, List, [], ◌∷◌, ◌++◌, map, flat_map, filter, fold, length, sum, codes, All}
+use Rattle.std.specs.Prelude.{◌≡◌, ℕ, ◌+◌, ◌-◌, ◌*◌, ◌^◌, ◌≤◌, ◌==◌, ◌||◌, ◌&&◌, nat_le, nat_lt, Bool, if◌then◌else◌, List, [], ◌∷◌, ◌++◌, map, flat_map, filter, fold, length, sum, codes}
 use Rattle.std.specs.List.{slice_split, list_all}
 use Rattle.zk_model.specs.Bits.{from_bit}
 use Rattle.zk_model.specs.Circuit.{Circuit, IsWellFormed}
@@ -57,23 +57,16 @@ pub record Values : Type 0 where
   pub outputs : List ℕ
 
 -- the numbers of gates and of wires, and the values
-abbrev pub header_lexemes : Circuit → Values → List Lexeme
-header_lexemes circuit values =
-    number (length circuit.gates) ∷ number circuit.wires ∷ counted_lexemes values.inputs ++ counted_lexemes values.outputs
+abbrev pub header_lexemes : ℕ → ℕ → Values → List Lexeme
+header_lexemes gates wires values =
+    number gates ∷ number wires ∷ counted_lexemes values.inputs ++ counted_lexemes values.outputs
 
 -- the header and the gates, in order
 abbrev pub circuit_lexemes : Circuit → Values → List Lexeme
-circuit_lexemes circuit values = header_lexemes circuit values ++ flat_map gate_lexemes circuit.gates
+circuit_lexemes circuit values =
+    header_lexemes (length circuit.gates) circuit.wires values ++ flat_map gate_lexemes circuit.gates
 
 -- ---- which texts are read
-
--- the gates that are read
-abbrev pub IsReadGate : GateRow → Type 0
-IsReadGate (And a b out) = Unit {0}
-IsReadGate (Inv a out) = Unit {0}
-IsReadGate (Xor a b out) = ⊥
-IsReadGate (Eqw a out) = ⊥
-IsReadGate (Eq bit out) = ⊥
 
 -- at most 2^20 gates and wires, and at most 1,024 values of inputs and of outputs
 pub record IsWithinLimits (circuit : Circuit) (values : Values) : Type 0 where
@@ -89,6 +82,5 @@ pub record IsText (circuit : Circuit) (text : List ℕ) : Type 0 where
   pub says : lexemes text ≡ circuit_lexemes circuit values
   pub inputs : sum values.inputs ≡ circuit.inputs
   pub outputs : sum values.outputs ≡ circuit.outputs
-  pub gates : All IsReadGate circuit.gates
   pub limits : IsWithinLimits circuit values
   pub well_formed : IsWellFormed circuit

@@ -9,6 +9,7 @@ pub mod Field
 pub mod Polynomial
 pub mod Circuit
 pub mod Bristol
+pub mod TextFaults
 pub mod Program
 pub mod Boolean
 pub mod Mac
@@ -20,6 +21,7 @@ pub mod Statement
 pub mod Files
 pub mod FileBytes
 pub mod FileFaults
+pub mod Journals
 pub mod Dealing
 pub mod Transcript
 pub mod Correlations

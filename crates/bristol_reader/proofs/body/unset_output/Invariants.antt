@@ -1,5 +1,5 @@
 use Rattle.std.proofs.Common.{◌≡◌, ◌+◌, ◌<◌, ◌≤◌, ℕ, true}
-use Rattle.bristol_reader.specs.Bodies.{flag_of}
+use Rattle.bristol_reader.specs.Gates.{flag_of}
 use Rattle.bristol_reader.proofs.body.unset_output.Given as goal
 
 abbrev pub invariant-loop-i : goal.invariant-loop-i

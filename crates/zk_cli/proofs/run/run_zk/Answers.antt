@@ -1,7 +1,11 @@
 use Rattle.std.proofs.Common.{rules}
 use Rattle.zk_cli.specs.Changes.{shelf_change, sink_change}
+use Rattle.zk_cli.specs.DealRuns.{DealLines}
+use Rattle.zk_cli.specs.EvalRuns.{EvalLines}
 use Rattle.zk_cli.specs.Made.{IfRehearsed, effects}
 use Rattle.zk_cli.specs.RehearseRuns.{IsRehearsed, RehearseLines}
+use Rattle.zk_cli.proofs.DealOutcomes.{says_deal_memory, deal_statuses_mean}
+use Rattle.zk_cli.proofs.EvalOutcomes.{says_eval_memory, eval_statuses_mean, eval_done}
 use Rattle.zk_cli.proofs.Outcomes.{statuses_mean, has_outputs, has_numbers, rehearse_done}
 use Rattle.zk_cli.proofs.Stopping.{says_memory}
 use Rattle.zk_cli.proofs.run.run_zk.Goals as goal
@@ -9,20 +13,58 @@ use Rattle.zk_cli.proofs.run.run_zk.Goals as goal
 pub returns-in-Err-clause-rehearse_lines : goal.returns-in-Err-clause-rehearse_lines
 returns-in-Err-clause-rehearse_lines g c = λ ask is_asked. says_memory ask _ _ _ c.say_memory.ensures
 
-pub returns-clause-rehearse_outputs : goal.returns-clause-rehearse_outputs
-returns-clause-rehearse_outputs g c = λ ask is_asked.
+pub returns-in-Err-clause-eval_lines : goal.returns-in-Err-clause-eval_lines
+returns-in-Err-clause-eval_lines g c = λ ask is_asked. says_eval_memory ask _ _ _ c.say_memory.ensures
+
+pub returns-in-Eval-clause-eval_statuses : goal.returns-in-Eval-clause-eval_statuses
+returns-in-Eval-clause-eval_statuses g c = λ ask is_asked.
+    let shelf = shelf_change g.F.Shelf.told g.F.Shelf.faults g.F.Shelf.faults_of c.args.shelf.now c.run_eval.new.shelf in
+    let sink = sink_change g.O.Sink.written g.O.Sink.faults c.args.out.now c.run_eval.new.out in
+    let lines : EvalLines ask c.run_eval.result shelf sink = search rules in
+    (eval_statuses_mean ask c.run_eval.result shelf sink lines).statuses
+
+pub returns-in-Eval-clause-eval_0 : goal.returns-in-Eval-clause-eval_0
+returns-in-Eval-clause-eval_0 g c = λ ask is_asked.
+    let shelf = shelf_change g.F.Shelf.told g.F.Shelf.faults g.F.Shelf.faults_of c.args.shelf.now c.run_eval.new.shelf in
+    let sink = sink_change g.O.Sink.written g.O.Sink.faults c.args.out.now c.run_eval.new.out in
+    let lines : EvalLines ask c.run_eval.result shelf sink = search rules in
+    (eval_statuses_mean ask c.run_eval.result shelf sink lines).on_0
+
+pub returns-in-Eval-clause-eval_3 : goal.returns-in-Eval-clause-eval_3
+returns-in-Eval-clause-eval_3 g c = λ ask is_asked.
+    let shelf = shelf_change g.F.Shelf.told g.F.Shelf.faults g.F.Shelf.faults_of c.args.shelf.now c.run_eval.new.shelf in
+    let sink = sink_change g.O.Sink.written g.O.Sink.faults c.args.out.now c.run_eval.new.out in
+    let lines : EvalLines ask c.run_eval.result shelf sink = search rules in
+    (eval_statuses_mean ask c.run_eval.result shelf sink lines).on_3
+
+pub returns-in-Eval-clause-eval_4 : goal.returns-in-Eval-clause-eval_4
+returns-in-Eval-clause-eval_4 g c = λ ask is_asked.
+    let shelf = shelf_change g.F.Shelf.told g.F.Shelf.faults g.F.Shelf.faults_of c.args.shelf.now c.run_eval.new.shelf in
+    let sink = sink_change g.O.Sink.written g.O.Sink.faults c.args.out.now c.run_eval.new.out in
+    let lines : EvalLines ask c.run_eval.result shelf sink = search rules in
+    (eval_statuses_mean ask c.run_eval.result shelf sink lines).on_4
+
+pub returns-in-Eval-clause-eval_done : goal.returns-in-Eval-clause-eval_done
+returns-in-Eval-clause-eval_done g c = λ ask is_asked circuit ready calm.
+    let shelf = shelf_change g.F.Shelf.told g.F.Shelf.faults g.F.Shelf.faults_of c.args.shelf.now c.run_eval.new.shelf in
+    let sink = sink_change g.O.Sink.written g.O.Sink.faults c.args.out.now c.run_eval.new.out in
+    let lines : EvalLines ask c.run_eval.result shelf sink = search rules in
+    eval_done c.one_circuit.ensures ask c.run_eval.result shelf sink circuit lines ready calm
+
+pub returns-in-Rehearse-clause-rehearse_outputs : goal.returns-in-Rehearse-clause-rehearse_outputs
+returns-in-Rehearse-clause-rehearse_outputs g c = λ ask is_asked.
     let made : IfRehearsed c.run_rehearse-status.result.part (IsRehearsed (g.F.Shelf.told c.args.shelf.now) ask c.args.seed.now) =
     search rules in
     has_outputs c.run_rehearse-status.result.part (g.F.Shelf.told c.args.shelf.now) ask c.args.seed.now made
 
-pub returns-clause-rehearse_numbers : goal.returns-clause-rehearse_numbers
-returns-clause-rehearse_numbers g c = λ ask is_asked.
+pub returns-in-Rehearse-clause-rehearse_numbers : goal.returns-in-Rehearse-clause-rehearse_numbers
+returns-in-Rehearse-clause-rehearse_numbers g c = λ ask is_asked.
     let made : IfRehearsed c.run_rehearse-status.result.part (IsRehearsed (g.F.Shelf.told c.args.shelf.now) ask c.args.seed.now) =
     search rules in
     has_numbers c.run_rehearse-status.result.part (g.F.Shelf.told c.args.shelf.now) ask c.args.seed.now made
 
-pub returns-clause-rehearse_statuses : goal.returns-clause-rehearse_statuses
-returns-clause-rehearse_statuses g c = λ ask is_asked.
+pub returns-in-Rehearse-clause-rehearse_statuses : goal.returns-in-Rehearse-clause-rehearse_statuses
+returns-in-Rehearse-clause-rehearse_statuses g c = λ ask is_asked.
     let made : IfRehearsed c.run_rehearse-status.result.part (IsRehearsed (g.F.Shelf.told c.args.shelf.now) ask c.args.seed.now) =
     search rules in
     let run = effects c.run_rehearse-status.result.status c.run_rehearse-status.result.part
@@ -31,8 +73,8 @@ returns-clause-rehearse_statuses g c = λ ask is_asked.
     let lines : RehearseLines ask run = search rules in
     (statuses_mean ask c.args.seed.now run made lines).statuses
 
-pub returns-clause-rehearse_0 : goal.returns-clause-rehearse_0
-returns-clause-rehearse_0 g c = λ ask is_asked.
+pub returns-in-Rehearse-clause-rehearse_0 : goal.returns-in-Rehearse-clause-rehearse_0
+returns-in-Rehearse-clause-rehearse_0 g c = λ ask is_asked.
     let made : IfRehearsed c.run_rehearse-status.result.part (IsRehearsed (g.F.Shelf.told c.args.shelf.now) ask c.args.seed.now) =
     search rules in
     let run = effects c.run_rehearse-status.result.status c.run_rehearse-status.result.part
@@ -41,8 +83,8 @@ returns-clause-rehearse_0 g c = λ ask is_asked.
     let lines : RehearseLines ask run = search rules in
     (statuses_mean ask c.args.seed.now run made lines).on_0
 
-pub returns-clause-rehearse_3 : goal.returns-clause-rehearse_3
-returns-clause-rehearse_3 g c = λ ask is_asked.
+pub returns-in-Rehearse-clause-rehearse_3 : goal.returns-in-Rehearse-clause-rehearse_3
+returns-in-Rehearse-clause-rehearse_3 g c = λ ask is_asked.
     let made : IfRehearsed c.run_rehearse-status.result.part (IsRehearsed (g.F.Shelf.told c.args.shelf.now) ask c.args.seed.now) =
     search rules in
     let run = effects c.run_rehearse-status.result.status c.run_rehearse-status.result.part
@@ -51,8 +93,8 @@ returns-clause-rehearse_3 g c = λ ask is_asked.
     let lines : RehearseLines ask run = search rules in
     (statuses_mean ask c.args.seed.now run made lines).on_3
 
-pub returns-clause-rehearse_4 : goal.returns-clause-rehearse_4
-returns-clause-rehearse_4 g c = λ ask is_asked.
+pub returns-in-Rehearse-clause-rehearse_4 : goal.returns-in-Rehearse-clause-rehearse_4
+returns-in-Rehearse-clause-rehearse_4 g c = λ ask is_asked.
     let made : IfRehearsed c.run_rehearse-status.result.part (IsRehearsed (g.F.Shelf.told c.args.shelf.now) ask c.args.seed.now) =
     search rules in
     let run = effects c.run_rehearse-status.result.status c.run_rehearse-status.result.part
@@ -61,8 +103,8 @@ returns-clause-rehearse_4 g c = λ ask is_asked.
     let lines : RehearseLines ask run = search rules in
     (statuses_mean ask c.args.seed.now run made lines).on_4
 
-pub returns-clause-rehearse_9 : goal.returns-clause-rehearse_9
-returns-clause-rehearse_9 g c = λ ask is_asked.
+pub returns-in-Rehearse-clause-rehearse_9 : goal.returns-in-Rehearse-clause-rehearse_9
+returns-in-Rehearse-clause-rehearse_9 g c = λ ask is_asked.
     let made : IfRehearsed c.run_rehearse-status.result.part (IsRehearsed (g.F.Shelf.told c.args.shelf.now) ask c.args.seed.now) =
     search rules in
     let run = effects c.run_rehearse-status.result.status c.run_rehearse-status.result.part
@@ -71,12 +113,43 @@ returns-clause-rehearse_9 g c = λ ask is_asked.
     let lines : RehearseLines ask run = search rules in
     (statuses_mean ask c.args.seed.now run made lines).on_9
 
-pub returns-clause-rehearse_done : goal.returns-clause-rehearse_done
-returns-clause-rehearse_done g c = λ ask is_asked circuit ready calm.
+pub returns-in-Rehearse-clause-rehearse_done : goal.returns-in-Rehearse-clause-rehearse_done
+returns-in-Rehearse-clause-rehearse_done g c = λ ask is_asked circuit ready calm.
     let made : IfRehearsed c.run_rehearse-status.result.part (IsRehearsed (g.F.Shelf.told c.args.shelf.now) ask c.args.seed.now) =
     search rules in
     let run = effects c.run_rehearse-status.result.status c.run_rehearse-status.result.part
     (shelf_change g.F.Shelf.told g.F.Shelf.faults g.F.Shelf.faults_of c.args.shelf.now c.run_rehearse-status.new.shelf)
     (sink_change g.O.Sink.written g.O.Sink.faults c.args.out.now c.run_rehearse-status.new.out) in
     let lines : RehearseLines ask run = search rules in
-    rehearse_done ask c.args.seed.now run circuit made lines ready calm
+    rehearse_done c.one_circuit.ensures ask c.args.seed.now run circuit made lines ready calm
+
+pub returns-in-Err-clause-deal_lines : goal.returns-in-Err-clause-deal_lines
+returns-in-Err-clause-deal_lines g c = λ ask is_asked. says_deal_memory ask _ _ _ _ c.say_memory.ensures
+
+pub returns-in-Deal-clause-deal_statuses : goal.returns-in-Deal-clause-deal_statuses
+returns-in-Deal-clause-deal_statuses g c = λ ask is_asked.
+    let shelf = shelf_change g.F.Shelf.told g.F.Shelf.faults g.F.Shelf.faults_of c.args.shelf.now c.run_deal.new.shelf in
+    let sink = sink_change g.O.Sink.written g.O.Sink.faults c.args.out.now c.run_deal.new.out in
+    let lines : DealLines ask c.args.seed.now c.run_deal.result shelf sink = search rules in
+    (deal_statuses_mean ask c.args.seed.now c.run_deal.result shelf sink lines).statuses
+
+pub returns-in-Deal-clause-deal_0 : goal.returns-in-Deal-clause-deal_0
+returns-in-Deal-clause-deal_0 g c = λ ask is_asked.
+    let shelf = shelf_change g.F.Shelf.told g.F.Shelf.faults g.F.Shelf.faults_of c.args.shelf.now c.run_deal.new.shelf in
+    let sink = sink_change g.O.Sink.written g.O.Sink.faults c.args.out.now c.run_deal.new.out in
+    let lines : DealLines ask c.args.seed.now c.run_deal.result shelf sink = search rules in
+    (deal_statuses_mean ask c.args.seed.now c.run_deal.result shelf sink lines).on_0
+
+pub returns-in-Deal-clause-deal_4 : goal.returns-in-Deal-clause-deal_4
+returns-in-Deal-clause-deal_4 g c = λ ask is_asked.
+    let shelf = shelf_change g.F.Shelf.told g.F.Shelf.faults g.F.Shelf.faults_of c.args.shelf.now c.run_deal.new.shelf in
+    let sink = sink_change g.O.Sink.written g.O.Sink.faults c.args.out.now c.run_deal.new.out in
+    let lines : DealLines ask c.args.seed.now c.run_deal.result shelf sink = search rules in
+    (deal_statuses_mean ask c.args.seed.now c.run_deal.result shelf sink lines).on_4
+
+pub returns-in-Deal-clause-deal_done : goal.returns-in-Deal-clause-deal_done
+returns-in-Deal-clause-deal_done g c = λ ask is_asked.
+    let shelf = shelf_change g.F.Shelf.told g.F.Shelf.faults g.F.Shelf.faults_of c.args.shelf.now c.run_deal.new.shelf in
+    let sink = sink_change g.O.Sink.written g.O.Sink.faults c.args.out.now c.run_deal.new.out in
+    let lines : DealLines ask c.args.seed.now c.run_deal.result shelf sink = search rules in
+    (deal_statuses_mean ask c.args.seed.now c.run_deal.result shelf sink lines).done

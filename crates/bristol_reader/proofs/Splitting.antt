@@ -1,0 +1,154 @@
+-- The tokens of a text, taken off one after another.
+use Rattle.std.proofs.Common.{◌≡◌, ℕ, zero, suc, ◌+◌, ◌*◌, ◌-◌, ◌<◌, ◌≤◌, Bool, true, false, List, [], ◌∷◌, ◌++◌, map, filter, length, take, drop, get_or, min, refl, ap, sym, ◌∙◌, subst, arith, append-nil, length-take, length-drop}
+use Rattle.std.specs.Prelude.{All, nat_le, nat_lt, ◌||◌, ◌==◌, ◌&&◌, if◌then◌else◌}
+use Rattle.std.specs.List.{list_all, slice_split}
+use Rattle.std.proofs.lemmas.List.{drop_all, drop_more, take_more, take_all, take-append-drop}
+use Rattle.std.proofs.lemmas.List.Elements.{All-push}
+use Rattle.std.proofs.lemmas.List.Folds.{list_all-append}
+use Rattle.std.proofs.lemmas.List.Splits.{slice_split-cons_yes, slice_split_none, slice_split_at}
+use Rattle.std.proofs.lemmas.List.Sums.{fold_push}
+use Rattle.std.proofs.lemmas.Bool.{leb-true, lt-ltb, ne_eqb}
+use Rattle.zk_model.specs.Bristol.{number, name, is_blank, is_digit, decimal_value, tokens, lexeme, lexemes}
+use Rattle.bristol_reader.specs.declared.tokens.Scanned.{Scanned}
+use Rattle.bristol_reader.specs.declared.tokens.Word.TheVariants.{Number}
+use Rattle.bristol_reader.specs.Words.{greatest, left_of, word_of, BeginsToken, EndsToken}
+use Rattle.bristol_reader.specs.Scans.{AreScanned, IsScanned}
+
+-- ---- tokens
+
+abbrev kept : List (List ℕ) → List (List ℕ)
+kept pieces = filter (λ piece. nat_lt 0 (length piece)) pieces
+
+pub tokens_blank : (byte : ℕ) (text : List ℕ) → is_blank byte ≡ true → tokens (byte ∷ text) ≡ tokens text
+tokens_blank byte text blank = ap kept (slice_split-cons_yes is_blank byte text blank)
+
+kept_first : (token : List ℕ) (pieces : List (List ℕ)) → 0 < length token → kept (token ∷ pieces) ≡ token ∷ kept pieces
+kept_first token pieces some = chosen (nat_lt 0 (length token)) (lt-ltb 0 (length token) some)
+  where
+    chosen : (b : Bool) → b ≡ true → (if b then token ∷ kept pieces else kept pieces) ≡ token ∷ kept pieces
+    chosen true on = refl
+    chosen false on = cc
+
+-- a first token, and what is behind it
+tokens_first : (token rest : List ℕ) → 0 < length token → All (λ byte. is_blank byte ≡ false) token → EndsToken rest
+    → tokens (token ++ rest) ≡ token ∷ tokens rest
+tokens_first token [] some unbroken ends =
+    ap tokens (append-nil token) ∙ ap kept (slice_split_none is_blank token unbroken) ∙ kept_first token [] some
+tokens_first token (byte ∷ rest) some unbroken ends =
+    ap kept (slice_split_at is_blank token byte rest unbroken ends) ∙ kept_first token (slice_split is_blank rest) some
+    ∙ ap (λ l. token ∷ l) (sym (tokens_blank byte rest ends))
+
+-- ---- a token, byte by byte
+
+-- a digit is no blank
+digit_no_blank : (byte : ℕ) → is_digit byte ≡ true → is_blank byte ≡ false
+digit_no_blank byte digit =
+    let low : 48 ≤ byte = leb-true 48 byte (first (nat_le 48 byte) (nat_le byte 57) digit) in
+    (λ i. apart 32 (omega arith) i || apart 9 (omega arith) i || apart 13 (omega arith) i || apart 10 (omega arith) i)
+  where
+    first : (a b : Bool) → (a && b) ≡ true → a ≡ true
+    first true b on = refl
+    first false b on = on
+
+    apart : (other : ℕ) → other < byte → (byte == other) ≡ false
+    apart other less = ne_eqb byte other (λ same. absurd (omega (arith, same)))
+
+pub scan_digit : (text : List ℕ) (i : ℕ) (is_number now : Bool) (value more : ℕ) → i < length text → is_digit (get_or text i 0) ≡ true
+    → now ≡ is_number → more ≡ min (10 * value + (get_or text i 0 - 48)) greatest → AreScanned (take i text) is_number value → AreScanned (take (i + 1) text) now more
+scan_digit text i is_number now value more within digit same more_is far =
+    let byte : ℕ = get_or text i 0 in
+    let next : take (i + 1) text ≡ take i text ++ byte ∷ [] = take_more text i 0 within in
+    let all : list_all is_digit (take i text ++ byte ∷ []) ≡ list_all is_digit (take i text) =
+    list_all-append is_digit (take i text) (byte ∷ []) ∙ last (list_all is_digit (take i text)) (is_digit byte) digit in
+    subst (λ (l : List ℕ). AreScanned l now more) (sym next) (record {
+      unbroken = All-push (λ b. is_blank b ≡ false) (take i text) byte far.unbroken (digit_no_blank byte digit);
+      digits = same ∙ far.digits ∙ sym all;
+      value_is = λ on. more_is ∙ capped value (decimal_value (take i text)) (decimal_value (take i text ++ byte ∷ [])) byte (far.value_is (sym same ∙ on))
+          (fold_push (λ n c. 10 * n + (c - 48)) 0 (take i text) byte);
+    })
+  where
+    last : (d e : Bool) → e ≡ true → (d && (e && true)) ≡ d
+    last true true on = refl
+    last true false on = cc
+    last false e on = refl
+
+    capped : (value exact more byte : ℕ) → value ≡ min exact greatest → more ≡ 10 * exact + (byte - 48) → min (10 * value + (byte - 48)) greatest ≡ min more greatest
+    capped value exact more byte is next = omega arith
+
+pub scan_other : (text : List ℕ) (i : ℕ) (is_number now : Bool) (value more : ℕ) → i < length text → is_blank (get_or text i 0) ≡ false → is_digit (get_or text i 0) ≡ false
+    → now ≡ false → AreScanned (take i text) is_number value → AreScanned (take (i + 1) text) now more
+scan_other text i is_number now value more within no_blank other off far =
+    let byte : ℕ = get_or text i 0 in
+    let next : take (i + 1) text ≡ take i text ++ byte ∷ [] = take_more text i 0 within in
+    subst (λ (l : List ℕ). AreScanned l now more) (sym next) (record {
+      unbroken = All-push (λ b. is_blank b ≡ false) (take i text) byte far.unbroken no_blank;
+      digits = off ∙ sym (list_all-append is_digit (take i text) (byte ∷ []) ∙ last (list_all is_digit (take i text)) (is_digit byte) other);
+      value_is = λ on. let no : true ≡ false = sym on ∙ off in absurd cc;
+    })
+  where
+    last : (d e : Bool) → e ≡ false → (d && (e && true)) ≡ false
+    last true true off = cc
+    last true false off = refl
+    last false e off = refl
+
+-- digits that are scanned say their number
+pub scanned_number : (bytes : List ℕ) (value : ℕ) → AreScanned bytes true value → Number value ≡ word_of (lexeme bytes)
+unfolding word_of
+scanned_number bytes value far = said (list_all is_digit bytes) (sym far.digits)
+  where
+    said : (b : Bool) → b ≡ true → Number value ≡ word_of (if b then number (decimal_value bytes) else name bytes)
+    said true on = ap Number (far.value_is refl)
+    said false on = cc
+
+-- a number up to a blank, or up to the text's end
+pub scan_ended : (text : List ℕ) (i value : ℕ) → i < length text → is_blank (get_or text i 0) ≡ true → AreScanned (take i text) true value
+    → IsScanned text (record { length = i; word = Number value })
+scan_ended text i value within blank far = record {
+  within = omega arith;
+  unbroken = far.unbroken;
+  ends = subst EndsToken (sym (drop_more text i 0 within)) blank;
+  word_is = scanned_number (take i text) value far;
+}
+
+pub scan_whole : (text : List ℕ) (i value : ℕ) → i ≡ length text → AreScanned (take i text) true value
+    → IsScanned text (record { length = length text; word = Number value })
+scan_whole text i value all far = subst (λ (n : ℕ). IsScanned text (record { length = n; word = Number value })) all (record {
+  within = omega arith;
+  unbroken = far.unbroken;
+  ends = subst EndsToken (sym (drop_all i text (omega arith))) tt;
+  word_is = scanned_number (take i text) value far;
+})
+
+-- ---- what is left of a text
+
+-- a token that begins is not empty
+token_some : (start : List ℕ) (n : ℕ) → 0 < length start → BeginsToken start → EndsToken (drop n start) → 0 < n
+token_some [] n some begins ends = absurd (omega arith)
+token_some (byte ∷ start) zero some begins ends = absurd cc
+token_some (byte ∷ start) (suc n) some begins ends = omega arith
+
+longer : (start : List ℕ) (n : ℕ) → 0 < length start → BeginsToken start → n ≤ length start → EndsToken (drop n start) → 0 < length (take n start)
+longer start n some begins within ends = omega (arith, length-take n start, token_some start n some begins ends)
+
+pub some_bytes : (text : List ℕ) (b : Bool) → b ≡ (length text == 0) → b ≡ false → 0 < length text
+some_bytes [] b is off = let on : b ≡ true = is in absurd cc
+some_bytes (byte ∷ text) b is off = omega arith
+
+pub left_end : (rest start : List ℕ) → tokens start ≡ tokens rest → length start ≡ 0 → left_of rest ≡ []
+unfolding left_of
+left_end rest start same none = ap (map lexeme) (sym same ∙ ap tokens (empty start none))
+  where
+    empty : (l : List ℕ) → length l ≡ 0 → l ≡ []
+    empty [] e = refl
+    empty (x ∷ l) e = absurd (omega arith)
+
+-- the first bytes of a text up to a blank are its first token
+pub left_next : (rest start : List ℕ) (scanned : Scanned) → tokens start ≡ tokens rest → 0 < length start → BeginsToken start → IsScanned start scanned
+    → left_of rest ≡ lexeme (take scanned.length start) ∷ left_of (take (length start - scanned.length) (drop scanned.length start))
+unfolding left_of
+left_next rest start scanned same some begins is =
+    let token : List ℕ = take scanned.length start in
+    let behind : List ℕ = drop scanned.length start in
+    let first : tokens (token ++ behind) ≡ token ∷ tokens behind = tokens_first token behind (longer start scanned.length some begins is.within is.ends) is.unbroken is.ends in
+    ap (map lexeme) (sym same ∙ ap tokens (sym (take-append-drop scanned.length start)) ∙ first)
+    ∙ ap (λ l. lexeme token ∷ lexemes l) (sym (take_all (length start - scanned.length) behind (omega (arith, length-drop scanned.length start))))

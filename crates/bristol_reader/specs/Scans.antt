@@ -1,0 +1,19 @@
+-- A token, byte by byte.
+use Rattle.std.specs.Prelude.{◌≡◌, ℕ, ◌≤◌, Bool, true, false, List, length, take, drop, min, All}
+use Rattle.std.specs.List.{list_all}
+use Rattle.zk_model.specs.Bristol.{is_blank, is_digit, decimal_value, lexeme}
+use Rattle.bristol_reader.specs.declared.tokens.Scanned.{Scanned}
+use Rattle.bristol_reader.specs.Words.{greatest, word_of, EndsToken}
+
+-- bytes without a blank: whether all are digits, and if so their number
+pub record AreScanned (bytes : List ℕ) (is_number : Bool) (value : ℕ) : Type 0 where
+  pub unbroken : All (λ byte. is_blank byte ≡ false) bytes
+  pub digits : is_number ≡ list_all is_digit bytes
+  pub value_is : is_number ≡ true → value ≡ min (decimal_value bytes) greatest
+
+-- the first bytes of a text up to a blank, and the word that they say
+pub record IsScanned (text : List ℕ) (scanned : Scanned) : Type 0 where
+  pub within : scanned.length ≤ length text
+  pub unbroken : All (λ byte. is_blank byte ≡ false) (take scanned.length text)
+  pub ends : EndsToken (drop scanned.length text)
+  pub word_is : scanned.word ≡ word_of (lexeme (take scanned.length text))

@@ -1,0 +1,75 @@
+-- What is wanted of a text's next tokens.
+use Rattle.std.specs.Prelude.{◌≡◌, ℕ, ◌+◌, Bool, if◌then◌else◌, Option, None, Some, List, [], ◌∷◌, ◌++◌, length, codes, min}
+use Rattle.zk_model.specs.Bristol.{Lexeme, number}
+use Rattle.zk_model.specs.TextFaults.{Want, first_lexeme_fault}
+use Rattle.zk_model.specs.declared.ReadFault.{ReadFault}
+use Rattle.bristol_reader.specs.declared.tokens.GateName.TheVariants.{And, Xor, Inv, Eq, Eqw, Other}
+use Rattle.bristol_reader.specs.declared.tokens.Word.{Word}
+use Rattle.bristol_reader.specs.declared.tokens.Word.TheVariants.{Number, Name}
+use Rattle.bristol_reader.specs.declared.wants.Pair.{Pair}
+use Rattle.bristol_reader.specs.declared.wants.Pair.TheVariants as pair
+use Rattle.bristol_reader.specs.declared.wants.Single.{Single}
+use Rattle.bristol_reader.specs.declared.wants.Single.TheVariants as single
+use Rattle.bristol_reader.specs.declared.wants.Placed.{Placed}
+use Rattle.bristol_reader.specs.Words.{greatest, Place, Takes}
+
+-- the fault of the token at a place
+abbrev pub next_fault : Want → Place → Option ReadFault
+next_fault want place = first_lexeme_fault want place.left place.taken
+
+-- what is wanted behind some tokens
+abbrev pub Wanting : Type 1
+Wanting = List Lexeme → Want → Type 0
+
+-- some tokens are right, and the one behind them is not what is wanted there
+pub record IsFaultBehind (Wants : Wanting) (before : Place) (fault : ReadFault) : Type 0 where
+  pub part : List Lexeme
+  pub behind : List Lexeme
+  pub want : Want
+  pub left : before.left ≡ part ++ behind
+  pub wanted : Wants part want
+  pub fault_is : first_lexeme_fault want behind (before.taken + length part) ≡ Some fault
+
+-- a number as it is read
+pub record IsPlaced (placed : Placed) (exact token : ℕ) : Type 0 where
+  pub number_is : placed.number ≡ min exact greatest
+  pub token_is : placed.token ≡ token
+
+-- a number stands between two places, and this is how it is read
+pub record TakesNumber (before after : Place) (placed : Placed) : Type 0 where
+  pub exact : ℕ
+  pub is : IsPlaced placed exact before.taken
+  pub takes : Takes (number exact ∷ []) before after
+
+-- how many inputs a gate has
+abbrev pub inputs_of : Bool → ℕ
+inputs_of is_pair = if is_pair then 2 else 1
+
+-- the gate with two inputs, or with one, that a word names
+abbrev pub pair_of : Word → Option Pair
+pair_of (Name And) = Some pair.And
+pair_of (Name Xor) = Some pair.Xor
+pair_of (Name Inv) = None
+pair_of (Name Eq) = None
+pair_of (Name Eqw) = None
+pair_of (Name Other) = None
+pair_of (Number n) = None
+
+abbrev pub single_of : Word → Option Single
+single_of (Name Inv) = Some single.Inv
+single_of (Name Eq) = Some single.Eq
+single_of (Name Eqw) = Some single.Eqw
+single_of (Name And) = None
+single_of (Name Xor) = None
+single_of (Name Other) = None
+single_of (Number n) = None
+
+-- the names of gates
+abbrev pub pair_text : Pair → List ℕ
+pair_text pair.And = codes "AND"
+pair_text pair.Xor = codes "XOR"
+
+abbrev pub single_text : Single → List ℕ
+single_text single.Inv = codes "INV"
+single_text single.Eq = codes "EQ"
+single_text single.Eqw = codes "EQW"

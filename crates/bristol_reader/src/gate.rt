@@ -1,0 +1,163 @@
+// A gate of a circuit's text.
+ghost use Rattle.std.specs.Prelude.{◌≡◌, ◌≤◌, ◌^◌, IfOk, IfErr, length};
+ghost use Rattle.zk_model.specs.Bristol.{gate_lexemes};
+ghost use Rattle.bristol_reader.specs.Words.{Takes};
+ghost use Rattle.bristol_reader.specs.Gates.{IsSetWire, IsNoSetWire, IsFreeWire, IsNoFreeWire};
+ghost use Rattle.bristol_reader.specs.Gates.{MayBeInput, MayNotBeInput};
+ghost use Rattle.bristol_reader.specs.Gates.{FitsFlags, pair_gate, single_gate, IsWrongPair, IsWrongSingle};
+ghost use Rattle.bristol_reader.specs.Gates.{IsGateFault, IsGateBehind, IsFaultIn};
+
+use crate::tokens::Tokens;
+use crate::wants::{Pair, Placed, Single};
+use zk_model::{GateRow, ReadFault};
+
+/// The wire that a gate reads, which is to be set.
+fn read_wire(set: &[bool], wire: Placed) -> Result<u32, ReadFault>
+    ensures wire { IfOk result (IsSetWire set.now wire) }
+    ensures fault { IfErr result (IsNoSetWire set.now wire) }
+{
+    let Placed { number, token } = wire;
+    if number as usize >= set.len() {
+        return Err(ReadFault::WireRange { token });
+    }
+    if !set[number as usize] {
+        return Err(ReadFault::ReadBeforeSet { token });
+    }
+    Ok(number)
+}
+
+/// The wire that a gate sets, which is not to be set before.
+fn set_wire(set: &[bool], wire: Placed) -> Result<u32, ReadFault>
+    ensures wire { IfOk result (IsFreeWire set.now wire) }
+    ensures fault { IfErr result (IsNoFreeWire set.now wire) }
+{
+    let Placed { number, token } = wire;
+    if number as usize >= set.len() {
+        return Err(ReadFault::WireRange { token });
+    }
+    if set[number as usize] {
+        return Err(ReadFault::SetTwice { token });
+    }
+    Ok(number)
+}
+
+/// Looks at the input of a gate: EQ has a constant, and the others a wire that is to be set.
+fn check_input(set: &[bool], name: Single, input: Placed) -> Result<(), ReadFault>
+    ensures input { IfOk result (λ _. MayBeInput set.now name input) }
+    ensures fault { IfErr result (MayNotBeInput set.now name input) }
+{
+    match name {
+        Single::Inv | Single::Eqw => {
+            read_wire(set, input)?;
+        }
+        Single::Eq => {
+            if input.number > 1 {
+                return Err(ReadFault::BadConstant { token: input.token });
+            }
+        }
+    }
+    Ok(())
+}
+
+/// The gate of a name with two inputs.
+fn pair_gate(name: Pair, a: u32, b: u32, out: u32) -> GateRow
+    ensures { result ≡ pair_gate name a b out }
+{
+    match name {
+        Pair::And => GateRow::And { a, b, out },
+        Pair::Xor => GateRow::Xor { a, b, out },
+    }
+}
+
+/// The gate of a name with one input.
+fn single_gate(name: Single, input: u32, out: u32) -> GateRow
+    ensures { result ≡ single_gate name input out }
+{
+    match name {
+        Single::Inv => GateRow::Inv { a: input, out },
+        Single::Eqw => GateRow::Eqw { a: input, out },
+        Single::Eq => GateRow::Eq {
+            value: input == 1,
+            out,
+        },
+    }
+}
+
+/// The gate with two inputs, if the wires that it reads are set and the one that it sets is not.
+fn pair_row(
+    set: &[bool],
+    name: Pair,
+    a: Placed,
+    b: Placed,
+    out: Placed,
+) -> Result<GateRow, ReadFault>
+    requires { length set.now ≤ 2 ^ 20 }
+    ensures row { IfOk result (λ gate. gate ≡ pair_gate name a.number b.number out.number) }
+    ensures fits { IfOk result (FitsFlags set.now) }
+    ensures fault { IfErr result (IsWrongPair set.now name a b out) }
+{
+    let a = read_wire(set, a)?;
+    let b = read_wire(set, b)?;
+    let out = set_wire(set, out)?;
+    Ok(pair_gate(name, a, b, out))
+}
+
+/// The gate with one input, if that is right, and the wire that it sets is not set before.
+fn single_row(set: &[bool], name: Single, input: Placed, out: Placed) -> Result<GateRow, ReadFault>
+    requires { length set.now ≤ 2 ^ 20 }
+    ensures row { IfOk result (λ gate. gate ≡ single_gate name input.number out.number) }
+    ensures input { IfOk result (λ _. MayBeInput set.now name input) }
+    ensures fits { IfOk result (FitsFlags set.now) }
+    ensures fault { IfErr result (IsWrongSingle set.now name input out) }
+{
+    check_input(set, name, input)?;
+    let out = set_wire(set, out)?;
+    Ok(single_gate(name, input.number, out))
+}
+
+/// Takes the tokens of a gate with two inputs behind their numbers of inputs and of outputs.
+fn read_pair(tokens: &mut Tokens, set: &[bool]) -> Result<GateRow, ReadFault>
+    requires { length set.now ≤ 2 ^ 20 }
+    ensures gate { IfOk result (IsGateBehind 2 tokens.old tokens.new) }
+    ensures fits { IfOk result (FitsFlags set.now) }
+    ensures fault { IfErr result (IsFaultIn 2 set.now tokens.old) }
+{
+    let a = tokens.number()?;
+    let b = tokens.number()?;
+    let out = tokens.number()?;
+    let name = tokens.pair()?;
+    let row = pair_row(set, name, a, b, out)?;
+    Ok(row)
+}
+
+/// Takes the tokens of a gate with one input.
+fn read_single(tokens: &mut Tokens, set: &[bool]) -> Result<GateRow, ReadFault>
+    requires { length set.now ≤ 2 ^ 20 }
+    ensures gate { IfOk result (IsGateBehind 1 tokens.old tokens.new) }
+    ensures fits { IfOk result (FitsFlags set.now) }
+    ensures fault { IfErr result (IsFaultIn 1 set.now tokens.old) }
+{
+    let a = tokens.number()?;
+    let out = tokens.number()?;
+    let name = tokens.single()?;
+    let row = single_row(set, name, a, out)?;
+    Ok(row)
+}
+
+/// Takes the tokens of a gate.
+pub fn read_gate(tokens: &mut Tokens, set: &[bool]) -> Result<GateRow, ReadFault>
+    requires { length set.now ≤ 2 ^ 20 }
+    ensures gate { IfOk result (λ gate. Takes (gate_lexemes gate) tokens.old tokens.new) }
+    ensures fits { IfOk result (FitsFlags set.now) }
+    ensures fault { IfErr result (IsGateFault set.now tokens.old) }
+{
+    let is_pair = tokens.two_inputs()?;
+    tokens.one_output()?;
+    if is_pair {
+        let gate = read_pair(tokens, set)?;
+        Ok(gate)
+    } else {
+        let gate = read_single(tokens, set)?;
+        Ok(gate)
+    }
+}

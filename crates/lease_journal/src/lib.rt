@@ -1,0 +1,76 @@
+//! Journals, in which each end of a session writes down which units are spent. So far there are only new ones.
+//!
+//! A journal is a header of 64 bytes and slots of 32 bytes. Numbers have their low byte first. In the header stand
+//! `WQSJRNL1` in ASCII, the byte of the kind (0 the prover's claims, 1 the verifier's ceilings), 7 zero bytes, the total
+//! of units and the number of slots, 8 bytes each, and the id of the dealt files, 32 bytes.
+#![tactic(auto)]
+
+ghost use Rattle.std.specs.Prelude.{◌≡◌, ◌^◌, ◌≤◌, ◌++◌, IfOk, OnOk};
+ghost use Rattle.zk_model.specs.Journals.{blank_journal_bytes, ceiling_slots, claim_slots, journal_code, journal_header};
+
+use std::alloc::{AllocError, Global};
+pub use zk_model::JournalKind;
+
+/// A new journal of this many slots, in which all bytes behind the header are 0.
+///
+/// # Errors
+///
+/// Only where memory runs out.
+pub fn blank(
+    alloc: Global,
+    kind: JournalKind,
+    id: &[u8; 32],
+    total: u64,
+    slots: u64,
+) -> Result<Vec<u8>, AllocError>
+    requires { slots ≤ 2 ^ 28 }
+    ensures { IfOk result (λ bytes. bytes.items ≡ blank_journal_bytes kind id.now total slots) }
+{
+    let length = 64 + 32 * slots as usize;
+    let mut bytes = Vec::with_capacity(alloc, length)?;
+    push_header(&mut bytes, kind, id, total, slots)?;
+    bytes.resize(length, 0)?;
+    Ok(bytes)
+}
+
+/// Appends the first 64 bytes of a journal.
+fn push_header(
+    bytes: &mut Vec<u8>,
+    kind: JournalKind,
+    id: &[u8; 32],
+    total: u64,
+    slots: u64,
+) -> Result<(), AllocError>
+    ensures { OnOk result (bytes.new.items ≡ bytes.old.items ++ journal_header kind id.now total slots) }
+{
+    bytes.extend_from_slice(b"WQSJRNL1")?;
+    bytes.extend_from_slice(&[journal_code(kind), 0, 0, 0, 0, 0, 0, 0])?;
+    bytes.extend_from_slice(&total.to_le_bytes())?;
+    bytes.extend_from_slice(&slots.to_le_bytes())?;
+    bytes.extend_from_slice(id)?;
+    Ok(())
+}
+
+/// The byte of a kind.
+fn journal_code(kind: JournalKind) -> u8
+    ensures { result ≡ journal_code kind }
+{
+    match kind {
+        JournalKind::Claims => 0,
+        JournalKind::Ceilings => 1,
+    }
+}
+
+/// How many slots the verifier's journal has for this many units: one for each 16, rounded up.
+pub fn ceiling_slots(total: u64) -> u64
+    ensures { result ≡ ceiling_slots total }
+{
+    total.div_ceil(16)
+}
+
+/// How many slots the prover's journal has that is made with its dealt file: one for each unit, and at most 4,096.
+pub fn claim_slots(total: u64) -> u64
+    ensures { result ≡ claim_slots total }
+{
+    total.min(4096)
+}

@@ -1,0 +1,237 @@
+// `deal NAME --units N [--trees T --height H --base K]`
+ghost use Rattle.std.specs.Prelude.{◌≡◌, ◌≤◌, ◌^◌, ◌++◌, IfOk, IfErr, OnOk, string_bytes};
+ghost use Rattle.std.specs.Option.{option_map};
+ghost use Rattle.zk_model.specs.Dealing.{dealt_prover};
+ghost use Rattle.zk_model.specs.FileBytes.{prover_file_bytes, verifier_file_bytes};
+ghost use Rattle.zk_model.specs.Files.{AreParams};
+ghost use Rattle.zk_port.specs.Files.{stored};
+ghost use Rattle.zk_cli.specs.Changes.{shelf_change, sink_change, CountsStay, OnlyStores};
+ghost use Rattle.zk_cli.specs.DealRuns.{DealLines, IsDealName, StoreStop, StoresDealt};
+ghost use Rattle.zk_cli.specs.DealRuns.{ending, file_lines, kind_name, with_files, with_journals};
+ghost use Rattle.zk_cli.specs.declared.deal_command.Stored.TheVariants as kinds;
+ghost use Rattle.zk_cli.specs.Stops.{PrintsMade};
+ghost use Rattle.zk_cli.specs.Words.{deal_ask};
+
+use crate::say::{say, say_memory, say_stop};
+use crate::stop::Stop;
+use dealer_files::{Kind, Params, ProverFile, VerifierFile, deal};
+use lease_journal::{JournalKind, blank, ceiling_slots, claim_slots};
+use std::alloc::{AllocError, Global};
+use zk_port::{Shelf, Sink};
+
+/// The files that are stored.
+#[derive(Clone, Copy, Debug, PartialEq, Eq)]
+pub enum Stored {
+    ProverFile,
+    VerifierFile,
+    ProverJournal,
+    VerifierJournal,
+}
+
+impl Stored {
+    /// How the name of the file ends.
+    fn ending(self) -> &'static str
+        ensures { result.now ≡ ending self }
+    {
+        match self {
+            Stored::ProverFile => ".prover",
+            Stored::VerifierFile => ".verifier",
+            Stored::ProverJournal => ".prover.journal",
+            Stored::VerifierJournal => ".verifier.journal",
+        }
+    }
+}
+
+/// The name of a file.
+fn name_of(alloc: Global, name: &str, file: Stored) -> Result<String, AllocError>
+    ensures { IfOk result (λ whole. string_bytes whole ≡ name.now ++ ending file) }
+{
+    let ending = file.ending();
+    Ok(format!(in alloc; "{name}{ending}")?)
+}
+
+/// Stores the bytes under the name of this file.
+fn store_as<F: Shelf>(
+    alloc: Global,
+    shelf: &mut F,
+    name: &str,
+    file: Stored,
+    bytes: &[u8],
+) -> Result<(), Stop>
+    ensures stored { OnOk result (F.told shelf.new
+        ≡ option_map (stored (name.now ++ ending file) bytes.now) (F.told shelf.old)) }
+    ensures quiet { OnOk result (CountsStay (shelf_change F.told F.faults F.faults_of shelf.old shelf.new)) }
+    ensures stop { IfErr result
+        (StoreStop name.now (shelf_change F.told F.faults F.faults_of shelf.old shelf.new)) }
+    ensures kept { OnlyStores (IsDealName name.now)
+        (shelf_change F.told F.faults F.faults_of shelf.old shelf.new) }
+{
+    let whole = name_of(alloc, name, file)?;
+    shelf.store(alloc, &whole, bytes)?;
+    Ok(())
+}
+
+/// Stores the prover's file.
+fn store_prover<F: Shelf>(
+    alloc: Global,
+    shelf: &mut F,
+    name: &str,
+    prover: &ProverFile,
+) -> Result<(), Stop>
+    ensures stored { OnOk result (F.told shelf.new ≡ option_map
+        (stored (name.now ++ ending kinds.ProverFile) (prover_file_bytes prover.now)) (F.told shelf.old)) }
+    ensures quiet { OnOk result (CountsStay (shelf_change F.told F.faults F.faults_of shelf.old shelf.new)) }
+    ensures stop { IfErr result
+        (StoreStop name.now (shelf_change F.told F.faults F.faults_of shelf.old shelf.new)) }
+    ensures kept { OnlyStores (IsDealName name.now)
+        (shelf_change F.told F.faults F.faults_of shelf.old shelf.new) }
+{
+    let bytes = prover.encode(alloc)?;
+    store_as(alloc, shelf, name, Stored::ProverFile, &bytes)
+}
+
+/// Stores the verifier's file.
+fn store_verifier<F: Shelf>(
+    alloc: Global,
+    shelf: &mut F,
+    name: &str,
+    verifier: &VerifierFile,
+) -> Result<(), Stop>
+    ensures stored { OnOk result (F.told shelf.new ≡ option_map
+        (stored (name.now ++ ending kinds.VerifierFile) (verifier_file_bytes verifier.now)) (F.told shelf.old)) }
+    ensures quiet { OnOk result (CountsStay (shelf_change F.told F.faults F.faults_of shelf.old shelf.new)) }
+    ensures stop { IfErr result
+        (StoreStop name.now (shelf_change F.told F.faults F.faults_of shelf.old shelf.new)) }
+    ensures kept { OnlyStores (IsDealName name.now)
+        (shelf_change F.told F.faults F.faults_of shelf.old shelf.new) }
+{
+    let bytes = verifier.encode(alloc)?;
+    store_as(alloc, shelf, name, Stored::VerifierFile, &bytes)
+}
+
+/// Stores both journals, in which nothing is written yet.
+fn store_journals<F: Shelf>(
+    alloc: Global,
+    shelf: &mut F,
+    name: &str,
+    id: &[u8; 32],
+    total: u64,
+) -> Result<(), Stop>
+    requires { total ≤ 2 ^ 32 }
+    ensures stored { OnOk result (F.told shelf.new ≡ option_map
+        (with_journals name.now id.now total) (F.told shelf.old)) }
+    ensures quiet { OnOk result (CountsStay (shelf_change F.told F.faults F.faults_of shelf.old shelf.new)) }
+    ensures stop { IfErr result
+        (StoreStop name.now (shelf_change F.told F.faults F.faults_of shelf.old shelf.new)) }
+    ensures kept { OnlyStores (IsDealName name.now)
+        (shelf_change F.told F.faults F.faults_of shelf.old shelf.new) }
+{
+    let claims = blank(alloc, JournalKind::Claims, id, total, claim_slots(total))?;
+    let ceilings = blank(
+        alloc,
+        JournalKind::Ceilings,
+        id,
+        total,
+        ceiling_slots(total),
+    )?;
+    store_as(alloc, shelf, name, Stored::ProverJournal, &claims)?;
+    store_as(alloc, shelf, name, Stored::VerifierJournal, &ceilings)
+}
+
+/// Stores both files and both journals.
+fn store_dealt<F: Shelf>(
+    alloc: Global,
+    shelf: &mut F,
+    name: &str,
+    prover: &ProverFile,
+    verifier: &VerifierFile,
+) -> Result<(), Stop>
+    ensures stored { OnOk result (F.told shelf.new ≡ option_map
+        (with_files name.now prover.now verifier.now) (F.told shelf.old)) }
+    ensures quiet { OnOk result (CountsStay (shelf_change F.told F.faults F.faults_of shelf.old shelf.new)) }
+    ensures stop { IfErr result
+        (StoreStop name.now (shelf_change F.told F.faults F.faults_of shelf.old shelf.new)) }
+    ensures kept { OnlyStores (IsDealName name.now)
+        (shelf_change F.told F.faults F.faults_of shelf.old shelf.new) }
+{
+    store_prover(alloc, shelf, name, prover)?;
+    store_verifier(alloc, shelf, name, verifier)?;
+    store_journals(alloc, shelf, name, &prover.id(), prover.total())
+}
+
+/// The name of a kind.
+fn kind_name(kind: Kind) -> &'static str
+    ensures { result.now ≡ kind_name kind }
+{
+    match kind {
+        Kind::Direct => "direct",
+        Kind::Extended => "extended",
+    }
+}
+
+/// The lines of the files that are stored.
+fn write_dealt(alloc: Global, prover: &ProverFile) -> Result<String, AllocError>
+    ensures { IfOk result (λ lines. string_bytes lines ≡ file_lines prover.now) }
+{
+    let id = prover.id();
+    let id = hex::encode(alloc, id.as_slice())?;
+    let total = prover.total();
+    let kind = kind_name(prover.params().kind);
+    Ok(format!(in alloc; "id {id}\nunits {total} {kind}\n")?)
+}
+
+/// Says what is stored, or that there is no memory for it, and answers the status.
+fn say_dealt<O: Sink>(alloc: Global, out: &mut O, prover: &ProverFile) -> u8
+    ensures { PrintsMade 0 (file_lines prover.now) result
+        (sink_change O.written O.faults out.old out.new) }
+{
+    match write_dealt(alloc, prover) {
+        Ok(lines) => say(alloc, out, lines.as_bytes(), 0),
+        Err(_) => say_memory(alloc, out),
+    }
+}
+
+/// Deals, and stores both files and both journals.
+fn deal_files<F: Shelf>(
+    alloc: Global,
+    shelf: &mut F,
+    name: &str,
+    params: &Params,
+    seed: &[u8; 32],
+) -> Result<ProverFile, Stop>
+    requires { AreParams params.now }
+    ensures prover { IfOk result (λ prover. prover ≡ dealt_prover params.now seed.now) }
+    ensures stores { OnOk result (StoresDealt (deal_ask name.now params.now) seed.now
+        (shelf_change F.told F.faults F.faults_of shelf.old shelf.new)) }
+    ensures stop { IfErr result
+        (StoreStop name.now (shelf_change F.told F.faults F.faults_of shelf.old shelf.new)) }
+    ensures kept { OnlyStores (IsDealName name.now)
+        (shelf_change F.told F.faults F.faults_of shelf.old shelf.new) }
+{
+    let (prover, verifier) = deal(alloc, params, seed)?;
+    store_dealt(alloc, shelf, name, &prover, &verifier)?;
+    Ok(prover)
+}
+
+/// Deals files for these numbers from the seed, stores them under the name with their journals, says the id and the
+/// units, or why they are not stored, and answers the status.
+pub fn run_deal<F: Shelf, O: Sink>(
+    alloc: Global,
+    shelf: &mut F,
+    out: &mut O,
+    name: &str,
+    params: &Params,
+    seed: &[u8; 32],
+) -> u8
+    requires { AreParams params.now }
+    ensures lines { DealLines (deal_ask name.now params.now) seed.now result
+        (shelf_change F.told F.faults F.faults_of shelf.old shelf.new)
+        (sink_change O.written O.faults out.old out.new) }
+    ensures kept { OnlyStores (IsDealName name.now)
+        (shelf_change F.told F.faults F.faults_of shelf.old shelf.new) }
+{
+    match deal_files(alloc, shelf, name, params, seed) {
+        Ok(prover) => say_dealt(alloc, out, &prover),
+        Err(stop) => say_stop(alloc, out, stop),
+    }
+}

@@ -1,0 +1,71 @@
+// `eval CIRCUIT BITS`
+ghost use Rattle.std.specs.Prelude.{◌≡◌, IfOk, IfErr, string_bytes};
+ghost use Rattle.zk_cli.specs.Changes.{shelf_change, sink_change, OnlyLoads};
+ghost use Rattle.zk_cli.specs.CircuitFiles.{GivesOutputs};
+ghost use Rattle.zk_cli.specs.EvalRuns.{EvalLines, EvalStop, outputs_line};
+ghost use Rattle.zk_cli.specs.Stops.{PrintsMade};
+ghost use Rattle.zk_cli.specs.Words.{eval_ask};
+
+use crate::bits::write_bits;
+use crate::circuit_file::load_circuit;
+use crate::say::{say, say_memory, say_stop};
+use crate::stop::Stop;
+use bool_eval::eval;
+use std::alloc::{AllocError, Global};
+use zk_port::{Shelf, Sink};
+
+/// The outputs of the circuit that the file of this name says, at these bits.
+fn eval_file<F: Shelf>(
+    alloc: Global,
+    shelf: &mut F,
+    name: &str,
+    bits: &[bool],
+) -> Result<Vec<bool>, Stop>
+    ensures gives { IfOk result (λ outputs.
+        GivesOutputs (F.told shelf.old) name.now bits.now outputs.items) }
+    ensures stop { IfErr result (EvalStop (eval_ask name.now bits.now)
+        (shelf_change F.told F.faults F.faults_of shelf.old shelf.new)) }
+    ensures kept { OnlyLoads name.now (shelf_change F.told F.faults F.faults_of shelf.old shelf.new) }
+{
+    let circuit = load_circuit(alloc, shelf, name)?;
+    Ok(eval(alloc, &circuit, bits)?)
+}
+
+/// The line of the outputs.
+fn write_outputs(alloc: Global, outputs: &[bool]) -> Result<String, AllocError>
+    ensures { IfOk result (λ line. string_bytes line ≡ outputs_line outputs.now) }
+{
+    let word = write_bits(alloc, outputs)?;
+    Ok(format!(in alloc; "{word}\n")?)
+}
+
+/// Says the outputs, or that there is no memory for their line, and answers the status.
+fn say_outputs<O: Sink>(alloc: Global, out: &mut O, outputs: &[bool]) -> u8
+    ensures { PrintsMade 0 (outputs_line outputs.now) result
+        (sink_change O.written O.faults out.old out.new) }
+{
+    match write_outputs(alloc, outputs) {
+        Ok(line) => say(alloc, out, line.as_bytes(), 0),
+        Err(_) => say_memory(alloc, out),
+    }
+}
+
+/// Evaluates the circuit of this name at these bits, says the outputs, or why there are none, and answers the
+/// status.
+pub fn run_eval<F: Shelf, O: Sink>(
+    alloc: Global,
+    shelf: &mut F,
+    out: &mut O,
+    name: &str,
+    bits: &[bool],
+) -> u8
+    ensures lines { EvalLines (eval_ask name.now bits.now) result
+        (shelf_change F.told F.faults F.faults_of shelf.old shelf.new)
+        (sink_change O.written O.faults out.old out.new) }
+    ensures kept { OnlyLoads name.now (shelf_change F.told F.faults F.faults_of shelf.old shelf.new) }
+{
+    match eval_file(alloc, shelf, name, bits) {
+        Ok(outputs) => say_outputs(alloc, out, &outputs),
+        Err(stop) => say_stop(alloc, out, stop),
+    }
+}
