@@ -13,7 +13,7 @@ correlation for each product and each section, and units of 64 correlations, but
 """
 import pathlib
 import sys
-from typing import List, NamedTuple
+from typing import List, NamedTuple, Optional, Tuple
 
 import bristol
 
@@ -88,11 +88,10 @@ WRONG_WORDS = [
     "reherse and.txt 11 --section 1",
     "",
     "rehearse",
-    "rehearse and.txt 11",
     "rehearse and.txt 11 --section",
     "rehearse and.txt --section 1",
     "rehearse and.txt 11 11 --section 1",
-    "rehearse and.txt 11 --section 2",
+    "rehearse and.txt 11 --section 1048577",
     "rehearse and.txt 11 --section 36893488147419103233",
     "rehearse and.txt 11 --section x",
     "rehearse and.txt 11 --section ",
@@ -198,16 +197,17 @@ def rehearse_words(file: str, bits: str) -> str:
     return f"rehearse {file} {bits} --section 1"
 
 
-def rehearse_run(case: Case) -> Run:
-    """A rehearsal in sections of one product."""
+def rehearse_run(case: Case, section: Optional[int] = 1) -> Run:
+    """A rehearsal in sections of so many products, or of the greatest length."""
     circuit = bristol.read((DATA / case.file).read_bytes())
     assert isinstance(circuit, bristol.Circuit)
     products = circuit.inputs + sum(gate.name in ("XOR", "AND") for gate in circuit.gates)
-    sections = products
+    sections = -(-products // (section or 2**20))
     need = products + sections
     units = max(1, -(-need // 64))
     counts = f"products {products} sections {sections} correlations {need} units {units}"
-    return Run(rehearse_words(case.file, case.bits), [f"outputs {case.outputs}", counts, "accepted"], 0)
+    words = f"rehearse {case.file} {case.bits}" + (f" --section {section}" if section else "")
+    return Run(words, [f"outputs {case.outputs}", counts, "accepted"], 0)
 
 
 def refusals() -> List[Run]:
@@ -239,6 +239,17 @@ def orders() -> List[Run]:
     ]
 
 
+def sections() -> List[Run]:
+    """Sections of every kind of length: one product more or less than there are, the ends, and none given."""
+    and_case = small_cases()[3]
+    adder = next(case for case in small_cases() if case.file == "adder64.txt")
+    aes = aes_case(*AES_C_1)
+    lengths: List[Tuple[Case, Optional[int]]] = [(and_case, length) for length in (None, 2, 3, 4, 2**20)]
+    lengths += [(adder, length) for length in (None, 7, 441, 442, 443)]
+    lengths += [(aes, length) for length in (None, 1000, 29832)]
+    return [rehearse_run(case, length) for case, length in lengths]
+
+
 def dealings() -> List[Run]:
     """Files that are dealt, at the ends of what may be asked for."""
     given = [
@@ -257,7 +268,7 @@ def all_runs() -> List[Run]:
     for case in small_cases():
         runs += [eval_run(case.file, case.bits, case.outputs, 0), rehearse_run(case)]
     runs += [eval_run(case.file, case.bits, case.outputs, 0) for case in aes]
-    return runs + [rehearse_run(aes[1])] + refusals() + orders() + dealings()
+    return runs + [rehearse_run(aes[1])] + refusals() + orders() + sections() + dealings()
 
 
 def differences(given: str, written: str) -> List[str]:

@@ -13,7 +13,7 @@ use Rattle.bristol_reader.specs.declared.wants.Single.{Single}
 use Rattle.bristol_reader.specs.declared.wants.Single.TheVariants as single
 use Rattle.bristol_reader.specs.declared.wants.Placed.{Placed}
 use Rattle.bristol_reader.specs.Words.{greatest, Place, Takes}
-use Rattle.bristol_reader.specs.Wants.{next_fault, TakesNumber, IsPlaced, pair_text, single_text, inputs_of}
+use Rattle.bristol_reader.specs.Wants.{next_fault, IsFaultBehind, TakesNumber, IsPlaced, pair_text, single_text, inputs_of}
 use Rattle.bristol_reader.specs.Gates.{flag_of, FitsFlags, MayBeInput, pair_gate, single_gate, IsWrongPair, IsWrongSingle, IsGateFault, BehindNumbers}
 use Rattle.bristol_reader.proofs.Lists.{takes_both, takes_same, fault_here}
 use Rattle.bristol_reader.proofs.Wires.{flagged_within}
@@ -24,17 +24,17 @@ IsInputs n = (n ≡ 1) ⊎ (n ≡ 2)
 
 -- ---- a gate whose tokens are not all right
 
-pub inputs_wanted : (flags : List Bool) (start : Place) (fault : ReadFault) → next_fault input_number start ≡ Some fault → IsGateFault flags start fault
-inputs_wanted flags start fault is = inl (fault_here GateWants [] input_number start start fault (record { left = refl; taken = omega arith }) (first refl refl) is)
+pub inputs_wanted : (start : Place) (fault : ReadFault) → next_fault input_number start ≡ Some fault → IsFaultBehind GateWants start fault
+inputs_wanted start fault is = fault_here GateWants [] input_number start start fault (record { left = refl; taken = omega arith }) (first refl refl) is
 
 inputs_are : (is_pair : Bool) → IsInputs (inputs_of is_pair)
 inputs_are true = inr refl
 inputs_are false = inl refl
 
-pub outputs_wanted : (flags : List Bool) (start now : Place) (is_pair : Bool) (fault : ReadFault) → Takes (number (inputs_of is_pair) ∷ []) start now
-    → next_fault output_number now ≡ Some fault → IsGateFault flags start fault
-outputs_wanted flags start now is_pair fault takes is =
-    inl (fault_here GateWants (number (inputs_of is_pair) ∷ []) output_number start now fault takes (second (inputs_of is_pair) (inputs_are is_pair) refl refl) is)
+pub outputs_wanted : (start now : Place) (is_pair : Bool) (fault : ReadFault) → Takes (number (inputs_of is_pair) ∷ []) start now
+    → next_fault output_number now ≡ Some fault → IsFaultBehind GateWants start fault
+outputs_wanted start now is_pair fault takes is =
+    fault_here GateWants (number (inputs_of is_pair) ∷ []) output_number start now fault takes (second (inputs_of is_pair) (inputs_are is_pair) refl refl) is
 
 -- a gate's first tokens, its numbers of inputs and of outputs and some wires
 abbrev TakesWires : ℕ → List ℕ → Place → Place → Type 0
@@ -227,7 +227,11 @@ single_wrong flags p0 p1 p2 p3 a c text fault one two named wrong = λ start tak
 
 -- ---- a gate
 
-pub gate_taken : (n : ℕ) (is_pair : Bool) (start p0 p1 : Place) (P : Place → Type 0) → n ≡ inputs_of is_pair → Takes (number (inputs_of is_pair) ∷ []) start p0
-    → Takes (number 1 ∷ []) p0 p1 → BehindNumbers n p1 P → P start
-gate_taken n is_pair start p0 p1 P is one two behind =
-    behind start (subst (λ (k : ℕ). Takes (number k ∷ number 1 ∷ []) start p1) (sym is) (takes_both (number (inputs_of is_pair) ∷ []) (number 1 ∷ []) start p0 p1 one two))
+-- its numbers of inputs and of outputs
+pub numbers_taken : (is_pair : Bool) (start p0 p1 : Place) → Takes (number (inputs_of is_pair) ∷ []) start p0 → Takes (number 1 ∷ []) p0 p1
+    → Takes (number (inputs_of is_pair) ∷ number 1 ∷ []) start p1
+numbers_taken is_pair start p0 p1 one two = takes_both (number (inputs_of is_pair) ∷ []) (number 1 ∷ []) start p0 p1 one two
+
+pub gate_taken : (n : ℕ) (is_pair : Bool) (start p1 : Place) (P : Place → Type 0) → n ≡ inputs_of is_pair → Takes (number (inputs_of is_pair) ∷ number 1 ∷ []) start p1
+    → BehindNumbers n p1 P → P start
+gate_taken n is_pair start p1 P is takes behind = behind start (subst (λ (k : ℕ). Takes (number k ∷ number 1 ∷ []) start p1) (sym is) takes)

@@ -1,18 +1,20 @@
 -- The tokens of a text, taken off one after another.
-use Rattle.std.proofs.Common.{◌≡◌, ℕ, zero, suc, ◌+◌, ◌*◌, ◌-◌, ◌<◌, ◌≤◌, Bool, true, false, List, [], ◌∷◌, ◌++◌, map, filter, length, take, drop, get_or, min, refl, ap, sym, ◌∙◌, subst, arith, append-nil, length-take, length-drop}
+use Rattle.std.proofs.Common.{◌≡◌, ℕ, zero, suc, ◌+◌, ◌*◌, ◌-◌, ◌^◌, ◌<◌, ◌≤◌, Bool, true, false, List, [], ◌∷◌, ◌++◌, map, filter, length, take, drop, get_or, min, refl, ap, sym, ◌∙◌, subst, arith, append-nil, length-take, length-drop}
 use Rattle.std.specs.Prelude.{All, nat_le, nat_lt, ◌||◌, ◌==◌, ◌&&◌, if◌then◌else◌}
 use Rattle.std.specs.List.{list_all, slice_split}
-use Rattle.std.proofs.lemmas.List.{drop_all, drop_more, take_more, take_all, take-append-drop}
-use Rattle.std.proofs.lemmas.List.Elements.{All-push}
+use Rattle.std.proofs.lemmas.List.{get_or-take, drop_all, drop_more, take_more, take_all, take-append-drop}
+use Rattle.std.proofs.lemmas.List.Elements.{All-nil, All-cons, All-head, All-push}
 use Rattle.std.proofs.lemmas.List.Folds.{list_all-append}
 use Rattle.std.proofs.lemmas.List.Splits.{slice_split-cons_yes, slice_split_none, slice_split_at}
 use Rattle.std.proofs.lemmas.List.Sums.{fold_push}
+use Rattle.std.proofs.Math.Nat.{pow-suc, pow-le-pow_right}
+use Rattle.std.proofs.Math.Numerals.{add-one}
 use Rattle.std.proofs.lemmas.Bool.{leb-true, lt-ltb, ne_eqb}
 use Rattle.zk_model.specs.Bristol.{number, name, is_blank, is_digit, decimal_value, tokens, lexeme, lexemes}
 use Rattle.bristol_reader.specs.declared.tokens.Scanned.{Scanned}
 use Rattle.bristol_reader.specs.declared.tokens.Word.TheVariants.{Number}
-use Rattle.bristol_reader.specs.Words.{greatest, left_of, word_of, BeginsToken, EndsToken}
-use Rattle.bristol_reader.specs.Scans.{AreScanned, IsScanned}
+use Rattle.bristol_reader.specs.Words.{greatest, left_of, word_of, BeginsToken, EndsToken, Place, place_of, Takes, TakesWord}
+use Rattle.bristol_reader.specs.Scans.{AreScanned, IsScanned, IsEnded}
 
 -- ---- tokens
 
@@ -152,3 +154,100 @@ left_next rest start scanned same some begins is =
     let first : tokens (token ++ behind) ≡ token ∷ tokens behind = tokens_first token behind (longer start scanned.length some begins is.within is.ends) is.unbroken is.ends in
     ap (map lexeme) (sym same ∙ ap tokens (sym (take-append-drop scanned.length start)) ∙ first)
     ∙ ap (λ l. lexeme token ∷ lexemes l) (sym (take_all (length start - scanned.length) behind (omega (arith, length-drop scanned.length start))))
+
+pub left_same : (some other : List ℕ) → tokens some ≡ tokens other → left_of some ≡ left_of other
+unfolding left_of
+left_same some other same = ap (map lexeme) same
+
+-- bytes without a blank begin a token
+begins_unbroken : (text : List ℕ) (n : ℕ) → 0 < n → All (λ byte. is_blank byte ≡ false) (take n text) → BeginsToken text
+begins_unbroken [] n some unbroken = tt
+begins_unbroken (byte ∷ text) zero some unbroken = absurd (omega arith)
+begins_unbroken (byte ∷ text) (suc n) some unbroken = All-head (λ b. is_blank b ≡ false) byte (take n text) unbroken
+
+-- a first token, and what is behind it and the blank that ends it
+pub left_ended : (text : List ℕ) (scanned : Scanned) → IsEnded text scanned
+    → left_of text ≡ lexeme (take scanned.length text) ∷ left_of (take (length text - (scanned.length + 1)) (drop (scanned.length + 1) text))
+left_ended text scanned is =
+    let n : ℕ = scanned.length in
+    let byte : ℕ = get_or text n 0 in
+    let behind : List ℕ = drop (n + 1) text in
+    let within : n < length text = is.within in
+    let next : drop n text ≡ byte ∷ behind = drop_more text n 0 within in
+    let blank : is_blank byte ≡ true = subst EndsToken next is.is.ends in
+    left_next text text scanned refl (omega arith) (begins_unbroken text n is.some is.is.unbroken) is.is
+    ∙ ap (λ l. lexeme (take n text) ∷ l)
+    (left_same (take (length text - n) (drop n text)) (take (length text - (n + 1)) behind)
+    (ap tokens (take_all (length text - n) (drop n text) (omega (arith, length-drop n text)) ∙ next) ∙ tokens_blank byte behind blank
+    ∙ sym (ap tokens (take_all (length text - (n + 1)) behind (omega (arith, length-drop (n + 1) text))))))
+
+-- such a token is taken
+pub takes_ended : (rest : List ℕ) (taken : ℕ) (before : Place) (scanned : Scanned) → place_of rest taken ≡ before → IsEnded rest scanned
+    → TakesWord before (place_of (take (length rest - (scanned.length + 1)) (drop (scanned.length + 1) rest)) (taken + 1)) scanned.word
+takes_ended rest taken before scanned view is = record {
+  lexeme = _;
+  word_is = is.is.word_is;
+  takes = record {
+    left = ap (λ (p : Place). p.left) (sym view) ∙ left_ended rest scanned is;
+    taken = ap (λ (p : Place). p.taken + 1) view;
+  };
+}
+
+-- ---- a short number
+
+short_byte : (text front : List ℕ) (i : ℕ) → front ≡ take 8 text → i < 8 → get_or front i 0 ≡ get_or text i 0
+short_byte text front i same within = ap (λ l. get_or l i 0) same ∙ get_or-take 8 text i 0 within
+
+-- one digit more
+pub short_digit : (text front : List ℕ) (i value : ℕ) → front ≡ take 8 text → 8 ≤ length text → i < 8 → is_digit (get_or front i 0) ≡ true → AreScanned (take i text) true value
+    → value < 10 ^ i → AreScanned (take (i + 1) text) true (value * 10 + (get_or front i 0 - 48)) × (value * 10 + (get_or front i 0 - 48) < 10 ^ (i + 1))
+short_digit text front i value same enough within digit far small =
+    let byte : ℕ = get_or front i 0 in
+    let is : byte ≡ get_or text i 0 = short_byte text front i same within in
+    let high : byte ≤ 57 = leb-true byte 57 (second (nat_le 48 byte) (nat_le byte 57) digit) in
+    let some : 0 < 10 = omega arith in
+    let few : i ≤ 7 = omega arith in
+    let power : 10 ^ i ≤ 10 ^ 7 = pow-le-pow_right {n = 10} some {i = i} {j = 7} few in
+    (scan_digit text i true true value (value * 10 + (byte - 48)) (omega arith) (ap is_digit (sym is) ∙ digit) refl (omega (arith, ap (λ b. b - 48) is)) far, rw (add-one, pow-suc) (omega arith))
+  where
+    second : (a b : Bool) → (a && b) ≡ true → b ≡ true
+    second true b on = on
+    second false b on = absurd cc
+
+-- its end
+pub short_ended : (text front : List ℕ) (i value : ℕ) → front ≡ take 8 text → 8 ≤ length text → i < 8 → 0 < i → get_or front i 0 ≡ 32 → AreScanned (take i text) true value
+    → IsEnded text (record { length = i; word = Number value })
+short_ended text front i value same enough within some space far = record {
+  some = some;
+  within = omega arith;
+  is = scan_ended text i value (omega arith) (ap is_blank (sym (short_byte text front i same within) ∙ space)) far;
+}
+
+-- ---- a gate's numbers of inputs and of outputs
+
+abbrev IsNoBlank : ℕ → Type 0
+IsNoBlank byte = is_blank byte ≡ false
+
+-- a digit and a space
+left_digit : (byte n : ℕ) (text : List ℕ) → is_blank byte ≡ false → lexeme (byte ∷ []) ≡ number n → left_of (byte ∷ 32 ∷ text) ≡ number n ∷ left_of text
+unfolding left_of
+left_digit byte n text no_blank is =
+    ap (map lexeme) (tokens_first (byte ∷ []) (32 ∷ text) (omega arith) (All-cons IsNoBlank byte [] no_blank (All-nil IsNoBlank)) refl)
+    ∙ ap (λ l. lexeme (byte ∷ []) ∷ l) (ap (map lexeme) (tokens_blank 32 text refl)) ∙ ap (λ l. l ∷ lexemes text) is
+
+left_digits : (text : List ℕ) (n : ℕ) → 4 ≤ length text → is_blank (get_or text 0 0) ≡ false → lexeme (get_or text 0 0 ∷ []) ≡ number n → get_or text 1 0 ≡ 32 → get_or text 2 0 ≡ 49
+    → get_or text 3 0 ≡ 32 → left_of text ≡ number n ∷ number 1 ∷ left_of (take (length text - 4) (drop 4 text))
+left_digits [] n enough no_blank is second third fourth = absurd (omega arith)
+left_digits (a ∷ []) n enough no_blank is second third fourth = absurd (omega arith)
+left_digits (a ∷ b ∷ []) n enough no_blank is second third fourth = absurd (omega arith)
+left_digits (a ∷ b ∷ c ∷ []) n enough no_blank is second third fourth = absurd (omega arith)
+left_digits (a ∷ b ∷ c ∷ d ∷ text) n enough no_blank is second third fourth =
+    (λ i. left_of (a ∷ second i ∷ third i ∷ fourth i ∷ text)) ∙ left_digit a n (49 ∷ 32 ∷ text) no_blank is ∙ ap (λ l. number n ∷ l) (left_digit 49 1 text refl refl)
+    ∙ ap (λ l. number n ∷ number 1 ∷ left_of l) (sym (take_all (length (a ∷ b ∷ c ∷ d ∷ text) - 4) text (omega arith)))
+
+pub takes_digits : (rest : List ℕ) (taken n : ℕ) (before : Place) → place_of rest taken ≡ before → 4 ≤ length rest → is_blank (get_or rest 0 0) ≡ false → lexeme (get_or rest 0 0 ∷ []) ≡ number n
+    → get_or rest 1 0 ≡ 32 → get_or rest 2 0 ≡ 49 → get_or rest 3 0 ≡ 32 → Takes (number n ∷ number 1 ∷ []) before (place_of (take (length rest - 4) (drop 4 rest)) (taken + 2))
+takes_digits rest taken n before view enough no_blank is second third fourth = record {
+  left = ap (λ (p : Place). p.left) (sym view) ∙ left_digits rest n enough no_blank is second third fourth;
+  taken = ap (λ (p : Place). p.taken + 2) view;
+}

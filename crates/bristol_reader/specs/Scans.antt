@@ -1,5 +1,5 @@
 -- A token, byte by byte.
-use Rattle.std.specs.Prelude.{◌≡◌, ℕ, ◌≤◌, Bool, true, false, List, length, take, drop, min, All}
+use Rattle.std.specs.Prelude.{◌≡◌, ℕ, ◌<◌, ◌≤◌, Bool, true, false, List, length, take, drop, min, All}
 use Rattle.std.specs.List.{list_all}
 use Rattle.zk_model.specs.Bristol.{is_blank, is_digit, decimal_value, lexeme}
 use Rattle.bristol_reader.specs.declared.tokens.Scanned.{Scanned}
@@ -17,3 +17,9 @@ pub record IsScanned (text : List ℕ) (scanned : Scanned) : Type 0 where
   pub unbroken : All (λ byte. is_blank byte ≡ false) (take scanned.length text)
   pub ends : EndsToken (drop scanned.length text)
   pub word_is : scanned.word ≡ word_of (lexeme (take scanned.length text))
+
+-- the first bytes of a text, at least one, up to a blank that is there
+pub record IsEnded (text : List ℕ) (scanned : Scanned) : Type 0 where
+  pub some : 0 < scanned.length
+  pub within : scanned.length < length text
+  pub is : IsScanned text scanned

@@ -1,7 +1,9 @@
 // A gate of a circuit's text.
-ghost use Rattle.std.specs.Prelude.{◌≡◌, ◌≤◌, ◌^◌, IfOk, IfErr, length};
-ghost use Rattle.zk_model.specs.Bristol.{gate_lexemes};
+ghost use Rattle.std.specs.Prelude.{◌≡◌, ◌≤◌, ◌^◌, IfOk, IfErr, [], ◌∷◌, length};
+ghost use Rattle.zk_model.specs.Bristol.{gate_lexemes, number};
+ghost use Rattle.zk_model.specs.TextFaults.{GateWants};
 ghost use Rattle.bristol_reader.specs.Words.{Takes};
+ghost use Rattle.bristol_reader.specs.Wants.{inputs_of, IsFaultBehind};
 ghost use Rattle.bristol_reader.specs.Gates.{IsSetWire, IsNoSetWire, IsFreeWire, IsNoFreeWire};
 ghost use Rattle.bristol_reader.specs.Gates.{MayBeInput, MayNotBeInput};
 ghost use Rattle.bristol_reader.specs.Gates.{FitsFlags, pair_gate, single_gate, IsWrongPair, IsWrongSingle};
@@ -144,6 +146,19 @@ fn read_single(tokens: &mut Tokens, set: &[bool]) -> Result<GateRow, ReadFault>
     Ok(row)
 }
 
+/// Takes a gate's numbers of inputs and of outputs, and says whether there are 2 inputs.
+fn read_numbers(tokens: &mut Tokens) -> Result<bool, ReadFault>
+    ensures numbers { IfOk result (λ two. Takes (number (inputs_of two) ∷ number 1 ∷ []) tokens.old tokens.new) }
+    ensures fault { IfErr result (IsFaultBehind GateWants tokens.old) }
+{
+    if let Some(is_pair) = tokens.plain_numbers() {
+        return Ok(is_pair);
+    }
+    let is_pair = tokens.two_inputs()?;
+    tokens.one_output()?;
+    Ok(is_pair)
+}
+
 /// Takes the tokens of a gate.
 pub fn read_gate(tokens: &mut Tokens, set: &[bool]) -> Result<GateRow, ReadFault>
     requires { length set.now ≤ 2 ^ 20 }
@@ -151,8 +166,7 @@ pub fn read_gate(tokens: &mut Tokens, set: &[bool]) -> Result<GateRow, ReadFault
     ensures fits { IfOk result (FitsFlags set.now) }
     ensures fault { IfErr result (IsGateFault set.now tokens.old) }
 {
-    let is_pair = tokens.two_inputs()?;
-    tokens.one_output()?;
+    let is_pair = read_numbers(tokens)?;
     if is_pair {
         let gate = read_pair(tokens, set)?;
         Ok(gate)

@@ -1,9 +1,10 @@
 // A text, token by token.
 ghost use Rattle.std.specs.Prelude.{◌≡◌, ◌≤◌, ◌+◌, ◌*◌, ◌-◌, ◌<◌, ◌^◌};
-ghost use Rattle.std.specs.Prelude.{IfSome, IfNone, [], length, min};
-ghost use Rattle.zk_model.specs.Bristol.{is_blank, is_digit, lexeme, tokens};
-ghost use Rattle.bristol_reader.specs.Words.{greatest, name_of, word_of, BeginsToken, TakesWord, place_of};
-ghost use Rattle.bristol_reader.specs.Scans.{AreScanned, IsScanned};
+ghost use Rattle.std.specs.Prelude.{IfSome, IfNone, [], ◌∷◌, length, min};
+ghost use Rattle.zk_model.specs.Bristol.{is_blank, is_digit, lexeme, number, tokens};
+ghost use Rattle.bristol_reader.specs.Words.{greatest, name_of, word_of, BeginsToken, Takes, TakesWord, place_of};
+ghost use Rattle.bristol_reader.specs.Wants.{inputs_of};
+ghost use Rattle.bristol_reader.specs.Scans.{AreScanned, IsScanned, IsEnded};
 
 use std::marker::Model;
 
@@ -107,8 +108,7 @@ struct Scanned {
 }
 
 /// The first token of a text that begins with one.
-#[inline(never)]
-fn scan_any(text: &[u8]) -> Scanned
+fn scan(text: &[u8]) -> Scanned
     ensures { IsScanned text.now result }
 {
     let mut is_number = true;
@@ -130,26 +130,40 @@ fn scan_any(text: &[u8]) -> Scanned
     }
 }
 
-/// The same. Most tokens are numbers far below 2^32, and need no second look.
-fn scan(text: &[u8]) -> Scanned
-    ensures { IsScanned text.now result }
+/// The number that a text begins with, if it has at most seven digits and a space behind it.
+#[inline(always)]
+fn scan_number(text: &[u8]) -> Option<Scanned>
+    ensures { IfSome result (IsEnded text.now) }
 {
+    let front = text.first_chunk::<8>()?;
     let mut value = 0;
-    for (i, byte) in text.iter().enumerate() {
-        if is_digit(*byte) && value < 1 << 28 {
-            value = value * 10 + (*byte - b'0') as u32;
-        } else if is_blank(*byte) {
+    for (i, byte) in front.iter().enumerate() {
+        if is_digit(*byte) {
+            value = value * 10 + (*byte as u32 - b'0' as u32);
+        } else if *byte == b' ' && i > 0 {
             let word = Word::Number(value);
-            return Scanned { length: i, word };
+            return Some(Scanned { length: i, word });
         } else {
-            return scan_any(text);
+            return None;
         }
     }
-    let word = Word::Number(value);
-    Scanned {
-        length: text.len(),
-        word,
+    None
+}
+
+/// The gate's name that a text begins with, if it has three letters and a blank behind it.
+#[inline(always)]
+fn scan_name(text: &[u8]) -> Option<Scanned>
+    ensures { IfSome result (IsEnded text.now) }
+{
+    if text.len() < 4 || !is_blank(text[3]) {
+        return None;
     }
+    let name = gate_name(&text[..3]);
+    if let GateName::Other = name {
+        return None;
+    }
+    let word = Word::Name(name);
+    Some(Scanned { length: 3, word })
 }
 
 /// What is left of a text behind its first tokens, and how many those are.
@@ -188,7 +202,8 @@ impl<'a> Tokens<'a> {
         self.taken
     }
 
-    /// Takes the next token, if there is one.
+    /// Takes the next token, if there is one, and the blanks around it.
+    #[inline(never)]
     pub fn next(&mut self) -> Option<Word>
         ensures end { IfNone result (self.old.left ≡ []) }
         ensures word { IfSome result (TakesWord self.old self.new) }
@@ -198,8 +213,55 @@ impl<'a> Tokens<'a> {
             return None;
         }
         let scanned = scan(start);
-        self.rest = &start[scanned.length..];
+        self.rest = skip_blanks(&start[scanned.length..]);
         self.taken += 1;
         Some(scanned.word)
+    }
+
+    /// The same, quickest where a short number is next.
+    #[inline(always)]
+    pub fn next_number(&mut self) -> Option<Word>
+        ensures end { IfNone result (self.old.left ≡ []) }
+        ensures word { IfSome result (TakesWord self.old self.new) }
+    {
+        let Some(scanned) = scan_number(self.rest) else {
+            return self.next();
+        };
+        self.rest = &self.rest[scanned.length + 1..];
+        self.taken += 1;
+        Some(scanned.word)
+    }
+
+    /// The same, quickest where a gate's name of three letters is next.
+    #[inline(always)]
+    pub fn next_name(&mut self) -> Option<Word>
+        ensures end { IfNone result (self.old.left ≡ []) }
+        ensures word { IfSome result (TakesWord self.old self.new) }
+    {
+        let Some(scanned) = scan_name(self.rest) else {
+            return self.next();
+        };
+        self.rest = &self.rest[scanned.length + 1..];
+        self.taken += 1;
+        Some(scanned.word)
+    }
+
+    /// Takes a gate's numbers of inputs and of outputs, if they begin here, each with a space behind it, and says
+    /// whether there are 2 inputs.
+    pub fn plain_numbers(&mut self) -> Option<bool>
+        ensures none { IfNone result (self.new ≡ self.old) }
+        ensures numbers { IfSome result (λ two. Takes (number (inputs_of two) ∷ number 1 ∷ []) self.old self.new) }
+    {
+        let [inputs, b' ', b'1', b' ', behind @ ..] = self.rest else {
+            return None;
+        };
+        let is_pair = match *inputs {
+            b'1' => false,
+            b'2' => true,
+            _ => return None,
+        };
+        self.rest = behind;
+        self.taken += 2;
+        Some(is_pair)
     }
 }

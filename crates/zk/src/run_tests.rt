@@ -99,17 +99,18 @@ fn run<R: Threads + Wait, P: FaultPlan, Q: FaultPlan>(
     })
 }
 
-/// Rehearses the circuit of this text, the only file, at these bits, where a second load or a second write
-/// would fail: the status, and what is written.
+/// Rehearses the circuit of this text, the only file, at these bits and in sections of this length, where a second load
+/// or a second write would fail: the status, and what is written.
 fn rehearsed<R: Threads + Wait>(
     rt: &R,
     alloc: Global,
     text: &[u8],
     bits: &str,
+    section: &str,
 ) -> Result<(u8, Vec<u8>), AllocError> {
     let mut shelf = MemoryShelf::new(file_of(alloc, "c", text)?, fail_at(alloc, &[2])?);
     let mut out = MemorySink::new(alloc, fail_at(alloc, &[2])?);
-    let words = ["rehearse", "c", bits, "--section", "1"];
+    let words = ["rehearse", "c", bits, "--section", section];
     let ran = run(rt, alloc, &words, &mut shelf, &mut out)?;
     Ok((ran.status, out.bytes().to_vec(alloc)?))
 }
@@ -129,11 +130,12 @@ fn chain(alloc: Global, header: &str, tail: &str) -> Result<String, AllocError> 
     Ok(text)
 }
 
-/// A circuit's text of size, the bits that it is rehearsed at, and what comes of it.
+/// A circuit's text of size, the bits and the section's length that it is rehearsed at, and what comes of it.
 #[derive(Drop)]
 struct Case {
     text: Vec<u8>,
     bits: String,
+    section: &'static str,
     status: u8,
     lines: &'static str,
 }
@@ -167,6 +169,7 @@ fn chain_cases(alloc: Global) -> Result<Vec<Case>, AllocError> {
         cases.push(Case {
             text: chain(alloc, header, tail)?.into_bytes(),
             bits: String::from_str(alloc, "10")?,
+            section: "1",
             status,
             lines,
         })?;
@@ -178,6 +181,7 @@ fn chain_cases(alloc: Global) -> Result<Vec<Case>, AllocError> {
 fn inputs_case(
     alloc: Global,
     inputs: u32,
+    section: &'static str,
     status: u8,
     lines: &'static str,
 ) -> Result<Case, AllocError> {
@@ -189,6 +193,7 @@ fn inputs_case(
     Ok(Case {
         text: text.into_bytes(),
         bits,
+        section,
         status,
         lines,
     })
@@ -206,19 +211,34 @@ fn long_case(
     Ok(Case {
         text,
         bits: String::from_str(alloc, "11")?,
+        section: "1",
         status,
         lines,
     })
 }
 
-/// 4,096 units and one more, and 64 MiB and one byte more.
+/// 4,096 units and one more, in the shortest sections and in the longest, and 64 MiB and one byte more.
 fn limit_cases(alloc: Global) -> Result<Vec<Case>, AllocError> {
-    let most =
-        "outputs 1\nproducts 131072 sections 131072 correlations 262144 units 4096\naccepted\n";
     let limit = 67_108_864;
     let mut cases = Vec::new(alloc);
-    cases.push(inputs_case(alloc, 131_072, 0, most)?)?;
-    cases.push(inputs_case(alloc, 131_073, 9, "too large 262146 4097\n")?)?;
+    for (inputs, section, status, lines) in [
+        (
+            131_072,
+            "1",
+            0,
+            "outputs 1\nproducts 131072 sections 131072 correlations 262144 units 4096\naccepted\n",
+        ),
+        (131_073, "1", 9, "too large 262146 4097\n"),
+        (
+            262_143,
+            "1048576",
+            0,
+            "outputs 1\nproducts 262143 sections 1 correlations 262144 units 4096\naccepted\n",
+        ),
+        (262_144, "1048576", 9, "too large 262145 4097\n"),
+    ] {
+        cases.push(inputs_case(alloc, inputs, section, status, lines)?)?;
+    }
     cases.push(long_case(alloc, limit, 0, AND_LINES)?)?;
     let too_long = "refused TooLong 0 67108864\n";
     cases.push(long_case(alloc, limit + 1, 3, too_long)?)?;
@@ -231,7 +251,7 @@ fn texts_of_any_size_are_rehearsed_or_refused(rt: HostRuntime) -> Result<(), Fai
     let mut cases = chain_cases(alloc)?;
     cases.append(&mut limit_cases(alloc)?)?;
     for case in &cases {
-        let (answered, written) = rehearsed(&rt, alloc, &case.text, &case.bits)?;
+        let (answered, written) = rehearsed(&rt, alloc, &case.text, &case.bits, case.section)?;
         assert_eq!(rt; written.as_slice(), case.lines.as_bytes());
         assert_eq!(rt; answered, case.status, "{}", case.lines);
     }

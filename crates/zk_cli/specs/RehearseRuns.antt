@@ -1,4 +1,4 @@
--- `rehearse CIRCUIT BITS --section 1`: what it hands back, and what it says.
+-- `rehearse CIRCUIT BITS [--section G]`: what it hands back, and what it says.
 use Rattle.std.specs.Prelude.{◌≡◌, ◌⊎◌, ◌≤◌, ℕ, List, length, ◌++◌, codes, Option}
 use Rattle.std.specs.Fmt.{decimal}
 use Rattle.zk_model.specs.Circuit.{Circuit}

@@ -52,13 +52,18 @@ pub data Ask : Type 0 where
 abbrev pub stand_once_among : List (List ℕ) → List Word → Bool
 stand_once_among names options = stand_once (λ name. list_any (λ n. bytes_eq n name) names) options
 
--- `--section 1`, and nothing else
+-- the section's length that a word says, or the greatest
+abbrev pub length_of : Option (List ℕ) → Option ℕ
+length_of None = Some (2 ^ 20)
+length_of (Some word) = number_within 1 (2 ^ 20) word
+
+-- `[--section G]`, and nothing else
 abbrev pub section_of : List Word → Option ℕ
 section_of options =
-    if stand_once_among (codes "--section" ∷ []) options
-    then option_and_then (number_within 1 1) (option_named (codes "--section") options) else None
+    if stand_once_among (codes "--section" ∷ []) options then length_of (option_named (codes "--section") options)
+    else None
 
--- `rehearse CIRCUIT BITS --section 1`
+-- `rehearse CIRCUIT BITS [--section G]`
 abbrev pub rehearse_of : List (List ℕ) → List Word → Option Ask
 rehearse_of (circuit ∷ bits ∷ []) options =
     option_and_then (λ section. option_map (λ read. rehearse (rehearse_ask circuit read section))

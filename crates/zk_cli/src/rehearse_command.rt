@@ -1,4 +1,4 @@
-// `rehearse CIRCUIT BITS --section 1`
+// `rehearse CIRCUIT BITS [--section G]`
 ghost use Rattle.std.specs.Prelude.{◌≡◌, ◌≤◌, ◌^◌, IfOk, IfErr, string_bytes};
 ghost use Rattle.zk_cli.specs.Changes.{shelf_change, sink_change, OnlyLoads};
 ghost use Rattle.zk_cli.specs.Made.{IfRehearsed, effects};

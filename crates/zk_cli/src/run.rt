@@ -30,7 +30,7 @@ use zk_port::{Disk, Door, Gate, Shelf, Sink};
 /// Does what the words behind the program's name ask for, over these files, this disk, this door and this
 /// output, and hands back the status, the disk, the door and what was made. `deal` and `rehearse` use the seed.
 ///
-/// Words of no command end with 2, or with 7 where memory is wanting. `rehearse CIRCUIT BITS --section 1` ends
+/// Words of no command end with 2, or with 7 where memory is wanting. `rehearse CIRCUIT BITS [--section G]` ends
 /// with 0 where it is accepted; 3 where the file, or the bits for it, are refused; 4 where a load of the file
 /// failed, or the output before a 0; 7 where memory is wanting; 9 where the session would take more than 4,096
 /// units. `eval CIRCUIT BITS` ends with 0 where it wrote the outputs, and with 3, 4 and 7 in the same cases. `deal NAME
@@ -63,7 +63,7 @@ where
         × (result.journal ≡ journal) × (result.door ≡ door)) }
     ensures usage_2 { result.status ≡ 2 → asked (texts words.now) ≡ None }
 
-    // `rehearse CIRCUIT BITS --section 1`: the rehearsal that is handed back, if one is. Its outputs are the only
+    // `rehearse CIRCUIT BITS [--section G]`: the rehearsal that is handed back, if one is. Its outputs are the only
     // ones that the circuit gives at the bits, its numbers are the circuit's, and its log is that of an honest
     // session of that circuit over the files of the seed.
     ensures rehearse_outputs { OnRehearse words.now

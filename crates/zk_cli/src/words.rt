@@ -18,10 +18,13 @@ use dealer_files::{Kind, Params, Side, file_length};
 use session_core::Bits;
 use std::alloc::{AllocError, Global};
 
+/// How many products a section has at most, and where nothing is said.
+const MOST_SECTION: u32 = 1 << 20;
+
 /// A command with its words.
 #[derive(Debug, Drop)]
 pub enum Command<'a> {
-    /// `rehearse CIRCUIT BITS --section 1`
+    /// `rehearse CIRCUIT BITS [--section G]`
     Rehearse {
         circuit: &'a str,
         bits: Bits,
@@ -59,7 +62,7 @@ pub fn read_words(alloc: Global, words: &[String]) -> Result<Option<Command<'_>>
     }
 }
 
-/// `CIRCUIT BITS --section 1`
+/// `CIRCUIT BITS [--section G]`
 fn read_rehearse<'a>(
     alloc: Global,
     places: &[&'a str],
@@ -107,7 +110,7 @@ fn read_eval<'a>(
     Ok(Some(Command::Eval { circuit, bits }))
 }
 
-/// The value of `--section`, if it is the only option.
+/// The length of a section: the value of `--section`, which is the only option, or else the greatest.
 fn read_section(options: &[Named]) -> Option<u32>
     ensures value { result ≡ section_of (map word_of options.now) }
     ensures size { IfSome result IsSectionSize }
@@ -115,8 +118,10 @@ fn read_section(options: &[Named]) -> Option<u32>
     if !are_once(options, &["--section"]) {
         return None;
     }
-    let value = find_option(options, "--section")?;
-    Some(read_number(value, 1, 1)? as u32)
+    let Some(value) = find_option(options, "--section") else {
+        return Some(MOST_SECTION);
+    };
+    Some(read_number(value, 1, u64::from(MOST_SECTION))? as u32)
 }
 
 /// `NAME --units N [--trees T --height H --base K]`

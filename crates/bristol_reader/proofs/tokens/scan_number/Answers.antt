@@ -1,0 +1,14 @@
+use Rattle.std.proofs.Common.{sym, ◌∙◌, arith}
+use Rattle.bristol_reader.proofs.Splitting.{short_digit, short_ended}
+use Rattle.bristol_reader.proofs.tokens.scan_number.Goals as goal
+
+pub returns-then-i-gt0 : goal.returns-then-i-gt0
+returns-then-i-gt0 c =
+    short_ended c.args.text.now c.in_ok-front.front.now c.loop-i.i c.loop-i.value c.in_ok-front.ensures.cases.same c.in_ok-front.ensures.cases.enough (omega arith) (omega arith) c.if-byte-eq32.true
+    c.loop-i.invariant.scanned
+
+pub loop-i-preserved : goal.loop-i-preserved
+loop-i-preserved c =
+    let more = short_digit c.args.text.now c.in_ok-front.front.now c.loop-i.i c.loop-i.value c.in_ok-front.ensures.cases.same c.in_ok-front.ensures.cases.enough (omega arith)
+    (sym c.is_digit.ensures ∙ c.if-is_digit.true) c.loop-i.invariant.scanned c.loop-i.invariant.small in
+    record { scanned = more.0; small = more.1 }

@@ -1,0 +1,4 @@
+pub mod Spans
+pub mod Machine
+pub mod Kept
+pub mod Limits

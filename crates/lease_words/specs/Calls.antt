@@ -1,0 +1,134 @@
+-- What callers see of the lease words.
+use Rattle.std.specs.Prelude.{◌≡◌, ℕ, ◌+◌, ◌<◌, ◌≤◌, max, ◌⊎◌, List, [], ◌∷◌, length, None, Some, Result, Ok, Err, MatchOption, slice_index_or, All, AllPairs, flat_map}
+use Rattle.atomic_table.specs.Seated.{TableId}
+use Rattle.zk_model.specs.declared.Span.{Span}
+use Rattle.lease_words.specs.Views.{end_of, report, own, units_drawn, after_draw, taken_in}
+use Rattle.lease_words.specs.declared.fault.Exhausted.{Exhausted}
+use Rattle.lease_words.specs.declared.pass.Pass.{Pass}
+use Rattle.lease_words.specs.declared.pass.JournalSeat.{JournalSeat}
+use Rattle.lease_words.specs.declared.view.Entry.{Entry}
+use Rattle.lease_words.specs.declared.view.Report.{Report}
+use Rattle.lease_words.specs.declared.view.View.{View}
+use Rattle.lease_words.specs.declared.table.Words.{Words}
+
+-- what a pass knows: all of it, its entries, its number, the ceiling and the mark that it saw last, its looks
+abbrev pub seen : Pass → View
+seen p = p.seat.me.0
+
+abbrev pub entries_of : Pass → List Entry
+entries_of p = (seen p).entries
+
+abbrev pub number_of : Pass → ℕ
+number_of p = (own (seen p)).number
+
+abbrev pub known_of : Pass → ℕ
+known_of p = (own (seen p)).known
+
+abbrev pub mark_of : Pass → ℕ
+mark_of p = (own (seen p)).mark
+
+abbrev pub looks_of : Pass → ℕ
+looks_of p = (seen p).looks
+
+-- what the journal's seat knows
+abbrev pub journal_view : JournalSeat → View
+journal_view j = j.seat.me.0
+
+-- the ceiling that the journal's seat knows, the mark that it set, how many passes it made, and the total
+abbrev pub ceiling_of : JournalSeat → ℕ
+ceiling_of j = (journal_view j).ceiling
+
+abbrev pub own_mark_of : JournalSeat → ℕ
+own_mark_of j = (journal_view j).own_mark
+
+abbrev pub made_of : JournalSeat → ℕ
+made_of j = (journal_view j).made
+
+abbrev pub limit_of : JournalSeat → ℕ
+limit_of j = (journal_view j).total
+
+-- which table the words lie in, where its units begin, and how many there are
+abbrev pub words_id : Words → TableId
+words_id w = w.table.shared.table_id
+
+abbrev pub base_of : Words → ℕ
+base_of w = w.table.shared.key.base
+
+abbrev pub total_of : Words → ℕ
+total_of w = w.table.shared.key.total
+
+-- the pass, or the seat, is of these words
+abbrev pub IsPassOf : Words → Pass → Type 0
+IsPassOf w p = p.seat.table_id ≡ words_id w
+
+abbrev pub IsSeatOf : Words → JournalSeat → Type 0
+IsSeatOf w j = j.seat.table_id ≡ words_id w
+
+-- the pass with this number, as it is made
+abbrev pub IsFresh : TableId → ℕ → ℕ → ℕ → Pass → Type 0
+IsFresh table base total number p = (p.seat.table_id ≡ table)
+    × (p.total ≡ total)
+    × (p.kept ≡ None)
+    × (entries_of p ≡ [])
+    × ((seen p).reports ≡ report number base 0 ∷ [])
+    × (looks_of p ≡ 0)
+
+-- each of these is the pass with its place's number, as it is made
+abbrev pub AreFresh : TableId → ℕ → ℕ → List Pass → Type 0
+AreFresh table base total passes =
+    (k : ℕ) (d : Pass) → k < length passes → IsFresh table base total k (slice_index_or passes k d)
+
+-- the same pass at the same table
+abbrev pub IsSame : Pass → Pass → Type 0
+IsSame p q = (q.seat.table_id ≡ p.seat.table_id) × (q.seat.id ≡ p.seat.id) × (q.total ≡ p.total)
+
+-- an entry of this count that ends above the total, and the refusal that tells of it
+abbrev pub IsRefused : Pass → ℕ → Exhausted → Pass → Type 0
+IsRefused p count e q =
+    (seen q ≡ after_draw (seen p) e.at count)
+    × (e.count ≡ count)
+    × (e.total ≡ p.total)
+    × (p.total < e.at + e.count)
+
+-- what a draw does: a span, with its entry, where it ends within the total; or an entry that is refused; or, where
+-- the pass keeps a refusal, the same again, and no step
+abbrev pub Drew : Pass → ℕ → Result Span Exhausted → Pass → Type 0
+Drew p count (Ok s) q =
+    (p.kept ≡ None)
+    × (q.kept ≡ None)
+    × (seen q ≡ after_draw (seen p) s.start count)
+    × (s.end ≡ s.start + count)
+    × (s.end ≤ p.total)
+Drew p count (Err e) q =
+    (q.kept ≡ Some e)
+    × MatchOption p.kept (IsRefused p count e q) (λ k. (e ≡ k) × (seen q ≡ seen p))
+
+-- the entries, and the reports, of these passes in order
+abbrev pub all_entries : List Pass → List Entry
+all_entries passes = flat_map entries_of passes
+
+abbrev pub all_reports : List Pass → List Report
+all_reports passes = flat_map (λ p. (seen p).reports) passes
+
+-- the journal's seat once it has taken in these passes
+abbrev pub with_passes : View → List Pass → View
+with_passes v passes = taken_in v (all_reports passes) (all_entries passes)
+
+-- the greatest end, or the base where there is no entry
+abbrev pub greatest_end : ℕ → List Entry → ℕ
+greatest_end base [] = base
+greatest_end base (e ∷ es) = max (end_of e) (greatest_end base es)
+
+-- one ends where the other starts, or before
+abbrev pub IsApart : Entry → Entry → Type 0
+IsApart d e = (end_of d ≤ e.start) ⊎ (end_of e ≤ d.start)
+
+-- What holds of all passes of a table together, whose journal's seat knows this ceiling and this mark: no two entries
+-- have a unit in common, refused ones among them; each starts at or above the base; their counts add up to the
+-- greatest end less the base; no pass knows a greater ceiling, or a mark other than 0 and this one
+pub record AreGathered (base ceiling mark : ℕ) (passes : List Pass) : Type 0 where
+  pub apart : AllPairs IsApart (all_entries passes)
+  pub above : All (λ e. base ≤ e.start) (all_entries passes)
+  pub tile : base + units_drawn (all_entries passes) ≡ greatest_end base (all_entries passes)
+  pub known : All (λ p. known_of p ≤ ceiling) passes
+  pub marks : All (λ p. (mark_of p ≡ 0) ⊎ (mark_of p ≡ mark)) passes

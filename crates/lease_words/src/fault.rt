@@ -1,0 +1,9 @@
+// Why a draw is refused.
+
+/// The draw of `count` units at `at` ended above the total. The units are drawn all the same, and nobody gets them.
+#[derive(Clone, Copy, Debug, PartialEq, Eq)]
+pub struct Exhausted {
+    pub at: u64,
+    pub count: u32,
+    pub total: u64,
+}

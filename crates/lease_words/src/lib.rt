@@ -1,0 +1,28 @@
+//! The lease words: three shared words by which threads draw spans of units, see how far they may be granted, and learn
+//! that the journal failed. No call waits.
+//!
+//! Word 0 is the unit behind the last one drawn, word 1 the ceiling shown, word 2 the journal's mark, 0 while it has not
+//! failed. They lie in a table of `atomic_table`, under the rule `LeaseRule`; `rule_is_leased` says what it means.
+#![tactic(auto)]
+
+mod fault;
+mod gathering;
+mod laws;
+mod making;
+mod pass;
+mod rule;
+mod table;
+mod view;
+mod words;
+
+pub use fault::Exhausted;
+pub use laws::{rule_is_leased, steps_are_events};
+pub use making::start;
+pub use pass::{JournalSeat, Pass};
+pub use rule::Leases;
+pub use table::Words;
+pub use view::{Bounds, Entry, Report, View};
+pub use zk_model::Span;
+
+#[cfg(test)]
+mod tests;

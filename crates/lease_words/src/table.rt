@@ -1,0 +1,14 @@
+// The table of three words.
+ghost use Rattle.std.specs.Prelude.{◌≡◌};
+
+use crate::rule::Leases;
+use crate::view::{Bounds, View};
+use atomic_table::Table;
+use std::alloc::Global;
+
+/// The three words, which threads share by reference.
+#[derive(Drop)]
+pub struct Words {
+    pub(crate) table: Table<(), View, Bounds, Leases, Global>,
+    ghost sized: { (table.shared.table_id.words ≡ 3) × (table.shared.table_id.slots ≡ 0) },
+}
