@@ -227,11 +227,6 @@ single_wrong flags p0 p1 p2 p3 a c text fault one two named wrong = λ start tak
 
 -- ---- a gate
 
--- its numbers of inputs and of outputs
-pub numbers_taken : (is_pair : Bool) (start p0 p1 : Place) → Takes (number (inputs_of is_pair) ∷ []) start p0 → Takes (number 1 ∷ []) p0 p1
-    → Takes (number (inputs_of is_pair) ∷ number 1 ∷ []) start p1
-numbers_taken is_pair start p0 p1 one two = takes_both (number (inputs_of is_pair) ∷ []) (number 1 ∷ []) start p0 p1 one two
-
 pub gate_taken : (n : ℕ) (is_pair : Bool) (start p1 : Place) (P : Place → Type 0) → n ≡ inputs_of is_pair → Takes (number (inputs_of is_pair) ∷ number 1 ∷ []) start p1
     → BehindNumbers n p1 P → P start
 gate_taken n is_pair start p1 P is takes behind = behind start (subst (λ (k : ℕ). Takes (number k ∷ number 1 ∷ []) start p1) (sym is) takes)

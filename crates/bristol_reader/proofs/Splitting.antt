@@ -2,14 +2,14 @@
 use Rattle.std.proofs.Common.{◌≡◌, ℕ, zero, suc, ◌+◌, ◌*◌, ◌-◌, ◌^◌, ◌<◌, ◌≤◌, Bool, true, false, List, [], ◌∷◌, ◌++◌, map, filter, length, take, drop, get_or, min, refl, ap, sym, ◌∙◌, subst, arith, append-nil, length-take, length-drop}
 use Rattle.std.specs.Prelude.{All, nat_le, nat_lt, ◌||◌, ◌==◌, ◌&&◌, if◌then◌else◌}
 use Rattle.std.specs.List.{list_all, slice_split}
-use Rattle.std.proofs.lemmas.List.{get_or-take, drop_all, drop_more, take_more, take_all, take-append-drop}
+use Rattle.std.proofs.lemmas.List.{get_or-take, drop_more, take_more, take_all, take-append-drop}
 use Rattle.std.proofs.lemmas.List.Elements.{All-nil, All-cons, All-head, All-push}
 use Rattle.std.proofs.lemmas.List.Folds.{list_all-append}
 use Rattle.std.proofs.lemmas.List.Splits.{slice_split-cons_yes, slice_split_none, slice_split_at}
 use Rattle.std.proofs.lemmas.List.Sums.{fold_push}
 use Rattle.std.proofs.Math.Nat.{pow-suc, pow-le-pow_right}
 use Rattle.std.proofs.Math.Numerals.{add-one}
-use Rattle.std.proofs.lemmas.Bool.{leb-true, lt-ltb, ne_eqb}
+use Rattle.std.proofs.lemmas.Bool.{le-leb, leb-true, lt-ltb, ne_eqb}
 use Rattle.zk_model.specs.Bristol.{number, name, is_blank, is_digit, decimal_value, tokens, lexeme, lexemes}
 use Rattle.bristol_reader.specs.declared.tokens.Scanned.{Scanned}
 use Rattle.bristol_reader.specs.declared.tokens.Word.TheVariants.{Number}
@@ -102,7 +102,7 @@ scanned_number bytes value far = said (list_all is_digit bytes) (sym far.digits)
     said true on = ap Number (far.value_is refl)
     said false on = cc
 
--- a number up to a blank, or up to the text's end
+-- a number up to a blank
 pub scan_ended : (text : List ℕ) (i value : ℕ) → i < length text → is_blank (get_or text i 0) ≡ true → AreScanned (take i text) true value
     → IsScanned text (record { length = i; word = Number value })
 scan_ended text i value within blank far = record {
@@ -111,15 +111,6 @@ scan_ended text i value within blank far = record {
   ends = subst EndsToken (sym (drop_more text i 0 within)) blank;
   word_is = scanned_number (take i text) value far;
 }
-
-pub scan_whole : (text : List ℕ) (i value : ℕ) → i ≡ length text → AreScanned (take i text) true value
-    → IsScanned text (record { length = length text; word = Number value })
-scan_whole text i value all far = subst (λ (n : ℕ). IsScanned text (record { length = n; word = Number value })) all (record {
-  within = omega arith;
-  unbroken = far.unbroken;
-  ends = subst EndsToken (sym (drop_all i text (omega arith))) tt;
-  word_is = scanned_number (take i text) value far;
-})
 
 -- ---- what is left of a text
 
@@ -199,20 +190,15 @@ short_byte : (text front : List ℕ) (i : ℕ) → front ≡ take 8 text → i <
 short_byte text front i same within = ap (λ l. get_or l i 0) same ∙ get_or-take 8 text i 0 within
 
 -- one digit more
-pub short_digit : (text front : List ℕ) (i value : ℕ) → front ≡ take 8 text → 8 ≤ length text → i < 8 → is_digit (get_or front i 0) ≡ true → AreScanned (take i text) true value
-    → value < 10 ^ i → AreScanned (take (i + 1) text) true (value * 10 + (get_or front i 0 - 48)) × (value * 10 + (get_or front i 0 - 48) < 10 ^ (i + 1))
-short_digit text front i value same enough within digit far small =
-    let byte : ℕ = get_or front i 0 in
-    let is : byte ≡ get_or text i 0 = short_byte text front i same within in
-    let high : byte ≤ 57 = leb-true byte 57 (second (nat_le 48 byte) (nat_le byte 57) digit) in
+pub short_digit : (text front : List ℕ) (i value digit : ℕ) → front ≡ take 8 text → 8 ≤ length text → i < 8 → digit < 10 → get_or front i 0 ≡ digit + 48 → AreScanned (take i text) true value
+    → value < 10 ^ i → AreScanned (take (i + 1) text) true (value * 10 + digit) × (value * 10 + digit < 10 ^ (i + 1))
+short_digit text front i value digit same enough within below byte_is far small =
+    let is : get_or text i 0 ≡ digit + 48 = sym (short_byte text front i same within) ∙ byte_is in
     let some : 0 < 10 = omega arith in
     let few : i ≤ 7 = omega arith in
     let power : 10 ^ i ≤ 10 ^ 7 = pow-le-pow_right {n = 10} some {i = i} {j = 7} few in
-    (scan_digit text i true true value (value * 10 + (byte - 48)) (omega arith) (ap is_digit (sym is) ∙ digit) refl (omega (arith, ap (λ b. b - 48) is)) far, rw (add-one, pow-suc) (omega arith))
-  where
-    second : (a b : Bool) → (a && b) ≡ true → b ≡ true
-    second true b on = on
-    second false b on = absurd cc
+    let is_digit_is : is_digit (digit + 48) ≡ true = (λ j. le-leb 48 (digit + 48) (omega arith) j && le-leb (digit + 48) 57 (omega arith) j) in
+    (scan_digit text i true true value (value * 10 + digit) (omega arith) (ap is_digit is ∙ is_digit_is) refl (omega (arith, is)) far, rw (add-one, pow-suc) (omega arith))
 
 -- its end
 pub short_ended : (text front : List ℕ) (i value : ℕ) → front ≡ take 8 text → 8 ≤ length text → i < 8 → 0 < i → get_or front i 0 ≡ 32 → AreScanned (take i text) true value

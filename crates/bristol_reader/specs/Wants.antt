@@ -45,6 +45,10 @@ pub record TakesNumber (before after : Place) (placed : Placed) : Type 0 where
 abbrev pub inputs_of : Bool → ℕ
 inputs_of is_pair = if is_pair then 2 else 1
 
+-- its numbers of inputs and of outputs
+abbrev pub numbers_of : Bool → List Lexeme
+numbers_of is_pair = number (inputs_of is_pair) ∷ number 1 ∷ []
+
 -- the gate with two inputs, or with one, that a word names
 abbrev pub pair_of : Word → Option Pair
 pair_of (Name And) = Some pair.And

@@ -1,9 +1,9 @@
 // A gate of a circuit's text.
-ghost use Rattle.std.specs.Prelude.{◌≡◌, ◌≤◌, ◌^◌, IfOk, IfErr, [], ◌∷◌, length};
-ghost use Rattle.zk_model.specs.Bristol.{gate_lexemes, number};
+ghost use Rattle.std.specs.Prelude.{◌≡◌, ◌≤◌, ◌^◌, IfOk, IfErr, length};
+ghost use Rattle.zk_model.specs.Bristol.{gate_lexemes};
 ghost use Rattle.zk_model.specs.TextFaults.{GateWants};
 ghost use Rattle.bristol_reader.specs.Words.{Takes};
-ghost use Rattle.bristol_reader.specs.Wants.{inputs_of, IsFaultBehind};
+ghost use Rattle.bristol_reader.specs.Wants.{numbers_of, IsFaultBehind};
 ghost use Rattle.bristol_reader.specs.Gates.{IsSetWire, IsNoSetWire, IsFreeWire, IsNoFreeWire};
 ghost use Rattle.bristol_reader.specs.Gates.{MayBeInput, MayNotBeInput};
 ghost use Rattle.bristol_reader.specs.Gates.{FitsFlags, pair_gate, single_gate, IsWrongPair, IsWrongSingle};
@@ -148,7 +148,7 @@ fn read_single(tokens: &mut Tokens, set: &[bool]) -> Result<GateRow, ReadFault>
 
 /// Takes a gate's numbers of inputs and of outputs, and says whether there are 2 inputs.
 fn read_numbers(tokens: &mut Tokens) -> Result<bool, ReadFault>
-    ensures numbers { IfOk result (λ two. Takes (number (inputs_of two) ∷ number 1 ∷ []) tokens.old tokens.new) }
+    ensures numbers { IfOk result (λ two. Takes (numbers_of two) tokens.old tokens.new) }
     ensures fault { IfErr result (IsFaultBehind GateWants tokens.old) }
 {
     if let Some(is_pair) = tokens.plain_numbers() {

@@ -1,9 +1,9 @@
 // A text, token by token.
 ghost use Rattle.std.specs.Prelude.{◌≡◌, ◌≤◌, ◌+◌, ◌*◌, ◌-◌, ◌<◌, ◌^◌};
-ghost use Rattle.std.specs.Prelude.{IfSome, IfNone, [], ◌∷◌, length, min};
-ghost use Rattle.zk_model.specs.Bristol.{is_blank, is_digit, lexeme, number, tokens};
+ghost use Rattle.std.specs.Prelude.{IfSome, IfNone, [], length, min};
+ghost use Rattle.zk_model.specs.Bristol.{is_blank, is_digit, lexeme, tokens};
 ghost use Rattle.bristol_reader.specs.Words.{greatest, name_of, word_of, BeginsToken, Takes, TakesWord, place_of};
-ghost use Rattle.bristol_reader.specs.Wants.{inputs_of};
+ghost use Rattle.bristol_reader.specs.Wants.{numbers_of};
 ghost use Rattle.bristol_reader.specs.Scans.{AreScanned, IsScanned, IsEnded};
 
 use std::marker::Model;
@@ -130,6 +130,13 @@ fn scan(text: &[u8]) -> Scanned
     }
 }
 
+/// How far a byte is above the digit 0, which is below 10 at digits alone.
+fn digit_value(byte: u8) -> u32
+    ensures { result < 10 → byte ≡ result + 48 }
+{
+    u32::from(byte).wrapping_sub(u32::from(b'0'))
+}
+
 /// The number that a text begins with, if it has at most seven digits and a space behind it.
 #[inline(always)]
 fn scan_number(text: &[u8]) -> Option<Scanned>
@@ -138,8 +145,9 @@ fn scan_number(text: &[u8]) -> Option<Scanned>
     let front = text.first_chunk::<8>()?;
     let mut value = 0;
     for (i, byte) in front.iter().enumerate() {
-        if is_digit(*byte) {
-            value = value * 10 + (*byte as u32 - b'0' as u32);
+        let digit = digit_value(*byte);
+        if digit < 10 {
+            value = value * 10 + digit;
         } else if *byte == b' ' && i > 0 {
             let word = Word::Number(value);
             return Some(Scanned { length: i, word });
@@ -202,7 +210,8 @@ impl<'a> Tokens<'a> {
         self.taken
     }
 
-    /// Takes the next token, if there is one, and the blanks around it.
+    /// Takes the next token, if there is one, and the blanks around it. Kept apart from the two below, which most
+    /// tokens of a circuit take.
     #[inline(never)]
     pub fn next(&mut self) -> Option<Word>
         ensures end { IfNone result (self.old.left ≡ []) }
@@ -218,7 +227,7 @@ impl<'a> Tokens<'a> {
         Some(scanned.word)
     }
 
-    /// The same, quickest where a short number is next.
+    /// The same, quickest at a short number.
     #[inline(always)]
     pub fn next_number(&mut self) -> Option<Word>
         ensures end { IfNone result (self.old.left ≡ []) }
@@ -232,7 +241,7 @@ impl<'a> Tokens<'a> {
         Some(scanned.word)
     }
 
-    /// The same, quickest where a gate's name of three letters is next.
+    /// The same, quickest at a gate's name of three letters.
     #[inline(always)]
     pub fn next_name(&mut self) -> Option<Word>
         ensures end { IfNone result (self.old.left ≡ []) }
@@ -246,11 +255,11 @@ impl<'a> Tokens<'a> {
         Some(scanned.word)
     }
 
-    /// Takes a gate's numbers of inputs and of outputs, if they begin here, each with a space behind it, and says
-    /// whether there are 2 inputs.
+    /// Takes a gate's numbers of inputs and of outputs if they begin here with a space behind each, and says whether
+    /// there are 2 inputs.
     pub fn plain_numbers(&mut self) -> Option<bool>
         ensures none { IfNone result (self.new ≡ self.old) }
-        ensures numbers { IfSome result (λ two. Takes (number (inputs_of two) ∷ number 1 ∷ []) self.old self.new) }
+        ensures numbers { IfSome result (λ two. Takes (numbers_of two) self.old self.new) }
     {
         let [inputs, b' ', b'1', b' ', behind @ ..] = self.rest else {
             return None;

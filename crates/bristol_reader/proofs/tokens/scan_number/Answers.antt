@@ -1,4 +1,4 @@
-use Rattle.std.proofs.Common.{sym, ◌∙◌, arith}
+use Rattle.std.proofs.Common.{arith}
 use Rattle.bristol_reader.proofs.Splitting.{short_digit, short_ended}
 use Rattle.bristol_reader.proofs.tokens.scan_number.Goals as goal
 
@@ -9,6 +9,6 @@ returns-then-i-gt0 c =
 
 pub loop-i-preserved : goal.loop-i-preserved
 loop-i-preserved c =
-    let more = short_digit c.args.text.now c.in_ok-front.front.now c.loop-i.i c.loop-i.value c.in_ok-front.ensures.cases.same c.in_ok-front.ensures.cases.enough (omega arith)
-    (sym c.is_digit.ensures ∙ c.if-is_digit.true) c.loop-i.invariant.scanned c.loop-i.invariant.small in
+    let more = short_digit c.args.text.now c.in_ok-front.front.now c.loop-i.i c.loop-i.value c.digit_value-digit.result c.in_ok-front.ensures.cases.same c.in_ok-front.ensures.cases.enough
+    (omega arith) (omega arith) (c.digit_value-digit.ensures (omega arith)) c.loop-i.invariant.scanned c.loop-i.invariant.small in
     record { scanned = more.0; small = more.1 }
