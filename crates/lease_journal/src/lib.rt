@@ -1,13 +1,25 @@
-//! Journals, in which each end of a session writes down which units are spent. So far there are only new ones.
+//! Journals, in which each end of a session writes down which units are spent.
 //!
 //! A journal is a header of 64 bytes and slots of 32 bytes. Numbers have their low byte first. In the header stand
 //! `WQSJRNL1` in ASCII, the byte of the kind (0 the prover's claims, 1 the verifier's ceilings), 7 zero bytes, the total
-//! of units and the number of slots, 8 bytes each, and the id of the dealt files, 32 bytes.
+//! of units and the number of slots, 8 bytes each, and the id of the dealt files, 32 bytes. A slot has two numbers, its
+//! body, 15 bytes that nothing reads, and a byte that is 0x5A once the slot is open. The bodies of the first slots that
+//! are open, up to the first that is not, are what the journal says.
+//!
+//! A put writes a body, syncs, opens its slot, and syncs, so that a crash at any moment leaves the journal with the body
+//! or without.
 #![tactic(auto)]
 
 ghost use Rattle.std.specs.Prelude.{◌≡◌, ◌^◌, ◌≤◌, ◌++◌, IfOk, OnOk};
 ghost use Rattle.zk_model.specs.Journals.{blank_journal_bytes, ceiling_slots, claim_slots, journal_code, journal_header};
 
+mod fault;
+mod journal;
+mod starting;
+mod storing;
+
+pub use fault::{JournalFault, StartFault};
+pub use journal::Journal;
 use std::alloc::{AllocError, Global};
 pub use zk_model::JournalKind;
 
@@ -74,3 +86,6 @@ pub fn claim_slots(total: u64) -> u64
 {
     total.min(4096)
 }
+
+#[cfg(test)]
+mod tests;

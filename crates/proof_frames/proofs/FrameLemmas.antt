@@ -1,5 +1,5 @@
 -- The payloads of frames.
-use Rattle.std.proofs.Common.{◌≡◌, ℕ, ◌+◌, ◌*◌, ◌<◌, List, [], ◌∷◌, ◌++◌, length, flat_map, take, get_or, refl, ap, sym, ◌∙◌, arith, append_assoc, subst}
+use Rattle.std.proofs.Common.{◌≡◌, ℕ, ◌+◌, ◌*◌, ◌^◌, ◌<◌, ◌≤◌, List, [], ◌∷◌, ◌++◌, length, flat_map, take, get_or, refl, ap, sym, ◌∙◌, arith, append_assoc, subst}
 use Rattle.std.specs.Prelude.{All}
 use Rattle.std.proofs.lemmas.List.Elements.{All-more}
 use Rattle.std.specs.Int.{w32, to_le_bytes}
@@ -7,7 +7,9 @@ use Rattle.std.proofs.lemmas.List.{flat_map_more, take_more}
 use Rattle.zk_model.specs.Bytes.{element_bytes}
 use Rattle.zk_model.specs.Transcript.{kind_number, frame_bytes}
 use Rattle.zk_model.specs.declared.FrameKind.{FrameKind}
-use Rattle.proof_frames.specs.Frames.{sums_payload}
+use Rattle.zk_model.specs.Frames as model
+use Rattle.zk_model.specs.Frames.{frame_spelling}
+use Rattle.proof_frames.specs.Frames.{sums_payload, IsShort}
 
 pub length-elements : (elements : List ℕ) → length (flat_map element_bytes elements) ≡ 8 * length elements
 length-elements [] = refl
@@ -35,12 +37,6 @@ sums_more sums i both old before one two a b within at far first second is_a is_
     ∙ flat_map_more bytes old (take i sums) both
     ∙ ap (λ l. old ++ flat_map bytes l) last
 
--- what holds of the first items and of the next holds of one more
-pub all_more : {A : Type 0} (P : A → Type 0) (items : List A) (i : ℕ) (item : A) → i < length items → item ≡ get_or items i item
-    → All P (take i items) → P item → All P (take (i + 1) items)
-all_more P items i item within at all holds =
-    All-more P items i item within all (subst P at holds)
-
 -- the bytes of one element more
 pub elements_more : (elements : List ℕ) (i element : ℕ) (old before now a : List ℕ) → i < length elements → element ≡ get_or elements i element
     → before ≡ old ++ flat_map element_bytes (take i elements) → now ≡ before ++ a → a ≡ element_bytes element
@@ -48,3 +44,19 @@ pub elements_more : (elements : List ℕ) (i element : ℕ) (old before now a : 
 elements_more elements i element old before now a within at far pushed is_a =
     let last : take i elements ++ element ∷ [] ≡ take (i + 1) elements = ap (λ q. take i elements ++ q ∷ []) at ∙ sym (take_more elements i element within) in
     pushed ∙ (λ j. far j ++ is_a j) ∙ flat_map_more element_bytes old (take i elements) element ∙ ap (λ l. old ++ flat_map element_bytes l) last
+
+-- the payloads of short frames
+pub short_elements : (frame : model.Frame) (kind : FrameKind) (elements given : List ℕ) → IsShort frame → frame_spelling frame ≡ frame_bytes kind (flat_map element_bytes elements)
+    → given ≡ elements → 8 * length given ≤ 2 ^ 24
+short_elements frame kind elements given short is same =
+    omega (arith, short, ap length is, length-elements elements, ap length same)
+
+pub short_sums : (frame : model.Frame) (sums given : List (ℕ × ℕ)) → IsShort frame → frame ≡ model.sums sums → given ≡ sums → 16 * length given ≤ 2 ^ 24
+short_sums frame sums given short is same =
+    omega (arith, short, ap (λ f. length (frame_spelling f)) is, length-sums sums, ap length same)
+
+-- what holds of the first items and of the next holds of one more
+pub all_more : {A : Type 0} (P : A → Type 0) (items : List A) (i : ℕ) (item : A) → i < length items → item ≡ get_or items i item
+    → All P (take i items) → P item → All P (take (i + 1) items)
+all_more P items i item within at all holds =
+    All-more P items i item within all (subst P at holds)

@@ -1,3 +1,14 @@
 pub mod FrameLemmas
-pub mod Reading
-pub mod RunLemmas
+pub mod Octets
+pub mod Sums
+pub mod Words
+pub mod Begun
+pub mod Ends
+pub mod Steps
+pub mod Lengths
+pub mod Stops
+pub mod Finished
+pub mod Decoding
+pub mod Unique
+pub mod Machine
+mod ExampleFrames

@@ -1,10 +1,52 @@
--- The payloads of frames, and what reading a frame answers.
-use Rattle.std.specs.Prelude.{◌≡◌, ℕ, List, [], ◌∷◌, ◌++◌, flat_map, length, Result, Ok, Err}
-use Rattle.std.specs.List.{AllByRecursion}
-use Rattle.zk_model.specs.Field.{IsElement}
+-- Frames of the program, and what they say.
+use Rattle.std.specs.Prelude.{ℕ, ◌+◌, ◌^◌, ◌≤◌, if◌then◌else◌, nat_eq, List, [], ◌∷◌, ◌++◌, flat_map, length, take, drop, get_or, All}
+use Rattle.std.specs.Int.{w32, w64, from_le_bytes}
 use Rattle.zk_model.specs.Bytes.{element_bytes}
-use Rattle.proof_frames.specs.declared.decode.FrameFault.{FrameFault}
-use Rattle.proof_frames.specs.declared.decode.FrameFault.TheVariants as fault
+use Rattle.zk_model.specs.Field.{IsElement}
+use Rattle.zk_model.specs.Frames as model
+use Rattle.zk_model.specs.Frames.{frame_spelling}
+use Rattle.zk_model.specs.Transcript.{Hello, Grant}
+use Rattle.zk_model.specs.declared.FrameKind.{FrameKind}
+use Rattle.zk_model.specs.declared.FrameKind.TheVariants as kind
+use Rattle.proof_frames.specs.declared.frame.Frame.{Frame}
+use Rattle.proof_frames.specs.declared.frame.Frame.TheVariants as frame
+
+-- what a frame says
+abbrev pub said : Frame → model.Frame
+said (frame.Hello hello) = model.hello hello
+said (frame.Grant grant) = model.grant grant
+said (frame.Corrections elements) = model.corrections elements.items
+said (frame.Challenge element) = model.challenge element
+said (frame.Sums both) = model.sums both.items
+said (frame.Openings macs) = model.openings macs.items
+said (frame.Verdict code number) = model.verdict code number
+said (frame.Refuse code) = model.refuse code
+
+-- the kind of a frame
+abbrev pub kind_of : model.Frame → FrameKind
+kind_of (model.hello said) = kind.Hello
+kind_of (model.grant given) = kind.Grant
+kind_of (model.corrections elements) = kind.Corrections
+kind_of (model.challenge element) = kind.Challenge
+kind_of (model.sums both) = kind.Sums
+kind_of (model.openings macs) = kind.Openings
+kind_of (model.verdict code number) = kind.Verdict
+kind_of (model.refuse code) = kind.Refuse
+
+-- a frame of at most 2^24 bytes behind its kind and its length
+abbrev pub IsShort : model.Frame → Type 0
+IsShort frame = length (frame_spelling frame) ≤ 2 ^ 24 + 5
+
+-- the numbers in it that stand for elements are elements
+abbrev pub IsRanged : model.Frame → Type 0
+IsRanged (model.hello greeting) = Unit {0}
+IsRanged (model.grant given) = Unit {0}
+IsRanged (model.corrections elements) = All IsElement elements
+IsRanged (model.challenge element) = IsElement element
+IsRanged (model.sums both) = All (λ q. IsElement q.0 × IsElement q.1) both
+IsRanged (model.openings macs) = All IsElement macs
+IsRanged (model.verdict code number) = Unit {0}
+IsRanged (model.refuse code) = Unit {0}
 
 -- the bytes of sums, section by section
 abbrev pub sums_payload : List (ℕ × ℕ) → List ℕ
@@ -14,19 +56,23 @@ sums_payload sums = flat_map (λ both. element_bytes both.0 ++ element_bytes bot
 abbrev pub flattened : List (ℕ × ℕ) → List ℕ
 flattened sums = flat_map (λ both. both.0 ∷ both.1 ∷ []) sums
 
--- the bytes were no such frame
-abbrev pub IsBadFrame : {T : Type 0} → Result T FrameFault → Type 0
-IsBadFrame (Ok value) = ⊥
-IsBadFrame (Err reason) = reason ≡ fault.BadFrame
+-- the greeting that bytes say
+abbrev pub hello_in : List ℕ → Hello
+hello_in bytes =
+    record { id = take 32 (drop 5 bytes); circuit = take 32 (drop 37 bytes); outputs = take 32 (drop 69 bytes); version = get_or bytes 101 0 }
 
--- this was read, unless memory ran out
-abbrev pub Reads : {T A : Type 0} → (T → A) → Result T FrameFault → A → Type 0
-Reads view (Ok value) wanted = view value ≡ wanted
-Reads view (Err fault.NoMemory) wanted = Unit {0}
-Reads view (Err fault.BadFrame) wanted = ⊥
+-- the grant that bytes say
+abbrev pub grant_in : List ℕ → Grant
+grant_in bytes = record {
+  start = from_le_bytes w64 (take 8 (drop 5 bytes));
+  count = from_le_bytes w32 (take 4 (drop 13 bytes));
+  section_length = from_le_bytes w32 (take 4 (drop 17 bytes));
+}
 
--- a payload is the bytes of so many elements
-pub record SpellsElements (payload : List ℕ) (count : ℕ) (elements : List ℕ) : Type 0 where
-  pub bytes : payload ≡ flat_map element_bytes elements
-  pub counted : length elements ≡ count
-  pub ranged : AllByRecursion IsElement elements
+-- the grant or the refusal that bytes say
+abbrev pub grant_or_refusal_in : List ℕ → model.Frame
+grant_or_refusal_in bytes = if nat_eq (get_or bytes 0 0) 10 then model.refuse (get_or bytes 5 0) else model.grant (grant_in bytes)
+
+-- the verdict that bytes say
+abbrev pub verdict_in : List ℕ → model.Frame
+verdict_in bytes = model.verdict (get_or bytes 5 0) (from_le_bytes w32 (take 4 (drop 6 bytes)))

@@ -1,3 +1,5 @@
 pub mod Frames
-pub mod FrameRanges
-pub mod Runs
+pub mod Shapes
+pub mod Readings
+pub mod Holding
+pub mod Laws

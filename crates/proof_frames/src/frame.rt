@@ -1,13 +1,8 @@
 // The frames of a session: a kind, the length of the payload, and the payload.
-ghost use Rattle.std.specs.Prelude.{◌≡◌, ◌*◌, ◌^◌, ◌≤◌, ◌<◌, ◌++◌, [], ◌∷◌, length, flat_map, All, IfOk, OnOk};
-ghost use Rattle.std.specs.Int.{w32, w64, to_le_bytes};
-ghost use Rattle.zk_model.specs.Bytes.{element_bytes};
-ghost use Rattle.zk_model.specs.Field.{IsElement};
-ghost use Rattle.zk_model.specs.Transcript.{kind_number, frame_bytes, hello_frame, grant_frame, sums_frame, verdict_frame};
-ghost use Rattle.proof_frames.specs.Frames.{sums_payload};
+ghost use Rattle.std.specs.Prelude.{◌≡◌};
+ghost use Rattle.zk_model.specs.Transcript.{kind_number};
 
 use mersenne_field::Fe;
-use std::alloc::{AllocError, Global};
 use std::marker::Model;
 use zk_model::FrameKind;
 
@@ -59,6 +54,48 @@ impl Model for Grant {
     ghost inverse = { λ g. record { start = g.start; count = g.count; section = g.section_length } };
 }
 
+/// A frame: what one end says to the other at once.
+#[derive(Debug, Drop)]
+pub enum Frame {
+    /// The prover greets.
+    Hello(Hello),
+    /// The verifier grants units.
+    Grant(Grant),
+    /// A correction for each given value.
+    Corrections(Vec<Fe>),
+    /// The challenge of the checks.
+    Challenge(Fe),
+    /// U and V of each section.
+    Sums(Vec<(Fe, Fe)>),
+    /// The MAC of each opened wire.
+    Openings(Vec<Fe>),
+    /// Code 0 for an acceptance, 1 for a section whose sums fail, 2 for an output whose MAC fails; and the number of the
+    /// section or of the output.
+    Verdict { code: u8, number: u32 },
+    /// What stands in place of a grant.
+    Refuse { code: u8 },
+}
+
+impl Frame {
+    ghost use Rattle.proof_frames.specs.Frames.{said, kind_of};
+
+    /// The kind of the frame.
+    pub fn kind(&self) -> FrameKind
+        ensures { result ≡ kind_of (said self.now) }
+    {
+        match self {
+            Frame::Hello(_) => FrameKind::Hello,
+            Frame::Grant(_) => FrameKind::Grant,
+            Frame::Corrections(_) => FrameKind::Corrections,
+            Frame::Challenge(_) => FrameKind::Challenge,
+            Frame::Sums(_) => FrameKind::Sums,
+            Frame::Openings(_) => FrameKind::Openings,
+            Frame::Verdict { .. } => FrameKind::Verdict,
+            Frame::Refuse { .. } => FrameKind::Refuse,
+        }
+    }
+}
+
 /// The number of a kind of frame.
 pub(crate) fn number_of(kind: FrameKind) -> u8
     ensures { result ≡ kind_number kind }
@@ -75,119 +112,4 @@ pub(crate) fn number_of(kind: FrameKind) -> u8
         FrameKind::Verdict => 9,
         FrameKind::Refuse => 10,
     }
-}
-
-/// A frame of this kind whose payload will have so many bytes, without the payload.
-fn begin(alloc: Global, kind: FrameKind, length: usize) -> Result<Vec<u8>, AllocError>
-    requires { length ≤ 2 ^ 24 }
-    ensures { IfOk result (λ bytes. bytes.items ≡ kind_number kind ∷ to_le_bytes w32 length) }
-{
-    let mut bytes = Vec::with_capacity(alloc, length + 5)?;
-    bytes.push(number_of(kind))?;
-    bytes.extend_from_slice(&(length as u32).to_le_bytes())?;
-    Ok(bytes)
-}
-
-/// Appends elements, 8 bytes each.
-fn push_elements(bytes: &mut Vec<u8>, elements: &[Fe]) -> Result<(), AllocError>
-    ensures bytes { OnOk result (bytes.new.items ≡ bytes.old.items ++ flat_map element_bytes elements.now) }
-    ensures range { OnOk result (All IsElement elements.now) }
-{
-    for element in elements {
-        bytes.extend_from_slice(&element.to_le())?;
-    }
-    Ok(())
-}
-
-/// Appends pairs of elements, 16 bytes each.
-fn push_sums(bytes: &mut Vec<u8>, sums: &[(Fe, Fe)]) -> Result<(), AllocError>
-    ensures bytes { OnOk result (bytes.new.items ≡ bytes.old.items ++ sums_payload sums.now) }
-    ensures range { OnOk result (All (λ both. IsElement both.0 × IsElement both.1) sums.now) }
-{
-    for (constant, linear) in sums {
-        bytes.extend_from_slice(&constant.to_le())?;
-        bytes.extend_from_slice(&linear.to_le())?;
-    }
-    Ok(())
-}
-
-/// The prover's greeting, as it is sent: a payload of 97 bytes.
-///
-/// # Errors
-///
-/// Only where memory runs out.
-pub fn encode_hello(alloc: Global, hello: Hello) -> Result<Vec<u8>, AllocError>
-    ensures { IfOk result (λ bytes. bytes.items ≡ hello_frame hello) }
-{
-    let mut bytes = begin(alloc, FrameKind::Hello, 97)?;
-    bytes.extend_from_slice(&hello.id)?;
-    bytes.extend_from_slice(&hello.circuit)?;
-    bytes.extend_from_slice(&hello.outputs)?;
-    bytes.push(hello.version)?;
-    Ok(bytes)
-}
-
-/// A grant, as it is sent: a payload of 16 bytes.
-///
-/// # Errors
-///
-/// Only where memory runs out.
-pub fn encode_grant(alloc: Global, grant: Grant) -> Result<Vec<u8>, AllocError>
-    ensures { IfOk result (λ bytes. bytes.items ≡ grant_frame grant) }
-{
-    let mut bytes = begin(alloc, FrameKind::Grant, 16)?;
-    bytes.extend_from_slice(&grant.start.to_le_bytes())?;
-    bytes.extend_from_slice(&grant.count.to_le_bytes())?;
-    bytes.extend_from_slice(&grant.section.to_le_bytes())?;
-    Ok(bytes)
-}
-
-/// A frame of elements, as it is sent: corrections, a challenge or openings, 8 bytes for each element.
-///
-/// # Errors
-///
-/// Only where memory runs out.
-pub fn encode_elements(
-    alloc: Global,
-    kind: FrameKind,
-    elements: &[Fe],
-) -> Result<Vec<u8>, AllocError>
-    requires { 8 * length elements.now ≤ 2 ^ 24 }
-    ensures bytes { IfOk result (λ bytes. bytes.items
-        ≡ frame_bytes kind (flat_map element_bytes elements.now)) }
-    ensures range { OnOk result (All IsElement elements.now) }
-{
-    let mut bytes = begin(alloc, kind, 8 * elements.len())?;
-    push_elements(&mut bytes, elements)?;
-    Ok(bytes)
-}
-
-/// The sums of all sections, as they are sent: U and V, 16 bytes for each section.
-///
-/// # Errors
-///
-/// Only where memory runs out.
-pub fn encode_sums(alloc: Global, sums: &[(Fe, Fe)]) -> Result<Vec<u8>, AllocError>
-    requires { 16 * length sums.now ≤ 2 ^ 24 }
-    ensures bytes { IfOk result (λ bytes. bytes.items ≡ sums_frame sums.now) }
-    ensures range { OnOk result (All (λ both. IsElement both.0 × IsElement both.1) sums.now) }
-{
-    let mut bytes = begin(alloc, FrameKind::Sums, 16 * sums.len())?;
-    push_sums(&mut bytes, sums)?;
-    Ok(bytes)
-}
-
-/// A verdict, as it is sent: code 0 and number 0 for an acceptance, 1 and the section, or 2 and the output. Its payload has 5
-/// bytes.
-///
-/// # Errors
-///
-/// Only where memory runs out.
-pub fn encode_verdict(alloc: Global, code: u8, number: u32) -> Result<Vec<u8>, AllocError>
-    ensures { IfOk result (λ bytes. bytes.items ≡ verdict_frame code number) }
-{
-    let mut bytes = begin(alloc, FrameKind::Verdict, 5)?;
-    bytes.push(code)?;
-    bytes.extend_from_slice(&number.to_le_bytes())?;
-    Ok(bytes)
 }

@@ -1,12 +1,12 @@
 -- The pairs and keys of a session over files of kind direct.
-use Rattle.std.proofs.Common.{◌≡◌, ℕ, zero, suc, ◌+◌, ◌-◌, ◌<◌, List, [], ◌∷◌, ◌++◌, map, flat_map, length, get_or, slice_index_or, refl, ap, sym, ◌∙◌, subst, arith}
+use Rattle.std.proofs.Common.{◌≡◌, ℕ, ◌+◌, ◌-◌, List, [], ◌∷◌, ◌++◌, map, flat_map, slice_index_or, refl, sym, ◌∙◌, subst, arith}
 use Rattle.std.specs.List.{range_with_len}
 use Rattle.std.proofs.lemmas.List.{length-map}
 use Rattle.std.proofs.lemmas.List.Folds.{flat_map-map}
 use Rattle.std.proofs.lemmas.List.FromFn.{length-range_with_len, get_or-map-range_with_len}
 use Rattle.zk_model.specs.Mac.{Pair}
-use Rattle.zk_model.specs.Files.{ProverUnit, ProverFile, VerifierFile, prover_unit, verifier_unit, span_pairs, span_dealt_keys}
-use Rattle.zk_model.specs.Transcript.{Grant, Round, Setup}
+use Rattle.zk_model.specs.Files.{ProverFile, VerifierFile, prover_unit, verifier_unit, span_pairs, span_dealt_keys}
+use Rattle.zk_model.specs.Transcript.{Round, Setup}
 use Rattle.zk_model.specs.Correlations.{IsProverView, IsUnitView, unit_rounds, unit_keys, span_keys}
 use Rattle.zk_model.specs.View.{span_of}
 use Rattle.zk_model.specs.declared.Kind.TheVariants.{Direct}

@@ -1,18 +1,16 @@
 -- What both ends answer makes a session of an honest prover that the verifier serves.
-use Rattle.std.proofs.Common.{◌≡◌, ℕ, ◌+◌, ◌*◌, ◌^◌, ◌<◌, ◌≤◌, max, List, [], ◌++◌, take, drop, length, refl, sym, ◌∙◌, ap, subst, arith}
-use Rattle.std.specs.Prelude.{All}
+use Rattle.std.proofs.Common.{◌≡◌, ℕ, ◌+◌, ◌^◌, ◌<◌, ◌≤◌, max, List, drop, length, refl, sym, ◌∙◌, ap, subst, arith}
 use Rattle.std.proofs.lemmas.List.Elements.{All-nil}
-use Rattle.std.proofs.lemmas.List.{length-map}
 use Rattle.zk_model.specs.Field.{IsElement}
-use Rattle.zk_model.specs.Bytes.{AreBytes}
 use Rattle.zk_model.specs.Program.{Program, section_count, part_count, correlations_needed}
 use Rattle.zk_model.specs.Statement.{Statement, IsStatement}
-use Rattle.zk_model.specs.Mac.{macs_of, corrected_keys}
-use Rattle.zk_model.specs.Files.{ProverFile, VerifierFile, IsProverFile, IsVerifierFile, AreDealt, span_pairs, span_dealt_keys, rounds_of, correlations_per_unit}
-use Rattle.zk_model.specs.Transcript.{Hello, Grant, Round, Commitment, Transcript, IsHello, IsGrant, IsRound, IsSetup, IsTranscript, IsInOrder, wanted_hello, spelling}
-use Rattle.zk_model.specs.Check.{WirePairs, WireKeys, all_sums, opened_pairs, ProductCheck}
-use Rattle.zk_model.specs.View.{View, IsView, view_masks, span_of, session_keys, IsVerdict, IsVerdictOf, verdict_code, verdict_number, session_products, session_openings}
-use Rattle.zk_model.specs.HonestProver.{IsWitness, IsHonest, honest_corrections, round_asks}
+use Rattle.zk_model.specs.Mac.{macs_of}
+use Rattle.zk_model.specs.Files.{IsVerifierFile, span_pairs, rounds_of, correlations_per_unit}
+use Rattle.zk_model.specs.Transcript.{Grant, IsGrant, IsRound, IsTranscript, units_for, wanted_hello, spelling}
+use Rattle.zk_model.specs.Frames.{AreElements, AreSums}
+use Rattle.zk_model.specs.Check.{WirePairs, all_sums, opened_pairs}
+use Rattle.zk_model.specs.View.{span_of, verdict_code, verdict_number}
+use Rattle.zk_model.specs.HonestProver.{IsWitness, round_asks}
 use Rattle.zk_model.specs.ServedVerifier.{IsServed, challenge_coin, round_replies}
 use Rattle.zk_model.specs.declared.Kind.{Kind}
 use Rattle.zk_model.specs.declared.Kind.TheVariants.{Direct}
@@ -20,42 +18,12 @@ use Rattle.zk_model.specs.declared.Params.{Params}
 use Rattle.zk_model.specs.declared.Side.{Side}
 use Rattle.zk_model.specs.declared.Verdict.{Verdict}
 use Rattle.zk_model.specs.declared.Verdict.TheVariants.{Accepted, RejectedSum, RejectedOpening}
-use Rattle.session_core.specs.Ends.{IsFixed, IsJudged, masks_in, whole_grant, taken_products}
-use Rattle.session_core.specs.Holding.{Ends, IsHonestWith, IsSessionOf}
-use Rattle.session_core.proofs.DirectViews.{pairs_seen, keys_spanned}
-use Rattle.session_core.proofs.Masks.{sums_of_few, verdict_of_few}
-
--- what stands in the frames of a session without rounds
-pub record Answers : Type 0 where
-  pub corrections : List ℕ
-  pub challenge : ℕ
-  pub sums : List (ℕ × ℕ)
-  pub openings : List ℕ
-
--- its transcript, with this grant and verdict
-abbrev pub transcript_of : Ends → Grant → Verdict → Answers → Transcript
-transcript_of ends grant verdict answers = record {
-  commitment = record {
-    setup = record { hello = wanted_hello ends.verifier.id ends.statement; grant = grant; rounds = [] };
-    corrections = answers.corrections;
-  };
-  challenge = answers.challenge;
-  sums = answers.sums;
-  openings = answers.openings;
-  code = verdict_code verdict;
-  number = verdict_number verdict;
-}
-
--- how many answers there are, and that they are elements
-pub record AreRanged (program : Program) (grant : Grant) (verdict : Verdict) (answers : Answers) : Type 0 where
-  pub correction_count : length answers.corrections ≡ program.givens
-  pub corrections : All IsElement answers.corrections
-  pub challenge : IsElement answers.challenge
-  pub sum_count : length answers.sums ≡ section_count program grant.section_length
-  pub sums : All (λ both. IsElement both.0 × IsElement both.1) answers.sums
-  pub opening_count : length answers.openings ≡ length program.opened
-  pub openings : All IsElement answers.openings
-  pub number : verdict_number verdict < 2 ^ 32
+use Rattle.session_core.specs.Ends.{IsFixed, whole_grant}
+use Rattle.session_core.specs.Jobs.{ProverJob, VerifierJob, IsVerifierJob, granted_from}
+use Rattle.session_core.specs.Judgements.{IsJudgement, direct_transcript, verdict_in}
+use Rattle.session_core.specs.Holding.{IsHonestWith, IsSessionOf, ends_of}
+use Rattle.session_core.specs.declared.judgement.Judgement.{Judgement}
+use Rattle.session_core.proofs.DirectViews.{pairs_seen}
 
 code_most : (verdict : Verdict) → verdict_code verdict ≤ 2
 code_most Accepted = omega arith
@@ -65,137 +33,105 @@ code_most (RejectedOpening o) = omega arith
 no_rounds : (kind : Kind) → kind ≡ Direct → rounds_of kind ≡ 0
 no_rounds kind direct = ap rounds_of direct
 
+-- what came in a session: as much as the job's statement wants, in range
+pub record AreRanged (job : VerifierJob) (start : ℕ) (d : List ℕ) (both : List (ℕ × ℕ)) (macs : List ℕ) (said : Verdict) : Type 0 where
+  pub corrections : AreElements job.task.statement.program.givens d
+  pub challenge : IsElement (challenge_coin job.task.file start)
+  pub sums : AreSums (section_count job.task.statement.program job.section_length) both
+  pub openings : AreElements (length job.task.statement.program.opened) macs
+  pub number : verdict_number said < 2 ^ 32
+
 -- the transcript has the right counts and ranges
-in_range : (params : Params) (ends : Ends) (grant : Grant) (verdict : Verdict) (answers : Answers) → IsStatement ends.statement → AreBytes 32 ends.verifier.id
-    → params.kind ≡ Direct → IsGrant params ends.statement.program grant → AreRanged ends.statement.program grant verdict answers
-    → IsTranscript params ends.statement.program (transcript_of ends grant verdict answers)
-in_range params ends grant verdict answers stated id direct granted ranged = record {
+pub in_range : (job : VerifierJob) (start : ℕ) (d : List ℕ) (both : List (ℕ × ℕ)) (macs : List ℕ) (said : Verdict) → IsStatement job.task.statement
+    → IsVerifierFile job.task.file → IsVerifierJob job
+    → IsGrant job.task.file.params job.task.statement.program (granted_from job start)
+    → AreRanged job start d both macs said
+    → IsTranscript job.task.file.params job.task.statement.program (direct_transcript job start d both macs said)
+in_range job start d both macs said stated file is granted ranged = record {
   commitment = record {
     setup = record {
-      hello = record { id = id; circuit = stated.circuit; outputs = stated.outputs; version = stated.version };
+      hello = record { id = file.id; circuit = stated.circuit; outputs = stated.outputs; version = stated.version };
       grant = granted;
-      round_count = sym (no_rounds params.kind direct);
-      rounds = All-nil (IsRound params grant);
+      round_count = sym (no_rounds job.task.file.params.kind is.direct);
+      rounds = All-nil (IsRound job.task.file.params (granted_from job start));
     };
-    count = ranged.correction_count;
-    elements = ranged.corrections;
+    count = ranged.corrections.counted;
+    elements = ranged.corrections.ranged;
   };
   challenge = ranged.challenge;
-  sum_count = ranged.sum_count;
-  sums = ranged.sums;
-  opening_count = ranged.opening_count;
-  openings = ranged.openings;
-  code = code_most verdict;
+  sum_count = ranged.sums.counted;
+  sums = ranged.sums.ranged;
+  opening_count = ranged.openings.counted;
+  openings = ranged.openings.ranged;
+  code = code_most said;
   number = ranged.number;
 }
 
--- what the verifier took, with all keys of the session
-judged_with : (ends : Ends) (grant : Grant) (verdict : Verdict) (answers : Answers) → ends.verifier.params.kind ≡ Direct
-    → IsJudged ends.statement (record {
-      key = ends.verifier.key;
-      keys = span_dealt_keys ends.verifier (span_of grant);
-      section_length = grant.section_length;
-      corrections = answers.corrections;
-      challenge = answers.challenge;
-      sums = answers.sums;
-      openings = answers.openings;
-    }) verdict
-    → IsVerdict ends.verifier ends.statement (transcript_of ends grant verdict answers) verdict
-judged_with ends grant verdict answers direct is =
-    let spanned = keys_spanned ends.verifier (span_of grant) direct in
-    let program = ends.statement.program in
-    record {
-      keys = is.wires;
-      carried = record {
-        given = is.given_are ∙ ap (λ keys. corrected_keys ends.verifier.key keys answers.corrections) (sym spanned);
-        carried = is.carried;
-      };
-      judged = verdict_of_few (session_products_few is.wires) (session_openings ends.verifier ends.statement (transcript_of ends grant verdict answers) is.wires)
-          (drop program.givens (session_keys ends.verifier (transcript_of ends grant verdict answers).commitment)) verdict
-          (ap (λ keys. take (section_count program grant.section_length) (drop program.givens keys)) (sym spanned)) is.judged;
-      said = record { code = refl; number = refl };
-    }
-  where
-    session_products_few : WireKeys → ProductCheck
-    session_products_few wires = taken_products ends.statement (record {
-      key = ends.verifier.key;
-      keys = span_dealt_keys ends.verifier (span_of grant);
-      section_length = grant.section_length;
-      corrections = answers.corrections;
-      challenge = answers.challenge;
-      sums = answers.sums;
-      openings = answers.openings;
-    }) wires
+-- the verifier serves the session
+pub served_is : (job : VerifierJob) (start : ℕ) (d : List ℕ) (both : List (ℕ × ℕ)) (macs : List ℕ) (judgement : Judgement) (log : List (Side × ℕ))
+    → IsStatement job.task.statement → IsVerifierFile job.task.file → IsVerifierJob job
+    → IsGrant job.task.file.params job.task.statement.program (granted_from job start)
+    → AreRanged job start d both macs (verdict_in judgement)
+    → IsJudgement job.task (direct_transcript job start d both macs (verdict_in judgement)) judgement
+    → log ≡ spelling (direct_transcript job start d both macs (verdict_in judgement))
+    → IsServed job.task (direct_transcript job start d both macs (verdict_in judgement)) (verdict_in judgement) log
+served_is job start d both macs judgement log stated file is granted ranged found spelled = record {
+  in_order = record {
+    stated = stated;
+    hello = refl;
+    transcript = in_range job start d both macs (verdict_in judgement) stated file is granted ranged;
+    bytes = spelled;
+  };
+  replies = All-nil (λ round. round.replies ≡ round_replies job.task.file (granted_from job start) round.asks);
+  challenge = refl;
+  judged = record { keys = found.keys; carried = found.carried; judged = found.judged; said = record { code = refl; number = refl } };
+}
 
 -- the prover is honest with these wires
-honest_with : (ends : Ends) (grant : Grant) (verdict : Verdict) (answers : Answers) (pairs : WirePairs) (inputs wires : List ℕ) → ends.prover.id ≡ ends.verifier.id
-    → IsFixed ends.statement ends.given (span_pairs ends.prover (span_of grant)) answers.corrections pairs
-    → answers.sums ≡ all_sums ends.statement.program grant.section_length answers.challenge pairs
-    (masks_in ends.statement.program grant.section_length (span_pairs ends.prover (span_of grant)))
-    → answers.openings ≡ macs_of (opened_pairs ends.statement.program pairs)
-    → IsWitness ends.statement inputs wires ends.given
-    → IsHonestWith ends inputs wires (transcript_of ends grant verdict answers)
-honest_with ends grant verdict answers pairs inputs wires same fixed summed opened witness = record {
+honest_with : (prover : ProverJob) (job : VerifierJob) (start : ℕ) (d : List ℕ) (both : List (ℕ × ℕ)) (macs : List ℕ) (said : Verdict) (pairs : WirePairs) (inputs wires : List ℕ)
+    → prover.statement ≡ job.task.statement → prover.file.id ≡ job.task.file.id
+    → IsFixed prover.statement prover.given (span_pairs prover.file (span_of (granted_from job start))) d pairs
+    → both ≡ all_sums prover.statement.program job.section_length (challenge_coin job.task.file start) pairs
+    (drop prover.statement.program.givens (span_pairs prover.file (span_of (granted_from job start))))
+    → macs ≡ macs_of (opened_pairs prover.statement.program pairs)
+    → IsWitness prover.statement inputs wires prover.given
+    → IsHonestWith (ends_of prover job) inputs wires (direct_transcript job start d both macs said)
+honest_with prover job start d both macs said pairs inputs wires stated same fixed summed opened witness = record {
   honest = record {
-    hello = ap (λ id. wanted_hello id ends.statement) (sym same);
-    asks = All-nil (λ round. round.asks ≡ round_asks ends.prover grant);
+    hello = λ i. wanted_hello (sym same i) (sym stated i);
+    asks = All-nil (λ round. round.asks ≡ round_asks prover.file (granted_from job start));
     wires = wires;
-    given = ends.given;
+    given = prover.given;
     witness = witness;
-    view = record { pairs = span_pairs ends.prover (span_of grant); carried = pairs };
+    view = record { pairs = span_pairs prover.file (span_of (granted_from job start)); carried = pairs };
     seen = record {
-      pairs = pairs_seen ends.prover (transcript_of ends grant verdict answers).commitment.setup refl;
+      pairs = pairs_seen prover.file (direct_transcript job start d both macs said).commitment.setup refl;
       given = fixed.given_are;
       carried = fixed.carried;
     };
     corrections = fixed.corrections_are;
-    sums = summed ∙ sums_of_few ends.statement.program grant.section_length answers.challenge pairs
-        (drop ends.statement.program.givens (span_pairs ends.prover (span_of grant)));
+    sums = summed;
     openings = opened;
   };
   wires_are = refl;
 }
 
 -- all together
-pub session_is : (ends : Ends) (grant : Grant) (verdict : Verdict) (answers : Answers) (pairs : WirePairs) (log : List (Side × ℕ))
-    → IsStatement ends.statement → IsVerifierFile ends.verifier → AreDealt ends.prover ends.verifier → ends.prover.params.kind ≡ Direct
-    → IsGrant ends.prover.params ends.statement.program grant
-    → AreRanged ends.statement.program grant verdict answers
-    → IsFixed ends.statement ends.given (span_pairs ends.prover (span_of grant)) answers.corrections pairs
-    → answers.challenge ≡ challenge_coin ends.verifier grant.start
-    → answers.sums ≡ all_sums ends.statement.program grant.section_length answers.challenge pairs
-    (masks_in ends.statement.program grant.section_length (span_pairs ends.prover (span_of grant)))
-    → answers.openings ≡ macs_of (opened_pairs ends.statement.program pairs)
-    → IsJudged ends.statement (record {
-      key = ends.verifier.key;
-      keys = span_dealt_keys ends.verifier (span_of grant);
-      section_length = grant.section_length;
-      corrections = answers.corrections;
-      challenge = answers.challenge;
-      sums = answers.sums;
-      openings = answers.openings;
-    }) verdict
-    → log ≡ spelling (transcript_of ends grant verdict answers)
-    → IsSessionOf ends grant verdict log
-session_is ends grant verdict answers pairs log stated file dealt direct granted ranged fixed coin summed opened judged spelled =
-    let kind : ends.verifier.params.kind ≡ Direct = sym (ap (λ (p : Params). p.kind) dealt.params) ∙ direct in
-    let there : IsGrant ends.verifier.params ends.statement.program grant = subst (λ (p : Params). IsGrant p ends.statement.program grant) dealt.params granted in
-    record {
-      t = transcript_of ends grant verdict answers;
-      granted = refl;
-      served = record {
-        in_order = record {
-          stated = stated;
-          hello = refl;
-          transcript = in_range ends.verifier.params ends grant verdict answers stated file.id kind there ranged;
-          bytes = spelled;
-        };
-        replies = All-nil (λ round. round.replies ≡ round_replies ends.verifier grant round.asks);
-        challenge = coin;
-        judged = judged_with ends grant verdict answers kind judged;
-      };
-      honest = λ inputs wires witness. honest_with ends grant verdict answers pairs inputs wires dealt.id fixed summed opened witness;
-    }
+pub session_is : (prover : ProverJob) (job : VerifierJob) (start : ℕ) (d : List ℕ) (both : List (ℕ × ℕ)) (macs : List ℕ) (judgement : Judgement) (pairs : WirePairs) (log : List (Side × ℕ))
+    → prover.statement ≡ job.task.statement → prover.file.id ≡ job.task.file.id
+    → IsServed job.task (direct_transcript job start d both macs (verdict_in judgement)) (verdict_in judgement) log
+    → IsFixed prover.statement prover.given (span_pairs prover.file (span_of (granted_from job start))) d pairs
+    → both ≡ all_sums prover.statement.program job.section_length (challenge_coin job.task.file start) pairs
+    (drop prover.statement.program.givens (span_pairs prover.file (span_of (granted_from job start))))
+    → macs ≡ macs_of (opened_pairs prover.statement.program pairs)
+    → IsSessionOf (ends_of prover job) (granted_from job start) (verdict_in judgement) log
+session_is prover job start d both macs judgement pairs log stated same served fixed summed opened = record {
+  t = direct_transcript job start d both macs (verdict_in judgement);
+  granted = refl;
+  served = subst (λ (s : Statement). IsServed (record { file = job.task.file; statement = s }) (direct_transcript job start d both macs (verdict_in judgement)) (verdict_in judgement) log)
+      (sym stated) served;
+  honest = λ inputs wires witness. honest_with prover job start d both macs (verdict_in judgement) pairs inputs wires stated same fixed summed opened witness;
+}
 
 -- ---- sizes of frames
 
@@ -207,3 +143,10 @@ few_correlations params program grant direct granted =
     let count : grant.count ≡ max 1 (part_count (correlations_needed program grant.section_length) 64) =
     granted.count ∙ ap (λ n. max 1 (part_count (correlations_needed program grant.section_length) n)) per in
     omega (arith, count, granted.count_most)
+
+-- files of one pair have one number of units of a session: those that the grant of all units has
+pub units_of_pair : (prover verifier : Params) (program : Program) (total section : ℕ) → prover ≡ verifier
+    → IsGrant prover program (whole_grant total section)
+    → units_for verifier (correlations_needed program section) ≡ total
+units_of_pair prover verifier program total section same granted =
+    sym (granted.count ∙ ap (λ (p : Params). units_for p (correlations_needed program section)) same)

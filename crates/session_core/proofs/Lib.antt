@@ -1,5 +1,6 @@
 pub mod DirectViews
 pub mod Held
+pub mod Judged
 pub mod Masks
 pub mod Opening
 pub mod Rehearsed

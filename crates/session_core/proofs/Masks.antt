@@ -1,17 +1,15 @@
 -- Masks: those of the sections, of all correlations behind the given values.
-use Rattle.std.proofs.Common.{◌≡◌, ℕ, ◌<◌, List, map, take, drop, length, get_or, refl, ap, sym, ◌∙◌, subst, arith}
+use Rattle.std.proofs.Common.{◌≡◌, ℕ, ◌<◌, List, map, take, get_or, ap, sym, ◌∙◌, subst, arith}
 use Rattle.std.specs.Prelude.{slice_index, slice_index_or}
 use Rattle.std.specs.List.{range_with_len}
-use Rattle.std.proofs.lemmas.List.{get_or-take, length-map}
+use Rattle.std.proofs.lemmas.List.{get_or-take}
 use Rattle.std.proofs.lemmas.List.FromFn.{fill_by_all, get_or-map-range_with_len, length-map-range_with_len}
 use Rattle.zk_model.specs.Mac.{Pair, pair_at}
 use Rattle.zk_model.specs.Program.{Program, section_count}
-use Rattle.zk_model.specs.Statement.{Statement}
-use Rattle.zk_model.specs.Check.{WirePairs, WireKeys, ProductCheck, OpeningCheck, SectionHolds, honest_sums, section_triples, section_left, section_right, section_keys, all_sums}
+use Rattle.zk_model.specs.Check.{WirePairs, ProductCheck, OpeningCheck, SectionHolds, honest_sums, section_triples, section_left, section_right, section_keys, left_of_section, all_sums}
 use Rattle.zk_model.specs.View.{IsVerdictOf}
 use Rattle.zk_model.specs.declared.Verdict.{Verdict}
 use Rattle.zk_model.specs.declared.Verdict.TheVariants.{Accepted, RejectedSum, RejectedOpening}
-use Rattle.session_core.specs.Ends.{masks_in}
 
 -- sums take no more masks than there are sections
 pub sums_of_few : (program : Program) (section_length challenge : ℕ) (pairs : WirePairs) (masks : List Pair)
@@ -39,6 +37,15 @@ same_section check masks s few below =
     ap (λ (l : List ℕ). slice_index l s) few ∙ get_or-take (section_count check.program check.section_length) masks s 0 below in
     ap (λ m. section_left check.key check.challenge (section_keys check.program check.section_length check.keys s) m
     ≡ section_right check.key (slice_index_or check.sums s (0, 0))) mask
+
+-- and so is the left side of each
+pub left_of_few : (check : ProductCheck) (masks : List ℕ) (s : ℕ) → check.masks ≡ take (section_count check.program check.section_length) masks
+    → s < section_count check.program check.section_length
+    → left_of_section check s ≡ left_of_section (record check { masks = masks }) s
+left_of_few check masks s few below =
+    let mask : slice_index check.masks s ≡ slice_index masks s =
+    ap (λ (l : List ℕ). slice_index l s) few ∙ get_or-take (section_count check.program check.section_length) masks s 0 below in
+    ap (section_left check.key check.challenge (section_keys check.program check.section_length check.keys s)) mask
 
 -- so is the verdict
 pub verdict_of_few : (check : ProductCheck) (openings : OpeningCheck) (masks : List ℕ) (verdict : Verdict)

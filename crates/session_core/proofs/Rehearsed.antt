@@ -1,25 +1,23 @@
 -- A rehearsal's statement and witness, and what its session makes.
-use Rattle.std.proofs.Common.{◌≡◌, ℕ, ◌+◌, ◌-◌, ◌^◌, ◌<◌, ◌≤◌, Bool, List, [], ◌++◌, map, take, drop, length, replicate, max, refl, sym, ◌∙◌, ap, subst, arith, length-drop, zero-add}
-use Rattle.std.specs.Prelude.{All}
+use Rattle.std.proofs.Common.{◌≡◌, ℕ, ◌+◌, ◌-◌, ◌^◌, ◌<◌, ◌≤◌, Bool, List, [], ◌++◌, map, take, drop, length, replicate, refl, sym, ◌∙◌, ap, subst, arith, length-drop}
 use Rattle.std.proofs.lemmas.List.{length-map}
 use Rattle.std.proofs.lemmas.List.Elements.{All-replicate}
 use Rattle.sha2.specs.Sha256.{sha256}
 use Rattle.zk_model.specs.Bits.{from_bit, digits_of}
 use Rattle.zk_model.specs.Bytes.{AreBytes}
-use Rattle.zk_model.specs.Circuit.{Circuit, IsWellFormed, AreWireBits, Satisfies, output_wire}
-use Rattle.zk_model.specs.Program.{Program, Solves, section_count, opened_values}
-use Rattle.zk_model.specs.Boolean.{circuit_program, circuit_products, products_of_bits, bits_of_products}
-use Rattle.zk_model.specs.Statement.{Statement, IsStatement, circuit_statement}
+use Rattle.zk_model.specs.Circuit.{Circuit, IsWellFormed, AreWireBits, output_wire}
+use Rattle.zk_model.specs.Program.{Program, Solves, opened_values}
+use Rattle.zk_model.specs.Boolean.{circuit_program, products_of_bits}
+use Rattle.zk_model.specs.Statement.{IsStatement, circuit_statement}
 use Rattle.zk_model.specs.Transcript.{Grant, Transcript, IsGrant, bytes_from, verdict_frame}
-use Rattle.zk_model.specs.HonestProver.{IsWitness, IsHonest}
+use Rattle.zk_model.specs.HonestProver.{IsWitness}
 use Rattle.zk_model.specs.ServedVerifier.{VerifierTask, IsServed}
 use Rattle.zk_model.specs.BothEnds.{IsHonestSession}
-use Rattle.zk_model.specs.declared.Kind.TheVariants.{Direct}
 use Rattle.zk_model.specs.declared.Side.{Side}
 use Rattle.zk_model.specs.declared.Side.TheVariants.{Verifier}
 use Rattle.zk_model.specs.declared.Verdict.{Verdict}
 use Rattle.zk_model.specs.declared.Verdict.TheVariants.{Accepted}
-use Rattle.zk_laws.specs.Booleans.{CircuitIsStatement, BitsSolve, OneOutcome}
+use Rattle.zk_laws.specs.Booleans.{CircuitIsStatement, BitsSolve}
 use Rattle.zk_laws.specs.Rehearsing.{HonestSessionIsAccepted}
 use Rattle.std.proofs.lemmas.List.FromFn.{length-range_with_len}
 use Rattle.zk_laws.proofs.CircuitIsProgram.{numbered}

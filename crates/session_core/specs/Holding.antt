@@ -1,11 +1,11 @@
 -- A session of both ends.
 use Rattle.std.specs.Prelude.{◌≡◌, ℕ, List}
 use Rattle.zk_model.specs.Statement.{Statement}
-use Rattle.zk_model.specs.Files.{ProverFile, VerifierFile, AreDealt}
+use Rattle.zk_model.specs.Files.{ProverFile, VerifierFile}
 use Rattle.zk_model.specs.Transcript.{Grant, Transcript}
 use Rattle.zk_model.specs.HonestProver.{IsWitness, IsHonest}
 use Rattle.zk_model.specs.ServedVerifier.{IsServed}
-use Rattle.zk_model.specs.declared.Kind.TheVariants.{Direct}
+use Rattle.session_core.specs.Jobs.{ProverJob, VerifierJob}
 use Rattle.zk_model.specs.declared.Side.{Side}
 use Rattle.zk_model.specs.declared.Verdict.{Verdict}
 
@@ -15,6 +15,15 @@ pub record Ends : Type 0 where
   pub given : List ℕ
   pub prover : ProverFile
   pub verifier : VerifierFile
+
+-- what a prover and a verifier with these jobs have
+abbrev pub ends_of : ProverJob → VerifierJob → Ends
+ends_of prover verifier = record {
+  statement = prover.statement;
+  given = prover.given;
+  prover = prover.file;
+  verifier = verifier.task.file;
+}
 
 -- the prover is honest with these values of the wires
 pub record IsHonestWith (ends : Ends) (inputs wires : List ℕ) (t : Transcript) : Type 0 where

@@ -3,19 +3,27 @@
 #![tactic(auto)]
 
 mod bits;
+mod fault;
+mod judgement;
 mod noting;
 mod prover_core;
+mod prover_job;
 mod rehearsal;
 mod rehearsing;
 mod session;
 mod statement;
 mod verifier_core;
+mod verifier_job;
 
 pub use bits::Bits;
-pub use prover_core::{Fixed, Opened, ProverCore};
+pub use fault::{HelloDiffers, SessionFault};
+pub use judgement::Judgement;
+pub use prover_core::ProverCore;
+pub use prover_job::ProverJob;
 pub use rehearsal::{Rehearsal, RehearseFault};
-pub use rehearsing::{MOST_UNITS, rehearse};
+pub use rehearsing::rehearse;
 pub use session::{Session, hold};
 pub use statement::{Statement, outputs_digest};
-pub use verifier_core::{Challenged, VerifierCore};
+pub use verifier_core::VerifierCore;
+pub use verifier_job::{MOST_UNITS, VerifierJob};
 pub use zk_model::Verdict;

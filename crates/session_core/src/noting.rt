@@ -6,9 +6,10 @@ ghost use Rattle.zk_model.specs.Transcript.{frame_bytes, bytes_from, hello_frame
 ghost use Rattle.zk_model.specs.View.{verdict_code, verdict_number};
 ghost use Rattle.zk_model.specs.declared.Side.TheVariants.{Prover, Verifier};
 
+use frame_link::Log;
 use mersenne_field::Fe;
 use proof_frames::{
-    FrameKind, Grant, Hello, Log, encode_elements, encode_grant, encode_hello, encode_sums,
+    FrameKind, Grant, Hello, encode_elements, encode_grant, encode_hello, encode_sums,
     encode_verdict,
 };
 use std::alloc::{AllocError, Global};
@@ -18,7 +19,7 @@ use zk_model::{Side, Verdict};
 pub(crate) fn note_hello(alloc: Global, log: &mut Log, hello: Hello) -> Result<(), AllocError>
     ensures { OnOk result (log.new ≡ log.old ++ bytes_from Prover (hello_frame hello)) }
 {
-    let bytes = encode_hello(alloc, hello)?;
+    let bytes = encode_hello(alloc, &hello)?;
     log.push(Side::Prover, &bytes)?;
     Ok(())
 }
@@ -27,7 +28,7 @@ pub(crate) fn note_hello(alloc: Global, log: &mut Log, hello: Hello) -> Result<(
 pub(crate) fn note_grant(alloc: Global, log: &mut Log, grant: Grant) -> Result<(), AllocError>
     ensures { OnOk result (log.new ≡ log.old ++ bytes_from Verifier (grant_frame grant)) }
 {
-    let bytes = encode_grant(alloc, grant)?;
+    let bytes = encode_grant(alloc, &grant)?;
     log.push(Side::Verifier, &bytes)?;
     Ok(())
 }

@@ -1,153 +1,161 @@
-// The prover's end of a session: what it expects turn by turn, and what it answers.
-ghost use Rattle.std.specs.Prelude.{◌≡◌, ◌+◌, ◌≤◌, ◌^◌, length, take, drop, IfOk};
-ghost use Rattle.zk_model.specs.Mac.{macs_of};
-ghost use Rattle.zk_model.specs.Program.{section_count};
-ghost use Rattle.zk_model.specs.Files.{span_pairs};
-ghost use Rattle.zk_model.specs.Check.{all_sums, opened_pairs};
-ghost use Rattle.zk_model.specs.Transcript.{IsGrant, wanted_hello};
-ghost use Rattle.zk_model.specs.View.{span_of};
-ghost use Rattle.zk_model.specs.declared.Kind.TheVariants.{Direct};
-ghost use Rattle.session_core.specs.Ends.{IsFixed, masks_in};
+// The prover's end of a session, frame by frame.
+ghost use Rattle.std.specs.Prelude.{◌≡◌, [], ◌∷◌, map, IfOk, IfErr, OnErr, IsSomeAnd};
+ghost use Rattle.zk_model.specs.Frames.{Allows};
+ghost use Rattle.zk_model.specs.Frames as model;
+ghost use Rattle.zk_model.specs.Transcript.{wanted_hello};
+ghost use Rattle.zk_model.specs.declared.Expect.TheVariants as expect;
+ghost use Rattle.proof_frames.specs.Frames.{said};
+ghost use Rattle.session_core.specs.Fixing.{IsFixedUnder};
+ghost use Rattle.session_core.specs.Cores.{ProverAnswers, ProverRefuses, StaysWithin, awaits_grant, awaits_challenge, awaits_verdict, has_ended, prover_expects};
+ghost use Rattle.session_core.specs.declared.fault.SessionFault.TheVariants.{NoMemory};
 
-use crate::statement::Statement;
-use dealer_files::{ProverFile, Span};
-use mersenne_field::{Fe, Pair};
-use mult_check::prover_sums;
-use proof_frames::{Grant, Hello};
-use std::alloc::{AllocError, Global};
+use crate::fault::SessionFault;
+use crate::prover_job::{Fixed, ProverJob};
+use crate::verifier_core::one_frame;
+use proof_frames::{Frame, Grant};
+use std::alloc::{AllocFailed, Global};
 use std::marker::Model;
-use wire_auth::ProverWires;
+use std::mem;
+use zk_model::Expect;
 
-/// A prover with its file of kind direct, and its given values. It greets; then it expects a grant, a challenge, and a
-/// verdict.
+/// What the prover waits for, with the grant and all that it has fixed.
+#[derive(Debug, Drop)]
+pub(crate) enum Place<'a> {
+    Grant,
+    Challenge { grant: Grant, fixed: Fixed<'a> },
+    Verdict,
+    Ended,
+}
+
+/// A prover in a session (Weng, Yang, Katz and Wang, Wolverine, IEEE S&P 2021; Yang, Sarkar, Weng and Wang, QuickSilver, ACM
+/// CCS 2021). It has greeted, and expects a grant, the challenge, and the verdict.
 #[derive(Debug, Drop)]
 pub struct ProverCore<'a> {
-    pub statement: &'a Statement<'a>,
-    pub file: &'a ProverFile,
-    pub given: &'a [Fe],
+    job: &'a ProverJob<'a>,
+    place: Place<'a>,
 }
 
 impl<'a> Model for ProverCore<'a> {
-    ghost use Rattle.session_core.specs.Ends as ends;
+    ghost use Rattle.session_core.specs.Cores as cores;
+    ghost use Rattle.session_core.specs.Places.{prover_place, IsHeldAt};
 
-    ghost Value = { ends.ProverEnd };
+    ghost Value = { cores.ProverState };
 
-    ghost view = { λ p. record { statement = p.statement.now; file = p.file.now; given = p.given.now } };
+    ghost view = { λ c. record { job = c.job.now; place = prover_place c.place } };
+
+    ghost invariant = { λ c. IsHeldAt c.job.now c.place };
 }
 
-/// A prover that has answered a grant: all wires are fixed, and it expects the challenge.
-#[derive(Debug, Drop)]
-pub struct Fixed<'a> {
-    pub section: u64,
-    pub wires: ProverWires<'a>,
-    pub masks: &'a [Pair],
-    pub corrections: Vec<Fe>,
-}
-
-/// A prover that has answered the challenge: it expects the verdict.
-#[derive(Debug, Drop)]
-pub struct Opened {
-    pub sums: Vec<(Fe, Fe)>,
-    pub openings: Vec<Fe>,
-}
-
-/// As many items as there are sections, behind those of the given values.
-pub(crate) fn masks_of<T>(items: &[T], givens: usize, sections: usize) -> &[T]
-    requires { givens + sections ≤ length items.now }
-    ensures masks { result.now ≡ take sections (drop givens items.now) }
-    ensures count { length result.now ≡ sections }
+/// A list of two frames.
+fn two_frames(alloc: Global, first: Frame, second: Frame) -> Result<Vec<Frame>, AllocFailed<Frame>>
+    ensures { IfOk result (λ frames. frames.items ≡ first ∷ second ∷ []) }
 {
-    &items[givens..givens + sections]
+    let mut frames = Vec::new(alloc);
+    frames.push(first)?;
+    frames.push(second)?;
+    Ok(frames)
 }
 
-/// The units of a grant.
-pub(crate) fn units_of(grant: Grant) -> Span
-    requires { grant.start + grant.count ≤ 2 ^ 32 }
-    ensures { result ≡ span_of grant }
+/// What answers a challenge: sums and openings.
+fn opened<'a>(
+    alloc: Global,
+    job: &ProverJob<'a>,
+    grant: Grant,
+    fixed: &Fixed<'a>,
+    frame: Frame,
+) -> Result<Vec<Frame>, SessionFault>
+    requires held { IsFixedUnder job.now grant fixed.now }
+    requires expected { Allows expect.Challenge (said frame) }
+    ensures answered { IfOk result (λ answer. ProverAnswers job.now
+        (awaits_challenge grant fixed.now.wires.pairs)
+        (said frame) (map said answer.items) awaits_verdict) }
+    ensures memory { IfErr result (λ fault. fault ≡ NoMemory) }
 {
-    Span {
-        start: grant.start,
-        end: grant.start + u64::from(grant.count),
-    }
-}
-
-/// The MACs of the opened wires.
-fn opened_macs(alloc: Global, wires: &ProverWires<'_>) -> Result<Vec<Fe>, AllocError>
-    ensures macs { IfOk result (λ macs. macs.items
-        ≡ macs_of (opened_pairs wires.now.program wires.now.pairs)) }
-    ensures one_each { IfOk result (λ macs. length macs.items ≡ length wires.now.program.opened) }
-    ensures few { length wires.now.program.opened ≤ 2 ^ 20 }
-{
-    let opened = wires.program().opened();
-    let mut macs = Vec::with_capacity(alloc, opened.len())?;
-    for o in 0..opened.len() {
-        macs.push(wires.output(o).m)?;
-    }
-    Ok(macs)
+    let Frame::Challenge(challenge) = frame else {
+        return Ok(Vec::new(alloc));
+    };
+    let opened = job.open(alloc, grant, fixed, challenge)?;
+    let sums = Frame::Sums(opened.sums);
+    Ok(two_frames(alloc, sums, Frame::Openings(opened.openings))?)
 }
 
 impl<'a> ProverCore<'a> {
-    /// The greeting.
-    pub fn greet(&self) -> Hello
-        ensures { result ≡ wanted_hello self.now.file.id self.now.statement }
+    /// A prover that waits for a grant, and its greeting.
+    pub fn new(job: &'a ProverJob<'a>) -> (Self, Frame)
+        ensures core { result.0 ≡ record { job = job.now; place = awaits_grant } }
+        ensures greeting { said result.1 ≡ model.hello (wanted_hello job.now.file.id job.now.statement) }
     {
-        self.statement.hello(self.file.id())
+        let core = ProverCore {
+            job,
+            place: Place::Grant,
+        };
+        (core, Frame::Hello(job.greet()))
     }
 
-    /// A grant is answered by corrections of the pairs of its units.
-    pub fn commit(&self, alloc: Global, grant: Grant) -> Result<Fixed<'a>, AllocError>
-        requires direct { self.now.file.params.kind ≡ Direct }
-        requires given { length self.now.given ≡ self.now.statement.program.givens }
-        requires granted { IsGrant self.now.file.params self.now.statement.program grant }
-        ensures section { IfOk result (λ f. f.section ≡ grant.section_length) }
-        ensures program { IfOk result (λ f. f.wires.program ≡ self.now.statement.program) }
-        ensures fixed { IfOk result (λ f. IsFixed self.now.statement self.now.given
-            (span_pairs self.now.file (span_of grant)) f.corrections.items f.wires.pairs) }
-        ensures masks { IfOk result (λ f. f.masks.now ≡ masks_in self.now.statement.program
-            grant.section_length (span_pairs self.now.file (span_of grant))) }
-        ensures mask_count { IfOk result (λ f. length f.masks.now
-            ≡ section_count self.now.statement.program grant.section_length) }
-        ensures one_each { IfOk result (λ f. length f.corrections.items
-            ≡ self.now.statement.program.givens) }
+    /// The frame that it expects: none exactly where it has ended.
+    pub fn expects(&self) -> Option<Expect>
+        ensures { result ≡ prover_expects self.now.place }
     {
-        let program = self.statement.program();
-        let section = u64::from(grant.section);
-        let _total = self.file.total();
-        let pairs = self.file.pairs(units_of(grant));
-        let sections = program.sections(section) as usize;
-        let masks = masks_of(pairs, program.givens(), sections);
-        let public = self.statement.public();
-        let (wires, corrections) = ProverWires::run(alloc, program, public, self.given, pairs)?;
-        Ok(Fixed {
-            section,
-            wires,
-            masks,
-            corrections,
-        })
+        match &self.place {
+            Place::Grant => Some(Expect::Grant),
+            Place::Challenge { .. } => Some(Expect::Challenge),
+            Place::Verdict => Some(Expect::Verdict),
+            Place::Ended => None,
+        }
     }
 
-    /// A challenge is answered by the sums of all sections and the MACs of the opened wires.
-    pub fn open(
-        &self,
-        alloc: Global,
-        fixed: &Fixed<'a>,
-        challenge: Fe,
-    ) -> Result<Opened, AllocError>
-        requires some { 1 ≤ fixed.now.section }
-        requires masks { length fixed.now.masks.now
-            ≡ section_count fixed.now.wires.program fixed.now.section }
-        ensures sums { IfOk result (λ o. o.sums.items
-            ≡ all_sums fixed.now.wires.program fixed.now.section challenge
-            fixed.now.wires.pairs fixed.now.masks.now) }
-        ensures openings { IfOk result (λ o. o.openings.items
-            ≡ macs_of (opened_pairs fixed.now.wires.program fixed.now.wires.pairs)) }
-        ensures sum_count { IfOk result (λ o. length o.sums.items ≡ length fixed.now.masks.now) }
-        ensures opening_count { IfOk result (λ o. length o.openings.items
-            ≡ length fixed.now.wires.program.opened) }
-        ensures few { IfOk result (λ o. length o.openings.items ≤ 2 ^ 20) }
+    /// Takes a frame that it expects, and hands back what it answers. A grant that suits its statement lies in its file.
+    ///
+    /// # Errors
+    ///
+    /// `BadGrant` where a grant does not suit, `PeerRefused` where a refusal comes in its place, `NoMemory`. It then has
+    /// ended.
+    pub fn step(&mut self, alloc: Global, frame: Frame) -> Result<Vec<Frame>, SessionFault>
+        requires expected { IsSomeAnd (prover_expects self.old.place)
+            (λ place. Allows place (said frame)) }
+        requires within { StaysWithin self.old.job (said frame) }
+        ensures answered { IfOk result (λ answer. ProverAnswers self.old.job self.old.place
+            (said frame) (map said answer.items) self.new.place) }
+        ensures refused { IfErr result (ProverRefuses self.old.job self.old.place (said frame)) }
+        ensures over { OnErr result (self.new.place ≡ has_ended) }
+        ensures job { self.new.job ≡ self.old.job }
     {
-        let sums = prover_sums(alloc, &fixed.wires, fixed.section, challenge, fixed.masks)?;
-        let openings = opened_macs(alloc, &fixed.wires)?;
-        Ok(Opened { sums, openings })
+        match mem::replace(&mut self.place, Place::Ended) {
+            Place::Grant => self.take_grant(alloc, frame),
+            Place::Challenge { grant, fixed } => {
+                let answer = opened(alloc, self.job, grant, &fixed, frame)?;
+                self.place = Place::Verdict;
+                Ok(answer)
+            }
+            Place::Verdict | Place::Ended => Ok(Vec::new(alloc)),
+        }
+    }
+
+    /// Takes a grant, and answers by the corrections.
+    fn take_grant(&mut self, alloc: Global, frame: Frame) -> Result<Vec<Frame>, SessionFault>
+        requires expected { Allows expect.Grant (said frame) }
+        requires within { StaysWithin self.old.job (said frame) }
+        ensures answered { IfOk result (λ answer. ProverAnswers self.old.job awaits_grant
+            (said frame) (map said answer.items) self.new.place) }
+        ensures refused { IfErr result (ProverRefuses self.old.job awaits_grant (said frame)) }
+        ensures over { OnErr result (self.new.place ≡ self.old.place) }
+        ensures job { self.new.job ≡ self.old.job }
+    {
+        match frame {
+            Frame::Grant(grant) => {
+                if !self.job.suits(grant) {
+                    return Err(SessionFault::BadGrant);
+                }
+                let committed = self.job.commit(alloc, grant)?;
+                let answer = one_frame(alloc, Frame::Corrections(committed.corrections))?;
+                self.place = Place::Challenge {
+                    grant,
+                    fixed: committed.fixed,
+                };
+                Ok(answer)
+            }
+            Frame::Refuse { code } => Err(SessionFault::PeerRefused { code }),
+            _ => Ok(Vec::new(alloc)),
+        }
     }
 }

@@ -4,7 +4,7 @@ ghost use Rattle.session_core.specs.declared.rehearsal.RehearseFault.TheVariants
 
 use crate::bits::Bits;
 use bool_eval::EvalFault;
-use proof_frames::Log;
+use frame_link::Log;
 use std::alloc::AllocError;
 use zk_model::Verdict;
 

@@ -13,6 +13,7 @@ use crate::bits::Bits;
 use crate::rehearsal::{Rehearsal, RehearseFault};
 use crate::session::{Session, hold};
 use crate::statement::{Statement, outputs_digest};
+use crate::verifier_job::{MOST_UNITS, direct_units_for};
 use bool_eval::eval_wires;
 use bristol_reader::Circuit;
 use dealer_files::{Kind, Params, deal};
@@ -21,17 +22,6 @@ use mersenne_field::Fe;
 use std::alloc::{AllocError, Global};
 use wire_auth::bit_products;
 use zk_laws::{bits_solve, circuit_is_statement, honest_session_is_accepted, one_outcome};
-
-/// The most units of a session.
-pub const MOST_UNITS: u64 = 4096;
-
-/// The units of kind direct that give this many correlations: at least one.
-fn units_of(need: u64) -> u64
-    ensures least { result ≡ units_for (direct_params 0) need }
-    ensures some { 1 ≤ result }
-{
-    need.div_ceil(64).max(1)
-}
 
 /// Bits as elements.
 fn elements_of(alloc: Global, bits: &[bool]) -> Result<Vec<Fe>, AllocError>
@@ -147,7 +137,7 @@ pub fn rehearse(
     let wires = eval_wires(alloc, circuit, bits)?;
     let program = translate(alloc, circuit)?;
     let need = program.need(u64::from(section));
-    let units = units_of(need);
+    let units = direct_units_for(need);
     if units > MOST_UNITS {
         return Err(RehearseFault::TooLarge { need, units });
     }

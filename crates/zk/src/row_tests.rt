@@ -1,20 +1,21 @@
 // Each part of a session at rows that the program did not make, and the log of one session.
+ghost use Rattle.proof_frames.specs.Readings.{IsShortPlace};
+
 use crate::run_tests::{AND, rehearsal_of};
 use crate::vectors::{AND_LOG, FILE_ID};
 use bool_eval::{eval, eval_wires};
 use bristol_reader::read;
 use dealer_files::{FileFault, NotDealt, Pads, deal, dealt, decode_prover, decode_verifier};
+use frame_link::Run;
 use gate_translate::{FieldProgram, translate};
 use mersenne_field::{Fe, Pair};
 use mult_check::{check_openings, section_left, section_sums};
-use proof_frames::{
-    Run, decode_elements, decode_grant, decode_hello, decode_sums, decode_verdict, encode_elements,
-};
+use proof_frames::{Decoder, Frame, encode_elements};
 use std::alloc::{AllocError, Global};
 use std::test::Fail;
 use wire_auth::{KeyTriple, ProverWires, Triple, VerifierWires, bit_products};
 use zk_coins::CoinBox;
-use zk_model::{FrameKind, Kind, Params, Side, Span};
+use zk_model::{Expect, FrameKind, Kind, Params, Side, Span};
 
 /// The element of a small number.
 fn small(number: u64) -> Fe {
@@ -255,8 +256,7 @@ fn a_log_is_the_session_byte_for_byte(rt: HostRuntime) -> Result<(), Fail> {
         (Side::Verifier, 21),
         (Side::Prover, 29),
         (Side::Verifier, 13),
-        (Side::Prover, 53),
-        (Side::Prover, 13),
+        (Side::Prover, 66),
         (Side::Verifier, 10),
     ]
     .map(|(side, count)| Run { side, count });
@@ -264,32 +264,51 @@ fn a_log_is_the_session_byte_for_byte(rt: HostRuntime) -> Result<(), Fail> {
     Ok(())
 }
 
-/// The bytes of a frame, from one place up to another.
-fn frame_of(bytes: &[u8], first: usize, end: usize) -> Result<&[u8], Fail> {
-    let Some(frame) = bytes.get(first..end) else {
-        return Err(Fail::new("a short log"));
+/// The frame that stands in a log from this place on, up to the other, where such a one is expected; none where it is
+/// another, or is longer or shorter. Its bytes are fed one by one.
+fn frame_in(
+    alloc: Global,
+    log: &[u8],
+    first: usize,
+    end: usize,
+    place: Expect,
+) -> Result<Option<Frame>, AllocError>
+    requires { IsShortPlace place }
+{
+    let Some(bytes) = log.get(first..end) else {
+        return Ok(None);
     };
-    Ok(frame)
+    let mut decoder = Decoder::new(alloc);
+    decoder.expect(place)?;
+    for byte in bytes {
+        if decoder.feed(&[*byte]) != Ok(1) {
+            return Ok(None);
+        }
+    }
+    Ok(decoder.next())
 }
 
 #[test]
 fn a_log_is_read_back(rt: HostRuntime) -> Result<(), Fail> {
     let alloc = rt.alloc();
     let rehearsal = rehearsal_of(&rt, alloc, AND, "11")?;
-    let bytes = rehearsal.log.bytes();
-    let Some(hello) = decode_hello(frame_of(bytes, 0, 102)?) else {
-        return Err(Fail::new("no hello"));
-    };
-    assert_eq!(rt; hello.id, FILE_ID);
-    let Some(grant) = decode_grant(frame_of(bytes, 102, 123)?) else {
-        return Err(Fail::new("no grant"));
-    };
-    assert_eq!(rt; (grant.start, grant.count, grant.section), (0, 1, 1));
-    let corrections = decode_elements(alloc, FrameKind::Corrections, 3, frame_of(bytes, 123, 152)?);
-    assert!(rt; matches!(corrections, Ok(_)));
-    assert!(rt; decode_sums(alloc, 3, frame_of(bytes, 165, 218)?).is_ok());
-    assert!(rt; decode_sums(alloc, 2, frame_of(bytes, 165, 218)?).is_err());
-    assert_eq!(rt; decode_verdict(frame_of(bytes, 231, 241)?), Some((0, 0)));
+    let log = rehearsal.log.bytes();
+    let hello = frame_in(alloc, log, 0, 102, Expect::Hello)?;
+    assert!(rt; matches!(&hello, Some(Frame::Hello(said)) if said.id == FILE_ID));
+    let grant = frame_in(alloc, log, 102, 123, Expect::Grant)?;
+    assert!(rt;
+        matches!(&grant, Some(Frame::Grant(given))
+        if given.start == 0 && given.count == 1 && given.section == 1)
+    );
+    let three = Expect::Corrections { count: 3 };
+    let corrections = frame_in(alloc, log, 123, 152, three)?;
+    assert!(rt; matches!(corrections, Some(Frame::Corrections(_))));
+    let sums = frame_in(alloc, log, 165, 218, Expect::Sums { sections: 3 })?;
+    assert!(rt; matches!(sums, Some(Frame::Sums(_))));
+    let others = frame_in(alloc, log, 165, 218, Expect::Sums { sections: 2 })?;
+    assert!(rt; others.is_none());
+    let verdict = frame_in(alloc, log, 231, 241, Expect::Verdict)?;
+    assert!(rt; matches!(verdict, Some(Frame::Verdict { code: 0, number: 0 })));
     Ok(())
 }
 

@@ -8,22 +8,22 @@ use Rattle.zk_model.specs.declared.Side.{Side}
 use Rattle.zk_model.specs.declared.Side.TheVariants.{Prover, Verifier}
 
 -- what one side sent of two logs
-sent_by-append : (side : Side) (xs ys : List (Side × ℕ)) → sent_by side (xs ++ ys) ≡ sent_by side xs ++ sent_by side ys
+pub sent_by-append : (side : Side) (xs ys : List (Side × ℕ)) → sent_by side (xs ++ ys) ≡ sent_by side xs ++ sent_by side ys
 sent_by-append side xs ys =
     ap (map (λ entry. entry.1)) (filter-append (λ entry. same_side side entry.0) xs ys)
     ∙ map-append (λ entry. entry.1) (filter (λ entry. same_side side entry.0) xs) (filter (λ entry. same_side side entry.0) ys)
 
 -- its own bytes are sent, and none of the other's
-own_bytes : (side : Side) (bytes : List ℕ) → sent_by side (bytes_from side bytes) ≡ bytes
+pub own_bytes : (side : Side) (bytes : List ℕ) → sent_by side (bytes_from side bytes) ≡ bytes
 own_bytes side [] = refl
 own_bytes Prover (byte ∷ bytes) = ap (λ l. byte ∷ l) (own_bytes Prover bytes)
 own_bytes Verifier (byte ∷ bytes) = ap (λ l. byte ∷ l) (own_bytes Verifier bytes)
 
-none_of_verifier : (bytes : List ℕ) → sent_by Prover (bytes_from Verifier bytes) ≡ []
+pub none_of_verifier : (bytes : List ℕ) → sent_by Prover (bytes_from Verifier bytes) ≡ []
 none_of_verifier [] = refl
 none_of_verifier (byte ∷ bytes) = none_of_verifier bytes
 
-none_of_prover : (bytes : List ℕ) → sent_by Verifier (bytes_from Prover bytes) ≡ []
+pub none_of_prover : (bytes : List ℕ) → sent_by Verifier (bytes_from Prover bytes) ≡ []
 none_of_prover [] = refl
 none_of_prover (byte ∷ bytes) = none_of_prover bytes
 

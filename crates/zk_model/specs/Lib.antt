@@ -24,6 +24,7 @@ pub mod FileFaults
 pub mod Journals
 pub mod Dealing
 pub mod Transcript
+pub mod Frames
 pub mod Correlations
 pub mod Replies
 pub mod Check
@@ -32,3 +33,4 @@ pub mod Finding
 pub mod HonestProver
 pub mod ServedVerifier
 pub mod BothEnds
+pub mod Peers

@@ -1,5 +1,5 @@
 // A stream of bytes to a peer and back.
-ghost use Rattle.std.specs.Prelude.{◌≡◌, ◌<◌, ◌≤◌, ◌↔◌, ◌++◌, ℕ, Bool, false, List, [], take, drop, length, Option, IfSome, IfOk, OnOk, OnErr, IsTrue};
+ghost use Rattle.std.specs.Prelude.{◌≡◌, ◌<◌, ◌≤◌, ◌↔◌, ◌++◌, ◌+◌, ◌-◌, ◌^◌, ℕ, Bool, false, List, [], take, drop, length, min, Option, IfSome, IfOk, OnOk, OnErr, IsTrue};
 ghost use Rattle.std.specs.Option.{option_map};
 ghost use Rattle.zk_port.specs.Counts.{HasCause};
 
@@ -28,6 +28,9 @@ pub trait Link {
     /// Whether this end may still be used: until `end`.
     ghost is_open: { Self → Bool };
 
+    /// How many receives there were, refused ones too; a count at the end of its type stays there.
+    ghost receives: { Self → ℕ };
+
     /// How often a call has failed.
     ghost faults: { Self → ℕ };
 
@@ -47,6 +50,7 @@ pub trait Link {
         ensures to_come { to_come self.new ≡ to_come self.old }
         ensures ended { ended self.new ≡ ended self.old }
         ensures is_open { is_open self.new ≡ is_open self.old }
+        ensures receives { receives self.new ≡ receives self.old }
         ensures cause { HasCause (faults self.old) (faults self.new) result };
 
     /// Takes the next bytes of the peer into the front of the buffer, and says how many: fewer than fit may
@@ -70,6 +74,7 @@ pub trait Link {
         ensures unended { OnErr result (ended self.new ≡ ended self.old) }
         ensures side { side self.new ≡ side self.old }
         ensures is_open { is_open self.new ≡ is_open self.old }
+        ensures receives { receives self.new ≡ min (receives self.old + 1) (2 ^ 64 - 1) }
         ensures cause { HasCause (faults self.old) (faults self.new) result };
 
     /// Ends the stream from this side: nothing more is sent, and no call follows. It can't be refused.
@@ -80,5 +85,6 @@ pub trait Link {
         ensures to_come { to_come self.new ≡ to_come self.old }
         ensures ended { ended self.new ≡ ended self.old }
         ensures side { side self.new ≡ side self.old }
+        ensures receives { receives self.new ≡ receives self.old }
         ensures faults { faults self.new ≡ faults self.old };
 }

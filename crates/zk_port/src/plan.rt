@@ -15,9 +15,16 @@ pub trait FaultPlan {
     /// Whether what isn't there is read as empty, since nothing may fail.
     ghost forgiving: { Bool };
 
+    /// Whether the run has stopped: the calls that still come reach nothing.
+    ghost stopped: { Self → Bool };
+
     /// How many calls have failed.
     fn faults(&self) -> u64
         ensures { result ≡ count self.now };
+
+    /// Whether the run has stopped: the calls that still come reach nothing.
+    fn has_stopped(&self) -> bool
+        ensures { result ≡ stopped self.now };
 
     /// Begins a call, which uses up one number, and says whether it fails.
     fn fails(&mut self) -> bool
@@ -74,13 +81,74 @@ impl FaultPlan for FailAt {
 
     ghost forgiving = { false };
 
+    ghost stopped = { λ _. false };
+
     fn faults(&self) -> u64 {
         self.faults
+    }
+
+    fn has_stopped(&self) -> bool {
+        false
     }
 
     fn fails(&mut self) -> bool {
         self.calls = self.calls.saturating_add(1);
         let fails = self.numbers.contains(&self.calls);
+        if fails {
+            self.faults = self.faults.saturating_add(1);
+        }
+        fails
+    }
+
+    fn fails_without(&mut self) -> bool {
+        self.faults = self.faults.saturating_add(1);
+        true
+    }
+}
+
+/// The run stops in the call of this number, counted from 1: that call fails, and all behind it.
+#[derive(Clone, Copy)]
+pub struct StopAt {
+    number: u64,
+    calls: u64,
+    faults: u64,
+}
+
+impl StopAt {
+    /// A plan under which nothing has been called yet.
+    pub fn new(number: u64) -> Self
+        ensures { result ≡ record { number = number; calls = 0; faults = 0 } }
+    {
+        StopAt {
+            number,
+            calls: 0,
+            faults: 0,
+        }
+    }
+}
+
+impl FaultPlan for StopAt {
+    ghost use Rattle.zk_port.specs.Stops.{is_behind, has_stopped};
+
+    ghost count = { λ p. p.faults };
+
+    ghost coming = { is_behind };
+
+    ghost forgiving = { false };
+
+    ghost stopped = { has_stopped };
+
+    fn faults(&self) -> u64 {
+        self.faults
+    }
+
+    fn has_stopped(&self) -> bool {
+        self.number <= self.calls
+    }
+
+    fn fails(&mut self) -> bool {
+        self.calls = self.calls.saturating_add(1);
+        let fails = self.number <= self.calls;
         if fails {
             self.faults = self.faults.saturating_add(1);
         }
@@ -104,8 +172,14 @@ impl FaultPlan for NoFault {
 
     ghost forgiving = { true };
 
+    ghost stopped = { λ _. false };
+
     fn faults(&self) -> u64 {
         0
+    }
+
+    fn has_stopped(&self) -> bool {
+        false
     }
 
     fn fails(&mut self) -> bool {

@@ -21,6 +21,7 @@ pub struct ScriptedLink<P> {
     place: usize,
     ended: bool,
     is_open: bool,
+    receives: u64,
     plan: P,
     ghost within: { place ≤ vec_len script },
     ghost nothing_behind: { ended ≡ true → place ≡ vec_len script },
@@ -87,6 +88,7 @@ impl<P: FaultPlan> ScriptedLink<P> {
         ensures to_come { ⟦<ScriptedLink<P> as Link>⟧.to_come result ≡ Some script.items }
         ensures ended { ⟦<ScriptedLink<P> as Link>⟧.ended result ≡ Some false }
         ensures is_open { ⟦<ScriptedLink<P> as Link>⟧.is_open result ≡ true }
+        ensures receives { ⟦<ScriptedLink<P> as Link>⟧.receives result ≡ 0 }
         ensures faults { ⟦<ScriptedLink<P> as Link>⟧.faults result ≡ P.count plan }
         ensures plan { result.plan ≡ plan }
     {
@@ -97,6 +99,7 @@ impl<P: FaultPlan> ScriptedLink<P> {
             place: 0,
             ended: false,
             is_open: true,
+            receives: 0,
             plan,
         }
     }
@@ -114,6 +117,8 @@ impl<P: FaultPlan> Link for ScriptedLink<P> {
     ghost ended = { λ l. Some l.ended };
 
     ghost is_open = { λ l. l.is_open };
+
+    ghost receives = { λ l. l.receives };
 
     ghost faults = { λ l. P.count l.plan };
 
@@ -161,14 +166,16 @@ impl<P: FaultPlan> Link for ScriptedLink<P> {
         ensures script { self.new.script ≡ self.old.script }
         ensures side { self.new.side ≡ self.old.side }
         ensures is_open { self.new.is_open ≡ self.old.is_open }
+        ensures receives { self.new.receives ≡ counted true self.old.receives }
         ensures refused { OnErr result (self.new.log.items ≡ self.old.log.items) }
         ensures kept { OnErr result (self.new
-            ≡ record self.old { log = self.new.log; plan = self.new.plan }) }
+            ≡ record self.old { log = self.new.log; receives = self.new.receives; plan = self.new.plan }) }
         ensures fails { is_failed result ≡ P.coming self.old.plan 0 }
         ensures onward { (n : ℕ) → P.coming self.new.plan n ≡ P.coming self.old.plan (n + 1) }
         ensures count { P.count self.new.plan ≡ counted (is_failed result) (P.count self.old.plan) }
         ensures later { P.count self.old.plan ≤ P.count self.new.plan }
     {
+        self.receives = self.receives.saturating_add(1);
         if self.plan.fails() {
             return Err(PortFault::Failed);
         }

@@ -1,16 +1,15 @@
-use Rattle.std.proofs.Common.{◌≡◌, ◌+◌, ◌-◌, ◌∙◌, ap, sym, subst, refl, arith, rules, length, map, drop, replicate, List, ℕ, Bool}
+use Rattle.std.proofs.Common.{◌≡◌, ◌∙◌, ap, sym, subst, length, map, drop, replicate}
 use Rattle.sha2.specs.Sha256.{sha256}
 use Rattle.zk_model.specs.Bits.{from_bit, digits_of}
 use Rattle.zk_model.specs.Circuit.{output_wire}
 use Rattle.zk_model.specs.Program.{Program}
-use Rattle.zk_model.specs.Boolean.{circuit_program, bits_of_products}
+use Rattle.zk_model.specs.Boolean.{bits_of_products}
 use Rattle.zk_model.specs.Statement.{Statement, circuit_statement}
 use Rattle.zk_model.specs.Files.{ProverFile, VerifierFile, IsProverFile, IsVerifierFile, AreDealt}
 use Rattle.zk_model.specs.Dealing.{dealt_verifier}
-use Rattle.zk_model.specs.declared.Verdict.{Verdict}
 use Rattle.session_core.specs.Ends.{whole_grant}
 use Rattle.session_core.specs.Holding.{Ends, IsSessionOf}
-use Rattle.session_core.specs.Rehearsals.{direct_params, rehearsed_ends}
+use Rattle.session_core.specs.Rehearsals.{direct_params}
 use Rattle.session_core.proofs.Rehearsed.{statement_is, stated, claimed_count, products_count}
 use Rattle.session_core.proofs.rehearsing.hold_dealt.Goals as goal
 

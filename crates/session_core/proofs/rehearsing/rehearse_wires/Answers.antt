@@ -1,4 +1,4 @@
-use Rattle.std.proofs.Common.{◌≡◌, ◌+◌, ◌-◌, ◌∙◌, ap, sym, refl, arith, length, drop}
+use Rattle.std.proofs.Common.{◌≡◌, ◌∙◌, ap, sym, length, drop}
 use Rattle.zk_model.specs.Circuit.{output_wire}
 use Rattle.zk_model.specs.Program.{Program, section_count, correlations_needed}
 use Rattle.session_core.proofs.Rehearsed.{accepted_session, session_ends}

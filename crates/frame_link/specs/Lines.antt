@@ -1,0 +1,162 @@
+-- One end of a session's stream: what is logged, what its link tells, and why a frame does not pass.
+use Rattle.std.specs.Prelude.{◌≡◌, ◌⊎◌, ℕ, ◌+◌, ◌≤◌, ◌<◌, List, [], ◌++◌, length, Bool, true, Option, None, IfSome}
+use Rattle.zk_model.specs.Transcript.{bytes_from}
+use Rattle.zk_model.specs.Frames.{Frame, CanGoOn, IsWhole, IsFirstBad, frame_length}
+use Rattle.zk_model.specs.declared.Expect.{Expect}
+use Rattle.zk_model.specs.declared.Expect.TheVariants as expect
+use Rattle.zk_model.specs.declared.Side.{Side}
+use Rattle.zk_port.specs.Counts.{Rose}
+use Rattle.zk_port.specs.Logs.{appended, put_before, peer_of, AppendsPart}
+use Rattle.zk_port.specs.declared.fault.PortFault.{PortFault}
+use Rattle.zk_port.specs.declared.fault.PortFault.TheVariants as port
+use Rattle.proof_frames.specs.Readings.{Reading, wanted}
+use Rattle.frame_link.specs.declared.fault.LineFault.{LineFault}
+use Rattle.frame_link.specs.declared.fault.LineFault.TheVariants.{PeerEnded, BadFrame, Link, NoMemory}
+
+-- what a refusal of the link's is called
+abbrev pub port_fault : PortFault → LineFault
+port_fault port.Failed = Link
+port_fault port.NoMemory = NoMemory
+
+-- One end of a stream: whose end it is, what is logged, what was read of the peer's bytes, and what the link tells: its log,
+-- what is to come, whether the peer has ended, whether it is open, how many receives there were, and how many calls failed.
+pub record LineState : Type 0 where
+  pub side : Side
+  pub log : List (Side × ℕ)
+  pub reading : Reading
+  pub told : Option (List (Side × ℕ))
+  pub to_come : Option (List ℕ)
+  pub ended : Option Bool
+  pub is_open : Bool
+  pub receives : ℕ
+  pub faults : ℕ
+
+-- these bytes of the peer's have come: they are logged, the link tells them, and they are no longer to come
+pub record Came (bytes : List ℕ) (old new : LineState) : Type 0 where
+  pub logged : new.log ≡ old.log ++ bytes_from (peer_of old.side) bytes
+  pub told : new.told ≡ appended (bytes_from (peer_of old.side) bytes) old.told
+  pub came : old.to_come ≡ put_before bytes new.to_come
+  pub side : new.side ≡ old.side
+  pub is_open : new.is_open ≡ old.is_open
+
+-- some more bytes of the frame that is expected have come, by one receive
+pub record PieceComes (place : Expect) (old new : LineState) : Type 0 where
+  pub bytes : List ℕ
+  pub some : 1 ≤ length bytes
+  pub came : Came bytes old new
+  pub read : new.reading ≡ record old.reading { taken = old.reading.taken ++ bytes }
+  pub goes_on : CanGoOn place new.reading.taken
+  pub receives : new.receives ≤ old.receives + 1
+  pub unfailed : new.faults ≡ old.faults
+
+-- bytes of the frame that is expected have come, by at most as many receives
+pub record PiecesBegin (place : Expect) (old new : LineState) : Type 0 where
+  pub came : Came new.reading.taken old new
+  pub read : new.reading ≡ record old.reading { taken = new.reading.taken }
+  pub receives : new.receives ≤ old.receives + length new.reading.taken
+  pub unfailed : new.faults ≡ old.faults
+
+-- and no more are wanted
+pub record PiecesCome (place : Expect) (old new : LineState) : Type 0 where
+  pub begin : PiecesBegin place old new
+  pub whole : wanted new.reading ≡ 0
+
+-- a frame that is expected has come, by at most as many receives as it has bytes
+pub record Arrives (place : Expect) (frame : Frame) (old new : LineState) : Type 0 where
+  pub bytes : List ℕ
+  pub whole : IsWhole place bytes frame
+  pub came : Came bytes old new
+  pub read : new.reading ≡ record { received = old.reading.received + length bytes; expected = None; taken = []; bad = None }
+  pub receives : new.receives ≤ old.receives + length bytes
+  pub unfailed : new.faults ≡ old.faults
+
+-- the length of the longest frame of a place
+abbrev pub longest : Expect → ℕ
+longest expect.Hello = 102
+longest expect.Grant = 21
+longest (expect.Corrections count) = frame_length (expect.Corrections count) []
+longest expect.Challenge = frame_length expect.Challenge []
+longest (expect.Sums sections) = frame_length (expect.Sums sections) []
+longest (expect.Openings count) = frame_length (expect.Openings count) []
+longest expect.Verdict = 10
+
+-- Why no frame came, where these are all bytes of it that came: the peer has ended, with bytes still wanted; one of them is
+-- bad; the link failed; memory was wanting.
+abbrev pub Breaks : Expect → List ℕ → LineState → LineState → LineFault → Type 0
+Breaks place bytes old new (PeerEnded at) =
+    (at ≡ old.reading.received + length bytes)
+    × CanGoOn place bytes
+    × (length bytes < frame_length place bytes)
+    × IfSome new.ended (λ ended. ended ≡ true)
+    × IfSome new.to_come (λ rest. rest ≡ [])
+Breaks place bytes old new (BadFrame at) = (n : ℕ) × IsFirstBad place bytes n × (at ≡ old.reading.received + n)
+Breaks place bytes old new Link = Rose old.faults new.faults
+Breaks place bytes old new NoMemory = Unit {0}
+
+-- it is not the link that failed
+abbrev pub IsNoLink : LineFault → Type 0
+IsNoLink (PeerEnded at) = Unit {0}
+IsNoLink (BadFrame at) = Unit {0}
+IsNoLink Link = ⊥
+IsNoLink NoMemory = Unit {0}
+
+-- no failed call but where the link failed
+pub record CountsFault (fault : LineFault) (old new : LineState) : Type 0 where
+  pub later : old.faults ≤ new.faults
+  pub unfailed : IsNoLink fault → new.faults ≡ old.faults
+
+-- these bytes are no whole frame: more are wanted, or one is bad
+abbrev pub IsUnfinished : Expect → List ℕ → Type 0
+IsUnfinished place bytes = (length bytes < frame_length place bytes) ⊎ ((n : ℕ) × IsFirstBad place bytes n)
+
+-- a piece is refused: behind those bytes of the frame that were taken before, these came
+pub record PieceFails (place : Expect) (fault : LineFault) (old new : LineState) : Type 0 where
+  pub bytes : List ℕ
+  pub few : length (old.reading.taken ++ bytes) ≤ longest place
+  pub unfinished : IsUnfinished place (old.reading.taken ++ bytes)
+  pub came : Came bytes old new
+  pub broken : Breaks place (old.reading.taken ++ bytes) old new fault
+  pub receives : new.receives ≤ old.receives + 1
+  pub count : CountsFault fault old new
+
+-- No whole frame has come, but bytes that are no more than one has, by at most one receive more than there are bytes; and the
+-- cause.
+pub record Fails (place : Expect) (fault : LineFault) (old new : LineState) : Type 0 where
+  pub bytes : List ℕ
+  pub few : length bytes ≤ longest place
+  pub unfinished : IsUnfinished place bytes
+  pub came : Came bytes old new
+  pub broken : Breaks place bytes old new fault
+  pub receives : new.receives ≤ old.receives + length bytes + 1
+  pub count : CountsFault fault old new
+
+-- all but the log, and what the link tells of it, is as it was
+pub record OnlySends (old new : LineState) : Type 0 where
+  pub side : new.side ≡ old.side
+  pub reading : new.reading ≡ old.reading
+  pub to_come : new.to_come ≡ old.to_come
+  pub ended : new.ended ≡ old.ended
+  pub is_open : new.is_open ≡ old.is_open
+  pub receives : new.receives ≡ old.receives
+
+-- bytes were sent: they are logged, and the link tells them
+pub record Sends (bytes : List ℕ) (old new : LineState) : Type 0 where
+  pub logged : new.log ≡ old.log ++ bytes_from old.side bytes
+  pub told : new.told ≡ appended (bytes_from old.side bytes) old.told
+  pub others : OnlySends old new
+  pub unfailed : new.faults ≡ old.faults
+
+-- why a send is refused: the link failed, or memory was wanting
+abbrev pub IsSendCause : LineState → LineState → LineFault → Type 0
+IsSendCause old new (PeerEnded at) = ⊥
+IsSendCause old new (BadFrame at) = ⊥
+IsSendCause old new Link = Rose old.faults new.faults
+IsSendCause old new NoMemory = Unit {0}
+
+-- A send is refused: nothing of it is logged, and the link tells a first part, maybe none or all.
+pub record SendFails (bytes : List ℕ) (fault : LineFault) (old new : LineState) : Type 0 where
+  pub logged : new.log ≡ old.log
+  pub told : AppendsPart (bytes_from old.side bytes) old.told new.told
+  pub others : OnlySends old new
+  pub cause : IsSendCause old new fault
+  pub count : CountsFault fault old new

@@ -1,0 +1,187 @@
+// One end of a session's stream: frames over a link.
+ghost use Rattle.std.specs.Prelude.{◌≡◌, ◌+◌, ◌<◌, ◌≤◌, ◌^◌, None, Some, [], length, false, IfOk, IfErr, OnOk, IsTrue};
+ghost use Rattle.zk_model.specs.Frames.{frame_spelling};
+ghost use Rattle.zk_port.specs.Logs.{peer_of};
+ghost use Rattle.proof_frames.specs.Frames.{said, IsShort};
+ghost use Rattle.proof_frames.specs.Readings.{IsShortPlace, wanted};
+ghost use Rattle.frame_link.specs.Lines.{PieceComes, PiecesCome, PieceFails, Arrives, Fails, Sends, SendFails};
+
+use crate::fault::LineFault;
+use crate::log::Log;
+use proof_frames::{Decoder, Expect, Frame, encode};
+use std::alloc::Global;
+use std::marker::Model;
+use zk_model::Side;
+use zk_port::Link;
+
+/// How many bytes are received at once, at most.
+const PIECE: usize = 4096;
+
+/// One end of a session's stream: the link, the log of all that passed, and the decoder of what the peer sends. Contracts see
+/// of it a `LineState`.
+#[derive(Drop)]
+pub struct Line<L: Link> {
+    link: L,
+    side: Side,
+    log: Log,
+    decoder: Decoder,
+}
+
+impl<L: Link> Model for Line<L> {
+    ghost use Rattle.std.specs.Prelude.{◌≡◌};
+    ghost use Rattle.frame_link.specs.Lines as lines;
+
+    ghost Value = { lines.LineState };
+
+    ghost view = { λ l. record {
+      side = l.side;
+      log = l.log;
+      reading = l.decoder;
+      told = L.log l.link;
+      to_come = L.to_come l.link;
+      ended = L.ended l.link;
+      is_open = L.is_open l.link;
+      receives = L.receives l.link;
+      faults = L.faults l.link;
+    } };
+
+    ghost invariant = { λ l. L.side l.link ≡ l.side };
+}
+
+/// The other side.
+fn peer(side: Side) -> Side
+    ensures { result ≡ peer_of side }
+{
+    match side {
+        Side::Prover => Side::Verifier,
+        Side::Verifier => Side::Prover,
+    }
+}
+
+impl<L: Link> Line<L> {
+    /// This side's end of a stream over which nothing is logged or read yet.
+    pub fn new(alloc: Global, link: L, side: Side) -> Self
+        requires { L.side link ≡ side }
+        ensures { result ≡ record {
+          side = side;
+          log = [];
+          reading = record { received = 0; expected = None; taken = []; bad = None };
+          told = L.log link;
+          to_come = L.to_come link;
+          ended = L.ended link;
+          is_open = L.is_open link;
+          receives = L.receives link;
+          faults = L.faults link;
+        } }
+    {
+        Line {
+            link,
+            side,
+            log: Log::new(alloc),
+            decoder: Decoder::new(alloc),
+        }
+    }
+
+    /// Takes the next frame of the peer, which is to be one that the place allows.
+    ///
+    /// # Errors
+    ///
+    /// `PeerEnded` where the peer ended before, `BadFrame` where no such frame can be, `Link` where the link failed,
+    /// `NoMemory`.
+    pub fn take(&mut self, alloc: Global, place: Expect) -> Result<Frame, LineFault>
+        requires open { IsTrue self.old.is_open }
+        requires idle { self.old.reading.expected ≡ None }
+        requires short { IsShortPlace place }
+        requires fits { self.old.reading.received + 2 ^ 25 ≤ 2 ^ 64 }
+        ensures arrives { IfOk result (λ frame. Arrives place (said frame) self.old self.new) }
+        ensures fails { IfErr result (λ fault. Fails place fault self.old self.new) }
+    {
+        let _wants = self.decoder.wants();
+        self.decoder.expect(place)?;
+        self.take_pieces(alloc, place)?;
+        match self.decoder.next() {
+            Some(frame) => Ok(frame),
+            None => Err(LineFault::NoMemory),
+        }
+    }
+
+    /// Takes pieces until the frame is whole.
+    fn take_pieces(&mut self, alloc: Global, _place: Expect) -> Result<(), LineFault>
+        requires open { IsTrue self.old.is_open }
+        requires expected { self.old.reading.expected ≡ Some _place }
+        requires fine { self.old.reading.bad ≡ None }
+        requires begins { self.old.reading.taken ≡ [] }
+        ensures whole { OnOk result (PiecesCome _place self.old self.new) }
+        ensures fails { IfErr result (λ fault. Fails _place fault self.old self.new) }
+    {
+        let mut buffer = [0; PIECE];
+        'pieces: while self.decoder.wants() > 0 {
+            self.take_piece(alloc, _place, &mut buffer)?;
+        }
+        Ok(())
+    }
+
+    /// Takes more bytes of the frame that is expected, by one receive.
+    fn take_piece(
+        &mut self,
+        alloc: Global,
+        _place: Expect,
+        buffer: &mut [u8],
+    ) -> Result<(), LineFault>
+        requires open { IsTrue self.old.is_open }
+        requires room { 1 ≤ length buffer.old }
+        requires expected { self.old.reading.expected ≡ Some _place }
+        requires fine { self.old.reading.bad ≡ None }
+        requires wanting { 0 < wanted self.old.reading }
+        ensures room_stays { length buffer.new ≡ length buffer.old }
+        ensures comes { OnOk result (PieceComes _place self.old self.new) }
+        ensures fails { IfErr result (λ fault. PieceFails _place fault self.old self.new) }
+    {
+        let most = self.decoder.wants().min(buffer.len());
+        let count = self
+            .log
+            .receive(alloc, &mut self.link, peer(self.side), buffer, most)?;
+        if count == 0 {
+            let at = self.decoder.received();
+            return Err(LineFault::PeerEnded { at });
+        }
+        match self.decoder.feed(&buffer[..count]) {
+            Ok(_) => Ok(()),
+            Err(bad) => Err(LineFault::BadFrame { place: bad.place }),
+        }
+    }
+
+    /// Sends a frame.
+    ///
+    /// # Errors
+    ///
+    /// `Link` where the link failed, `NoMemory`; then a part of it may have gone out.
+    pub fn send(&mut self, alloc: Global, frame: &Frame) -> Result<(), LineFault>
+        requires open { IsTrue self.old.is_open }
+        requires short { IsShort (said frame.now) }
+        ensures sends { OnOk result (Sends (frame_spelling (said frame.now)) self.old self.new) }
+        ensures fails { IfErr result (λ fault.
+            SendFails (frame_spelling (said frame.now)) fault self.old self.new) }
+    {
+        let bytes = encode(alloc, frame)?;
+        self.log.send(alloc, &mut self.link, self.side, &bytes)?;
+        Ok(())
+    }
+
+    /// Ends the stream from this side, and hands back the link and the log.
+    pub fn end(self) -> (L, Log)
+        requires open { IsTrue self.is_open }
+        ensures log { result.1 ≡ self.log }
+        ensures told { L.log result.0 ≡ self.told }
+        ensures to_come { L.to_come result.0 ≡ self.to_come }
+        ensures ended { L.ended result.0 ≡ self.ended }
+        ensures receives { L.receives result.0 ≡ self.receives }
+        ensures faults { L.faults result.0 ≡ self.faults }
+        ensures is_open { L.is_open result.0 ≡ false }
+        ensures side { L.side result.0 ≡ self.side }
+    {
+        let Line { mut link, log, .. } = self;
+        link.end();
+        (link, log)
+    }
+}

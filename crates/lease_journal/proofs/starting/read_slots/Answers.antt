@@ -1,0 +1,40 @@
+use Rattle.std.proofs.Common.{◌≡◌, ◌+◌, ap, sym, ◌∙◌, subst, arith}
+use Rattle.zk_model.specs.Journals.{keeps_rule}
+use Rattle.lease_journal.specs.Scans.{next_bad}
+use Rattle.lease_journal.specs.Causes.{IsScanned, SlotSays}
+use Rattle.lease_journal.proofs.Scanning.{next_starts, scan_more, scan_cause, used_to_closed, used_to_end, stays_then}
+use Rattle.lease_journal.proofs.starting.read_slots.Goals as goal
+
+pub read_slot-requires-clause-starts : goal.read_slot-requires-clause-starts
+read_slot-requires-clause-starts g c = λ bytes is.
+    let was = sym c.loop-used.invariant.stays.same ∙ is in
+    next_starts c.loop-used.used bytes (c.requires.starts bytes was) (c.loop-used.invariant.scanned bytes was).opened
+
+pub returns-in-Err-clause-cause : goal.returns-in-Err-clause-cause
+returns-in-Err-clause-cause g c = λ bytes is.
+    scan_cause c.args.slots c.loop-used.used bytes c.in-Err.fault c.loop-used-test.true (c.loop-used.invariant.scanned bytes is).opened
+    (c.in-Err.ensures.cause bytes (c.loop-used.invariant.stays.same ∙ is))
+
+pub returns-in-Ok-None-clause-used : goal.returns-in-Ok-None-clause-used
+returns-in-Ok-None-clause-used g c = λ bytes is.
+    used_to_closed c.args.slots c.loop-used.used bytes c.loop-used-test.true (c.loop-used.invariant.scanned bytes is).opened
+    (subst (λ o. SlotSays bytes c.loop-used.used o) c.in-Ok-None.field-0-is (c.in-Ok-None.ensures.says bytes (c.loop-used.invariant.stays.same ∙ is)))
+
+pub returns-clause-used : goal.returns-clause-used
+returns-clause-used g c = λ bytes is.
+    used_to_end c.args.slots c.loop-used.used bytes c.loop-used.invariant.used c.loop-used-test.false (c.loop-used.invariant.scanned bytes is).opened
+
+pub loop-used-preserved : goal.loop-used-preserved
+loop-used-preserved g c = record {
+  used = omega (arith, c.loop-used-test.true);
+  stays =
+      stays_then g.B.Disk.content g.B.Disk.room g.B.Disk.images g.B.Disk.moment g.B.Disk.images_since c.args.disk.now c.loop-used.disk c.read_slot.new.disk
+      c.loop-used.invariant.stays c.read_slot.ensures.stays;
+  count = c.in-Ok-Some.ensures.count.done ∙ c.loop-used.invariant.count;
+  scanned = λ bytes is.
+      let says = subst (λ o. SlotSays bytes c.loop-used.used o) c.in-Ok-Some.field-0-is (c.in-Ok-Some.ensures.says bytes (c.loop-used.invariant.stays.same ∙ is)) in
+      let same : next_bad c.loop-used.bad (keeps_rule c.args.kind c.args.total c.loop-used.last.0 c.in-Ok-Some.body) c.loop-used.used ≡ c.next_bad-bad.result =
+      sym (c.next_bad-bad.ensures ∙ ap (λ k. next_bad c.loop-used.bad k c.loop-used.used) c.keeps_rule.ensures) in
+      subst (λ bad. IsScanned c.args.kind c.args.total (c.loop-used.used + 1) c.in-Ok-Some.body bad bytes) same
+      (scan_more c.args.kind c.args.total c.loop-used.used c.loop-used.last c.in-Ok-Some.body c.loop-used.bad bytes (c.loop-used.invariant.scanned bytes is) says.0 says.1);
+}

@@ -1,0 +1,99 @@
+-- Why a journal refuses, and what stands in one that is kept.
+use Rattle.std.specs.Prelude.{◌≡◌, ◌⊎◌, ℕ, ◌+◌, ◌*◌, ◌^◌, ◌<◌, ◌≤◌, List, length, Option, Some, None, Result, OnOk, IsErrOf}
+use Rattle.zk_port.specs.Counts.{Rose}
+use Rattle.zk_port.specs.Images.{LeavesOnly}
+use Rattle.zk_model.specs.declared.JournalKind.{JournalKind}
+use Rattle.lease_journal.specs.declared.fault.StartFault.{StartFault}
+use Rattle.lease_journal.specs.declared.fault.StartFault.TheVariants as start
+use Rattle.zk_model.specs.Journals.{IsTidy, Recovers, IsOpen, AreUsed, IsFirstBad, IsCut, HasHeader, IsFirstWrong, body_at, last_body, slots_at}
+use Rattle.lease_journal.specs.declared.fault.JournalFault.{JournalFault}
+use Rattle.lease_journal.specs.declared.fault.JournalFault.TheVariants.{Device, Broken, Full}
+
+-- a tidy journal of these bodies
+pub record KeptAt (slots : ℕ) (bodies : List (ℕ × ℕ)) (bytes : List ℕ) : Type 0 where
+  pub tidy : IsTidy slots bytes
+  pub recovered : Recovers slots bytes bodies
+
+-- why a put is refused; only where the device failed is a fault kept in this call
+abbrev pub PutCause : ℕ → ℕ → ℕ → ℕ → ℕ → ℕ → JournalFault → Type 0
+PutCause slots used fault fault_now before now Device =
+    (fault ≡ 0) × (used < slots) × Rose before now × (fault_now ≡ now) × (0 < fault_now)
+PutCause slots used fault fault_now before now (Broken first) = (first ≡ fault) × (0 < fault) × (fault_now ≡ fault)
+PutCause slots used fault fault_now before now (Full count) =
+    (count ≡ slots) × (used ≡ slots) × (fault ≡ 0) × (fault_now ≡ fault)
+
+-- why a body is not read
+abbrev pub BodyCause : ℕ → ℕ → ℕ → ℕ → JournalFault → Type 0
+BodyCause fault fault_now before now Device = (fault ≡ 0) × Rose before now × (fault_now ≡ now) × (0 < fault_now)
+BodyCause fault fault_now before now (Broken first) = (first ≡ fault) × (0 < fault) × (fault_now ≡ fault)
+BodyCause fault fault_now before now (Full count) = ⊥
+
+-- nothing of the disk has changed, and at each moment a crash could leave only what it could before
+pub record Stays {D : Type 0} (content : D → Option (List ℕ)) (room : D → Option ℕ) (images : D → List ℕ → Type 0) (moment : D → ℕ) (images_since : D → ℕ → List ℕ → Type 0) (old new : D) : Type 0 where
+  pub same : content new ≡ content old
+  pub room_same : room new ≡ room old
+  pub crash : (image : List ℕ) → images new image → images old image
+  pub any_moment : LeavesOnly moment images_since old new (images old)
+
+-- the disk's count doesn't fall, rises where a fault of it is told, and stands still where all is well
+pub record HasStartCause {T : Type 0} (before now : ℕ) (result : Result T StartFault) : Type 0 where
+  pub later : before ≤ now
+  pub device : IsErrOf result start.Device → Rose before now
+  pub done : OnOk result (now ≡ before)
+
+-- what was read of a slot: none where it is not open
+abbrev pub SlotSays : List ℕ → ℕ → Option (ℕ × ℕ) → Type 0
+SlotSays bytes slot None = (64 + 32 * slot + 32 ≤ length bytes) × ¬ (IsOpen bytes slot)
+SlotSays bytes slot (Some body) = IsOpen bytes slot × (body ≡ body_at bytes slot)
+
+-- why a slot is not read
+abbrev pub SlotCause : ℕ → ℕ → List ℕ → StartFault → Type 0
+SlotCause slots slot bytes start.Device = Unit {0}
+SlotCause slots slot bytes (start.Short need got) =
+    (need ≡ 64 + 32 * slots) × (got ≡ length bytes) × (length bytes < 64 + 32 * slot + 32)
+SlotCause slots slot bytes (start.BadHeader place) = ⊥
+SlotCause slots slot bytes (start.BadBody bad) = ⊥
+
+-- what was read of the slots so far
+pub record IsScanned (kind : JournalKind) (total used : ℕ) (last : ℕ × ℕ) (bad : Option ℕ) (bytes : List ℕ) : Type 0 where
+  pub opened : (slot : ℕ) → slot < used → IsOpen bytes slot
+  pub last_is : last ≡ last_body bytes used
+  pub first_bad : IsFirstBad kind total bytes used bad
+
+-- why the slots are not read to their end
+abbrev pub ScanCause : ℕ → List ℕ → StartFault → Type 0
+ScanCause slots bytes start.Device = Unit {0}
+ScanCause slots bytes (start.Short need got) = (need ≡ 64 + 32 * slots) × (got ≡ length bytes) × IsCut slots bytes
+ScanCause slots bytes (start.BadHeader place) = ⊥
+ScanCause slots bytes (start.BadBody bad) = ⊥
+
+-- why there is no header
+abbrev pub HeaderCause : JournalKind → List ℕ → ℕ → List ℕ → StartFault → Type 0
+HeaderCause kind id total bytes start.Device = Unit {0}
+HeaderCause kind id total bytes (start.Short need got) = (need ≡ 64) × (got ≡ length bytes) × (length bytes < 64)
+HeaderCause kind id total bytes (start.BadHeader place) = IsFirstWrong kind id total bytes place
+HeaderCause kind id total bytes (start.BadBody bad) = ⊥
+
+-- Why a journal of these bytes is not opened: the first of these that holds.
+abbrev pub StartCause : JournalKind → List ℕ → ℕ → List ℕ → StartFault → Type 0
+StartCause kind id total bytes start.Device = Unit {0}
+StartCause kind id total bytes (start.Short need got) =
+    (got ≡ length bytes) × (((need ≡ 64) × (length bytes < 64))
+    ⊎ ((need ≡ 64 + 32 * slots_at bytes) × HasHeader kind id total bytes × IsCut (slots_at bytes) bytes))
+StartCause kind id total bytes (start.BadHeader place) = IsFirstWrong kind id total bytes place
+StartCause kind id total bytes (start.BadBody bad) =
+    HasHeader kind id total bytes × (¬ (IsCut (slots_at bytes) bytes)) × (used : ℕ)
+    × AreUsed (slots_at bytes) used bytes × IsFirstBad kind total bytes used (Some bad)
+
+-- what an open journal says of the bytes: a right header, the slots in use, and bodies that all keep their rule
+pub record IsOpened (kind : JournalKind) (id : List ℕ) (total slots used : ℕ) (last : ℕ × ℕ) (bytes : List ℕ) : Type 0 where
+  pub header : HasHeader kind id total bytes
+  pub slots_are : slots ≡ slots_at bytes
+  pub slots_used : AreUsed slots used bytes
+  pub last_is : last ≡ last_body bytes used
+  pub sound : IsFirstBad kind total bytes used None
+
+-- a number of slots that a header may say, where the content is told
+abbrev pub SaysSlots : Option (List ℕ) → ℕ → Type 0
+SaysSlots None slots = slots ≤ 2 ^ 28
+SaysSlots (Some bytes) slots = (slots ≡ slots_at bytes) × (slots ≤ 2 ^ 28)

@@ -1,0 +1,206 @@
+// An open journal.
+ghost use Rattle.std.specs.Prelude.{◌≡◌, ◌<◌, ◌≤◌, ◌+◌, ◌-◌, ◌*◌, ◌^◌, ◌++◌, ◌∷◌, [], ℕ, List, Some, IfSome, IfOk, IfErr, OnOk, OnErr};
+ghost use Rattle.std.specs.Option.{option_map};
+ghost use Rattle.zk_port.specs.Counts.{Rose};
+ghost use Rattle.zk_port.specs.Images.{LeavesOnly, Only};
+ghost use Rattle.lease_journal.specs.declared.fault.StartFault.TheVariants as start;
+ghost use Rattle.zk_model.specs.Journals.{IsOpen, IsOldOrNew, Recovers, body_at, first_bodies};
+ghost use Rattle.lease_journal.specs.Steps.{slot_written};
+ghost use Rattle.lease_journal.specs.Causes.{PutCause, BodyCause, KeptAt, SaysSlots, IsOpened, StartCause, Stays};
+
+use crate::fault::{JournalFault, StartFault};
+use crate::starting::{Opened, open};
+use crate::storing::{read_body, store_slot};
+use zk_model::JournalKind;
+use zk_port::{Disk, Failed};
+
+/// An open journal over a disk: the list of the bodies in its first slots.
+///
+/// What is said of bodies holds where the disk tells its content, and is what stands there (`first_bodies`).
+#[derive(Drop)]
+pub struct Journal<B: Disk> {
+    disk: B,
+    slots: u64,
+    used: u64,
+    last: (u64, u64),
+    fault: u64,
+    ghost few: { slots ≤ 2 ^ 28 },
+    ghost within: { used ≤ slots },
+    ghost room: { (size : ℕ) → B.room disk ≡ Some size → 64 + 32 * slots ≤ size },
+    ghost opened: { (bytes : List ℕ) → fault ≡ 0 → B.content disk ≡ Some bytes
+        → (slot : ℕ) → slot < used → IsOpen bytes slot },
+    ghost only: { (bytes : List ℕ) → fault ≡ 0 → B.content disk ≡ Some bytes
+        → (image : List ℕ) → B.images disk image → image ≡ bytes },
+}
+
+impl<B: Disk> Journal<B> {
+    /// Opens the journal of this kind, total and id that stands on the disk. It syncs, and reads the header and then
+    /// slots up to the first that is not open. The disk of a refused start comes back.
+    ///
+    /// # Errors
+    ///
+    /// The first of these that applies: `Device`, `Short` of the header, `BadHeader`, `Short` inside a slot, `BadBody`.
+    pub fn start(
+        disk: B,
+        kind: JournalKind,
+        id: &[u8; 32],
+        total: u64,
+    ) -> Result<Self, (StartFault, B)>
+        requires room { (size : ℕ) → B.room disk ≡ Some size
+            → (slots : ℕ) → SaysSlots (B.content disk) slots → 64 + 32 * slots ≤ size }
+        ensures opened { IfOk result (λ journal. (bytes : List ℕ) → B.content disk ≡ Some bytes
+            → IsOpened kind id.now total journal.slots journal.used journal.last bytes) }
+        ensures recovers { IfOk result (λ journal. (bytes : List ℕ) → B.content disk ≡ Some bytes
+            → Recovers journal.slots bytes (first_bodies journal.used bytes)) }
+        ensures durable { IfOk result (λ journal. Only (B.content journal.disk) (B.images journal.disk)) }
+        ensures stays { IfOk result (λ journal.
+            Stays B.content B.room B.images B.moment B.images_since disk journal.disk) }
+        ensures fault { IfOk result (λ journal. journal.fault ≡ 0) }
+        ensures faults { IfOk result (λ journal. B.faults journal.disk ≡ B.faults disk) }
+        ensures cause { IfErr result (λ e. (bytes : List ℕ) → B.content disk ≡ Some bytes
+            → StartCause kind id.now total bytes e.0) }
+        ensures device { IfErr result (λ e. e.0 ≡ start.Device → Rose (B.faults disk) (B.faults e.1)) }
+        ensures later { IfErr result (λ e. B.faults disk ≤ B.faults e.1) }
+        ensures stays_refused { IfErr result (λ e.
+            Stays B.content B.room B.images B.moment B.images_since disk e.1) }
+    {
+        let mut disk = disk;
+        match open(&mut disk, kind, id, total) {
+            Ok(Opened { slots, used, last }) => Ok(Journal {
+                disk,
+                slots,
+                used,
+                last,
+                fault: 0,
+            }),
+            Err(fault) => Err((fault, disk)),
+        }
+    }
+
+    /// How many slots are in use: so many bodies there are.
+    pub fn used(&self) -> u64
+        ensures { result ≡ self.now.used }
+    {
+        self.used
+    }
+
+    /// The body in the last slot in use, or zeros where none is.
+    pub fn last(&self) -> (u64, u64)
+        ensures { result ≡ self.now.last }
+    {
+        self.last
+    }
+
+    /// How many slots there are.
+    pub fn slots(&self) -> u64
+        ensures { result ≡ self.now.slots }
+    {
+        self.slots
+    }
+
+    /// The disk's count of faults at the first call of it that failed, or 0.
+    pub fn fault(&self) -> u64
+        ensures { result ≡ self.now.fault }
+    {
+        self.fault
+    }
+
+    /// The disk as it stands.
+    pub fn into_disk(self) -> B
+        ensures { result ≡ self.disk }
+    {
+        self.disk
+    }
+
+    /// Puts a body behind the others: writes it, syncs, opens its slot, and syncs.
+    ///
+    /// # Errors
+    ///
+    /// First `Broken` where a call of the disk has failed before, then `Full` where all slots are in use; both change
+    /// nothing, and make no call of the disk. Last `Device`, where one of the four calls failed: a crash may then leave
+    /// the journal with the body or without, and all further calls are `Broken`.
+    pub fn put(&mut self, a: u64, b: u64) -> Result<(), JournalFault>
+        ensures any_moment { (bytes : List ℕ) → B.content self.old.disk ≡ Some bytes
+            → self.old.fault ≡ 0 → self.old.used < self.old.slots
+            → KeptAt self.old.slots (first_bodies self.old.used bytes) bytes
+            → LeavesOnly B.moment B.images_since self.old.disk self.new.disk
+            (IsOldOrNew self.old.slots (first_bodies self.old.used bytes) (a, b)) }
+        ensures read { (bytes : List ℕ) → B.content self.old.disk ≡ Some bytes
+            → self.old.fault ≡ 0 → self.old.used < self.old.slots
+            → KeptAt self.old.slots (first_bodies self.old.used bytes) bytes
+            → IfSome (B.content self.new.disk)
+            (IsOldOrNew self.old.slots (first_bodies self.old.used bytes) (a, b)) }
+        ensures written { OnOk result (B.content self.new.disk
+            ≡ option_map (slot_written self.old.used (a, b)) (B.content self.old.disk)) }
+        ensures durable { OnOk result (Only (B.content self.new.disk) (B.images self.new.disk)) }
+        ensures recovered { OnOk result ((bytes : List ℕ) → B.content self.old.disk ≡ Some bytes
+            → KeptAt self.old.slots (first_bodies self.old.used bytes) bytes
+            → IfSome (B.content self.new.disk)
+            (KeptAt self.old.slots (first_bodies self.old.used bytes ++ (a, b) ∷ []))) }
+        ensures used { OnOk result (self.new.used ≡ self.old.used + 1) }
+        ensures last { OnOk result (self.new.last ≡ (a, b)) }
+        ensures slots { self.new.slots ≡ self.old.slots }
+        ensures used_kept { OnErr result (self.new.used ≡ self.old.used) }
+        ensures last_kept { OnErr result (self.new.last ≡ self.old.last) }
+        ensures fault_kept { OnOk result (self.new.fault ≡ self.old.fault) }
+        ensures room { B.room self.new.disk ≡ B.room self.old.disk }
+        ensures faults { OnOk result (B.faults self.new.disk ≡ B.faults self.old.disk) }
+        ensures later { B.faults self.old.disk ≤ B.faults self.new.disk }
+        ensures cause { IfErr result (PutCause self.old.slots self.old.used self.old.fault self.new.fault
+            (B.faults self.old.disk) (B.faults self.new.disk)) }
+        ensures unserved { OnErr result (self.new.fault ≡ self.old.fault → self.new.disk ≡ self.old.disk) }
+        ensures served { OnOk result ((self.old.fault ≡ 0) × (self.old.used < self.old.slots)) }
+    {
+        if self.fault != 0 {
+            return Err(JournalFault::Broken { first: self.fault });
+        }
+        if self.used == self.slots {
+            return Err(JournalFault::Full { slots: self.slots });
+        }
+        if let Err(Failed) = store_slot(&mut self.disk, self.used, a, b) {
+            self.fault = self.disk.faults();
+            return Err(JournalFault::Device);
+        }
+        self.used += 1;
+        self.last = (a, b);
+        Ok(())
+    }
+
+    /// The body in a slot that is in use.
+    ///
+    /// # Errors
+    ///
+    /// `Broken` where a call of the disk has failed before, and then no call of it is made; `Device` where the read
+    /// failed: all further calls are then `Broken`.
+    pub fn body(&mut self, slot: u64) -> Result<(u64, u64), JournalFault>
+        requires { slot < self.old.used }
+        ensures body { IfOk result (λ body. (bytes : List ℕ) → B.content self.old.disk ≡ Some bytes
+            → body ≡ body_at bytes slot) }
+        ensures content { B.content self.new.disk ≡ B.content self.old.disk }
+        ensures crash { (c : List ℕ) → B.images self.new.disk c → B.images self.old.disk c }
+        ensures any_moment { LeavesOnly B.moment B.images_since self.old.disk self.new.disk
+            (B.images self.old.disk) }
+        ensures room { B.room self.new.disk ≡ B.room self.old.disk }
+        ensures used { self.new.used ≡ self.old.used }
+        ensures last { self.new.last ≡ self.old.last }
+        ensures slots { self.new.slots ≡ self.old.slots }
+        ensures fault_kept { OnOk result (self.new.fault ≡ self.old.fault) }
+        ensures faults { OnOk result (B.faults self.new.disk ≡ B.faults self.old.disk) }
+        ensures later { B.faults self.old.disk ≤ B.faults self.new.disk }
+        ensures cause { IfErr result (BodyCause self.old.fault self.new.fault
+            (B.faults self.old.disk) (B.faults self.new.disk)) }
+        ensures unserved { OnErr result (self.new.fault ≡ self.old.fault → self.new.disk ≡ self.old.disk) }
+        ensures served { OnOk result (self.old.fault ≡ 0) }
+    {
+        if self.fault != 0 {
+            return Err(JournalFault::Broken { first: self.fault });
+        }
+        match read_body(&mut self.disk, slot) {
+            Ok(body) => Ok(body),
+            Err(Failed) => {
+                self.fault = self.disk.faults();
+                Err(JournalFault::Device)
+            }
+        }
+    }
+}

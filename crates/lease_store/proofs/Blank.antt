@@ -1,0 +1,47 @@
+-- A new journal is tidy: none of its slots is open.
+use Rattle.std.proofs.Common.{◌≡◌, ◌+◌, ◌-◌, ◌*◌, ◌++◌, ℕ, List, ◌∷◌, length, get_or, replicate, codes, ⊎_elim, refl, sym, ◌∙◌, subst, arith}
+use Rattle.std.proofs.lemmas.Bool.{cases_lt}
+use Rattle.std.proofs.lemmas.List.{get_or-append_right, get_or-replicate, get_or_past, length-append, length-replicate}
+use Rattle.std.specs.Int.{w64, to_le_bytes}
+use Rattle.zk_model.specs.declared.JournalKind.{JournalKind}
+use Rattle.zk_model.specs.Journals.{IsTidy, blank_journal_bytes, journal_code, journal_header, slots_at}
+
+header_size : (kind : JournalKind) (id : List ℕ) (total slots : ℕ) → length id ≡ 32 → length (journal_header kind id total slots) ≡ 64
+header_size kind id total slots size =
+    let magic : length (codes "WQSJRNL1") ≡ 8 = refl in
+    let kinds : length (journal_code kind ∷ replicate 7 0) ≡ 8 = refl in
+    let totals : length (to_le_bytes w64 total) ≡ 8 = refl in
+    let numbers : length (to_le_bytes w64 slots) ≡ 8 = refl in
+    omega (
+      arith,
+      size,
+      magic,
+      kinds,
+      totals,
+      numbers,
+      length-append (codes "WQSJRNL1") ((journal_code kind ∷ replicate 7 0) ++ to_le_bytes w64 total ++ to_le_bytes w64 slots ++ id),
+      length-append (journal_code kind ∷ replicate 7 0) (to_le_bytes w64 total ++ to_le_bytes w64 slots ++ id),
+      length-append (to_le_bytes w64 total) (to_le_bytes w64 slots ++ id),
+      length-append (to_le_bytes w64 slots) id,
+    )
+
+same_at : (n i z : ℕ) → get_or (replicate n z) i z ≡ z
+same_at n i z = ⊎_elim
+    (λ inside. get_or-replicate n i z z inside)
+    (λ past. get_or_past (replicate n z) i z (omega (arith, past, length-replicate n z)))
+    (cases_lt i n)
+
+pub blank_tidy : (kind : JournalKind) (id : List ℕ) (total slots most : ℕ) → length id ≡ 32 → IsTidy most (blank_journal_bytes kind id total slots)
+blank_tidy kind id total slots most size earlier later before inside is_open =
+    let head : List ℕ = journal_header kind id total slots in
+    let long : length (journal_header kind id total slots) ≡ 64 = header_size kind id total slots size in
+    let place : ℕ = 64 + 32 * later + 31 in
+    let none : get_or (blank_journal_bytes kind id total slots) (64 + 32 * later + 31) 0 ≡ 0 =
+    get_or-append_right head (replicate (32 * slots) 0) 64 (64 + 32 * later + 31) 0 long (omega arith) ∙ same_at (32 * slots) (64 + 32 * later + 31 - 64) 0 in
+    absurd (omega (arith, none, is_open))
+
+-- where a disk tells a new journal
+pub told_tidy : (kind : JournalKind) (id : List ℕ) (total slots : ℕ) (bytes file : List ℕ) → length id ≡ 32 → file ≡ blank_journal_bytes kind id total slots
+    → bytes ≡ file → IsTidy (slots_at bytes) bytes
+told_tidy kind id total slots bytes file size blank same =
+    subst (λ b. IsTidy (slots_at b) b) (sym (same ∙ blank)) (blank_tidy kind id total slots _ size)

@@ -1,0 +1,6 @@
+pub mod Bodies
+pub mod Putting
+pub mod Starting
+pub mod Refusing
+pub mod Closing
+pub mod Blank

@@ -1,0 +1,82 @@
+-- What leases do to a pass, and what holds once a store is closed.
+use Rattle.std.specs.Prelude.{◌≡◌, ◌≢◌, ◌⊎◌, ℕ, ◌+◌, ◌<◌, ◌≤◌, List, [], ◌∷◌, ◌++◌, Option, None, Result, Ok, Err}
+use Rattle.atomic_table.specs.Seated.{TableId}
+use Rattle.zk_port.specs.Counts.{Rose}
+use Rattle.zk_model.specs.Journals.{ceiling_slots}
+use Rattle.zk_model.specs.declared.Span.{Span}
+use Rattle.lease_words.specs.Views.{entry, after_draw, after_look}
+use Rattle.lease_words.specs.Calls.{seen, entries_of, number_of, known_of, mark_of, Drew, AreGathered}
+use Rattle.lease_words.specs.declared.pass.Pass.{Pass}
+use Rattle.lease_store.specs.Ceilings.{FindsAtLeast, Tells}
+use Rattle.lease_store.specs.declared.LeaseFault.{LeaseFault}
+use Rattle.lease_store.specs.declared.LeaseFault.TheVariants as lease
+use Rattle.lease_store.specs.declared.fault.TryFault.{TryFault}
+use Rattle.lease_store.specs.declared.fault.TryFault.TheVariants as attempt
+
+-- a pass of this table of words, which has so many units
+abbrev pub IsPassAt : TableId → ℕ → Pass → Type 0
+IsPassAt table total p = (p.seat.table_id ≡ table) × (p.total ≡ total)
+
+-- what a pass doesn't lose: its place at the table, its number, the greatest ceiling that it knows, and a mark that it knows
+pub record Goes (p q : Pass) : Type 0 where
+  pub table : q.seat.table_id ≡ p.seat.table_id
+  pub seat : q.seat.id ≡ p.seat.id
+  pub total : q.total ≡ p.total
+  pub number : number_of q ≡ number_of p
+  pub known : known_of p ≤ known_of q
+  pub mark : (mark_of p ≡ 0) ⊎ (mark_of q ≡ mark_of p)
+
+-- a pass that drew nothing in between
+pub record Watched (p q : Pass) : Type 0 where
+  pub goes : Goes p q
+  pub kept : q.kept ≡ p.kept
+  pub entries : entries_of q ≡ entries_of p
+
+-- the newest entry is of so many units from start on, up to the total at most, and no refusal is kept
+pub record HasDrawn (p : Pass) (start count : ℕ) (q : Pass) : Type 0 where
+  pub was_free : p.kept ≡ None
+  pub is_free : q.kept ≡ None
+  pub entry_is : entries_of q ≡ entries_of p ++ entry (number_of p) start count ∷ []
+  pub within : start + count ≤ p.total
+
+-- the units from start on are burnt: the journal failed, the ceiling that was seen is below their end, and the pass knows the mark
+pub record IsBurnt (p : Pass) (start count : ℕ) (q : Pass) : Type 0 where
+  pub drawn : HasDrawn p start count q
+  pub above : known_of q < start + count
+  pub marked : mark_of q ≢ 0
+
+-- What a lease does: a span that ends where the pass knows that it may, or no units within the total, as a draw says; or a span
+-- that is burnt
+abbrev pub Leased : Pass → ℕ → Result Span LeaseFault → Pass → Type 0
+Leased p count (Ok s) q = HasDrawn p s.start count q × (s.end ≡ s.start + count) × (s.end ≤ known_of q)
+Leased p count (Err (lease.Exhausted at n total)) q = Drew p count (Err (record { at = at; count = n; total = total })) q
+Leased p count (Err lease.Device) q = (start : ℕ) × IsBurnt p start count q
+Leased p count (Err (lease.Broken first)) q = (mark_of q ≡ first) × (start : ℕ) × IsBurnt p start count q
+
+-- it is refused because the journal failed
+abbrev pub IsJournals : Result Span LeaseFault → Type 0
+IsJournals (Ok s) = ⊥
+IsJournals (Err (lease.Exhausted at n total)) = ⊥
+IsJournals (Err lease.Device) = Unit {0}
+IsJournals (Err (lease.Broken first)) = Unit {0}
+
+-- what a try does, by one draw and one look: a span where its end is at most the ceiling seen, or no units within the total; or
+-- a span that needs room, above that ceiling
+abbrev pub Tried : Pass → ℕ → Result Span TryFault → Pass → Type 0
+Tried p count (Ok s) q =
+    HasDrawn p s.start count q × (s.end ≡ s.start + count) × (s.end ≤ known_of q)
+    × (seen q ≡ after_look (after_draw (seen p) s.start count) (known_of q))
+Tried p count (Err (attempt.Exhausted at n total)) q = Drew p count (Err (record { at = at; count = n; total = total })) q
+Tried p count (Err (attempt.NeedsRoom end known)) q =
+    (start : ℕ) × HasDrawn p start count q × (end ≡ start + count) × (known < end)
+    × (seen q ≡ after_look (after_draw (seen p) start count) known)
+
+-- What holds of all passes of a store and of its disk: what was drawn tiles, no pass knows a ceiling above this one, and none a
+-- mark but 0 and this one; every image recovers the ceiling or a higher one; where there is a mark, the disk's count of faults
+-- rose since the start
+pub record IsClosed {D : Type 0} (content : D → Option (List ℕ)) (images : D → List ℕ → Type 0) (faults : D → ℕ) (start base total : ℕ) (disk : D) (passes : List Pass) : Type 0 where
+  pub ceiling : ℕ
+  pub mark : ℕ
+  pub gathered : AreGathered base ceiling mark passes
+  pub durable : Tells content → (image : List ℕ) → images disk image → FindsAtLeast (ceiling_slots total) ceiling image
+  pub rose : mark ≢ 0 → Rose start (faults disk)

@@ -1,0 +1,123 @@
+// The calls that threads make.
+ghost use Rattle.std.specs.Prelude.{◌≡◌, ◌≢◌, ◌⊎◌, ◌<◌, ◌≤◌};
+ghost use Rattle.lease_words.specs.Calls.{known_of, mark_of, seen, words_id};
+ghost use Rattle.lease_store.specs.Ceilings.{NeverFails};
+ghost use Rattle.lease_store.specs.Leases.{Goes, IsJournals, IsPassAt, Leased, Tried, Watched};
+ghost use Rattle.lease_store.specs.declared.LeaseFault.TheVariants as lease;
+
+use crate::LeaseFault;
+use crate::desk::Desk;
+use crate::fault::TryFault;
+use crate::name::LeaseName;
+use crate::store::LeaseStore;
+use lease_journal::JournalFault;
+use lease_words::{Exhausted, Pass, Span};
+use std::sync::Wait;
+use zk_port::Disk;
+
+impl<B: Disk, N: LeaseName> LeaseStore<B, N> {
+    /// Leases the next `count` units, 1 to 4,096. It draws, looks at the ceiling, and where this is too low has it raised,
+    /// which waits for the lock and for the journal. Units that were drawn and are not leased are burnt.
+    ///
+    /// # Errors
+    ///
+    /// `Exhausted` where the units end above the total, or where the pass was refused so before. `Device` and `Broken`
+    /// where the journal failed, now or before.
+    pub fn lease<R: Wait>(&self, rt: &R, pass: &mut Pass, count: u32) -> Result<Span, LeaseFault>
+        requires own { IsPassAt N.table N.total pass.old }
+        requires count { (1 ≤ count) × (count ≤ 4096) }
+        ensures own { IsPassAt N.table N.total pass.new }
+        ensures goes { Goes pass.old pass.new }
+        ensures leased { Leased pass.old count result pass.new }
+        ensures never { NeverFails B.faults → IsJournals result → ⊥ }
+    {
+        let span = match self.words.draw(pass, count) {
+            Ok(span) => span,
+            Err(Exhausted { at, count, total }) => {
+                return Err(LeaseFault::Exhausted { at, count, total });
+            }
+        };
+        if self.words.look(pass) >= span.end {
+            return Ok(span);
+        }
+        let covered = self.desk.lock(rt).cover(&self.words, span.end);
+        match covered {
+            Ok(()) => {
+                self.await_ceiling(rt, pass, span.end);
+                Ok(span)
+            }
+            Err(fault) => Err(refusal(fault, self.await_mark(rt, pass))),
+        }
+    }
+
+    /// Looks until the ceiling reaches this end.
+    fn await_ceiling<R: Wait>(&self, rt: &R, pass: &mut Pass, end: u64)
+        requires { IsPassAt N.table N.total pass.old }
+        ensures watched { Watched pass.old pass.new }
+        ensures reached { end ≤ known_of pass.new }
+    {
+        for _ in rt.forever() {
+            if self.words.look(pass) >= end {
+                return;
+            }
+        }
+        unreachable!()
+    }
+
+    /// Looks until there is a mark.
+    fn await_mark<R: Wait>(&self, rt: &R, pass: &mut Pass) -> u64
+        requires { IsPassAt N.table N.total pass.old }
+        ensures watched { Watched pass.old pass.new }
+        ensures known { known_of pass.new ≡ known_of pass.old }
+        ensures mark { mark_of pass.new ≡ result }
+        ensures some { result ≢ 0 }
+    {
+        for _ in rt.forever() {
+            let mark = self.words.marked(pass);
+            if mark != 0 {
+                return mark;
+            }
+        }
+        unreachable!()
+    }
+
+    /// Leases the next `count` units, 1 to 4,096, where the ceiling that is shown reaches their end. Units that were drawn
+    /// and are not leased are burnt.
+    ///
+    /// # Errors
+    ///
+    /// `Exhausted` where the units end above the total, or where the pass was refused so before. `NeedsRoom` exactly where
+    /// they end above the ceiling seen.
+    pub fn try_lease(&self, pass: &mut Pass, count: u32) -> Result<Span, TryFault>
+        requires own { IsPassAt N.table N.total pass.old }
+        requires count { (1 ≤ count) × (count ≤ 4096) }
+        ensures own { IsPassAt N.table N.total pass.new }
+        ensures goes { Goes pass.old pass.new }
+        ensures tried { Tried pass.old count result pass.new }
+    {
+        let span = match self.words.draw(pass, count) {
+            Ok(span) => span,
+            Err(Exhausted { at, count, total }) => {
+                return Err(TryFault::Exhausted { at, count, total });
+            }
+        };
+        let known = self.words.look(pass);
+        if known < span.end {
+            return Err(TryFault::NeedsRoom {
+                end: span.end,
+                known,
+            });
+        }
+        Ok(span)
+    }
+}
+
+/// Why units are not leased where the journal refuses and this is its mark.
+fn refusal(fault: JournalFault, first: u64) -> LeaseFault
+    ensures { (result ≡ lease.Device) ⊎ (result ≡ lease.Broken first) }
+{
+    match fault {
+        JournalFault::Broken { .. } => LeaseFault::Broken { first },
+        _ => LeaseFault::Device,
+    }
+}

@@ -1,0 +1,32 @@
+//! Leases of units: threads draw spans of units, and are granted those that end at or below a ceiling that a journal keeps.
+//!
+//! Threads draw by the lease words, and behind a lock stand the journal and the seat that raises the ceiling. A span is
+//! granted once its pass has seen a ceiling at or above its end, and the ceiling is shown only after the journal's put of
+//! it: so a crash at any moment leaves a journal whose ceiling is at or above the end of every span that was granted, and
+//! the next start begins there.
+#![tactic(auto)]
+
+mod desk;
+mod fault;
+mod leasing;
+mod name;
+mod parts;
+mod store;
+
+pub use desk::Desk;
+pub use fault::{StoreFault, TryFault};
+pub use lease_core::Span;
+pub use name::LeaseName;
+pub use parts::LeaseParts;
+pub use store::LeaseStore;
+
+/// Why units are not leased.
+#[derive(Clone, Copy, Debug, PartialEq, Eq)]
+pub enum LeaseFault {
+    /// So many units from here on would end above the total.
+    Exhausted { at: u64, count: u32, total: u64 },
+    /// A call of the journal's disk failed.
+    Device,
+    /// A call of the journal's disk failed before: then its count of faults was this.
+    Broken { first: u64 },
+}

@@ -1,0 +1,4 @@
+mod Cuts
+mod Terms
+mod Outputs
+mod Examples

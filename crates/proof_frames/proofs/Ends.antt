@@ -1,0 +1,112 @@
+-- Bytes after which no frame of a place can follow.
+use Rattle.std.proofs.Common.{◌≡◌, ℕ, ◌<◌, ◌≤◌, ◌≢◌, ◌⊎◌, inl, inr, List, [], ◌∷◌, ◌++◌, flat_map, length, drop, get_or, refl, sym, ◌∙◌, ap, arith, length-append, append_assoc, subst}
+use Rattle.std.specs.Int.{w64, from_le_bytes}
+use Rattle.std.specs.List.{AllByRecursion}
+use Rattle.std.proofs.lemmas.Nat.{from_le_bytes-to_le_bytes_8}
+use Rattle.std.proofs.lemmas.List.{get_or_append_left, get_or_at, drop_at}
+use Rattle.std.proofs.lemmas.List.Elements.{recursion_from_All}
+use Rattle.zk_laws.proofs.Codes.{same_front}
+use Rattle.zk_model.specs.Field.{IsElement}
+use Rattle.zk_model.specs.Bytes.{element_bytes}
+use Rattle.zk_model.specs.Frames.{CanGoOn, frame_spelling}
+use Rattle.zk_model.specs.declared.Expect.{Expect}
+use Rattle.proof_frames.specs.declared.shape.Payload.{Payload}
+use Rattle.proof_frames.specs.declared.shape.Payload.TheVariants as payload
+use Rattle.proof_frames.specs.declared.shape.Shape.{Shape}
+use Rattle.proof_frames.specs.Shapes.{shape_of, header, spelled}
+use Rattle.proof_frames.proofs.Words.{FitsPayload, IsWord, IsWordAt, allowed_word}
+
+-- a word of a shape that begins with the bytes
+pub record Continues (shape : Shape) (bytes : List ℕ) : Type 0 where
+  pub payload : List ℕ
+  pub fits : FitsPayload shape.payload payload
+  pub rest : List ℕ
+  pub spelled : header shape ++ payload ≡ bytes ++ rest
+
+-- bytes that can go on do so as a word of the shape that their first byte tells
+pub continues : (place : Expect) (bytes : List ℕ) → 0 < length bytes → CanGoOn place bytes → Continues (shape_of place (get_or bytes 0 0)) bytes
+continues place bytes some can =
+    let word = frame_spelling can.frame in
+    let is : IsWordAt place word = allowed_word place can.frame can.allowed in
+    let first : get_or word 0 0 ≡ get_or bytes 0 0 = ap (λ l. get_or l 0 0) can.begun.1 ∙ get_or_append_left bytes can.begun.0 0 0 some in
+    let told : IsWord (shape_of place (get_or bytes 0 0)) word = subst (λ (n : ℕ). IsWord (shape_of place n) word) first is in
+    record { payload = told.payload; fits = told.fits; rest = can.begun.0; spelled = sym told.spelled ∙ can.begun.1 }
+
+-- a payload of the shape that the first byte tells
+fits_told : (place : Expect) (first n : ℕ) (bytes : List ℕ) (p : Payload) → n ≡ first → (shape_of place first).payload ≡ p
+    → FitsPayload (shape_of place n).payload bytes → FitsPayload p bytes
+fits_told place first n bytes p same told fits = subst (λ (q : Payload). FitsPayload q bytes) (ap (λ k. (shape_of place k).payload) same ∙ told) fits
+
+-- a byte that is not that of the header
+pub header_ends : (place : Expect) (start : List ℕ) (byte : ℕ) → length start < 5
+    → get_or (header (shape_of place (get_or (start ++ byte ∷ []) 0 0))) (length start) 0 ≢ byte → ¬ CanGoOn place (start ++ byte ∷ [])
+header_ends place start byte short other = λ can.
+    let on = continues place (start ++ byte ∷ []) (omega (arith, length-append start (byte ∷ []))) can in
+    let head = header (shape_of place (get_or (start ++ byte ∷ []) 0 0)) in
+    let here : get_or ((start ++ byte ∷ []) ++ on.rest) (length start) 0 ≡ byte =
+    ap (λ l. get_or l (length start) 0) (append_assoc start (byte ∷ []) on.rest) ∙ get_or_at start byte on.rest 0 (length start) refl in
+    let there : get_or (head ++ on.payload) (length start) 0 ≡ get_or head (length start) 0 = get_or_append_left head on.payload 0 (length start) short in
+    other (sym there ∙ ap (λ l. get_or l (length start) 0) on.spelled ∙ here)
+
+-- a first byte that is out of its range
+pub plain_ends : (place : Expect) (start : List ℕ) (byte count least most : ℕ) → length start ≡ 5
+    → (shape_of place (get_or start 0 0)).payload ≡ payload.Bytes count least most → (byte < least) ⊎ (most < byte)
+    → ¬ CanGoOn place (start ++ byte ∷ [])
+plain_ends place start byte count least most headed shape out = λ can.
+    let on = continues place (start ++ byte ∷ []) (omega (arith, length-append start (byte ∷ []))) can in
+    let first : get_or (start ++ byte ∷ []) 0 0 ≡ get_or start 0 0 = get_or_append_left start (byte ∷ []) 0 0 (omega arith) in
+    let fits : FitsPayload (payload.Bytes count least most) on.payload =
+    fits_told place (get_or start 0 0) (get_or (start ++ byte ∷ []) 0 0) on.payload (payload.Bytes count least most) first shape on.fits in
+    let head = header (shape_of place (get_or (start ++ byte ∷ []) 0 0)) in
+    let here : get_or ((start ++ byte ∷ []) ++ on.rest) 5 0 ≡ byte =
+    ap (λ l. get_or l 5 0) (append_assoc start (byte ∷ []) on.rest) ∙ get_or_at start byte on.rest 0 5 headed in
+    let there : get_or on.payload 0 0 ≡ byte = ap (λ l. get_or l 5 0) on.spelled ∙ here in
+    let low = fits.low in
+    let high = fits.high in
+    refuted low high there out
+  where
+    refuted : {value : ℕ} → least ≤ value → value ≤ most → value ≡ byte → (byte < least) ⊎ (most < byte) → ⊥
+    refuted low high is (inl below) = omega arith
+    refuted low high is (inr above) = omega arith
+
+-- where elements that are read go on as others, what is behind them begins with one of those
+pub next_element : (read elements rest : List ℕ) → length read < length elements → AllByRecursion IsElement elements
+    → flat_map element_bytes read ++ rest ≡ flat_map element_bytes elements
+    → (element : ℕ) × (more : List ℕ) × IsElement element × (rest ≡ element_bytes element ++ more)
+next_element read [] rest less all same = absurd (omega arith)
+next_element [] (element ∷ elements) rest less all same = (element, flat_map element_bytes elements, all.0, same)
+next_element (first ∷ read) (element ∷ elements) rest less all same =
+    next_element read elements rest (omega arith) all.1 (ap (drop 8) same)
+
+-- the bytes of an element say one
+says_element : (eight : List ℕ) (element : ℕ) → IsElement element → eight ≡ element_bytes element → IsElement (from_le_bytes w64 eight)
+says_element eight element is same =
+    subst IsElement (sym (ap (from_le_bytes w64) same ∙ from_le_bytes-to_le_bytes_8 element (omega (arith, is)))) is
+
+-- so 8 bytes behind them say an element
+whole_element : (read elements eight rest : List ℕ) → length read < length elements → AllByRecursion IsElement elements
+    → flat_map element_bytes read ++ (eight ++ rest) ≡ flat_map element_bytes elements → length eight ≡ 8 → IsElement (from_le_bytes w64 eight)
+whole_element read elements eight rest less all same sized =
+    let next = next_element read elements (eight ++ rest) less all same in
+    says_element eight next.0 next.2 (same_front eight (element_bytes next.0) rest next.1 sized next.3).0
+
+-- the last byte of an element that is the prime or more
+pub element_ends : (place : Expect) (start elements part : List ℕ) (byte count : ℕ) → length start ≡ 5
+    → (shape_of place (get_or start 0 0)).payload ≡ payload.Elements count → length elements < count → length part ≡ 7
+    → ¬ IsElement (from_le_bytes w64 (part ++ byte ∷ [])) → ¬ CanGoOn place (spelled start elements part ++ byte ∷ [])
+element_ends place start elements part byte count headed shape less seven large = λ can.
+    let bytes : List ℕ = flat_map element_bytes elements in
+    let front : spelled start elements part ++ byte ∷ [] ≡ start ++ (bytes ++ (part ++ byte ∷ [])) =
+    append_assoc (start ++ bytes) part (byte ∷ []) ∙ append_assoc start bytes (part ++ byte ∷ []) in
+    let can : CanGoOn place (start ++ (bytes ++ (part ++ byte ∷ []))) = subst (CanGoOn place) front can in
+    let on = continues place (start ++ (bytes ++ (part ++ byte ∷ []))) (omega (arith, length-append start (bytes ++ (part ++ byte ∷ [])))) can in
+    let first : get_or (start ++ (bytes ++ (part ++ byte ∷ []))) 0 0 ≡ get_or start 0 0 = get_or_append_left start (bytes ++ (part ++ byte ∷ [])) 0 0 (omega arith) in
+    let fits : FitsPayload (payload.Elements count) on.payload =
+    fits_told place (get_or start 0 0) (get_or (start ++ (bytes ++ (part ++ byte ∷ []))) 0 0) on.payload (payload.Elements count) first shape on.fits in
+    let behind : on.payload ≡ bytes ++ ((part ++ byte ∷ []) ++ on.rest) =
+    ap (drop 5) on.spelled ∙ ap (drop 5) (append_assoc start (bytes ++ (part ++ byte ∷ [])) on.rest)
+    ∙ drop_at start ((bytes ++ (part ++ byte ∷ [])) ++ on.rest) 5 headed
+    ∙ append_assoc bytes (part ++ byte ∷ []) on.rest in
+    let counted = fits.are.counted in
+    large (whole_element elements fits.elements (part ++ byte ∷ []) on.rest (omega arith) (recursion_from_All IsElement fits.elements fits.are.ranged)
+    (sym behind ∙ fits.spelled) (omega (arith, length-append part (byte ∷ []))))

@@ -1,0 +1,69 @@
+-- Bytes, and the numbers that they say.
+use Rattle.std.proofs.Common.{◌≡◌, ℕ, zero, suc, ◌-◌, ◌/◌, ◌%◌, ◌^◌, ◌<◌, ◌≤◌, ◌⊎◌, inl, inr, List, ◌++◌, length, get_or, refl, ◌∙◌, arith, length-append, replicate}
+use Rattle.std.specs.Prelude.{All}
+use Rattle.std.specs.Int.{w32, w64, from_le_bytes, to_le_bytes}
+use Rattle.std.proofs.lemmas.Bool.{cases_lt}
+use Rattle.std.proofs.lemmas.Nat.{le_bytes_4, le_bytes_8}
+use Rattle.std.proofs.lemmas.List.{length-replicate, get_or_past, get_or-append_right}
+use Rattle.std.proofs.lemmas.List.Elements.{All-get_or, All-from_recursion, All-append, All-replicate}
+use Rattle.zk_model.specs.Field.{IsElement}
+use Rattle.zk_model.specs.Bytes.{element_bytes}
+
+-- a byte
+abbrev pub IsByte : ℕ → Type 0
+IsByte byte = byte < 256
+
+-- what is read at any place of a list of bytes is a byte
+pub byte_at : (bytes : List ℕ) → All IsByte bytes → (i : ℕ) → get_or bytes i 0 < 256
+byte_at bytes all i = by_case (cases_lt i (length bytes))
+  where
+    by_case : (i < length bytes) ⊎ (length bytes ≤ i) → get_or bytes i 0 < 256
+    by_case (inl within) = All-get_or IsByte bytes i 0 within all
+    by_case (inr past) = let none : get_or bytes i 0 ≡ 0 = get_or_past bytes i 0 past in omega (arith, none)
+
+-- the number of 8 bytes
+pub below_64 : (bytes : List ℕ) → All IsByte bytes → from_le_bytes w64 bytes < 2 ^ 64
+below_64 bytes all =
+    let at = byte_at bytes all in
+    omega (arith, at 0, at 1, at 2, at 3, at 4, at 5, at 6, at 7)
+
+-- the number of 4 bytes
+pub below_32 : (bytes : List ℕ) → All IsByte bytes → from_le_bytes w32 bytes < 2 ^ 32
+below_32 bytes all =
+    let at = byte_at bytes all in
+    omega (arith, at 0, at 1, at 2, at 3)
+
+-- 8 bytes are those of their number
+pub back_64 : (bytes : List ℕ) → length bytes ≡ 8 → All IsByte bytes → to_le_bytes w64 (from_le_bytes w64 bytes) ≡ bytes
+back_64 bytes sized all = le_bytes_8 bytes (from_le_bytes w64 bytes) sized (byte_at bytes all) refl
+
+-- 4 bytes are those of their number
+pub back_32 : (bytes : List ℕ) → length bytes ≡ 4 → All IsByte bytes → to_le_bytes w32 (from_le_bytes w32 bytes) ≡ bytes
+back_32 bytes sized all = le_bytes_4 bytes (from_le_bytes w32 bytes) sized (byte_at bytes all) refl
+
+-- the four bytes of a number
+pub half_octets : (n : ℕ) → All IsByte (to_le_bytes w32 n)
+half_octets n = All-from_recursion IsByte (to_le_bytes w32 n) (below n, (below (n / 256), (below (n / 65536), (below (n / 16777216), tt))))
+  where
+    below : (n : ℕ) → n % 256 < 256
+    below n = omega arith
+
+-- part of an element, which zeros make whole
+abbrev pub padded : List ℕ → List ℕ
+padded part = part ++ replicate (8 - length part) 0
+
+-- at most 7 bytes begin the bytes of an element
+pub part_of_element : (part : List ℕ) → length part < 8 → All IsByte part
+    → (element : ℕ) × IsElement element × (element_bytes element ≡ padded part)
+part_of_element part less all =
+    let zeros : List ℕ = replicate (8 - length part) 0 in
+    let all_padded : All IsByte (padded part) = All-append IsByte part zeros all (All-replicate IsByte (8 - length part) 0 (omega arith)) in
+    let sized : length (padded part) ≡ 8 = omega (arith, length-append part zeros, length-replicate {A = ℕ} (8 - length part) 0) in
+    let at = byte_at (padded part) all_padded in
+    let last : get_or (padded part) 7 0 ≡ 0 = get_or-append_right part zeros (length part) 7 0 refl (omega arith) ∙ zero_at (8 - length part) (7 - length part) in
+    (from_le_bytes w64 (padded part), omega (arith, at 0, at 1, at 2, at 3, at 4, at 5, at 6, last), back_64 (padded part) sized all_padded)
+  where
+    zero_at : (n i : ℕ) → get_or {A = ℕ} (replicate n 0) i 0 ≡ 0
+    zero_at zero i = refl
+    zero_at (suc n) zero = refl
+    zero_at (suc n) (suc i) = zero_at n i

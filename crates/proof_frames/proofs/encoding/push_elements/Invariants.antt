@@ -1,0 +1,10 @@
+use Rattle.std.proofs.Common.{◌≡◌, ◌++◌, take, flat_map}
+use Rattle.std.specs.Prelude.{All}
+use Rattle.zk_model.specs.Bytes.{element_bytes}
+use Rattle.zk_model.specs.Field.{IsElement}
+use Rattle.proof_frames.proofs.encoding.push_elements.Given as goal
+
+abbrev pub invariant-loop-element : goal.invariant-loop-element
+invariant-loop-element l =
+    (l.bytes.items ≡ l.fn.bytes.items ++ flat_map element_bytes (take l.element-index l.elements))
+    × All IsElement (take l.element-index l.elements)

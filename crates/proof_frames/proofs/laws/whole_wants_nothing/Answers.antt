@@ -1,0 +1,8 @@
+use Rattle.proof_frames.proofs.Decoding as law
+use Rattle.proof_frames.proofs.laws.whole_wants_nothing.Goals as goal
+
+pub returns-clause-whole : goal.returns-clause-whole
+returns-clause-whole c = law.whole_wants_nothing
+
+pub returns-clause-nothing_wanted : goal.returns-clause-nothing_wanted
+returns-clause-nothing_wanted c = law.nothing_wanted_is_whole

@@ -1,0 +1,65 @@
+-- How a decoder holds the bytes of the frame that is under way.
+use Rattle.std.specs.Prelude.{◌≡◌, ℕ, ◌+◌, ◌*◌, ◌<◌, ◌≤◌, if◌then◌else◌, nat_eq, List, [], ◌∷◌, ◌++◌, flat_map, length, take, get_or, All}
+use Rattle.std.specs.Int.{w32, to_le_bytes}
+use Rattle.zk_model.specs.Field.{IsElement}
+use Rattle.zk_model.specs.Bytes.{element_bytes}
+use Rattle.zk_model.specs.Transcript.{kind_number}
+use Rattle.zk_model.specs.declared.Expect.{Expect}
+use Rattle.zk_model.specs.declared.Expect.TheVariants as expect
+use Rattle.zk_model.specs.declared.FrameKind.TheVariants as kind
+use Rattle.proof_frames.specs.declared.shape.Payload.{Payload}
+use Rattle.proof_frames.specs.declared.shape.Payload.TheVariants as payload
+use Rattle.proof_frames.specs.declared.shape.Shape.{Shape}
+
+-- how many bytes a payload has
+abbrev pub payload_length : Payload → ℕ
+payload_length (payload.Bytes count least most) = count
+payload_length (payload.Elements count) = 8 * count
+
+-- the shape of the frame at a place, of which the first byte is known
+abbrev pub shape_of : Expect → ℕ → Shape
+shape_of expect.Hello first = record { kind = kind.Hello; payload = payload.Bytes 97 0 255 }
+shape_of expect.Grant first =
+    if nat_eq first 10
+    then record { kind = kind.Refuse; payload = payload.Bytes 1 1 4 }
+    else record { kind = kind.Grant; payload = payload.Bytes 16 0 255 }
+shape_of (expect.Corrections count) first = record { kind = kind.Corrections; payload = payload.Elements count }
+shape_of expect.Challenge first = record { kind = kind.Challenge; payload = payload.Elements 1 }
+shape_of (expect.Sums sections) first = record { kind = kind.Sums; payload = payload.Elements (2 * sections) }
+shape_of (expect.Openings count) first = record { kind = kind.Openings; payload = payload.Elements count }
+shape_of expect.Verdict first = record { kind = kind.Verdict; payload = payload.Bytes 5 0 2 }
+
+-- the bytes of a kind and of a length
+abbrev pub header : Shape → List ℕ
+header shape = kind_number shape.kind ∷ to_le_bytes w32 (payload_length shape.payload)
+
+-- the bytes that are held: as they came, as elements, and as part of an element
+abbrev pub spelled : List ℕ → List ℕ → List ℕ → List ℕ
+spelled start elements part = start ++ flat_map element_bytes elements ++ part
+
+-- so many bytes behind the header, or fewer, of which the first is within its range
+pub record HoldsBytes (count least most : ℕ) (start elements part : List ℕ) : Type 0 where
+  pub within : length start ≤ 5 + count
+  pub no_elements : elements ≡ []
+  pub no_part : part ≡ []
+  pub ranged : 5 < length start → (least ≤ get_or start 5 0) × (get_or start 5 0 ≤ most)
+
+-- so many elements behind the header, or fewer, and part of the next
+pub record HoldsElements (count : ℕ) (start elements part : List ℕ) : Type 0 where
+  pub header : length start ≤ 5
+  pub first : length start < 5 → (elements ≡ []) × (part ≡ [])
+  pub ranged : All IsElement elements
+  pub partial : length part < 8
+  pub within : 8 * length elements + length part ≤ 8 * count
+
+-- what is held of a payload, behind the header
+abbrev pub HoldsPayload : Payload → List ℕ → List ℕ → List ℕ → Type 0
+HoldsPayload (payload.Bytes count least most) start elements part = HoldsBytes count least most start elements part
+HoldsPayload (payload.Elements count) start elements part = HoldsElements count start elements part
+
+-- what is held begins a frame of its shape
+pub record IsHeld (place : Expect) (start elements part : List ℕ) : Type 0 where
+  pub begun : take 5 start ≡ take (length start) (header (shape_of place (get_or start 0 0)))
+  pub bytes : All (λ byte. byte < 256) start
+  pub part_bytes : All (λ byte. byte < 256) part
+  pub payload : HoldsPayload (shape_of place (get_or start 0 0)).payload start elements part

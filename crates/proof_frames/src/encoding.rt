@@ -1,0 +1,159 @@
+// Frames as bytes.
+ghost use Rattle.std.specs.Prelude.{◌≡◌, ◌*◌, ◌^◌, ◌≤◌, ◌++◌, ◌∷◌, length, flat_map, All, IfOk, OnOk};
+ghost use Rattle.std.specs.Int.{w32, to_le_bytes};
+ghost use Rattle.zk_model.specs.Bytes.{element_bytes};
+ghost use Rattle.zk_model.specs.Field.{IsElement};
+ghost use Rattle.zk_model.specs.Frames.{frame_spelling};
+ghost use Rattle.zk_model.specs.Transcript.{kind_number, frame_bytes, hello_frame, grant_frame, sums_frame, verdict_frame, refuse_frame};
+ghost use Rattle.proof_frames.specs.Frames.{said, sums_payload, IsShort, IsRanged};
+
+use crate::frame::{Frame, Grant, Hello, number_of};
+use mersenne_field::Fe;
+use std::alloc::{AllocError, Global};
+use zk_model::FrameKind;
+
+/// A frame of this kind whose payload will have so many bytes, without the payload.
+fn begin(alloc: Global, kind: FrameKind, length: usize) -> Result<Vec<u8>, AllocError>
+    requires { length ≤ 2 ^ 24 }
+    ensures { IfOk result (λ bytes. bytes.items ≡ kind_number kind ∷ to_le_bytes w32 length) }
+{
+    let mut bytes = Vec::with_capacity(alloc, length + 5)?;
+    bytes.push(number_of(kind))?;
+    bytes.extend_from_slice(&(length as u32).to_le_bytes())?;
+    Ok(bytes)
+}
+
+/// Appends elements, 8 bytes each.
+fn push_elements(bytes: &mut Vec<u8>, elements: &[Fe]) -> Result<(), AllocError>
+    ensures bytes { OnOk result (bytes.new.items ≡ bytes.old.items ++ flat_map element_bytes elements.now) }
+    ensures range { OnOk result (All IsElement elements.now) }
+{
+    for element in elements {
+        bytes.extend_from_slice(&element.to_le())?;
+    }
+    Ok(())
+}
+
+/// Appends pairs of elements, 16 bytes each.
+fn push_sums(bytes: &mut Vec<u8>, sums: &[(Fe, Fe)]) -> Result<(), AllocError>
+    ensures bytes { OnOk result (bytes.new.items ≡ bytes.old.items ++ sums_payload sums.now) }
+    ensures range { OnOk result (All (λ both. IsElement both.0 × IsElement both.1) sums.now) }
+{
+    for (constant, linear) in sums {
+        bytes.extend_from_slice(&constant.to_le())?;
+        bytes.extend_from_slice(&linear.to_le())?;
+    }
+    Ok(())
+}
+
+/// The prover's greeting, as it is sent: a payload of 97 bytes.
+///
+/// # Errors
+///
+/// Only where memory runs out.
+pub fn encode_hello(alloc: Global, hello: &Hello) -> Result<Vec<u8>, AllocError>
+    ensures { IfOk result (λ bytes. bytes.items ≡ hello_frame hello.now) }
+{
+    let mut bytes = begin(alloc, FrameKind::Hello, 97)?;
+    bytes.extend_from_slice(&hello.id)?;
+    bytes.extend_from_slice(&hello.circuit)?;
+    bytes.extend_from_slice(&hello.outputs)?;
+    bytes.push(hello.version)?;
+    Ok(bytes)
+}
+
+/// A grant, as it is sent: a payload of 16 bytes.
+///
+/// # Errors
+///
+/// Only where memory runs out.
+pub fn encode_grant(alloc: Global, grant: &Grant) -> Result<Vec<u8>, AllocError>
+    ensures { IfOk result (λ bytes. bytes.items ≡ grant_frame grant.now) }
+{
+    let mut bytes = begin(alloc, FrameKind::Grant, 16)?;
+    bytes.extend_from_slice(&grant.start.to_le_bytes())?;
+    bytes.extend_from_slice(&grant.count.to_le_bytes())?;
+    bytes.extend_from_slice(&grant.section.to_le_bytes())?;
+    Ok(bytes)
+}
+
+/// A frame of elements, as it is sent: corrections, a challenge or openings, 8 bytes for each element.
+///
+/// # Errors
+///
+/// Only where memory runs out.
+pub fn encode_elements(
+    alloc: Global,
+    kind: FrameKind,
+    elements: &[Fe],
+) -> Result<Vec<u8>, AllocError>
+    requires { 8 * length elements.now ≤ 2 ^ 24 }
+    ensures bytes { IfOk result (λ bytes. bytes.items
+        ≡ frame_bytes kind (flat_map element_bytes elements.now)) }
+    ensures range { OnOk result (All IsElement elements.now) }
+{
+    let mut bytes = begin(alloc, kind, 8 * elements.len())?;
+    push_elements(&mut bytes, elements)?;
+    Ok(bytes)
+}
+
+/// The sums of all sections, as they are sent: U and V, 16 bytes for each section.
+///
+/// # Errors
+///
+/// Only where memory runs out.
+pub fn encode_sums(alloc: Global, sums: &[(Fe, Fe)]) -> Result<Vec<u8>, AllocError>
+    requires { 16 * length sums.now ≤ 2 ^ 24 }
+    ensures bytes { IfOk result (λ bytes. bytes.items ≡ sums_frame sums.now) }
+    ensures range { OnOk result (All (λ both. IsElement both.0 × IsElement both.1) sums.now) }
+{
+    let mut bytes = begin(alloc, FrameKind::Sums, 16 * sums.len())?;
+    push_sums(&mut bytes, sums)?;
+    Ok(bytes)
+}
+
+/// A verdict, as it is sent: a payload of 5 bytes.
+///
+/// # Errors
+///
+/// Only where memory runs out.
+pub fn encode_verdict(alloc: Global, code: u8, number: u32) -> Result<Vec<u8>, AllocError>
+    ensures { IfOk result (λ bytes. bytes.items ≡ verdict_frame code number) }
+{
+    let mut bytes = begin(alloc, FrameKind::Verdict, 5)?;
+    bytes.push(code)?;
+    bytes.extend_from_slice(&number.to_le_bytes())?;
+    Ok(bytes)
+}
+
+/// A refusal: a payload of 1 byte.
+fn encode_refuse(alloc: Global, code: u8) -> Result<Vec<u8>, AllocError>
+    ensures { IfOk result (λ bytes. bytes.items ≡ refuse_frame code) }
+{
+    let mut bytes = begin(alloc, FrameKind::Refuse, 1)?;
+    bytes.push(code)?;
+    Ok(bytes)
+}
+
+/// A frame, as it is sent.
+///
+/// # Errors
+///
+/// Only where memory runs out.
+pub fn encode(alloc: Global, frame: &Frame) -> Result<Vec<u8>, AllocError>
+    requires { IsShort (said frame.now) }
+    ensures bytes { IfOk result (λ bytes. bytes.items ≡ frame_spelling (said frame.now)) }
+    ensures range { OnOk result (IsRanged (said frame.now)) }
+{
+    let bytes = match frame {
+        Frame::Hello(hello) => encode_hello(alloc, hello)?,
+        Frame::Grant(grant) => encode_grant(alloc, grant)?,
+        Frame::Corrections(elements) => encode_elements(alloc, FrameKind::Corrections, elements)?,
+        Frame::Challenge(element) => encode_elements(alloc, FrameKind::Challenge, &[*element])?,
+        Frame::Sums(sums) => encode_sums(alloc, sums)?,
+        Frame::Openings(macs) => encode_elements(alloc, FrameKind::Openings, macs)?,
+        Frame::Verdict { code, number } => encode_verdict(alloc, *code, *number)?,
+        Frame::Refuse { code } => encode_refuse(alloc, *code)?,
+    };
+    Ok(bytes)
+}

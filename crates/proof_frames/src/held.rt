@@ -1,0 +1,268 @@
+// The bytes of the frame that is under way.
+ghost use Rattle.std.specs.Prelude.{◌≡◌, ◌+◌, ◌*◌, ◌<◌, ◌≤◌, ◌++◌, [], ◌∷◌, length, flat_map, get_or, All, IfSome, IfNone, OnOk, ◌≢◌, vec_len, vec_capacity};
+ghost use Rattle.zk_model.specs.Bytes.{element_bytes};
+ghost use Rattle.zk_model.specs.Field.{IsElement};
+ghost use Rattle.zk_model.specs.Frames as model;
+
+use crate::shape::{Payload, Shape};
+use mersenne_field::Fe;
+use std::alloc::{AllocError, Global};
+use std::mem;
+use zk_model::{Expect, FrameKind};
+
+/// The bytes that are taken: the header, and the payload if it has no elements, as they came; whole elements as elements; and
+/// the bytes of an element that is not whole.
+#[derive(Debug, Drop)]
+pub(crate) struct Held {
+    pub(crate) start: Vec<u8>,
+    pub(crate) elements: Vec<Fe>,
+    pub(crate) part: Vec<u8>,
+}
+
+/// The element at the front, and the bytes behind it, if the front spells one.
+#[inline]
+fn element_at(bytes: &[u8]) -> Option<(Fe, &[u8])>
+    ensures { IfSome result (λ found.
+        (bytes.now ≡ element_bytes found.0 ++ found.1.now) × IsElement found.0) }
+{
+    let [b0, b1, b2, b3, b4, b5, b6, b7, rest @ ..] = bytes else {
+        return None;
+    };
+    let element = Fe::from_le(&[*b0, *b1, *b2, *b3, *b4, *b5, *b6, *b7])?;
+    let _value = element.value();
+    Some((element, rest))
+}
+
+/// Takes whole elements until a piece has no more at its front, and hands back the rest of it.
+fn take_elements<'a>(elements: &mut Vec<Fe>, piece: &'a [u8]) -> &'a [u8]
+    requires ranged { All IsElement elements.old.items }
+    requires room { 8 * vec_len elements.old + length piece.now ≤ 8 * vec_capacity elements.old }
+    ensures ranged { All IsElement elements.new.items }
+    ensures bytes { flat_map element_bytes elements.new.items ++ result.now
+        ≡ flat_map element_bytes elements.old.items ++ piece.now }
+    ensures count { 8 * vec_len elements.new + length result.now
+        ≡ 8 * vec_len elements.old + length piece.now }
+    ensures less { length result.now ≤ length piece.now }
+    ensures capacity { vec_capacity elements.new ≡ vec_capacity elements.old }
+{
+    let mut rest = piece;
+    while let Some((element, behind)) = element_at(rest) {
+        elements.push_reserved(element);
+        rest = behind;
+    }
+    rest
+}
+
+/// The 8 bytes of an element of which 7 are there.
+fn completed(part: &[u8], last: u8) -> Option<[u8; 8]>
+    ensures some { IfSome result (λ word. (word ≡ part.now ++ last ∷ []) × (length part.now ≡ 7)) }
+    ensures none { IfNone result (length part.now ≢ 7) }
+{
+    let [b0, b1, b2, b3, b4, b5, b6] = part else {
+        return None;
+    };
+    Some([*b0, *b1, *b2, *b3, *b4, *b5, *b6, last])
+}
+
+impl Held {
+    ghost use Rattle.proof_frames.specs.Readings.{IsShortPlace};
+    ghost use Rattle.proof_frames.specs.Shapes.{shape_of};
+    ghost use Rattle.proof_frames.specs.declared.shape.Payload.TheVariants as payload;
+    ghost use Rattle.proof_frames.specs.Holding.{bytes_of, IsEmpty, HasRoom, Holds, Steps, Runs, elements_at};
+
+    /// Nothing.
+    pub(crate) fn new(alloc: Global) -> Self
+        ensures { IsEmpty result }
+    {
+        Held {
+            start: Vec::new(alloc),
+            elements: Vec::new(alloc),
+            part: Vec::new(alloc),
+        }
+    }
+
+    /// The first byte, or another if there is none.
+    fn first_or(&self, other: u8) -> u8
+        ensures { result ≡ get_or self.now.start.items 0 other }
+    {
+        match self.start.first() {
+            Some(first) => *first,
+            None => other,
+        }
+    }
+
+    /// The shape of the frame.
+    fn shape(&self, place: Expect) -> Shape
+        requires { IsShortPlace place }
+        ensures { result ≡ shape_of place (get_or self.now.start.items 0 0) }
+    {
+        Shape::at(place, self.first_or(0))
+    }
+
+    /// The kind of the frame.
+    pub(crate) fn kind(&self, place: Expect) -> FrameKind
+        requires { Holds place self.now }
+        ensures { result ≡ model.expected_kind place (bytes_of self.now) }
+    {
+        self.shape(place).kind
+    }
+
+    /// How many bytes the frame has.
+    pub(crate) fn frame_length(&self, place: Expect) -> usize
+        requires { Holds place self.now }
+        ensures { result ≡ model.frame_length place (bytes_of self.now) }
+    {
+        if place == Expect::Grant && self.start.is_empty() {
+            1
+        } else {
+            self.shape(place).length()
+        }
+    }
+
+    /// Takes a byte of the header, if it goes on with it.
+    fn take_header_byte(&mut self, place: Expect, byte: u8) -> bool
+        requires holds { Holds place self.old }
+        requires short { vec_len self.old.start < 5 }
+        ensures { Steps place self.old byte result self.new }
+    {
+        let header = Shape::at(place, self.first_or(byte)).header();
+        if header[self.start.len()] != byte {
+            return false;
+        }
+        self.start.push_reserved(byte);
+        true
+    }
+
+    /// Takes a byte of a payload of elements, unless it is the last of an element that is the prime or more.
+    fn take_element_byte(&mut self, place: Expect, count: usize, byte: u8) -> bool
+        requires holds { Holds place self.old }
+        requires headed { vec_len self.old.start ≡ 5 }
+        requires shape { (shape_of place (get_or self.old.start.items 0 0)).payload
+            ≡ payload.Elements count }
+        requires within { 8 * vec_len self.old.elements + vec_len self.old.part < 8 * count }
+        ensures { Steps place self.old byte result self.new }
+    {
+        let Some(word) = completed(&self.part, byte) else {
+            self.part.push_reserved(byte);
+            return true;
+        };
+        let Some(element) = Fe::from_le(&word) else {
+            return false;
+        };
+        self.elements.push_reserved(element);
+        self.part.clear();
+        true
+    }
+
+    /// Takes a byte of a payload of bytes, unless it is the first and not in its range.
+    fn take_plain_byte(
+        &mut self,
+        place: Expect,
+        count: usize,
+        least: u8,
+        most: u8,
+        byte: u8,
+    ) -> bool
+        requires holds { Holds place self.old }
+        requires headed { 5 ≤ vec_len self.old.start }
+        requires shape { (shape_of place (get_or self.old.start.items 0 0)).payload
+            ≡ payload.Bytes count least most }
+        requires within { vec_len self.old.start < 5 + count }
+        ensures { Steps place self.old byte result self.new }
+    {
+        if self.start.len() == 5 && (byte < least || most < byte) {
+            return false;
+        }
+        self.start.push_reserved(byte);
+        true
+    }
+
+    /// Takes a byte of the frame, if some frame at the place goes on with it.
+    fn take_byte(&mut self, place: Expect, byte: u8) -> bool
+        requires holds { Holds place self.old }
+        requires within { length (bytes_of self.old ++ byte ∷ [])
+            ≤ model.frame_length place (bytes_of self.old ++ byte ∷ []) }
+        ensures { Steps place self.old byte result self.new }
+    {
+        if self.start.len() < 5 {
+            return self.take_header_byte(place, byte);
+        }
+        match self.shape(place).payload {
+            Payload::Bytes { count, least, most } => {
+                self.take_plain_byte(place, count, least, most, byte)
+            }
+            Payload::Elements { count } => self.take_element_byte(place, count, byte),
+        }
+    }
+
+    /// Takes whole elements from the front of a piece, where an element is due, and hands back the rest.
+    fn take_whole<'a>(&mut self, place: Expect, piece: &'a [u8]) -> &'a [u8]
+        requires holds { Holds place self.old }
+        requires within { length (bytes_of self.old ++ piece.now)
+            ≤ model.frame_length place (bytes_of self.old ++ piece.now) }
+        ensures holds { Holds place self.new }
+        ensures bytes { bytes_of self.new ++ result.now ≡ bytes_of self.old ++ piece.now }
+        ensures less { length result.now ≤ length piece.now }
+    {
+        if self.start.len() < 5 || !self.part.is_empty() {
+            return piece;
+        }
+        match self.shape(place).payload {
+            Payload::Bytes { .. } => piece,
+            Payload::Elements { .. } => take_elements(&mut self.elements, piece),
+        }
+    }
+
+    /// Takes a piece of the frame. If a byte of it is bad, takes those before the first bad one, and hands back its place in the
+    /// piece.
+    pub(crate) fn take(&mut self, place: Expect, piece: &[u8]) -> Option<usize>
+        requires holds { Holds place self.old }
+        requires within { length (bytes_of self.old ++ piece.now)
+            ≤ model.frame_length place (bytes_of self.old ++ piece.now) }
+        ensures { Runs place self.old piece.now result self.new }
+    {
+        let mut rest = piece;
+        while let [byte, behind @ ..] = rest {
+            if !self.take_byte(place, *byte) {
+                return Some(piece.len() - rest.len());
+            }
+            rest = self.take_whole(place, behind);
+        }
+        None
+    }
+
+    /// Makes room for the frame at a place, of which nothing is held yet.
+    pub(crate) fn reserve(&mut self, place: Expect) -> Result<(), AllocError>
+        requires empty { IsEmpty self.old }
+        requires short { IsShortPlace place }
+        ensures empty { IsEmpty self.new }
+        ensures holds { OnOk result (Holds place self.new) }
+    {
+        let count = match place {
+            Expect::Hello | Expect::Grant | Expect::Verdict => 0,
+            Expect::Challenge => 1,
+            Expect::Corrections { count } | Expect::Openings { count } => count,
+            Expect::Sums { sections } => 2 * sections,
+        };
+        self.start.reserve(102)?;
+        self.part.reserve(8)?;
+        self.elements.reserve(count)?;
+        Ok(())
+    }
+
+    /// Hands out the elements.
+    pub(crate) fn give_elements(&mut self, alloc: Global) -> Vec<Fe>
+        ensures { result ≡ self.old.elements }
+    {
+        mem::replace(&mut self.elements, Vec::new(alloc))
+    }
+
+    /// Forgets everything.
+    pub(crate) fn clear(&mut self)
+        ensures { IsEmpty self.new }
+    {
+        self.start.clear();
+        self.elements.clear();
+        self.part.clear();
+    }
+}

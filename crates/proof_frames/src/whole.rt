@@ -1,0 +1,148 @@
+// Frames from the bytes that are held.
+ghost use Rattle.std.specs.Prelude.{◌≡◌, ℕ, ◌+◌, ◌*◌, ◌≤◌, ◌<◌, length, take, drop, OnOk, vec_len, vec_capacity, [], ◌++◌};
+ghost use Rattle.std.specs.Int.{w32, w64, to_le_bytes, from_le_bytes};
+ghost use Rattle.zk_model.specs.Frames as model;
+ghost use Rattle.proof_frames.specs.Frames.{said, flattened, hello_in, grant_in, grant_or_refusal_in, verdict_in};
+ghost use Rattle.proof_frames.specs.Holding.{bytes_of, IsEmpty, Holds, pairs_at};
+
+use crate::frame::{Frame, Grant, Hello};
+use crate::held::Held;
+use mersenne_field::Fe;
+use std::alloc::Global;
+use std::mem;
+use zk_model::Expect;
+
+/// The 32 bytes from a place on.
+fn array_at(bytes: &[u8], at: usize) -> [u8; 32]
+    requires { at + 32 ≤ length bytes.now }
+    ensures { result ≡ take 32 (drop at bytes.now) }
+{
+    let mut array = [0; 32];
+    array.copy_from_slice(&bytes[at..at + 32]);
+    array
+}
+
+/// The number that 8 bytes from a place on say, the low one first.
+fn word64_at(bytes: &[u8], at: usize) -> u64
+    requires { at + 8 ≤ length bytes.now }
+    ensures { result ≡ from_le_bytes w64 (take 8 (drop at bytes.now)) }
+{
+    let mut word = [0; 8];
+    word.copy_from_slice(&bytes[at..at + 8]);
+    u64::from_le_bytes(word)
+}
+
+/// The number that 4 bytes from a place on say, the low one first.
+fn word32_at(bytes: &[u8], at: usize) -> u32
+    requires { at + 4 ≤ length bytes.now }
+    ensures { result ≡ from_le_bytes w32 (take 4 (drop at bytes.now)) }
+{
+    let mut word = [0; 4];
+    word.copy_from_slice(&bytes[at..at + 4]);
+    u32::from_le_bytes(word)
+}
+
+/// The greeting of 102 bytes.
+fn hello_of(bytes: &[u8]) -> Hello
+    requires { length bytes.now ≡ 102 }
+    ensures { result ≡ hello_in bytes.now }
+{
+    Hello {
+        id: array_at(bytes, 5),
+        circuit: array_at(bytes, 37),
+        outputs: array_at(bytes, 69),
+        version: bytes[101],
+    }
+}
+
+/// The grant of 21 bytes.
+fn grant_of(bytes: &[u8]) -> Grant
+    requires { length bytes.now ≡ 21 }
+    ensures { result ≡ grant_in bytes.now }
+{
+    Grant {
+        start: word64_at(bytes, 5),
+        count: word32_at(bytes, 13),
+        section: word32_at(bytes, 17),
+    }
+}
+
+/// The grant, or the refusal in its place.
+fn grant_or_refusal_of(bytes: &[u8]) -> Frame
+    requires some { 1 ≤ length bytes.now }
+    requires whole { length bytes.now ≡ model.frame_length Expect.Grant bytes.now }
+    ensures { said result ≡ grant_or_refusal_in bytes.now }
+{
+    if bytes[0] == 10 {
+        Frame::Refuse { code: bytes[5] }
+    } else {
+        Frame::Grant(grant_of(bytes))
+    }
+}
+
+/// The verdict of 10 bytes.
+fn verdict_of(bytes: &[u8]) -> Frame
+    requires { length bytes.now ≡ 10 }
+    ensures { said result ≡ verdict_in bytes.now }
+{
+    Frame::Verdict {
+        code: bytes[5],
+        number: word32_at(bytes, 6),
+    }
+}
+
+/// Elements two by two, in the room that there is for the pairs.
+fn pairs_of(alloc: Global, elements: &[Fe], pairs: &mut Vec<(Fe, Fe)>) -> Vec<(Fe, Fe)>
+    requires empty { pairs.old.items ≡ [] }
+    requires room { length elements.now ≤ 2 * vec_capacity pairs.old }
+    ensures pairs { (count : ℕ) → length elements.now ≡ 2 * count
+        → (elements.now ≡ flattened result.items) × (length result.items ≡ count) }
+    ensures empty { pairs.new.items ≡ [] }
+{
+    let mut rest = elements;
+    while let [constant, linear, behind @ ..] = rest {
+        pairs.push_reserved((*constant, *linear));
+        rest = behind;
+    }
+    mem::replace(pairs, Vec::new(alloc))
+}
+
+/// The frame that is held whole. Its elements are handed out.
+fn frame_of(alloc: Global, place: Expect, held: &mut Held, pairs: &mut Vec<(Fe, Fe)>) -> Frame
+    requires holds { Holds place held.old }
+    requires whole { length (bytes_of held.old) ≡ model.frame_length place (bytes_of held.old) }
+    requires empty { pairs.old.items ≡ [] }
+    requires room { pairs_at place ≤ vec_capacity pairs.old }
+    ensures frame { model.IsWhole place (bytes_of held.old) (said result) }
+    ensures pairs { pairs.new.items ≡ [] }
+{
+    match place {
+        Expect::Hello => Frame::Hello(hello_of(&held.start)),
+        Expect::Grant => grant_or_refusal_of(&held.start),
+        Expect::Corrections { .. } => Frame::Corrections(held.give_elements(alloc)),
+        Expect::Challenge => Frame::Challenge(held.elements[0]),
+        Expect::Sums { .. } => Frame::Sums(pairs_of(alloc, &held.elements, pairs)),
+        Expect::Openings { .. } => Frame::Openings(held.give_elements(alloc)),
+        Expect::Verdict => verdict_of(&held.start),
+    }
+}
+
+/// The frame that is held whole. Then nothing is held.
+pub(crate) fn whole_frame(
+    alloc: Global,
+    place: Expect,
+    held: &mut Held,
+    pairs: &mut Vec<(Fe, Fe)>,
+) -> Frame
+    requires holds { Holds place held.old }
+    requires whole { length (bytes_of held.old) ≡ model.frame_length place (bytes_of held.old) }
+    requires empty { pairs.old.items ≡ [] }
+    requires room { pairs_at place ≤ vec_capacity pairs.old }
+    ensures frame { model.IsWhole place (bytes_of held.old) (said result) }
+    ensures held { IsEmpty held.new }
+    ensures pairs { pairs.new.items ≡ [] }
+{
+    let frame = frame_of(alloc, place, held, pairs);
+    held.clear();
+    frame
+}

@@ -1,0 +1,54 @@
+-- What a verifier finds of a whole session.
+use Rattle.std.specs.Prelude.{◌≡◌, ℕ, List, []}
+use Rattle.zk_model.specs.Transcript.{Transcript, wanted_hello}
+use Rattle.zk_model.specs.Check.{WireKeys, ProductCheck, OpeningCheck, left_of_section, right_of_section, left_of_opening, right_of_opening}
+use Rattle.zk_model.specs.View.{AreSessionKeys, IsVerdictOf, session_products, session_openings, verdict_code, verdict_number}
+use Rattle.zk_model.specs.ServedVerifier.{VerifierTask, challenge_coin}
+use Rattle.zk_model.specs.declared.Verdict.{Verdict}
+use Rattle.zk_model.specs.declared.Verdict.TheVariants as verdict
+use Rattle.session_core.specs.Jobs.{VerifierJob, granted_from}
+use Rattle.session_core.specs.declared.judgement.Judgement.{Judgement}
+use Rattle.session_core.specs.declared.judgement.Judgement.TheVariants.{Accepted, RejectedSum, RejectedOpening}
+
+-- what the verifier says of it
+abbrev pub verdict_in : Judgement → Verdict
+verdict_in Accepted = verdict.Accepted
+verdict_in (RejectedSum section left right) = verdict.RejectedSum section
+verdict_in (RejectedOpening output left right) = verdict.RejectedOpening output
+
+-- the sides of the equation that fails
+abbrev pub HasSides : ProductCheck → OpeningCheck → Judgement → Type 0
+HasSides products openings Accepted = Unit {0}
+HasSides products openings (RejectedSum section left right) =
+    (left ≡ left_of_section products section) × (right ≡ right_of_section products section)
+HasSides products openings (RejectedOpening output left right) =
+    (left ≡ left_of_opening openings output) × (right ≡ right_of_opening openings output)
+
+-- Over keys of all wires, it is what the checks say, with both sides where one fails.
+pub record IsJudgement (task : VerifierTask) (t : Transcript) (judgement : Judgement) : Type 0 where
+  pub keys : WireKeys
+  pub carried : AreSessionKeys task.file task.statement t.commitment keys
+  pub judged : IsVerdictOf
+      (session_products task.file task.statement t keys) (session_openings task.file task.statement t keys)
+      (verdict_in judgement)
+  pub sides : HasSides
+      (session_products task.file task.statement t keys) (session_openings task.file task.statement t keys) judgement
+
+-- The transcript of a session without rounds: the wanted hello, the grant from this unit on, what the prover sent, the
+-- verifier's coin, and what it says in the end.
+abbrev pub direct_transcript : VerifierJob → ℕ → List ℕ → List (ℕ × ℕ) → List ℕ → Verdict → Transcript
+direct_transcript job start corrections sums openings said = record {
+  commitment = record {
+    setup = record {
+      hello = wanted_hello job.task.file.id job.task.statement;
+      grant = granted_from job start;
+      rounds = [];
+    };
+    corrections = corrections;
+  };
+  challenge = challenge_coin job.task.file start;
+  sums = sums;
+  openings = openings;
+  code = verdict_code said;
+  number = verdict_number said;
+}

@@ -1,0 +1,30 @@
+// What a verifier finds of a whole session.
+ghost use Rattle.std.specs.Prelude.{◌≡◌};
+ghost use Rattle.session_core.specs.Judgements.{verdict_in};
+
+use mersenne_field::Fe;
+use zk_model::Verdict;
+
+/// What a verifier finds: that every check holds; or the first section whose sums fail, or else the first opened wire whose
+/// MAC fails, with both sides of its equation.
+#[derive(Clone, Copy, Debug, PartialEq, Eq)]
+pub enum Judgement {
+    Accepted,
+    RejectedSum { section: u32, left: Fe, right: Fe },
+    RejectedOpening { output: u32, left: Fe, right: Fe },
+}
+
+impl Judgement {
+    /// What the verifier says of it.
+    pub fn verdict(&self) -> Verdict
+        ensures { result ≡ verdict_in self.now }
+    {
+        match self {
+            Judgement::Accepted => Verdict::Accepted,
+            Judgement::RejectedSum { section, .. } => Verdict::RejectedSum { section: *section },
+            Judgement::RejectedOpening { output, .. } => Verdict::RejectedOpening {
+                output: *output,
+            },
+        }
+    }
+}

@@ -1,0 +1,203 @@
+// What a verifier is to do, and how it judges a session.
+ghost use Rattle.std.specs.Prelude.{◌≡◌, ◌+◌, ◌≤◌, ◌^◌, max, length, IfOk};
+ghost use Rattle.zk_model.specs.Program.{section_count, part_count};
+ghost use Rattle.zk_model.specs.ServedVerifier.{challenge_coin};
+ghost use Rattle.zk_model.specs.View.{IsVerdictOf};
+ghost use Rattle.zk_model.specs.declared.Kind.TheVariants.{Direct};
+ghost use Rattle.mult_check.specs.Checks.{product_check, opening_check};
+ghost use Rattle.session_core.specs.Jobs.{IsVerifierJob, units_of_job, granted_from};
+ghost use Rattle.session_core.specs.Judgements.{HasSides, IsJudgement, direct_transcript, verdict_in};
+
+use crate::judgement::Judgement;
+use crate::prover_job::{masks_of, units_of};
+use crate::statement::Statement;
+use dealer_files::VerifierFile;
+use mersenne_field::Fe;
+use mult_check::{check, check_openings};
+use proof_frames::Grant;
+use std::alloc::{AllocError, Global};
+use std::marker::Model;
+use wire_auth::VerifierWires;
+
+/// The most units of a session.
+pub const MOST_UNITS: u64 = 4096;
+
+/// The units of kind direct that give this many correlations: at least one.
+pub(crate) fn direct_units_for(need: u64) -> u64
+    ensures { result ≡ max 1 (part_count need 64) }
+{
+    need.div_ceil(64).max(1)
+}
+
+/// What a verifier is to do: its statement and its file of kind direct, and how many products its sections have, which are 1
+/// to 2^20. The session takes at most 4,096 units.
+#[derive(Debug, Drop)]
+pub struct VerifierJob<'a> {
+    statement: &'a Statement<'a>,
+    file: &'a VerifierFile,
+    section: u32,
+}
+
+impl<'a> Model for VerifierJob<'a> {
+    ghost use Rattle.session_core.specs.Jobs as jobs;
+    ghost use Rattle.session_core.specs.Jobs.{IsVerifierJob};
+
+    ghost Value = { jobs.VerifierJob };
+
+    ghost view = { λ j. record {
+      task = record { file = j.file.now; statement = j.statement.now };
+      section_length = j.section;
+    } };
+
+    ghost invariant = { λ j. IsVerifierJob (record {
+      task = record { file = j.file.now; statement = j.statement.now };
+      section_length = j.section;
+    }) };
+}
+
+/// What the checks of all sections and of all opened wires say.
+fn judgement_of(
+    wires: &VerifierWires<'_>,
+    section: u64,
+    challenge: Fe,
+    masks: &[Fe],
+    key: Fe,
+    sums: &[(Fe, Fe)],
+    openings: &[Fe],
+    claims: &[Fe],
+) -> Judgement
+    requires some { 1 ≤ section }
+    requires masks { length masks.now ≡ section_count wires.now.program section }
+    requires sums { length sums.now ≡ length masks.now }
+    requires openings { length openings.now ≡ length wires.now.program.opened }
+    requires claims { length claims.now ≡ length wires.now.program.opened }
+    ensures judged { IsVerdictOf (product_check wires.now section challenge masks.now key sums.now)
+        (opening_check wires.now key openings.now claims.now) (verdict_in result) }
+    ensures sides { HasSides (product_check wires.now section challenge masks.now key sums.now)
+        (opening_check wires.now key openings.now claims.now) result }
+{
+    if let Err(differs) = check(wires, section, challenge, masks, key, sums) {
+        return Judgement::RejectedSum {
+            section: differs.section,
+            left: differs.left,
+            right: differs.right,
+        };
+    }
+    match check_openings(wires, key, openings, claims) {
+        Err(differs) => Judgement::RejectedOpening {
+            output: differs.output,
+            left: differs.left,
+            right: differs.right,
+        },
+        Ok(()) => Judgement::Accepted,
+    }
+}
+
+impl<'a> VerifierJob<'a> {
+    /// A job over a file of kind direct, with sections of 1 to 2^20 products and at most 4,096 units.
+    pub fn new(statement: &'a Statement<'a>, file: &'a VerifierFile, section: u32) -> Self
+        requires { IsVerifierJob (record {
+          task = record { file = file.now; statement = statement.now };
+          section_length = section;
+        }) }
+        ensures { result ≡ record {
+          task = record { file = file.now; statement = statement.now };
+          section_length = section;
+        } }
+    {
+        VerifierJob {
+            statement,
+            file,
+            section,
+        }
+    }
+
+    /// What it is about.
+    pub fn statement(&self) -> &'a Statement<'a>
+        ensures statement { result.now ≡ self.now.task.statement }
+        ensures job { IsVerifierJob self.now }
+    {
+        self.statement
+    }
+
+    /// Its file.
+    pub fn file(&self) -> &'a VerifierFile
+        ensures file { result.now ≡ self.now.task.file }
+        ensures job { IsVerifierJob self.now }
+    {
+        self.file
+    }
+
+    /// How many products a section has.
+    pub fn section(&self) -> u32
+        ensures section { result ≡ self.now.section_length }
+        ensures job { IsVerifierJob self.now }
+    {
+        self.section
+    }
+
+    /// The units that its session takes.
+    pub fn units(&self) -> u32
+        ensures units { result ≡ units_of_job self.now }
+        ensures job { IsVerifierJob self.now }
+    {
+        let need = self.statement.program().need(u64::from(self.section));
+        direct_units_for(need) as u32
+    }
+
+    /// The grant of its units from this one on.
+    pub(crate) fn grant(&self, start: u64) -> Grant
+        ensures { result ≡ granted_from self.now start }
+    {
+        Grant {
+            start,
+            count: self.units(),
+            section: self.section,
+        }
+    }
+
+    /// The challenge of the session whose first unit this is: its coin.
+    pub(crate) fn challenge(&self, start: u64) -> Fe
+        requires { start ≤ 2 ^ 32 }
+        ensures { result ≡ challenge_coin self.now.task.file start }
+    {
+        self.file.challenge(start)
+    }
+
+    /// What it finds of the session whose first unit this is, in which these corrections, sums and openings came: the first
+    /// section whose sums do not meet its keys, else the first opened wire whose MAC does not open to the claim, else that
+    /// all is well.
+    pub(crate) fn judge(
+        &self,
+        alloc: Global,
+        start: u64,
+        corrections: &[Fe],
+        sums: &[(Fe, Fe)],
+        openings: &[Fe],
+    ) -> Result<Judgement, AllocError>
+        requires within { start + units_of_job self.now ≤ self.now.task.file.params.total }
+        requires corrections { length corrections.now ≡ self.now.task.statement.program.givens }
+        requires sums { length sums.now
+            ≡ section_count self.now.task.statement.program self.now.section_length }
+        requires openings { length openings.now ≡ length self.now.task.statement.program.opened }
+        ensures { IfOk result (λ judgement. IsJudgement self.now.task
+            (direct_transcript self.now start corrections.now sums.now openings.now (verdict_in judgement))
+            judgement) }
+    {
+        let program = self.statement.program();
+        let section = u64::from(self.section);
+        let key = self.file.key();
+        let _total = self.file.total();
+        let keys = self.file.keys(units_of(self.grant(start)));
+        let sections = program.sections(section) as usize;
+        let masks = masks_of(keys, program.givens(), sections);
+        let public = self.statement.public();
+        let claims = self.statement.claims();
+        let wires = VerifierWires::run(alloc, program, public, keys, key, corrections)?;
+        let challenge = self.challenge(start);
+        let judgement = judgement_of(
+            &wires, section, challenge, masks, key, sums, openings, claims,
+        );
+        Ok(judgement)
+    }
+}

@@ -1,0 +1,15 @@
+pub mod Served
+pub mod Turns
+pub mod Sizes
+pub mod Cut
+pub mod Shapes
+pub mod Honest
+pub mod Followed
+pub mod PeersHonest
+pub mod Completed
+pub mod MetTurns
+pub mod Prefixes
+pub mod SessionsMeet
+pub mod Answered
+pub mod CircuitProved
+pub mod OfBoth

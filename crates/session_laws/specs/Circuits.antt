@@ -1,0 +1,14 @@
+-- Provers of the outputs of a circuit.
+use Rattle.std.specs.Prelude.{◌≡◌, ℕ, Bool, List, map}
+use Rattle.zk_model.specs.Bits.{from_bit}
+use Rattle.zk_model.specs.Circuit.{Circuit, Satisfies, IsWellFormed}
+use Rattle.zk_model.specs.Statement.{circuit_statement}
+use Rattle.zk_model.specs.HonestProver.{ProverTask}
+use Rattle.session_laws.specs.Peers.{HasWitness, GivesClaims}
+
+-- where input bits make a circuit give the claimed outputs, a prover with them has a witness, and gives the claims
+abbrev pub CircuitIsProved : Type 0
+CircuitIsProved = (circuit : Circuit) (digest : List ℕ) (inputs outputs : List Bool) (prover : ProverTask)
+    → IsWellFormed circuit → Satisfies circuit inputs outputs
+    → prover.statement ≡ circuit_statement circuit digest outputs → prover.inputs ≡ map from_bit inputs
+    → HasWitness prover × GivesClaims prover

@@ -1,0 +1,254 @@
+-- Why a session ends where it does.
+use Rattle.std.proofs.Common.{◌≡◌, ◌⊎◌, inl, inr, ℕ, ◌+◌, ◌≤◌, List, [], ◌++◌, length, true, Option, Some, None, refl, ap, sym, ◌∙◌, subst, append_assoc, append-nil, length-append, arith}
+use Rattle.zk_model.specs.Transcript.{Grant, IsGrant, bytes_from, sent_by, corrections_frame, challenge_frame, sums_frame, openings_frame}
+use Rattle.zk_model.specs.Frames.{Frame}
+use Rattle.zk_model.specs.HonestProver.{IsWitness}
+use Rattle.zk_model.specs.Peers.{IsFromHonestProver, HasEndedHonestly}
+use Rattle.zk_model.specs.declared.Expect.{Expect}
+use Rattle.zk_model.specs.declared.Params.{Params}
+use Rattle.zk_model.specs.declared.Side.{Side}
+use Rattle.zk_model.specs.declared.Side.TheVariants.{Prover, Verifier}
+use Rattle.zk_model.specs.Program.{Program}
+use Rattle.zk_port.specs.Counts.{Rose}
+use Rattle.zk_port.specs.Logs.{appended, put_before, peer_of}
+use Rattle.frame_link.specs.Lines.{LineState, Came, Arrives, Fails, longest, IsUnfinished}
+use Rattle.frame_link.specs.Lines as lines
+use Rattle.frame_link.specs.declared.fault.LineFault.{LineFault}
+use Rattle.frame_link.specs.declared.fault.LineFault.TheVariants as fault
+use Rattle.proof_frames.specs.Readings.{Reading}
+use Rattle.session_core.specs.Jobs.{ProverJob, Suits}
+use Rattle.session_core.specs.Cores.{ProverPlace, awaits_grant, awaits_challenge, awaits_verdict, has_ended, prover_expects}
+use Rattle.session_prover.specs.declared.note.ProverOutcome.{ProverOutcome}
+use Rattle.session_prover.specs.Outcomes.{line_outcome}
+use Rattle.session_prover.specs.Stages.{Claim, ClaimedFor, Course, IsLogAt, GoesWell, IsLineAt, greeted_log, granted_log, sums_for, openings_for}
+use Rattle.session_prover.specs.Notes.{task_of, IsGrantRead, IsAskedRight, SendsOnceClaimed, IsOutcome, CountsOutcome, SendsHonestly, IsLogged, Ends}
+use Rattle.session_prover.specs.Turns.{IsSound, Comes}
+use Rattle.session_prover.proofs.Sides.{prover_hears, verifier_says, appended_more, before_more}
+use Rattle.session_prover.proofs.Waiting.{greeted_sent, has_answered, from_ended}
+
+-- ---- the claim
+
+-- a grant that fits suits
+pub suits_is : (params : Params) (program : Program) (given : Grant) → IsGrant params program given → Suits params program given
+suits_is params program given is =
+    record { section_some = is.section_some; section_most = is.section_most; count = is.count; count_most = is.count_most }
+
+-- a log that goes on behind a grant
+pub read_is : (job : ProverJob) (given : Grant) (log more : List (Side × ℕ)) → IsGrant job.file.params job.statement.program given
+    → log ≡ granted_log job given ++ more → IsGrantRead job log given
+read_is job given log more granted is = record { suits = suits_is job.file.params job.statement.program given granted; begun = (more, is) }
+
+-- the grant of a place that was claimed was read
+record IsClaimRead (job : ProverJob) (claim : Claim) (log : List (Side × ℕ)) : Type 0 where
+  given : Grant
+  read : IsGrantRead job log given
+  claimed : ClaimedFor claim given
+
+read_at : (job : ProverJob) (claim : Claim) (place : ProverPlace) (before more : List (Side × ℕ)) → IsLogAt job claim place before
+    → (claim.answer ≡ None) × (before ≡ greeted_log job) ⊎ IsClaimRead job claim (before ++ more)
+read_at job claim awaits_grant before more at = inl at
+read_at job claim (awaits_challenge given wires) before more (d, claimed, fixes, at) = inr (record {
+  given = given;
+  read = read_is job given (before ++ more) (bytes_from Prover (corrections_frame d) ++ more) fixes.granted
+      (ap (λ l. l ++ more) at ∙ append_assoc (granted_log job given) (bytes_from Prover (corrections_frame d)) more);
+  claimed = claimed;
+})
+read_at job claim awaits_verdict before more opened = inr (record {
+  given = opened.given;
+  read = read_is job opened.given (before ++ more) (c ++ (b ++ (s ++ (o ++ more)))) opened.fixes.granted
+      (ap (λ l. l ++ more) opened.logged ∙ append_assoc (g ++ c ++ b ++ s) o more ∙ append_assoc (g ++ c ++ b) s (o ++ more)
+      ∙ append_assoc (g ++ c) b (s ++ (o ++ more)) ∙ append_assoc g c (b ++ (s ++ (o ++ more))));
+  claimed = opened.claimed;
+})
+  where
+    g : List (Side × ℕ)
+    g = granted_log job opened.given
+
+    c : List (Side × ℕ)
+    c = bytes_from Prover (corrections_frame opened.d)
+
+    b : List (Side × ℕ)
+    b = bytes_from Verifier (challenge_frame opened.element)
+
+    s : List (Side × ℕ)
+    s = bytes_from Prover (sums_frame (sums_for job opened.given opened.wires opened.element))
+
+    o : List (Side × ℕ)
+    o = bytes_from Prover (openings_frame (openings_for job opened.wires))
+read_at job claim has_ended before more at = absurd at
+
+-- where the prover waits, the claimant was asked right
+pub asked_at : (job : ProverJob) (claim : Claim) (place : ProverPlace) (before more : List (Side × ℕ)) → IsLogAt job claim place before
+    → IsAskedRight job claim (before ++ more)
+asked_at job claim place before more at = elim (read_at job claim place before more at) [
+  | inl none ↦ inl none.0
+  | inr read ↦ inr (read.given, read.read, inl read.claimed)
+]
+
+-- and nothing is sent past the greeting unless it claimed
+pub once_claimed : (job : ProverJob) (claim : Claim) (place : ProverPlace) (before : List (Side × ℕ)) (rest : List ℕ) → IsLogAt job claim place before
+    → SendsOnceClaimed job claim (before ++ bytes_from Verifier rest)
+once_claimed job claim place before rest at = elim (read_at job claim place before (bytes_from Verifier rest) at) [
+  | inl none ↦ inl (
+    [],
+    sym (append-nil (sent_by Prover (before ++ bytes_from Verifier rest))
+        ∙ prover_hears before rest ∙ ap (sent_by Prover) none.1 ∙ greeted_sent job),
+  )
+  | inr read ↦ inr (read.given, read.read, read.claimed)
+]
+
+-- ---- what the link tells
+
+-- the log alone
+pub logged_whole : (job : ProverJob) (claim : Claim) (outcome : ProverOutcome) (log : List (Side × ℕ)) (before after : Option (List (Side × ℕ)))
+    → after ≡ appended log before
+    → ((inputs wires : List ℕ) → IsWitness job.statement inputs wires job.given → IsFromHonestProver (task_of job inputs) log)
+    → SendsOnceClaimed job claim log → IsLogged job claim outcome log before after
+logged_whole job claim outcome log before after told honest claimed = record {
+  part = [];
+  told = told ∙ ap (λ l. appended l before) (sym none);
+  none = λ no. refl;
+  honest = λ inputs wires witness. subst (λ l. IsFromHonestProver (task_of job inputs) l) (sym none) (honest inputs wires witness);
+  claimed = subst (λ l. SendsOnceClaimed job claim l) (sym none) claimed;
+}
+  where
+    none : log ++ bytes_from Prover [] ≡ log
+    none = append-nil log
+
+-- bytes of the verifier have come over a line that goes well
+pub record CameWell (first old new : LineState) (bytes : List ℕ) : Type 0 where
+  pub logged : new.log ≡ old.log ++ bytes_from Verifier bytes
+  pub heard : sent_by Verifier new.log ≡ sent_by Verifier old.log ++ bytes
+  pub count : length (sent_by Verifier new.log) ≡ length (sent_by Verifier old.log) + length bytes
+  pub told : new.told ≡ appended new.log first.told
+  pub came : first.to_come ≡ put_before (sent_by Verifier new.log) new.to_come
+  pub side : new.side ≡ Prover
+  pub is_open : new.is_open ≡ true
+
+pub came_well : (first old new : LineState) (bytes : List ℕ) → GoesWell first old → Came bytes old new → CameWell first old new bytes
+came_well first old new bytes well came = record {
+  logged = logged;
+  heard = heard;
+  count = ap length heard ∙ length-append (sent_by Verifier old.log) bytes;
+  told = came.told ∙ (λ i. appended (bytes_from (peer_of (well.side i)) bytes) (well.told i))
+      ∙ appended_more old.log (bytes_from Verifier bytes) first.told ∙ ap (λ l. appended l first.told) (sym logged);
+  came = well.came ∙ ap (put_before (sent_by Verifier old.log)) came.came ∙ before_more (sent_by Verifier old.log) bytes new.to_come
+      ∙ ap (λ l. put_before l new.to_come) (sym heard);
+  side = came.side ∙ well.side;
+  is_open = came.is_open ∙ well.is_open;
+}
+  where
+    logged : new.log ≡ old.log ++ bytes_from Verifier bytes
+    logged = came.logged ∙ ap (λ side. old.log ++ bytes_from (peer_of side) bytes) well.side
+
+    heard : sent_by Verifier new.log ≡ sent_by Verifier old.log ++ bytes
+    heard = ap (sent_by Verifier) logged ∙ verifier_says old.log bytes
+
+-- ---- a frame came, or none
+
+-- a frame has come
+pub comes : (job : ProverJob) (course : Course) (place : ProverPlace) (awaited : Expect) (frame : Frame) (old new : LineState)
+    → IsLineAt job course place old → Arrives awaited frame old new → Comes job course place frame new
+comes job course place awaited frame old new at arrives = record {
+  before = old.log;
+  waited = at.log;
+  logged = well.logged ∙ ap (λ l. old.log ++ bytes_from Verifier l) arrives.whole.spelled;
+  well = record {
+    received = arrives.read ∙ ap idle (ap (λ n. n + length arrives.bytes) (ap (λ (r : Reading). r.received) at.well.received) ∙ sym well.count);
+    told = well.told;
+    came = well.came;
+    side = well.side;
+    is_open = well.is_open;
+    receives = omega (arith, arrives.receives, at.well.receives, well.count);
+    faults = arrives.unfailed ∙ at.well.faults;
+  };
+}
+  where
+    well : CameWell course.first old new arrives.bytes
+    well = came_well course.first old new arrives.bytes at.well arrives.came
+
+    idle : ℕ → Reading
+    idle n = record { received = n; expected = None; taken = []; bad = None }
+
+-- counts of a line's fault
+counts_line : (f : LineFault) (first old new : ℕ) → old ≡ first → old ≤ new → (lines.IsNoLink f → new ≡ old)
+    → CountsOutcome (line_outcome f) first new
+counts_line (fault.PeerEnded at) first old new same later unfailed = record { later = omega (arith, same, later); unfailed = λ no. unfailed tt ∙ same }
+counts_line (fault.BadFrame at) first old new same later unfailed = record { later = omega (arith, same, later); unfailed = λ no. unfailed tt ∙ same }
+counts_line fault.Link first old new same later unfailed = record { later = omega (arith, same, later); unfailed = λ no. absurd no }
+counts_line fault.NoMemory first old new same later unfailed = record { later = omega (arith, same, later); unfailed = λ no. unfailed tt ∙ same }
+
+-- what was sent is for an honest prover, whatever the fault
+sent_line : (f : LineFault) (job : ProverJob) (log : List (Side × ℕ))
+    → ((inputs wires : List ℕ) → IsWitness job.statement inputs wires job.given → HasEndedHonestly (task_of job inputs) log)
+    → SendsHonestly job log (line_outcome f)
+sent_line (fault.PeerEnded at) job log ended inputs wires witness = ended inputs wires witness
+sent_line (fault.BadFrame at) job log ended inputs wires witness = ended inputs wires witness
+sent_line fault.Link job log ended inputs wires witness = from_ended job inputs log (ended inputs wires witness)
+sent_line fault.NoMemory job log ended inputs wires witness = from_ended job inputs log (ended inputs wires witness)
+
+-- none has come
+pub stops_taking : (job : ProverJob) (course : Course) (place : ProverPlace) (awaited : Expect) (f : LineFault) (old new : LineState)
+    → IsSound job → IsLineAt job course place old → prover_expects place ≡ Some awaited → Fails awaited f old new
+    → Ends job course (line_outcome f) new
+stops_taking job course place awaited f old new sound at expected fails = record {
+  outcome_is = by_fault f fails.broken;
+  asked = subst (λ l. IsAskedRight job course.claim l) (sym well.logged) (asked_at job course.claim place old.log (bytes_from Verifier fails.bytes) at.log);
+  honest = sent_line f job new.log ended;
+  claimed = claimed;
+  logged = logged_whole job course.claim (line_outcome f) new.log course.first.told new.told well.told
+      (λ inputs wires witness. from_ended job inputs new.log (ended inputs wires witness)) claimed;
+  came = well.came;
+  receives = omega (arith, fails.receives, at.well.receives, well.count);
+  count = counts_line f course.first.faults old.faults new.faults at.well.faults fails.count.later fails.count.unfailed;
+  is_open = well.is_open;
+}
+  where
+    well : CameWell course.first old new fails.bytes
+    well = came_well course.first old new fails.bytes at.well fails.came
+
+    ended : (inputs wires : List ℕ) → IsWitness job.statement inputs wires job.given → HasEndedHonestly (task_of job inputs) new.log
+    ended inputs wires witness = subst (λ l. HasEndedHonestly (task_of job inputs) l) (sym well.logged)
+        (has_answered job course.claim place awaited old.log fails.bytes inputs wires sound at.log expected fails.few fails.unfinished witness)
+
+    claimed : SendsOnceClaimed job course.claim new.log
+    claimed = subst (λ l. SendsOnceClaimed job course.claim l) (sym well.logged) (once_claimed job course.claim place old.log fails.bytes at.log)
+
+    received : old.reading.received ≡ length (sent_by Verifier old.log)
+    received = ap (λ (r : Reading). r.received) at.well.received
+
+    by_fault : (f : LineFault) → lines.Breaks awaited fails.bytes old new f
+        → IsOutcome job course.claim new.log
+        (record { ended = new.ended; to_come = new.to_come; before = course.first.faults; after = new.faults }) (line_outcome f)
+    by_fault (fault.PeerEnded place_at) broken = (
+      record {
+        place = place;
+        before = old.log;
+        waited = at.log;
+        expect = awaited;
+        expected = expected;
+        rest = fails.bytes;
+        few = fails.few;
+        logged = well.logged;
+        cause = (broken.1, broken.2);
+      },
+      broken.0 ∙ ap (λ n. n + length fails.bytes) received ∙ sym well.count,
+      broken.3,
+      broken.4,
+    )
+    by_fault (fault.BadFrame place_at) broken = (
+      broken.0,
+      record {
+        place = place;
+        before = old.log;
+        waited = at.log;
+        expect = awaited;
+        expected = expected;
+        rest = fails.bytes;
+        few = fails.few;
+        logged = well.logged;
+        cause = (broken.1, (let is = broken.2 in omega (arith, is, received, well.count)));
+      },
+    )
+    by_fault fault.Link broken = subst (λ n. Rose n new.faults) at.well.faults broken
+    by_fault fault.NoMemory broken = tt

@@ -1,0 +1,302 @@
+-- A greeting, and what comes in the grant's place.
+use Rattle.std.proofs.Common.{◌≡◌, inl, inr, ℕ, ◌+◌, ◌≤◌, List, [], ◌++◌, length, Bool, true, false, nat_lt, Some, None, Result, Ok, Err, IfErr, refl, ap, sym, ◌∙◌, subst, append-nil, arith}
+use Rattle.std.proofs.lemmas.Bool.{ltb-true, ltb-false}
+use Rattle.std.specs.Prelude.{IfOk}
+use Rattle.zk_model.specs.declared.Span.{Span}
+use Rattle.zk_model.specs.Transcript.{Grant, IsGrant, bytes_from, sent_by, grant_frame, corrections_frame, refuse_frame}
+use Rattle.zk_model.specs.Frames.{Frame, grant, refuse, Allows, FitsGrant, FitsRefusal, frame_spelling}
+use Rattle.zk_model.specs.HonestProver.{ProverTask, IsWitness, AreHonestBytes}
+use Rattle.zk_model.specs.Peers.{IsFromHonestProver, HasEndedHonestly}
+use Rattle.zk_model.specs.declared.Expect.TheVariants as expect
+use Rattle.zk_model.specs.declared.Side.TheVariants.{Prover, Verifier}
+use Rattle.zk_port.specs.Logs.{appended, put_before}
+use Rattle.claim_store.specs.declared.ClaimFault.{ClaimFault}
+use Rattle.claim_store.specs.declared.ClaimFault.TheVariants as refusal
+use Rattle.frame_link.specs.Lines.{LineState, Sends}
+use Rattle.frame_link.specs.declared.fault.LineFault.{LineFault}
+use Rattle.proof_frames.specs.Readings.{Reading}
+use Rattle.session_core.specs.Jobs.{ProverJob, Suits}
+use Rattle.session_core.specs.Cores.{ProverPlace, awaits_grant}
+use Rattle.session_prover.specs.declared.note.ProverOutcome.{ProverOutcome}
+use Rattle.session_prover.specs.declared.note.ProverOutcome.TheVariants as outcome
+use Rattle.session_prover.specs.Outcomes.{line_outcome, claim_outcome}
+use Rattle.session_prover.specs.Stages.{Claim, ClaimedFor, RefusedFor, Course, GoesWell, IsLineAt, IsLineTaken, greeting, greeted_log, granted_log}
+use Rattle.session_prover.specs.Notes.{task_of, IsOutcome, SendsHonestly, Ends}
+use Rattle.session_prover.specs.Turns.{IsSound, SendStops, IsFresh, Comes, IsGrantTaken, IsNoGrant}
+use Rattle.session_prover.proofs.Sides.{own_bytes, appended_none, before_none, verifier_says, prover_hears}
+use Rattle.session_prover.proofs.Heard.{Hears}
+use Rattle.session_prover.proofs.Unheard.{one_grant, no_challenge}
+use Rattle.session_prover.proofs.Honest.{greets, corrects, fixed_exists}
+use Rattle.session_prover.proofs.Waiting.{greeted_sent, greeted_heard, granted_sent, granted_heard, from_ended}
+use Rattle.session_prover.proofs.Ending.{suits_is, logged_whole}
+use Rattle.session_prover.proofs.Answering.{IsDue, stops_sending_at, same_grant, no_refusal_is_grant}
+
+-- ---- the greeting
+
+-- nothing has passed
+fresh_well : (line : LineState) → IsFresh line → GoesWell line line
+fresh_well line fresh = record {
+  received = fresh.reading ∙ ap idle (ap length (ap (sent_by Verifier) (sym fresh.log)));
+  told = appended_none line.told ∙ ap (λ l. appended l line.told) (sym fresh.log);
+  came = before_none line.to_come ∙ ap (λ l. put_before (sent_by Verifier l) line.to_come) (sym fresh.log);
+  side = fresh.side;
+  is_open = fresh.is_open;
+  receives = omega arith;
+  faults = refl;
+}
+  where
+    idle : ℕ → Reading
+    idle n = record { received = n; expected = None; taken = []; bad = None }
+
+-- nothing was heard
+no_bytes : (task : ProverTask) → Hears task [] 0 → ⊥
+no_bytes task heard = let whole = ap length heard.begun in absurd (omega (arith, whole))
+
+-- the greeting is due
+greeting_due : (job : ProverJob) (claim : Claim) → IsSound job → claim.answer ≡ None → IsDue job claim [] (greeting job)
+greeting_due job claim sound unasked = record {
+  honest = λ inputs wires witness. greets job inputs [] sound (no_bytes (task_of job inputs));
+  asked = λ more. inl unasked;
+  claimed = λ more rest is. inl (rest, is ∙ ap (λ l. l ++ rest) (sym (own_bytes Prover more)));
+}
+
+-- it is sent
+pub greeted : (job : ProverJob) (course : Course) (old new : LineState) → course.first ≡ old → course.claim.answer ≡ None → IsFresh old
+    → Sends (greeting job) old new → IsLineAt job course awaits_grant new
+greeted job course old new first unasked fresh sends = record {
+  log = (unasked, logged);
+  well = subst (λ (s : LineState). GoesWell s new) (sym first) (record {
+    received = sends.others.reading ∙ fresh.reading ∙ ap idle (ap length (sym heard));
+    told = sends.told ∙ ap (λ side. appended (bytes_from side (greeting job)) old.told) fresh.side ∙ ap (λ l. appended l old.told) (sym logged);
+    came = before_none old.to_come ∙ (λ i. put_before (sym heard i) (sym sends.others.to_come i));
+    side = sends.others.side ∙ fresh.side;
+    is_open = sends.others.is_open ∙ fresh.is_open;
+    receives = (let same = sends.others.receives in omega (arith, same));
+    faults = sends.unfailed;
+  });
+}
+  where
+    logged : new.log ≡ greeted_log job
+    logged = sends.logged ∙ (λ i. fresh.log i ++ bytes_from (fresh.side i) (greeting job))
+
+    heard : sent_by Verifier new.log ≡ []
+    heard = ap (sent_by Verifier) logged ∙ greeted_heard job
+
+    idle : ℕ → Reading
+    idle n = record { received = n; expected = None; taken = []; bad = None }
+
+-- it is not sent
+pub stops_greeting : (job : ProverJob) (course : Course) (f : LineFault) (old new : LineState) → IsSound job → course.first ≡ old
+    → course.claim.answer ≡ None → IsFresh old → SendStops (greeting job) f old new → Ends job course (line_outcome f) new
+stops_greeting job course f old new sound first unasked fresh stops =
+    stops_sending_at job course (greeting job) f old new (subst (λ (s : LineState). GoesWell s old) (sym first) (fresh_well old fresh))
+    (subst (λ l. IsDue job course.claim l (greeting job)) (sym fresh.log) (greeting_due job course.claim sound unasked)) stops
+
+-- ---- what comes
+
+refused_heard : (job : ProverJob) (code : ℕ) → sent_by Verifier (greeted_log job ++ bytes_from Verifier (refuse_frame code)) ≡ refuse_frame code
+refused_heard job code = verifier_says (greeted_log job) (refuse_frame code) ∙ ap (λ l. l ++ refuse_frame code) (greeted_heard job)
+
+refused_sent : (job : ProverJob) (code : ℕ) → sent_by Prover (greeted_log job ++ bytes_from Verifier (refuse_frame code)) ≡ greeting job
+refused_sent job code = prover_hears (greeted_log job) (refuse_frame code) ∙ greeted_sent job
+
+-- a log, where the greeting alone was sent and is what an honest prover sends
+ends_greeted : (job : ProverJob) (course : Course) (result : ProverOutcome) (new : LineState) → GoesWell course.first new
+    → course.claim.answer ≡ None → sent_by Prover new.log ≡ greeting job
+    → ((inputs wires : List ℕ) → IsWitness job.statement inputs wires job.given → HasEndedHonestly (task_of job inputs) new.log)
+    → SendsHonestly job new.log result
+    → IsOutcome job course.claim new.log (record { ended = new.ended; to_come = new.to_come; before = course.first.faults; after = new.faults }) result
+    → Ends job course result new
+ends_greeted job course result new well unasked sent ended honest is = record {
+  outcome_is = is;
+  asked = inl unasked;
+  honest = honest;
+  claimed = inl ([], sym (append-nil (sent_by Prover new.log) ∙ sent));
+  logged = logged_whole job course.claim result new.log course.first.told new.told well.told
+      (λ inputs wires witness. from_ended job inputs new.log (ended inputs wires witness))
+      (inl ([], sym (append-nil (sent_by Prover new.log) ∙ sent)));
+  came = well.came;
+  receives = (let few = well.receives in omega (arith, few));
+  count = (let same = well.faults in record { later = omega (arith, same); unfailed = λ _. same });
+  is_open = well.is_open;
+}
+
+-- a grant has come
+pub grant_taken : (job : ProverJob) (course : Course) (frame : Frame) (given : Grant) (new : LineState) → Comes job course awaits_grant frame new
+    → Allows expect.Grant frame → frame ≡ grant given → IsGrantTaken job course.first given new
+grant_taken job course frame given new come allowed is = record {
+  fits = fits allowed;
+  log = come.logged ∙ (λ i. come.waited.1 i ++ bytes_from Verifier (frame_spelling (is i)));
+  well = come.well;
+}
+  where
+    fits : Allows expect.Grant frame → FitsGrant given
+    fits (inl (other, is_too, ranged)) = subst FitsGrant (same_grant other given (sym is_too ∙ is)) ranged
+    fits (inr (code, is_too, ranged)) = absurd (no_refusal_is_grant code given (sym is_too ∙ is))
+
+code_or : ℕ → Frame → ℕ
+code_or other (refuse code) = code
+code_or other frame = other
+
+same_code : (one other : ℕ) → refuse one ≡ refuse other → one ≡ other
+unfolding code_or
+same_code one other is = ap (code_or one) is
+
+-- no grant that suits has come
+pub ends_ungranted : (job : ProverJob) (course : Course) (frame : Frame) (result : ProverOutcome) (new : LineState) → IsSound job
+    → Comes job course awaits_grant frame new → Allows expect.Grant frame → IsNoGrant job frame result → Ends job course result new
+ends_ungranted job course frame outcome.BadGrant new sound come allowed (given, is, unsuited) =
+    ends_greeted job course outcome.BadGrant new come.well come.waited.0 sent ended (λ inputs wires witness. (ended inputs wires witness, sent))
+    (given, taken.fits, unsuited, taken.log)
+  where
+    taken : IsGrantTaken job course.first given new
+    taken = grant_taken job course frame given new come allowed is
+
+    sent : sent_by Prover new.log ≡ greeting job
+    sent = ap (sent_by Prover) taken.log ∙ granted_sent job given
+
+    ended : (inputs wires : List ℕ) → IsWitness job.statement inputs wires job.given → HasEndedHonestly (task_of job inputs) new.log
+    ended inputs wires witness =
+        subst (λ (q : List ℕ × List ℕ). AreHonestBytes (task_of job inputs) q.0 q.1)
+        (λ i. (sym (ap (sent_by Verifier) taken.log ∙ granted_heard job given) i, sym sent i))
+        (greets job inputs (grant_frame given) sound
+        (λ heard. unsuited (suits_is job.file.params job.statement.program given
+        (one_grant (task_of job inputs) given sound.file.params.total taken.fits heard))))
+ends_ungranted job course frame (outcome.PeerRefused code) new sound come allowed is =
+    ends_greeted job course (outcome.PeerRefused code) new come.well come.waited.0 sent ended (λ inputs wires witness. (ended inputs wires witness, sent))
+    (fits allowed, logged)
+  where
+    logged : new.log ≡ greeted_log job ++ bytes_from Verifier (refuse_frame code)
+    logged = come.logged ∙ (λ i. come.waited.1 i ++ bytes_from Verifier (frame_spelling (is i)))
+
+    sent : sent_by Prover new.log ≡ greeting job
+    sent = ap (sent_by Prover) logged ∙ refused_sent job code
+
+    fits : Allows expect.Grant frame → FitsRefusal code
+    fits (inl (given, is_too, ranged)) = absurd (no_refusal_is_grant code given (sym is ∙ is_too))
+    fits (inr (other, is_too, ranged)) = subst FitsRefusal (same_code other code (sym is_too ∙ is)) ranged
+
+    ended : (inputs wires : List ℕ) → IsWitness job.statement inputs wires job.given → HasEndedHonestly (task_of job inputs) new.log
+    ended inputs wires witness =
+        subst (λ (q : List ℕ × List ℕ). AreHonestBytes (task_of job inputs) q.0 q.1)
+        (λ i. (sym (ap (sent_by Verifier) logged ∙ refused_heard job code) i, sym sent i))
+        (greets job inputs (refuse_frame code) sound (λ heard. let whole = ap length heard.begun in absurd (omega (arith, whole))))
+ends_ungranted job course frame outcome.Accepted new sound come allowed is = absurd is
+ends_ungranted job course frame (outcome.Rejected code number) new sound come allowed is = absurd is
+ends_ungranted job course frame (outcome.PeerEnded at) new sound come allowed is = absurd is
+ends_ungranted job course frame (outcome.BadFrame at) new sound come allowed is = absurd is
+ends_ungranted job course frame (outcome.Broken first) new sound come allowed is = absurd is
+ends_ungranted job course frame (outcome.OutOfRange total) new sound come allowed is = absurd is
+ends_ungranted job course frame (outcome.Overlap earlier) new sound come allowed is = absurd is
+ends_ungranted job course frame (outcome.Full slots) new sound come allowed is = absurd is
+ends_ungranted job course frame outcome.Device new sound come allowed is = absurd is
+ends_ungranted job course frame outcome.Link new sound come allowed is = absurd is
+ends_ungranted job course frame outcome.NoMemory new sound come allowed is = absurd is
+
+-- ---- the claim
+
+-- a grant that suits and lies in the file fits
+pub granted_is : (job : ProverJob) (given : Grant) → Suits job.file.params job.statement.program given
+    → given.start + given.count ≤ job.file.params.total → IsGrant job.file.params job.statement.program given
+granted_is job given suits within = record {
+  section_some = suits.section_some;
+  section_most = suits.section_most;
+  count = suits.count;
+  count_most = suits.count_most;
+  within = within;
+}
+
+-- a grant that suits has some units
+pub some_units : (job : ProverJob) (given : Grant) → Suits job.file.params job.statement.program given → 1 ≤ given.count
+some_units job given suits = let count = suits.count in omega (arith, count)
+
+-- a grant whose units are claimed is to be answered
+pub claimed_taken : (job : ProverJob) (course : Course) (given : Grant) (line : LineState) → Suits job.file.params job.statement.program given
+    → given.start + given.count ≤ job.file.params.total → IsGrantTaken job course.first given line → ClaimedFor course.claim given
+    → IsLineTaken job course awaits_grant (grant given) line
+claimed_taken job course given line suits within taken claimed =
+    record { log = (given, refl, claimed, granted_is job given suits within, taken.log); well = taken.well }
+
+-- the claimant has refused
+pub ends_unclaimed : (job : ProverJob) (course : Course) (given : Grant) (f : ClaimFault) (line : LineState) → IsSound job
+    → Suits job.file.params job.statement.program given → IsGrantTaken job course.first given line → RefusedFor course.claim given f
+    → Ends job course (claim_outcome f) line
+ends_unclaimed job course given f line sound suits taken refused = record {
+  outcome_is = caused f refused;
+  asked = inr (given, record { suits = suits; begun = ([], taken.log ∙ sym (append-nil (granted_log job given))) }, inr (f, refused));
+  honest = honest f;
+  claimed = inl ([], sym (append-nil (sent_by Prover line.log) ∙ sent));
+  logged = logged_whole job course.claim (claim_outcome f) line.log course.first.told line.told taken.well.told from
+      (inl ([], sym (append-nil (sent_by Prover line.log) ∙ sent)));
+  came = taken.well.came;
+  receives = (let few = taken.well.receives in omega (arith, few));
+  count = (let same = taken.well.faults in record { later = omega (arith, same); unfailed = λ _. same });
+  is_open = taken.well.is_open;
+}
+  where
+    sent : sent_by Prover line.log ≡ greeting job
+    sent = ap (sent_by Prover) taken.log ∙ granted_sent job given
+
+    heard : sent_by Verifier line.log ≡ grant_frame given
+    heard = ap (sent_by Verifier) taken.log ∙ granted_heard job given
+
+    -- an honest prover would answer it where it lies in the file
+    from : (inputs wires : List ℕ) → IsWitness job.statement inputs wires job.given → IsFromHonestProver (task_of job inputs) line.log
+    from inputs wires witness = by_range (nat_lt job.file.params.total (given.start + given.count)) refl
+      where
+        by_range : (b : Bool) → nat_lt job.file.params.total (given.start + given.count) ≡ b → IsFromHonestProver (task_of job inputs) line.log
+        by_range true past = (
+          greeting job,
+          subst (λ l. AreHonestBytes (task_of job inputs) l (greeting job)) (sym heard)
+              (greets job inputs (grant_frame given) sound (λ h.
+              let within = (one_grant (task_of job inputs) given sound.file.params.total taken.fits h).within in
+              let over = ltb-true job.file.params.total (given.start + given.count) past in
+              absurd (omega (arith, within, over)))),
+          ([], sym (append-nil (sent_by Prover line.log) ∙ sent)),
+        )
+        by_range false within =
+            let granted = granted_is job given suits (ltb-false job.file.params.total (given.start + given.count) within) in
+            let found = fixed_exists job given sound granted in (
+              greeting job ++ corrections_frame found.0,
+              subst (λ l. AreHonestBytes (task_of job inputs) l (greeting job ++ corrections_frame found.0)) (append-nil (grant_frame given) ∙ sym heard)
+                  (corrects job given found.0 found.1 inputs wires [] sound found.2 witness
+                  (no_challenge (task_of job inputs) given [] (omega arith) (inl (omega arith)))),
+              (corrections_frame found.0, ap (λ l. l ++ corrections_frame found.0) (sym sent)),
+            )
+
+    caused : (f : ClaimFault) → RefusedFor course.claim given f → IsOutcome job course.claim line.log
+        (record { ended = line.ended; to_come = line.to_come; before = course.first.faults; after = line.faults }) (claim_outcome f)
+    caused (refusal.Broken first) refused = (given, suits, refused, taken.log)
+    caused (refusal.OutOfRange total) refused = (given, suits, refused, taken.log)
+    caused (refusal.Overlap earlier) refused = (given, suits, refused, taken.log)
+    caused (refusal.Full slots) refused = (given, suits, refused, taken.log)
+    caused refusal.Device refused = (given, suits, refused, taken.log)
+    caused refusal.NoMemory refused = tt
+
+    honest : (f : ClaimFault) → SendsHonestly job line.log (claim_outcome f)
+    honest (refusal.Broken first) inputs wires witness = (from inputs wires witness, sent)
+    honest (refusal.OutOfRange total) inputs wires witness = (from inputs wires witness, sent)
+    honest (refusal.Overlap earlier) inputs wires witness = (from inputs wires witness, sent)
+    honest (refusal.Full slots) inputs wires witness = (from inputs wires witness, sent)
+    honest refusal.Device inputs wires witness = (from inputs wires witness, sent)
+    honest refusal.NoMemory inputs wires witness = from inputs wires witness
+
+-- the same, where the prover waits for a grant
+pub claimed_at : (job : ProverJob) (course : Course) (place : ProverPlace) (given : Grant) (line : LineState) → place ≡ awaits_grant
+    → Suits job.file.params job.statement.program given → given.start + given.count ≤ job.file.params.total
+    → IsGrantTaken job course.first given line → ClaimedFor course.claim given → IsLineTaken job course place (grant given) line
+claimed_at job course place given line there suits within taken claimed =
+    subst (λ p. IsLineTaken job course p (grant given) line) (sym there) (claimed_taken job course given line suits within taken claimed)
+
+-- what a claimant answered, by cases
+pub claimed_by : (claim : Claim) (given : Grant) (result : Result Span ClaimFault) → claim.asked ≡ Some (given.start, given.count)
+    → claim.answer ≡ Some result → IfOk result (λ span. span.start ≡ given.start) → IfOk result (λ span. span.end ≡ given.start + given.count)
+    → IfOk result (λ _. ClaimedFor claim given)
+claimed_by claim given (Ok span) asked told first last =
+    record { asked = asked; answer = told ∙ (λ i. Some (Ok (record { start = first i; end = last i }))) }
+claimed_by claim given (Err f) asked told first last = tt
+
+pub refused_by : (claim : Claim) (given : Grant) (result : Result Span ClaimFault) → claim.asked ≡ Some (given.start, given.count)
+    → claim.answer ≡ Some result → IfErr result (RefusedFor claim given)
+refused_by claim given (Ok span) asked told = tt
+refused_by claim given (Err f) asked told = record { asked = asked; answer = told }

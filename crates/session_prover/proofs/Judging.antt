@@ -1,0 +1,172 @@
+-- A verdict has come.
+use Rattle.std.proofs.Common.{◌≡◌, ℕ, List, [], ◌++◌, Result, Ok, Err, IfErr, OnOk, refl, ap, sym, ◌∙◌, subst, arith}
+use Rattle.std.specs.Prelude.{IsSomeAnd}
+use Rattle.zk_model.specs.Transcript.{Grant, bytes_from, sent_by, grant_frame, challenge_frame, verdict_frame}
+use Rattle.zk_model.specs.Frames.{Frame, verdict, Allows, FitsVerdict, frame_spelling}
+use Rattle.zk_model.specs.HonestProver.{IsWitness, AreHonestBytes}
+use Rattle.zk_model.specs.Peers.{HasEndedHonestly}
+use Rattle.zk_model.specs.Check.{WirePairs}
+use Rattle.zk_model.specs.declared.Expect.TheVariants as expect
+use Rattle.zk_model.specs.declared.Side.{Side}
+use Rattle.zk_model.specs.declared.Side.TheVariants.{Prover, Verifier}
+use Rattle.frame_link.specs.Lines.{LineState}
+use Rattle.session_core.specs.Jobs.{ProverJob}
+use Rattle.session_core.specs.Cores.{ProverPlace, awaits_challenge, awaits_verdict, prover_expects}
+use Rattle.session_core.proofs.Spelled.{spelled}
+use Rattle.session_prover.specs.declared.note.ProverOutcome.{ProverOutcome}
+use Rattle.session_prover.specs.declared.note.ProverOutcome.TheVariants as outcome
+use Rattle.session_prover.specs.Stages.{Course, IsOpenedLog, IsLineTaken, opened_log}
+use Rattle.session_prover.specs.Notes.{task_of, ReadsVerdict, IsAskedRight, SendsOnceClaimed, Ends}
+use Rattle.session_prover.specs.Turns.{IsSound, Comes, IsRejection}
+use Rattle.session_prover.proofs.Sides.{prover_hears, verifier_says}
+use Rattle.session_prover.proofs.Honest.{made, made_is, made_honest, finishes, all_sent}
+use Rattle.session_prover.proofs.Waiting.{opened_sent, opened_heard, from_ended}
+use Rattle.session_prover.proofs.Ending.{asked_at, once_claimed, logged_whole}
+
+-- a challenge has come
+pub challenge_taken : (job : ProverJob) (course : Course) (place : ProverPlace) (frame : Frame) (given : Grant) (wires : WirePairs) (line : LineState)
+    → place ≡ awaits_challenge given wires → Comes job course place frame line → Allows expect.Challenge frame
+    → IsLineTaken job course place frame line
+challenge_taken job course place frame given wires line there come (element, is, ranged) =
+    subst (λ p. IsLineTaken job course p frame line) (sym there)
+    (taken (subst (λ p. Comes job course p frame line) there come))
+  where
+    taken : Comes job course (awaits_challenge given wires) frame line → IsLineTaken job course (awaits_challenge given wires) frame line
+    taken come = record {
+      log = (
+        element,
+        come.waited.0,
+        is,
+        ranged,
+        come.waited.1,
+        come.waited.2,
+        come.logged ∙ (λ i. come.waited.3 i ++ bytes_from Verifier (frame_spelling (is i))),
+      );
+      well = come.well;
+    }
+
+-- a verdict that was read
+record IsRead (job : ProverJob) (course : Course) (code number : ℕ) (line : LineState) : Type 0 where
+  reads : ReadsVerdict job line.log code number
+  ended : (inputs wires : List ℕ) → IsWitness job.statement inputs wires job.given → HasEndedHonestly (task_of job inputs) line.log
+  asked : IsAskedRight job course.claim line.log
+  claimed : SendsOnceClaimed job course.claim line.log
+
+is_read : (job : ProverJob) (course : Course) (frame : Frame) (code number : ℕ) (line : LineState) → IsSound job
+    → Comes job course awaits_verdict frame line → FitsVerdict code number → frame ≡ verdict code number → IsRead job course code number line
+is_read job course frame code number line sound come fits is = record {
+  reads = record {
+    t = made job opened.given opened.d opened.wires opened.element code number;
+    in_order = record {
+      stated = sound.stated;
+      hello = refl;
+      transcript = made_is job opened.given opened.d opened.wires opened.element code number sound opened.fixes opened.is fits.said fits.numbered;
+      bytes = logged ∙ spelled (made job opened.given opened.d opened.wires opened.element code number) [] _ _ _ _ _ _ _ refl refl refl refl refl refl refl refl refl;
+    };
+    honest = λ inputs wires witness. made_honest job opened.given opened.d opened.wires opened.element code number inputs wires opened.fixes witness;
+    code_is = refl;
+    number_is = refl;
+  };
+  ended = λ inputs wires witness.
+      subst (λ (q : List ℕ × List ℕ). AreHonestBytes (task_of job inputs) q.0 q.1) (λ i. (sym heard i, sym sent i))
+      (finishes job opened.given opened.d opened.wires opened.element code number inputs wires sound opened.fixes opened.is fits.said fits.numbered witness);
+  asked = subst (λ l. IsAskedRight job course.claim l) (sym come.logged)
+      (asked_at job course.claim awaits_verdict come.before (bytes_from Verifier (frame_spelling frame)) opened);
+  claimed = subst (λ l. SendsOnceClaimed job course.claim l) (sym come.logged)
+      (once_claimed job course.claim awaits_verdict come.before (frame_spelling frame) opened);
+}
+  where
+    opened : IsOpenedLog job course.claim come.before
+    opened = come.waited
+
+    before : List (Side × ℕ)
+    before = opened_log job opened.given opened.d opened.wires opened.element
+
+    logged : line.log ≡ opened_log job opened.given opened.d opened.wires opened.element ++ bytes_from Verifier (verdict_frame code number)
+    logged = come.logged ∙ (λ i. opened.logged i ++ bytes_from Verifier (frame_spelling (is i)))
+
+    heard : sent_by Verifier line.log ≡ grant_frame opened.given ++ challenge_frame opened.element ++ verdict_frame code number
+    heard = ap (sent_by Verifier) logged ∙ verifier_says (opened_log job opened.given opened.d opened.wires opened.element) (verdict_frame code number)
+        ∙ ap (λ l. l ++ verdict_frame code number) (opened_heard job opened.given opened.d opened.wires opened.element)
+
+    sent : sent_by Prover line.log ≡ all_sent job opened.given opened.d opened.wires opened.element
+    sent = ap (sent_by Prover) logged ∙ prover_hears (opened_log job opened.given opened.d opened.wires opened.element) (verdict_frame code number)
+        ∙ opened_sent job opened.given opened.d opened.wires opened.element
+
+fits_of : (frame : Frame) (code number : ℕ) → Allows expect.Verdict frame → frame ≡ verdict code number → FitsVerdict code number
+fits_of frame code number (some, other, is_too, fits) is =
+    subst (λ (q : ℕ × ℕ). FitsVerdict q.0 q.1) (λ i. (code_in (same i), number_in (same i))) fits
+  where
+    same : verdict some other ≡ verdict code number
+    same = sym is_too ∙ is
+
+    code_in : Frame → ℕ
+    code_in (verdict said named) = said
+    code_in frame = 0
+
+    number_in : Frame → ℕ
+    number_in (verdict said named) = named
+    number_in frame = 0
+
+-- that every check holds
+pub ends_accepted : (job : ProverJob) (course : Course) (frame : Frame) (number : ℕ) (line : LineState) → IsSound job
+    → Comes job course awaits_verdict frame line → Allows expect.Verdict frame → frame ≡ verdict 0 number → Ends job course outcome.Accepted line
+ends_accepted job course frame number line sound come allowed is = record {
+  outcome_is = (number, read.reads);
+  asked = read.asked;
+  honest = read.ended;
+  claimed = read.claimed;
+  logged = logged_whole job course.claim outcome.Accepted line.log course.first.told line.told come.well.told
+      (λ inputs wires witness. from_ended job inputs line.log (read.ended inputs wires witness)) read.claimed;
+  came = come.well.came;
+  receives = (let few = come.well.receives in omega (arith, few));
+  count = (let same = come.well.faults in record { later = omega (arith, same); unfailed = λ _. same });
+  is_open = come.well.is_open;
+}
+  where
+    read : IsRead job course 0 number line
+    read = is_read job course frame 0 number line sound come (fits_of frame 0 number allowed is) is
+
+-- or that one does not
+pub ends_rejected : (job : ProverJob) (course : Course) (frame : Frame) (result : ProverOutcome) (line : LineState) → IsSound job
+    → Comes job course awaits_verdict frame line → Allows expect.Verdict frame → IsRejection frame result → Ends job course result line
+ends_rejected job course frame (outcome.Rejected code number) line sound come allowed (some, is) = record {
+  outcome_is = (some, read.reads);
+  asked = read.asked;
+  honest = read.ended;
+  claimed = read.claimed;
+  logged = logged_whole job course.claim (outcome.Rejected code number) line.log course.first.told line.told come.well.told
+      (λ inputs wires witness. from_ended job inputs line.log (read.ended inputs wires witness)) read.claimed;
+  came = come.well.came;
+  receives = (let few = come.well.receives in omega (arith, few));
+  count = (let same = come.well.faults in record { later = omega (arith, same); unfailed = λ _. same });
+  is_open = come.well.is_open;
+}
+  where
+    read : IsRead job course code number line
+    read = is_read job course frame code number line sound come (fits_of frame code number allowed is) is
+ends_rejected job course frame outcome.Accepted line sound come allowed is = absurd is
+ends_rejected job course frame (outcome.PeerEnded at) line sound come allowed is = absurd is
+ends_rejected job course frame (outcome.BadFrame at) line sound come allowed is = absurd is
+ends_rejected job course frame outcome.BadGrant line sound come allowed is = absurd is
+ends_rejected job course frame (outcome.PeerRefused code) line sound come allowed is = absurd is
+ends_rejected job course frame (outcome.Broken first) line sound come allowed is = absurd is
+ends_rejected job course frame (outcome.OutOfRange total) line sound come allowed is = absurd is
+ends_rejected job course frame (outcome.Overlap earlier) line sound come allowed is = absurd is
+ends_rejected job course frame (outcome.Full slots) line sound come allowed is = absurd is
+ends_rejected job course frame outcome.Device line sound come allowed is = absurd is
+ends_rejected job course frame outcome.Link line sound come allowed is = absurd is
+ends_rejected job course frame outcome.NoMemory line sound come allowed is = absurd is
+
+-- what is allowed where a challenge is expected
+pub challenge_allowed : (place : ProverPlace) (frame : Frame) (given : Grant) (wires : WirePairs) → place ≡ awaits_challenge given wires
+    → IsSomeAnd (prover_expects place) (λ e. Allows e frame) → Allows expect.Challenge frame
+challenge_allowed place frame given wires there allowed =
+    subst (λ p. IsSomeAnd (prover_expects p) (λ e. Allows e frame)) there allowed
+
+-- how a session ended, by whether it was accepted
+pub ends_with : (job : ProverJob) (course : Course) (held : Result (Unit {0}) ProverOutcome) (result : ProverOutcome) (line : LineState)
+    → OnOk held (Ends job course outcome.Accepted line) → IfErr held (λ o. Ends job course o line)
+    → OnOk held (result ≡ outcome.Accepted) → IfErr held (λ o. result ≡ o) → Ends job course result line
+ends_with job course (Ok done) result line accepted ends is other = subst (λ o. Ends job course o line) (sym is) accepted
+ends_with job course (Err o) result line accepted ends is other = subst (λ r. Ends job course r line) (sym other) ends

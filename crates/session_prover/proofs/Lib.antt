@@ -1,0 +1,12 @@
+mod Sides
+mod Heard
+mod Honest
+mod Unheard
+mod Waiting
+mod Ending
+mod Sending
+mod Answering
+mod Short
+mod Granting
+mod Judging
+mod Completed

@@ -1,0 +1,52 @@
+-- With an honest verifier a session is accepted.
+use Rattle.std.specs.Prelude.{◌≡◌, ◌⊎◌, ℕ, List, flat_map, Option, Some}
+use Rattle.zk_model.specs.Transcript.{Transcript, session_turns, spelling, sent_by}
+use Rattle.zk_model.specs.HonestProver.{IsWitness}
+use Rattle.zk_model.specs.ServedVerifier.{VerifierTask, IsServed}
+use Rattle.zk_model.specs.Peers.{IsFromHonestVerifier}
+use Rattle.zk_model.specs.declared.Side.{Side}
+use Rattle.zk_model.specs.declared.Side.TheVariants.{Verifier}
+use Rattle.zk_model.specs.declared.Span.{Span}
+use Rattle.zk_model.specs.declared.Verdict.{Verdict}
+use Rattle.zk_port.specs.Counts.{Rose}
+use Rattle.zk_laws.specs.Rehearsing.{AreCounterparts}
+use Rattle.session_laws.specs.Peers.{GivesClaims}
+use Rattle.session_core.specs.Jobs.{ProverJob}
+use Rattle.session_prover.specs.Notes.{Told, task_of}
+use Rattle.session_prover.specs.declared.note.ProverOutcome.{ProverOutcome}
+use Rattle.session_prover.specs.declared.note.ProverOutcome.TheVariants.{Accepted, PeerEnded, NoMemory}
+
+-- the peer ended
+abbrev pub IsPeerEnd : ProverOutcome → Type 0
+IsPeerEnd (PeerEnded at) = Unit {0}
+IsPeerEnd outcome = ⊥
+
+-- what came from the verifier is all that it says in a session that it serves, up to its verdict
+pub record HasSpoken (verifier : VerifierTask) (log : List (Side × ℕ)) : Type 0 where
+  pub t : Transcript
+  pub verdict : Verdict
+  pub served : IsServed verifier t verdict (spelling t)
+  pub spoken : sent_by Verifier log ≡ flat_map (λ turn. turn.1) (session_turns t)
+
+-- The peer is an honest verifier with the same statement and a file that is dealt with the job's, whose given values give the
+-- claims: what came from it is a beginning of what such a verifier says to what the prover sent, and it ended only behind all
+-- of that.
+pub record HasHonestPeer
+    (job : ProverJob)
+    (inputs : List ℕ)
+    (verifier : VerifierTask)
+    (outcome : ProverOutcome)
+    (log : List (Side × ℕ)) : Type 0 where
+  pub counterparts : AreCounterparts (task_of job inputs) verifier
+  pub wires : List ℕ
+  pub witness : IsWitness job.statement inputs wires job.given
+  pub claims : GivesClaims (task_of job inputs)
+  pub honest : IsFromHonestVerifier verifier log
+  pub ended : IsPeerEnd outcome → HasSpoken verifier log
+
+-- with an honest peer, where the units are claimed and the link's count did not rise, the session is accepted, unless memory
+-- was wanting
+abbrev pub Completes : ProverJob → Option Span → List (Side × ℕ) → Told → ProverOutcome → Type 0
+Completes job granted log told outcome = (inputs : List ℕ) (verifier : VerifierTask) (span : Span)
+    → HasHonestPeer job inputs verifier outcome log → granted ≡ Some span → ¬ Rose told.before told.after
+    → (outcome ≡ Accepted) ⊎ (outcome ≡ NoMemory)

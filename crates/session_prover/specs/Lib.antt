@@ -1,0 +1,5 @@
+pub mod Outcomes
+pub mod Stages
+pub mod Notes
+pub mod Turns
+pub mod Completing

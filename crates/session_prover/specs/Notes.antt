@@ -1,0 +1,190 @@
+-- What a prover's note says of its session.
+use Rattle.std.specs.Prelude.{◌≡◌, ◌⊎◌, ℕ, ◌+◌, ◌≤◌, ◌<◌, List, [], ◌++◌, length, Bool, true, Option, Some, None, IfSome, Result, Ok, Err}
+use Rattle.zk_model.specs.Transcript.{Grant, Transcript, IsInOrder, BeginsWith, refuse_frame, bytes_from, sent_by}
+use Rattle.zk_model.specs.Frames.{CanGoOn, IsFirstBad, FitsGrant, FitsRefusal, frame_length}
+use Rattle.zk_model.specs.HonestProver.{ProverTask, IsWitness, IsHonest}
+use Rattle.zk_model.specs.Peers.{IsFromHonestProver, HasEndedHonestly}
+use Rattle.zk_model.specs.declared.Expect.{Expect}
+use Rattle.zk_model.specs.declared.Side.{Side}
+use Rattle.zk_model.specs.declared.Side.TheVariants.{Prover, Verifier}
+use Rattle.zk_model.specs.declared.Span.{Span}
+use Rattle.zk_port.specs.Counts.{Rose}
+use Rattle.zk_port.specs.Logs.{appended, put_before}
+use Rattle.claim_store.specs.declared.ClaimFault.{ClaimFault}
+use Rattle.claim_store.specs.declared.ClaimFault.TheVariants as refusal
+use Rattle.frame_link.specs.Lines.{LineState, longest}
+use Rattle.session_core.specs.Jobs.{ProverJob, Suits}
+use Rattle.session_core.specs.Cores.{ProverPlace, prover_expects}
+use Rattle.session_prover.specs.Stages.{Claim, ClaimedFor, RefusedFor, Course, greeting, greeted_log, granted_log, IsLogAt}
+use Rattle.session_prover.specs.declared.note.ProverOutcome.{ProverOutcome}
+use Rattle.session_prover.specs.declared.note.ProverOutcome.TheVariants.{Accepted, Rejected, PeerEnded, BadFrame, BadGrant, PeerRefused, Broken, OutOfRange, Overlap, Full, Device, Link, NoMemory}
+
+-- what a prover with these inputs has
+abbrev pub task_of : ProverJob → List ℕ → ProverTask
+task_of job inputs = record { file = job.file; statement = job.statement; inputs = inputs }
+
+-- ---- the grant
+
+-- the units that were claimed, if any were
+abbrev pub granted_of : Option (Result Span ClaimFault) → Option Span
+granted_of None = None
+granted_of (Some (Ok span)) = Some span
+granted_of (Some (Err fault)) = None
+
+-- the grant was read right behind the greeting, and it suits the job
+pub record IsGrantRead (job : ProverJob) (log : List (Side × ℕ)) (given : Grant) : Type 0 where
+  pub suits : Suits job.file.params job.statement.program given
+  pub begun : BeginsWith log (granted_log job given)
+
+-- The claimant was not asked; or it was for the units of a grant that was read and suits, and it claimed them or refused.
+abbrev pub IsAskedRight : ProverJob → Claim → List (Side × ℕ) → Type 0
+IsAskedRight job claim log = (claim.answer ≡ None)
+    ⊎ ((given : Grant) × IsGrantRead job log given
+    × (ClaimedFor claim given ⊎ ((fault : ClaimFault) × RefusedFor claim given fault)))
+
+-- The note has the units that the claimant claimed, and none where it claimed none; it was asked right.
+pub record IsGranted
+    (job : ProverJob)
+    (claim : Claim)
+    (log : List (Side × ℕ))
+    (granted : Option Span) : Type 0 where
+  pub granted_is : granted ≡ granted_of claim.answer
+  pub asked : IsAskedRight job claim log
+
+-- Nothing is sent past the greeting, unless the units of a grant that was read and suits are claimed.
+abbrev pub SendsOnceClaimed : ProverJob → Claim → List (Side × ℕ) → Type 0
+SendsOnceClaimed job claim log = BeginsWith (greeting job) (sent_by Prover log)
+    ⊎ ((given : Grant) × IsGrantRead job log given × ClaimedFor claim given)
+
+-- ---- the outcome
+
+-- The log is that of a whole session about the job's statement, whose verdict has this code and this number; the prover is
+-- honest in it, whatever values of wires and inputs its given values are of.
+pub record ReadsVerdict (job : ProverJob) (log : List (Side × ℕ)) (code number : ℕ) : Type 0 where
+  pub t : Transcript
+  pub in_order : IsInOrder job.file.params job.file.id job.statement t log
+  pub honest : (inputs wires : List ℕ) → IsWitness job.statement inputs wires job.given → IsHonest (task_of job inputs) t
+  pub code_is : t.code ≡ code
+  pub number_is : t.number ≡ number
+
+-- behind what is logged where the prover waited, bytes came of the frame that it expected, no more than such a frame has
+pub record StopsBehind
+    (job : ProverJob)
+    (claim : Claim)
+    (log : List (Side × ℕ))
+    (P : Expect → List ℕ → Type 0) : Type 0 where
+  pub place : ProverPlace
+  pub before : List (Side × ℕ)
+  pub waited : IsLogAt job claim place before
+  pub expect : Expect
+  pub expected : prover_expects place ≡ Some expect
+  pub rest : List ℕ
+  pub few : length rest ≤ longest expect
+  pub logged : log ≡ before ++ bytes_from Verifier rest
+  pub cause : P expect rest
+
+-- the claimant refused the units of the grant that was read
+abbrev pub IsRefused : ProverJob → Claim → List (Side × ℕ) → ClaimFault → Type 0
+IsRefused job claim log fault = (given : Grant)
+    × Suits job.file.params job.statement.program given × RefusedFor claim given fault × (log ≡ granted_log job given)
+
+-- what the link tells in the end: whether the peer was seen to have ended, what is to come, and how often a call has failed,
+-- before and after
+pub record Told : Type 0 where
+  pub ended : Option Bool
+  pub to_come : Option (List ℕ)
+  pub before : ℕ
+  pub after : ℕ
+
+-- Why a session ended so. A verdict, a refusal or a grant was read; the peer has ended, with bytes still wanted, when so many
+-- bytes had come; a byte at this place of all that came is the first bad one; the claimant refused; the link failed; memory
+-- was wanting.
+abbrev pub IsOutcome : ProverJob → Claim → List (Side × ℕ) → Told → ProverOutcome → Type 0
+IsOutcome job claim log told Accepted = (number : ℕ) × ReadsVerdict job log 0 number
+IsOutcome job claim log told (Rejected code number) = (1 ≤ code) × ReadsVerdict job log code number
+IsOutcome job claim log told (PeerEnded at) =
+    StopsBehind job claim log (λ expect rest. CanGoOn expect rest × (length rest < frame_length expect rest))
+    × (at ≡ length (sent_by Verifier log))
+    × IfSome told.ended (λ ended. ended ≡ true)
+    × IfSome told.to_come (λ bytes. bytes ≡ [])
+IsOutcome job claim log told (BadFrame at) =
+    (n : ℕ) × StopsBehind job claim log (λ expect rest. IsFirstBad expect rest n
+    × (at + length rest ≡ length (sent_by Verifier log) + n))
+IsOutcome job claim log told BadGrant =
+    (given : Grant) × FitsGrant given × ¬ Suits job.file.params job.statement.program given × (log ≡ granted_log job given)
+IsOutcome job claim log told (PeerRefused code) =
+    FitsRefusal code × (log ≡ greeted_log job ++ bytes_from Verifier (refuse_frame code))
+IsOutcome job claim log told (Broken first) = IsRefused job claim log (refusal.Broken first)
+IsOutcome job claim log told (OutOfRange total) = IsRefused job claim log (refusal.OutOfRange total)
+IsOutcome job claim log told (Overlap earlier) = IsRefused job claim log (refusal.Overlap earlier)
+IsOutcome job claim log told (Full slots) = IsRefused job claim log (refusal.Full slots)
+IsOutcome job claim log told Device = IsRefused job claim log refusal.Device
+IsOutcome job claim log told Link = Rose told.before told.after
+IsOutcome job claim log told NoMemory = Unit {0}
+
+-- the link did not fail, and memory was not wanting
+abbrev pub IsNoFault : ProverOutcome → Type 0
+IsNoFault Link = ⊥
+IsNoFault NoMemory = ⊥
+IsNoFault outcome = Unit {0}
+
+-- the link did not fail
+abbrev pub IsNoLink : ProverOutcome → Type 0
+IsNoLink Link = ⊥
+IsNoLink outcome = Unit {0}
+
+-- the count of faults does not fall, and rises only where the link failed
+pub record CountsOutcome (outcome : ProverOutcome) (before after : ℕ) : Type 0 where
+  pub later : before ≤ after
+  pub unfailed : IsNoLink outcome → after ≡ before
+
+-- ---- what was sent
+
+-- What was sent of a log in a session that ended so, by an honest prover for what it received: all of it; the greeting alone
+-- where the grant is refused by either end; a beginning where the link failed or memory was wanting.
+abbrev pub IsSentFor : ProverTask → List ℕ → List (Side × ℕ) → ProverOutcome → Type 0
+IsSentFor task hello log BadGrant = HasEndedHonestly task log × (sent_by Prover log ≡ hello)
+IsSentFor task hello log (PeerRefused code) = HasEndedHonestly task log × (sent_by Prover log ≡ hello)
+IsSentFor task hello log (Broken first) = IsFromHonestProver task log × (sent_by Prover log ≡ hello)
+IsSentFor task hello log (OutOfRange total) = IsFromHonestProver task log × (sent_by Prover log ≡ hello)
+IsSentFor task hello log (Overlap earlier) = IsFromHonestProver task log × (sent_by Prover log ≡ hello)
+IsSentFor task hello log (Full slots) = IsFromHonestProver task log × (sent_by Prover log ≡ hello)
+IsSentFor task hello log Device = IsFromHonestProver task log × (sent_by Prover log ≡ hello)
+IsSentFor task hello log Link = IsFromHonestProver task log
+IsSentFor task hello log NoMemory = IsFromHonestProver task log
+IsSentFor task hello log outcome = HasEndedHonestly task log
+
+-- whatever values of wires and inputs the job's given values are of
+abbrev pub SendsHonestly : ProverJob → List (Side × ℕ) → ProverOutcome → Type 0
+SendsHonestly job log outcome = (inputs wires : List ℕ) → IsWitness job.statement inputs wires job.given
+    → IsSentFor (task_of job inputs) (greeting job) log outcome
+
+-- What the link tells is what it told before and the log; where a send was refused, a first part of one frame more, which an
+-- honest prover would send too, and none before the units are claimed.
+pub record IsLogged
+    (job : ProverJob)
+    (claim : Claim)
+    (outcome : ProverOutcome)
+    (log : List (Side × ℕ))
+    (before after : Option (List (Side × ℕ))) : Type 0 where
+  pub part : List ℕ
+  pub told : after ≡ appended (log ++ bytes_from Prover part) before
+  pub none : IsNoFault outcome → part ≡ []
+  pub honest : (inputs wires : List ℕ) → IsWitness job.statement inputs wires job.given
+      → IsFromHonestProver (task_of job inputs) (log ++ bytes_from Prover part)
+  pub claimed : SendsOnceClaimed job claim (log ++ bytes_from Prover part)
+
+-- ---- all together
+
+-- a session over a line that ended so
+pub record Ends (job : ProverJob) (course : Course) (outcome : ProverOutcome) (now : LineState) : Type 0 where
+  pub outcome_is : IsOutcome job course.claim now.log
+      (record { ended = now.ended; to_come = now.to_come; before = course.first.faults; after = now.faults }) outcome
+  pub asked : IsAskedRight job course.claim now.log
+  pub honest : SendsHonestly job now.log outcome
+  pub claimed : SendsOnceClaimed job course.claim now.log
+  pub logged : IsLogged job course.claim outcome now.log course.first.told now.told
+  pub came : course.first.to_come ≡ put_before (sent_by Verifier now.log) now.to_come
+  pub receives : now.receives ≤ course.first.receives + length (sent_by Verifier now.log) + 1
+  pub count : CountsOutcome outcome course.first.faults now.faults
+  pub is_open : now.is_open ≡ true

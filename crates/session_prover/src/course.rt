@@ -1,0 +1,207 @@
+// The turns of a prover's session over a line.
+ghost use Rattle.std.specs.Prelude.{◌≡◌, ℕ, ◌≤◌, ◌+◌, ◌^◌, Some, None, length, map, flat_map, All, IfOk, IfErr, OnOk, IsTrue, IsSomeAnd};
+ghost use Rattle.zk_model.specs.Frames.{Allows, frame_spelling};
+ghost use Rattle.zk_model.specs.Frames as model;
+ghost use Rattle.zk_model.specs.declared.Expect.TheVariants as expect;
+ghost use Rattle.zk_model.specs.Transcript.{wanted_hello};
+ghost use Rattle.proof_frames.specs.Frames.{said, IsShort};
+ghost use Rattle.frame_link.specs.Lines.{LineState, Sends};
+ghost use Rattle.session_core.specs.Cores.{awaits_grant, awaits_verdict, prover_expects, StaysWithin};
+ghost use Rattle.session_core.specs.Jobs.{Suits};
+ghost use Rattle.session_prover.specs.Stages.{Course, ClaimedFor, IsLineAt, IsLineTaken};
+ghost use Rattle.session_prover.specs.Notes.{Ends};
+ghost use Rattle.session_prover.specs.Turns.{IsSound, Expects, Follows, SendStops, IsFresh, Comes, IsGrantTaken, IsNoGrant, IsRejection};
+ghost use Rattle.session_prover.specs.declared.note.ProverOutcome.TheVariants.{Accepted};
+
+use crate::note::ProverOutcome;
+use frame_link::{Line, LineFault};
+use proof_frames::{Frame, Grant};
+use session_core::{ProverCore, ProverJob};
+use std::alloc::Global;
+use zk_port::Link;
+
+/// Sends frames, one behind another.
+fn send_all<L: Link>(alloc: Global, line: &mut Line<L>, frames: &[Frame]) -> Result<(), LineFault>
+    requires open { IsTrue line.old.is_open }
+    requires short { All IsShort (map said frames.now) }
+    ensures sends { OnOk result (Sends (flat_map frame_spelling (map said frames.now)) line.old line.new) }
+    ensures fails { IfErr result (λ fault.
+        SendStops (flat_map frame_spelling (map said frames.now)) fault line.old line.new) }
+{
+    for frame in frames {
+        line.send(alloc, frame)?;
+    }
+    Ok(())
+}
+
+/// Sends the greeting.
+pub(crate) fn greet<L: Link>(
+    alloc: Global,
+    core: &ProverCore<'_>,
+    line: &mut Line<L>,
+    greeting: Frame,
+) -> Result<(), ProverOutcome>
+    requires sound { IsSound core.now.job }
+    requires place { core.now.place ≡ awaits_grant }
+    requires greeting { said greeting
+        ≡ model.hello (wanted_hello core.now.job.file.id core.now.job.statement) }
+    requires fresh { IsFresh line.old }
+    ensures greeted { OnOk result ((course : Course) → course.first ≡ line.old → course.claim.answer ≡ None
+        → IsLineAt core.now.job course awaits_grant line.new) }
+    ensures ends { IfErr result (λ outcome. (course : Course)
+        → course.first ≡ line.old → course.claim.answer ≡ None
+        → Ends core.now.job course outcome line.new) }
+{
+    send_all(alloc, line, &[greeting])?;
+    Ok(())
+}
+
+/// Takes the frame that the prover expects.
+fn take_frame<L: Link>(
+    alloc: Global,
+    core: &ProverCore<'_>,
+    line: &mut Line<L>,
+) -> Result<Frame, ProverOutcome>
+    requires sound { IsSound core.now.job }
+    requires expecting { Expects core.now.place }
+    requires at { (course : Course) × IsLineAt core.now.job course core.now.place line.old }
+    ensures allowed { IfOk result (λ frame. IsSomeAnd (prover_expects core.now.place)
+        (λ place. Allows place (said frame))) }
+    ensures comes { IfOk result (λ frame. (course : Course)
+        → IsLineAt core.now.job course core.now.place line.old
+        → Comes core.now.job course core.now.place (said frame) line.new) }
+    ensures ends { IfErr result (λ outcome. (course : Course)
+        → IsLineAt core.now.job course core.now.place line.old
+        → Ends core.now.job course outcome line.new) }
+{
+    let Some(place) = core.expects() else {
+        return Err(ProverOutcome::NoMemory);
+    };
+    let frame = line.take(alloc, place)?;
+    Ok(frame)
+}
+
+/// The grant that a frame in its place is, if it suits the job.
+fn grant_in(job: &ProverJob<'_>, frame: Frame) -> Result<Grant, ProverOutcome>
+    requires allowed { Allows expect.Grant (said frame) }
+    ensures grant { IfOk result (λ grant. said frame ≡ model.grant grant) }
+    ensures suits { IfOk result (Suits job.now.file.params job.now.statement.program) }
+    ensures refused { IfErr result (IsNoGrant job.now (said frame)) }
+{
+    match frame {
+        Frame::Grant(grant) if job.suits(grant) => Ok(grant),
+        Frame::Grant(_) => Err(ProverOutcome::BadGrant),
+        Frame::Refuse { code } => Err(ProverOutcome::PeerRefused { code }),
+        _ => Err(ProverOutcome::NoMemory),
+    }
+}
+
+/// Takes a grant that suits the job.
+pub(crate) fn take_grant<L: Link>(
+    alloc: Global,
+    job: &ProverJob<'_>,
+    core: &ProverCore<'_>,
+    line: &mut Line<L>,
+) -> Result<Grant, ProverOutcome>
+    requires job { core.now.job ≡ job.now }
+    requires sound { IsSound core.now.job }
+    requires place { core.now.place ≡ awaits_grant }
+    requires at { (course : Course) × IsLineAt core.now.job course awaits_grant line.old }
+    ensures suits { IfOk result (Suits core.now.job.file.params core.now.job.statement.program) }
+    ensures taken { IfOk result (λ grant. (course : Course)
+        → IsLineAt core.now.job course awaits_grant line.old
+        → IsGrantTaken core.now.job course.first grant line.new) }
+    ensures ends { IfErr result (λ outcome. (course : Course)
+        → IsLineAt core.now.job course awaits_grant line.old
+        → Ends core.now.job course outcome line.new) }
+{
+    let frame = take_frame(alloc, core, line)?;
+    let grant = grant_in(job, frame)?;
+    Ok(grant)
+}
+
+/// Has the prover answer a frame, and sends what it answers.
+fn answer<L: Link>(
+    alloc: Global,
+    core: &mut ProverCore<'_>,
+    line: &mut Line<L>,
+    frame: Frame,
+) -> Result<(), ProverOutcome>
+    requires sound { IsSound core.old.job }
+    requires expected { IsSomeAnd (prover_expects core.old.place) (λ place. Allows place (said frame)) }
+    requires within { StaysWithin core.old.job (said frame) }
+    requires at { (course : Course) × IsLineTaken core.old.job course core.old.place (said frame) line.old }
+    ensures follows { OnOk result (Follows core.old.place core.new.place) }
+    ensures goes_on { OnOk result ((course : Course)
+        → IsLineTaken core.old.job course core.old.place (said frame) line.old
+        → IsLineAt core.old.job course core.new.place line.new) }
+    ensures ends { IfErr result (λ outcome. (course : Course)
+        → IsLineTaken core.old.job course core.old.place (said frame) line.old
+        → Ends core.old.job course outcome line.new) }
+    ensures job { core.new.job ≡ core.old.job }
+{
+    let answer = core.step(alloc, frame)?;
+    send_all(alloc, line, &answer)?;
+    Ok(())
+}
+
+/// Whether a frame that is a verdict says that every check holds.
+fn accepted_in(frame: Frame) -> Result<(), ProverOutcome>
+    requires allowed { Allows expect.Verdict (said frame) }
+    ensures accepted { OnOk result ((number : ℕ) × (said frame ≡ model.verdict 0 number)) }
+    ensures rejected { IfErr result (IsRejection (said frame)) }
+{
+    match frame {
+        Frame::Verdict { code: 0, .. } => Ok(()),
+        Frame::Verdict { code, number } => Err(ProverOutcome::Rejected { code, number }),
+        _ => Err(ProverOutcome::NoMemory),
+    }
+}
+
+/// Takes the verdict: that every check holds, or that one does not.
+fn take_verdict<L: Link>(
+    alloc: Global,
+    core: &ProverCore<'_>,
+    line: &mut Line<L>,
+) -> Result<(), ProverOutcome>
+    requires sound { IsSound core.now.job }
+    requires place { core.now.place ≡ awaits_verdict }
+    requires at { (course : Course) × IsLineAt core.now.job course awaits_verdict line.old }
+    ensures accepted { OnOk result ((course : Course)
+        → IsLineAt core.now.job course awaits_verdict line.old
+        → Ends core.now.job course Accepted line.new) }
+    ensures ends { IfErr result (λ outcome. (course : Course)
+        → IsLineAt core.now.job course awaits_verdict line.old
+        → Ends core.now.job course outcome line.new) }
+{
+    let frame = take_frame(alloc, core, line)?;
+    accepted_in(frame)?;
+    Ok(())
+}
+
+/// Answers a grant whose units are claimed, and the challenge, and takes the verdict.
+pub(crate) fn answer_grant<L: Link>(
+    alloc: Global,
+    core: &mut ProverCore<'_>,
+    line: &mut Line<L>,
+    grant: Grant,
+) -> Result<(), ProverOutcome>
+    requires sound { IsSound core.old.job }
+    requires place { core.old.place ≡ awaits_grant }
+    requires suits { Suits core.old.job.file.params core.old.job.statement.program grant }
+    requires within { grant.start + grant.count ≤ core.old.job.file.params.total }
+    requires at { (course : Course) × IsGrantTaken core.old.job course.first grant line.old
+        × ClaimedFor course.claim grant }
+    ensures accepted { OnOk result ((course : Course)
+        → IsGrantTaken core.old.job course.first grant line.old → ClaimedFor course.claim grant
+        → Ends core.old.job course Accepted line.new) }
+    ensures ends { IfErr result (λ outcome. (course : Course)
+        → IsGrantTaken core.old.job course.first grant line.old → ClaimedFor course.claim grant
+        → Ends core.old.job course outcome line.new) }
+{
+    answer(alloc, core, line, Frame::Grant(grant))?;
+    let challenge = take_frame(alloc, core, line)?;
+    answer(alloc, core, line, challenge)?;
+    take_verdict(alloc, core, line)?;
+    Ok(())
+}

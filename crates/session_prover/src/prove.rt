@@ -1,0 +1,153 @@
+// A prover's session over a link.
+ghost use Rattle.std.specs.Prelude.{◌≡◌, ◌≤◌, ◌+◌, None, true, false, Some, length, IfOk, IfErr, OnOk};
+ghost use Rattle.zk_model.specs.Frames as model;
+ghost use Rattle.zk_model.specs.Transcript.{sent_by, wanted_hello};
+ghost use Rattle.zk_model.specs.declared.Side.TheVariants.{Prover, Verifier};
+ghost use Rattle.zk_port.specs.Logs.{put_before};
+ghost use Rattle.proof_frames.specs.Frames.{said};
+ghost use Rattle.session_core.specs.Cores.{awaits_grant};
+ghost use Rattle.session_prover.specs.Stages.{ClaimedFor, RefusedFor};
+ghost use Rattle.session_prover.specs.Notes.{Ends, IsGranted, IsOutcome, SendsHonestly, SendsOnceClaimed, IsLogged, CountsOutcome, granted_of};
+ghost use Rattle.session_prover.specs.Completing.{Completes};
+ghost use Rattle.session_prover.specs.Turns.{IsSound, IsFresh};
+ghost use Rattle.session_prover.specs.declared.note.ProverOutcome.TheVariants.{Accepted};
+
+use crate::claimant::Claimant;
+use crate::course::{answer_grant, greet, take_grant};
+use crate::note::{ProverNote, ProverOutcome};
+use claim_store::{ClaimFault, Span};
+use frame_link::Line;
+use proof_frames::{Frame, Grant};
+use session_core::{ProverCore, ProverJob};
+use session_laws::honest_verdict;
+use std::alloc::Global;
+use zk_model::Side;
+use zk_port::Link;
+
+/// Has the units of a grant claimed.
+fn claim_units<C: Claimant>(claimant: &mut C, grant: Grant) -> Result<Span, ClaimFault>
+    requires once { C.answer claimant.old ≡ None }
+    requires some { 1 ≤ grant.count }
+    ensures claimed { IfOk result (λ _. ClaimedFor
+        (record { asked = C.asked claimant.new; answer = C.answer claimant.new }) grant) }
+    ensures refused { IfErr result (RefusedFor
+        (record { asked = C.asked claimant.new; answer = C.answer claimant.new }) grant) }
+    ensures told { C.answer claimant.new ≡ Some result }
+    ensures within { IfOk result (λ _. grant.start + grant.count ≤ C.total claimant.old) }
+{
+    claimant.claim(grant.start, grant.count)
+}
+
+/// A session over a line: the greeting, the claim of the units that are granted, and the answers to the grant and the
+/// challenge.
+fn hold<C: Claimant, L: Link>(
+    alloc: Global,
+    job: &ProverJob<'_>,
+    core: &mut ProverCore<'_>,
+    greeting: Frame,
+    claimant: &mut C,
+    line: &mut Line<L>,
+    granted: &mut Option<Span>,
+) -> Result<(), ProverOutcome>
+    requires core { core.old ≡ record { job = job.now; place = awaits_grant } }
+    requires greeting { said greeting ≡ model.hello (wanted_hello job.now.file.id job.now.statement) }
+    requires sound { IsSound job.now }
+    requires fresh { IsFresh line.old }
+    requires unasked { C.answer claimant.old ≡ None }
+    requires total { C.total claimant.old ≤ job.now.file.params.total }
+    requires none { granted.old ≡ None }
+    ensures granted { granted.new ≡ granted_of (C.answer claimant.new) }
+    ensures accepted { OnOk result (Ends job.now (record {
+      first = line.old;
+      claim = record { asked = C.asked claimant.new; answer = C.answer claimant.new };
+    }) Accepted line.new) }
+    ensures ends { IfErr result (λ outcome. Ends job.now (record {
+      first = line.old;
+      claim = record { asked = C.asked claimant.new; answer = C.answer claimant.new };
+    }) outcome line.new) }
+{
+    greet(alloc, core, line, greeting)?;
+    let grant = take_grant(alloc, job, core, line)?;
+    let span = claim_units(claimant, grant)?;
+    *granted = Some(span);
+    answer_grant(alloc, core, line, grant)?;
+    Ok(())
+}
+
+/// How a session ended that is accepted, or did not come to that.
+fn outcome_of(held: Result<(), ProverOutcome>) -> ProverOutcome
+    ensures accepted { OnOk held (result ≡ Accepted) }
+    ensures other { IfErr held (λ outcome. result ≡ outcome) }
+{
+    match held {
+        Ok(()) => ProverOutcome::Accepted,
+        Err(outcome) => outcome,
+    }
+}
+
+/// Proves a job's statement to any verifier at the other end of a link (Weng, Yang, Katz and Wang, Wolverine, IEEE S&P 2021;
+/// Yang, Sarkar, Weng and Wang, QuickSilver, ACM CCS 2021). It claims the units that the verifier grants before it sends
+/// anything of them, and uses them for this session alone. The stream is ended, whatever came of it.
+pub fn prove_session<C: Claimant, L: Link>(
+    alloc: Global,
+    job: &ProverJob<'_>,
+    claimant: &mut C,
+    link: L,
+) -> ProverNote<L>
+    requires side { L.side link ≡ Prover }
+    requires open { L.is_open link ≡ true }
+    requires unasked { C.answer claimant.old ≡ None }
+    requires total { C.total claimant.old ≤ job.now.file.params.total }
+    ensures granted { IsGranted job.now
+        (record { asked = C.asked claimant.new; answer = C.answer claimant.new }) result.log result.granted }
+    ensures outcome { IsOutcome job.now
+        (record { asked = C.asked claimant.new; answer = C.answer claimant.new }) result.log
+        (record {
+          ended = L.ended result.link;
+          to_come = L.to_come result.link;
+          before = L.faults link;
+          after = L.faults result.link;
+        }) result.outcome }
+    ensures honest { SendsHonestly job.now result.log result.outcome }
+    ensures claimed { SendsOnceClaimed job.now
+        (record { asked = C.asked claimant.new; answer = C.answer claimant.new }) result.log }
+    ensures logged { IsLogged job.now
+        (record { asked = C.asked claimant.new; answer = C.answer claimant.new }) result.outcome result.log
+        (L.log link) (L.log result.link) }
+    ensures came { L.to_come link ≡ put_before (sent_by Verifier result.log) (L.to_come result.link) }
+    ensures receives { L.receives result.link ≤ L.receives link + length (sent_by Verifier result.log) + 1 }
+    ensures faults { CountsOutcome result.outcome (L.faults link) (L.faults result.link) }
+    ensures ended { L.is_open result.link ≡ false }
+    ensures complete { Completes job.now result.granted result.log
+        (record {
+          ended = L.ended result.link;
+          to_come = L.to_come result.link;
+          before = L.faults link;
+          after = L.faults result.link;
+        }) result.outcome }
+{
+    honest_verdict();
+    let _total = job.file().total();
+    let _opened = job.statement().program().opened();
+    let mut line = Line::new(alloc, link, Side::Prover);
+    let (mut core, greeting) = ProverCore::new(job);
+    let mut granted = None;
+    let held = hold(
+        alloc,
+        job,
+        &mut core,
+        greeting,
+        claimant,
+        &mut line,
+        &mut granted,
+    );
+    let outcome = outcome_of(held);
+    drop(core);
+    let (link, log) = line.end();
+    ProverNote {
+        granted,
+        outcome,
+        log,
+        link,
+    }
+}

@@ -1,0 +1,482 @@
+-- A session with an honest peer does not stop: what came from it begins the frame that is expected, and it ends behind it only.
+use Rattle.std.proofs.Common.{◌≡◌, ◌⊎◌, inl, inr, ℕ, zero, suc, ◌+◌, ◌*◌, ◌≤◌, ◌<◌, List, [], ◌++◌, length, take, drop, get_or, Option, Some, None, Result, Ok, Err, refl, ap, sym, ◌∙◌, subst, arith, append-nil, append_assoc, length-append}
+use Rattle.std.proofs.lemmas.List.{take-append-le, take-append-drop, drop_at, nil_from_length}
+use Rattle.zk_model.specs.Program.{section_count}
+use Rattle.zk_model.specs.Statement.{Statement}
+use Rattle.zk_model.specs.Files.{rounds_of}
+use Rattle.zk_model.specs.Transcript.{Hello, Grant, Round, Commitment, Transcript, IsTranscript, BeginsWith, wanted_hello, hello_frame, corrections_frame, sums_frame, openings_frame, refuse_frame, bytes_from, sent_by}
+use Rattle.zk_model.specs.Frames.{Frame, hello, corrections, sums, openings, frame_spelling, frame_length, Allows, AreElements, AreSums, CanGoOn}
+use Rattle.zk_model.specs.HonestProver.{ProverTask, SentAfter, AreHonestBytes}
+use Rattle.zk_model.specs.View.{verdict_code}
+use Rattle.zk_model.specs.declared.Kind.TheVariants.{Direct}
+use Rattle.zk_model.specs.declared.Expect.{Expect}
+use Rattle.zk_model.specs.declared.Expect.TheVariants as expect
+use Rattle.zk_model.specs.declared.Params.{Params}
+use Rattle.zk_model.specs.declared.Side.{Side}
+use Rattle.zk_model.specs.declared.Side.TheVariants.{Prover, Verifier}
+use Rattle.zk_model.specs.declared.Span.{Span}
+use Rattle.zk_laws.specs.Rehearsing.{AreCounterparts}
+use Rattle.zk_laws.proofs.SentBytes.{sent_by-append, own_bytes, none_of_prover, none_of_verifier}
+use Rattle.session_laws.specs.Peers.{IsServedTurns, IsHonestUpTo, HonestTurn, HonestTurnEnds, HonestWholeIsAccepted, said_in}
+use Rattle.session_laws.specs.Serving.{ServedSessionExists}
+use Rattle.proof_frames.specs.Laws.{NoneBeginsAnother}
+use Rattle.frame_link.specs.Lines.{longest}
+use Rattle.zk_port.specs.Counts.{Rose}
+use Rattle.lease_store.specs.declared.LeaseFault.{LeaseFault}
+use Rattle.session_core.specs.Jobs.{VerifierJob, granted_from}
+use Rattle.session_core.specs.Judgements.{verdict_in}
+use Rattle.session_core.specs.Cores.{VerifierPlace, awaits_hello, owes_grant, awaits_corrections, awaits_sums, awaits_openings, has_judged, has_refused, verifier_expects, DiffersFirst}
+use Rattle.session_core.specs.declared.judgement.Judgement.{Judgement}
+use Rattle.session_core.specs.declared.fault.HelloDiffers.{HelloDiffers}
+use Rattle.session_core.specs.declared.fault.HelloDiffers.TheVariants.{Id, Circuit, Outputs, Version}
+use Rattle.session_verifier.specs.Outcomes.{judgement_outcome}
+use Rattle.session_verifier.specs.Stages.{Moment, StopCause, StartsAt, IsStopped, StopsBehind, IsRefused, RefusesBy, IsWaiting, IsUnmet, IsCourse}
+use Rattle.session_verifier.specs.Notes.{IsPeerEnd, HasHonestPeer, Completes}
+use Rattle.session_verifier.proofs.StageLemmas.{one_expected, hello_in}
+use Rattle.session_verifier.proofs.CourseLemmas.{IsKnown, judged_session}
+use Rattle.session_verifier.proofs.ServedLemmas.{IsCutOf, setup_of, cut_behind, hello_length, length_corrections, length_sums, length_openings, accepted_judgement}
+use Rattle.session_verifier.specs.declared.note.VerifierOutcome.{VerifierOutcome}
+use Rattle.session_verifier.specs.declared.note.VerifierOutcome.TheVariants.{Accepted, RejectedSum, RejectedOpening, PeerEnded, BadFrame, BadHello, Exhausted, Device, Broken, Link, NoMemory}
+
+-- ---- bytes of an honest frame
+
+-- the bytes that came begin a frame that is expected, with others behind it, and are no less than it where the peer ended
+record IsBegun (place : Expect) (outcome : VerifierOutcome) (rest : List ℕ) : Type 0 where
+  frame : Frame
+  allowed : Allows place frame
+  more : List ℕ
+  begun : BeginsWith (frame_spelling frame ++ more) rest
+  whole : IsPeerEnd outcome → length (frame_spelling frame) ≤ length rest
+  most : length rest ≤ length (frame_spelling frame)
+  sized : frame_length place rest ≡ length (frame_spelling frame)
+
+-- so the frame can go on behind any of them
+goes : (place : Expect) (outcome : VerifierOutcome) (rest : List ℕ) → IsBegun place outcome rest → (n : ℕ) → n ≤ length rest → CanGoOn place (take n rest)
+goes place outcome rest is n within =
+    let frame = frame_spelling is.frame in
+    let most = is.most in
+    let front : take n frame ≡ take n rest =
+    sym (take-append-le n frame is.more (omega arith)) ∙ ap (take n) is.begun.1 ∙ take-append-le n rest is.begun.0 within in
+    record {
+      frame = is.frame;
+      allowed = is.allowed;
+      begun = (drop n frame, sym (take-append-drop n frame) ∙ ap (λ l. l ++ drop n frame) front);
+    }
+
+-- accepted, or want of memory
+abbrev IsComplete : VerifierOutcome → Type 0
+IsComplete outcome = (outcome ≡ Accepted) ⊎ (outcome ≡ NoMemory)
+
+-- with such bytes a session stops only for want of memory
+goes_on : (job : VerifierJob) (place : VerifierPlace) (rest : List ℕ) (first now : Moment) (outcome : VerifierOutcome) (expect : Expect)
+    → verifier_expects job place ≡ Some expect → IsBegun expect outcome rest
+    → ((differs : HelloDiffers) → outcome ≡ BadHello differs → StopCause job place rest first now (BadHello differs) → ⊥)
+    → ¬ Rose first.faults now.faults → StopCause job place rest first now outcome → IsComplete outcome
+goes_on job place rest first now (PeerEnded at) expect expects is met rose cause =
+    let there = cause.0 in
+    let short = subst (λ p. length rest < frame_length p rest) (one_expected expect there.0 (verifier_expects job place) expects there.1) there.2.1 in
+    let whole = is.whole tt in
+    let sized = is.sized in
+    absurd (omega arith)
+goes_on job place rest first now (BadFrame at) expect expects is met rose cause =
+    let there = cause.1 in
+    let bad = there.2 in
+    let within = bad.within in
+    absurd (bad.ends (subst (λ p. CanGoOn p (take (cause.0 + 1) rest)) (sym (one_expected expect there.0 (verifier_expects job place) expects there.1))
+    (goes expect (BadFrame at) rest is (cause.0 + 1) (omega arith))))
+goes_on job place rest first now (BadHello differs) expect expects is met rose cause = absurd (met differs refl cause)
+goes_on job place rest first now Link expect expects is met rose cause = absurd (rose cause)
+goes_on job place rest first now NoMemory expect expects is met rose cause = inr refl
+goes_on job place rest first now Accepted expect expects is met rose cause = absurd cause
+goes_on job place rest first now (RejectedSum section left right) expect expects is met rose cause = absurd cause
+goes_on job place rest first now (RejectedOpening output left right) expect expects is met rose cause = absurd cause
+goes_on job place rest first now (Exhausted at count total) expect expects is met rose cause = absurd cause
+goes_on job place rest first now Device expect expects is met rose cause = absurd cause
+goes_on job place rest first now (Broken at) expect expects is met rose cause = absurd cause
+
+-- ---- the hello
+
+-- where no grant came, an honest prover sent its hello
+hello_alone : (prover : ProverTask) (received sent : List ℕ) (turns : ℕ) → ¬ (get_or received 0 0 ≡ 2) → SentAfter prover received turns sent
+    → sent ≡ hello_frame (wanted_hello prover.file.id prover.statement)
+hello_alone prover received sent zero other after = after
+hello_alone prover received sent (suc n) other after = absurd (other (ap (λ (l : List ℕ). get_or l 0 0) after.4.1))
+
+-- no hello differs from itself
+never_differs : (wanted other : Hello) (differs : HelloDiffers) → other ≡ wanted → DiffersFirst wanted other differs → ⊥
+never_differs wanted other (Id want got) same first = first.2 (first.0 ∙ sym (ap (λ (h : Hello). h.id) same) ∙ sym first.1)
+never_differs wanted other (Circuit want got) same first = first.3 (first.1 ∙ sym (ap (λ (h : Hello). h.circuit) same) ∙ sym first.2)
+never_differs wanted other (Outputs want got) same first = first.4 (first.2 ∙ sym (ap (λ (h : Hello). h.outputs) same) ∙ sym first.3)
+never_differs wanted other (Version want got) same first = first.5 (first.3 ∙ sym (ap (λ (h : Hello). h.version) same) ∙ sym first.4)
+
+-- what a refusal, or nothing, stands behind the hello's bytes
+record IsBehindHello (rest : List ℕ) (log : List (Side × ℕ)) : Type 0 where
+  answer : List ℕ
+  other : ¬ (get_or answer 0 0 ≡ 2)
+  bytes : log ≡ bytes_from Prover rest ++ bytes_from Verifier answer
+
+of_prover : (rest : List ℕ) (log : List (Side × ℕ)) → (is : IsBehindHello rest log) → sent_by Prover log ≡ rest
+of_prover rest log is =
+    ap (sent_by Prover) is.bytes ∙ sent_by-append Prover (bytes_from Prover rest) (bytes_from Verifier is.answer)
+    ∙ (λ i. own_bytes Prover rest i ++ none_of_verifier is.answer i) ∙ append-nil rest
+
+of_verifier : (rest : List ℕ) (log : List (Side × ℕ)) → (is : IsBehindHello rest log) → sent_by Verifier log ≡ is.answer
+of_verifier rest log is =
+    ap (sent_by Verifier) is.bytes ∙ sent_by-append Verifier (bytes_from Prover rest) (bytes_from Verifier is.answer)
+    ∙ (λ i. none_of_prover rest i ++ own_bytes Verifier is.answer i)
+
+-- the hello of the peer is the wanted one
+sent_hello : (job : VerifierJob) (prover : ProverTask) (rest sent : List ℕ) (log : List (Side × ℕ)) → AreCounterparts prover job.task
+    → IsBehindHello rest log → AreHonestBytes prover (sent_by Verifier log) sent
+    → sent ≡ hello_frame (wanted_hello job.task.file.id job.task.statement)
+sent_hello job prover rest sent log both behind bytes =
+    hello_alone prover (sent_by Verifier log) sent bytes.turns (subst (λ (l : List ℕ). ¬ (get_or l 0 0 ≡ 2)) (sym (of_verifier rest log behind)) behind.other) bytes.answer
+    ∙ (λ i. hello_frame (wanted_hello (both.dealt.id i) (both.statement i)))
+
+hello_begun : (job : VerifierJob) (prover : ProverTask) (outcome : VerifierOutcome) (rest : List ℕ) (log : List (Side × ℕ)) → IsKnown job
+    → HasHonestPeer job prover outcome log → IsBehindHello rest log → length rest ≤ 102 → IsBegun expect.Hello outcome rest
+hello_begun job prover outcome rest log known peer behind most =
+    let wanted = wanted_hello job.task.file.id job.task.statement in
+    let honest = peer.honest in
+    let came = of_prover rest log behind in
+    record {
+      frame = hello wanted;
+      allowed = (wanted, refl, record { id = known.file.id; circuit = known.stated.circuit; outputs = known.stated.outputs; version = known.stated.version });
+      more = [];
+      begun = (
+        honest.2.0,
+        append-nil (hello_frame wanted) ∙ sym (sent_hello job prover rest honest.0 log peer.counterparts behind honest.1)
+            ∙ honest.2.1 ∙ ap (λ l. l ++ honest.2.0) came,
+      );
+      whole = λ ended. let same = ap length (sym came ∙ sent_hello job prover rest (sent_by Prover log) log peer.counterparts behind (peer.ended ended)) in omega (arith, same);
+      most = omega (arith, hello_length job known, most);
+      sized = sym (hello_length job known);
+    }
+
+-- ... and a whole one is not refused
+hello_is_met : (job : VerifierJob) (outcome : VerifierOutcome) (rest : List ℕ) (first now : Moment) (differs : HelloDiffers) → NoneBeginsAnother
+    → (is : IsBegun expect.Hello outcome rest) → is.frame ≡ hello (wanted_hello job.task.file.id job.task.statement) → is.more ≡ []
+    → StopCause job awaits_hello rest first now (BadHello differs) → ⊥
+hello_is_met job outcome rest first now differs law is wanted nothing cause =
+    let other = cause.1.0 in
+    let begun : frame_spelling is.frame ≡ hello_frame other ++ is.begun.0 =
+    sym (append-nil (frame_spelling is.frame)) ∙ ap (λ l. frame_spelling is.frame ++ l) (sym nothing) ∙ is.begun.1 ∙ ap (λ l. l ++ is.begun.0) cause.1.2 in
+    let same : is.frame ≡ hello other = law expect.Hello is.frame (hello other) is.allowed (other, refl, cause.1.1) (is.begun.0, begun) in
+    never_differs (wanted_hello job.task.file.id job.task.statement) other differs (ap (hello_in other) (sym same ∙ wanted)) cause.1.3
+
+-- whether an outcome is that the hello differs
+abbrev IsBadHello : VerifierOutcome → Type 0
+IsBadHello Accepted = ⊥
+IsBadHello (RejectedSum section left right) = ⊥
+IsBadHello (RejectedOpening output left right) = ⊥
+IsBadHello (PeerEnded at) = ⊥
+IsBadHello (BadFrame at) = ⊥
+IsBadHello (BadHello differs) = Unit {0}
+IsBadHello (Exhausted at count total) = ⊥
+IsBadHello Device = ⊥
+IsBadHello (Broken at) = ⊥
+IsBadHello Link = ⊥
+IsBadHello NoMemory = ⊥
+
+tells_hello : (outcome : VerifierOutcome) (differs : HelloDiffers) → outcome ≡ BadHello differs → IsBadHello outcome
+tells_hello outcome differs is = subst IsBadHello (sym is) tt
+
+unmet_completes : (job : VerifierJob) (outcome : VerifierOutcome) (prover : ProverTask) (first now : Moment) → NoneBeginsAnother → IsKnown job
+    → IsUnmet job outcome first now → HasHonestPeer job prover outcome now.log → ¬ Rose first.faults now.faults → IsComplete outcome
+unfolding hello_begun
+unmet_completes job outcome prover first now law known unmet peer rose = by outcome unmet.stopped unmet.refused peer
+  where
+    mid : Moment
+    mid = unmet.mid
+
+    bytes : (other : VerifierOutcome) → (stopped : IsStopped job awaits_hello other first mid) → mid.log ≡ bytes_from Prover stopped.rest
+    bytes other stopped = stopped.log ∙ ap (λ l. l ++ bytes_from Prover stopped.rest) stopped.waited
+
+    -- nothing was answered
+    alone : (other : VerifierOutcome) → IsStopped job awaits_hello other first mid → now ≡ mid → HasHonestPeer job prover other now.log
+        → ((differs : HelloDiffers) → other ≡ BadHello differs → ⊥) → IsComplete other
+    alone other stopped same peer unlike =
+        let behind : IsBehindHello stopped.rest now.log = record {
+          answer = [];
+          other = λ is. omega (arith, is);
+          bytes = ap (λ (m : Moment). m.log) same ∙ bytes other stopped ∙ sym (append-nil (bytes_from Prover stopped.rest));
+        } in
+        goes_on job awaits_hello stopped.rest first mid other expect.Hello refl
+        (hello_begun job prover other stopped.rest now.log known peer behind (stopped.few expect.Hello refl))
+        (λ differs is cause. absurd (unlike differs is)) (λ more. rose (subst (λ (m : Moment). Rose first.faults m.faults) (sym same) more)) stopped.cause
+
+    differing : (differs : HelloDiffers) → IsStopped job awaits_hello (BadHello differs) first mid → IsRefused 1 mid now
+        → HasHonestPeer job prover (BadHello differs) now.log → ⊥
+    differing differs stopped refused peer = either refused.log
+      where
+        met : IsBehindHello stopped.rest now.log → ⊥
+        met behind = hello_is_met job (BadHello differs) stopped.rest first mid differs law
+            (hello_begun job prover (BadHello differs) stopped.rest now.log known peer behind (stopped.few expect.Hello refl)) refl refl stopped.cause
+
+        either : ((now.log ≡ mid.log ++ bytes_from Verifier (refuse_frame 1)) ⊎ (now.log ≡ mid.log)) → ⊥
+        either (inl log) = met (record {
+          answer = refuse_frame 1;
+          other = λ is. omega (arith, is);
+          bytes = log ∙ ap (λ l. l ++ bytes_from Verifier (refuse_frame 1)) (bytes (BadHello differs) stopped);
+        })
+        either (inr log) = met (record {
+          answer = [];
+          other = λ is. omega (arith, is);
+          bytes = log ∙ bytes (BadHello differs) stopped ∙ sym (append-nil (bytes_from Prover stopped.rest));
+        })
+
+    by : (other : VerifierOutcome) → IsStopped job awaits_hello other first mid → RefusesBy other mid now → HasHonestPeer job prover other now.log → IsComplete other
+    by Accepted stopped refused peer = inl refl
+    by (RejectedSum section left right) stopped refused peer = absurd stopped.cause
+    by (RejectedOpening output left right) stopped refused peer = absurd stopped.cause
+    by (PeerEnded at) stopped refused peer = alone (PeerEnded at) stopped refused peer (λ differs is. tells_hello (PeerEnded at) differs is)
+    by (BadFrame at) stopped refused peer = alone (BadFrame at) stopped refused peer (λ differs is. tells_hello (BadFrame at) differs is)
+    by (BadHello differs) stopped refused peer = absurd (differing differs stopped refused peer)
+    by (Exhausted at count total) stopped refused peer = absurd stopped.cause
+    by Device stopped refused peer = absurd stopped.cause
+    by (Broken at) stopped refused peer = absurd stopped.cause
+    by Link stopped refused peer = alone Link stopped refused peer (λ differs is. tells_hello Link differs is)
+    by NoMemory stopped refused peer = inr refl
+
+-- ---- behind the grant
+
+-- of a file that is not extended there are no rounds
+no_rounds : (params : Params) (rounds : List Round) → length rounds ≡ rounds_of params.kind → params.kind ≡ Direct → rounds ≡ []
+no_rounds params rounds counted direct = nil_from_length rounds (counted ∙ ap rounds_of direct)
+
+-- what a session without rounds says in its second turn and its third
+second_said : (u : Transcript) → u.commitment.setup.rounds ≡ [] → said_in u 1 ≡ corrections_frame u.commitment.corrections
+second_said u none =
+    λ i. said_in (record u { commitment = record u.commitment { setup = record u.commitment.setup { rounds = none i } } }) 1
+
+third_said : (u : Transcript) → u.commitment.setup.rounds ≡ [] → said_in u 2 ≡ sums_frame u.sums ++ openings_frame u.openings
+third_said u none =
+    λ i. said_in (record u { commitment = record u.commitment { setup = record u.commitment.setup { rounds = none i } } }) 2
+
+-- a session of an honest prover with a job's grant: as many elements, sums and MACs as the statement wants, and no rounds
+record IsTurn (job : VerifierJob) (u : Transcript) : Type 0 where
+  elements : AreElements job.task.statement.program.givens u.commitment.corrections
+  pairs : AreSums (section_count job.task.statement.program job.section_length) u.sums
+  macs : AreElements (length job.task.statement.program.opened) u.openings
+  none : u.commitment.setup.rounds ≡ []
+
+is_turn : (job : VerifierJob) (start : ℕ) (prover : ProverTask) (t : Transcript) (n : ℕ) (u : Transcript) → IsKnown job → AreCounterparts prover job.task
+    → t.commitment.setup.grant ≡ granted_from job start → IsHonestUpTo prover t n u → IsTurn job u
+is_turn job start prover t n u known both grant upto =
+    let is : IsTranscript job.task.file.params job.task.statement.program u =
+    subst (λ (s : Statement). IsTranscript job.task.file.params s.program u) both.statement
+    (subst (λ p. IsTranscript p prover.statement.program u) both.dealt.params upto.transcript) in
+    record {
+      elements = record { counted = is.commitment.count; ranged = is.commitment.elements };
+      pairs = record {
+        counted = is.sum_count ∙ ap (λ (g : Grant). section_count job.task.statement.program g.section_length) (upto.grant ∙ grant);
+        ranged = is.sums;
+      };
+      macs = record { counted = is.opening_count; ranged = is.openings };
+      none = no_rounds job.task.file.params u.commitment.setup.rounds is.commitment.setup.round_count known.is.direct;
+    }
+
+turns_served : (job : VerifierJob) (start : ℕ) (log : List (Side × ℕ)) → IsKnown job → (cut : IsCutOf job start log)
+    → IsServedTurns job.task cut.session.t cut.cut.whole cut.cut.rest log
+turns_served job start log known cut = record {
+  stated = known.stated;
+  transcript = cut.session.served.in_order.transcript;
+  hello = cut.session.served.in_order.hello;
+  replies = cut.session.served.replies;
+  more = cut.cut.more;
+  bytes = cut.cut.bytes;
+}
+
+grant_of : (job : VerifierJob) (start : ℕ) (log : List (Side × ℕ)) → (cut : IsCutOf job start log) → cut.session.t.commitment.setup.grant ≡ granted_from job start
+grant_of job start log cut = ap (λ (c : Commitment). c.setup.grant) cut.session.commitment
+
+-- what an honest peer says in a turn that was cut, of which this came
+record IsSaid (job : VerifierJob) (outcome : VerifierOutcome) (whole : ℕ) (rest : List ℕ) : Type 0 where
+  u : Transcript
+  is : IsTurn job u
+  begun : BeginsWith (said_in u whole) rest
+  ended : IsPeerEnd outcome → (other : Transcript) × IsTurn job other × (rest ≡ said_in other whole)
+
+honest_said : (job : VerifierJob) (start : ℕ) (prover : ProverTask) (outcome : VerifierOutcome) (log : List (Side × ℕ)) → HonestTurn → HonestTurnEnds → IsKnown job
+    → HasHonestPeer job prover outcome log → (cut : IsCutOf job start log) → IsSaid job outcome cut.cut.whole cut.cut.rest
+honest_said job start prover outcome log turn ends known peer cut =
+    let served = turns_served job start log known cut in
+    let t = cut.session.t in
+    let n = cut.cut.whole in
+    let now = turn prover job.task t n cut.cut.rest log peer.counterparts peer.witness served peer.honest in
+    record {
+      u = now.0;
+      is = is_turn job start prover t n now.0 known peer.counterparts (grant_of job start log cut) now.1;
+      begun = now.2;
+      ended = λ is.
+          let last = ends prover job.task t n cut.cut.rest log peer.counterparts peer.witness served (peer.ended is) in
+          (last.0, is_turn job start prover t n last.0 known peer.counterparts (grant_of job start log cut) last.1, last.2);
+    }
+
+length_third : (job : VerifierJob) (u : Transcript) → IsTurn job u
+    → (length (sums_frame u.sums) ≡ 5 + 16 * section_count job.task.statement.program job.section_length)
+    × (length (openings_frame u.openings) ≡ 5 + 8 * length job.task.statement.program.opened)
+length_third job u is =
+    (length_sums u.sums ∙ ap (λ n. 5 + 16 * n) is.pairs.counted, length_openings u.openings ∙ ap (λ n. 5 + 8 * n) is.macs.counted)
+
+corrections_begun : (job : VerifierJob) (outcome : VerifierOutcome) (rest : List ℕ) → IsSaid job outcome 1 rest
+    → length rest ≤ longest (expect.Corrections job.task.statement.program.givens)
+    → IsBegun (expect.Corrections job.task.statement.program.givens) outcome rest
+corrections_begun job outcome rest said few =
+    let d = said.u.commitment.corrections in
+    let sized = length_corrections d ∙ ap (λ n. 5 + 8 * n) said.is.elements.counted in
+    record {
+      frame = corrections d;
+      allowed = (d, refl, said.is.elements);
+      more = [];
+      begun = (said.begun.0, append-nil (corrections_frame d) ∙ sym (second_said said.u said.is.none) ∙ said.begun.1);
+      whole = λ ended.
+          let last = said.ended ended in
+          let same = ap length (last.2 ∙ second_said last.0 last.1.none) ∙ length_corrections last.0.commitment.corrections
+          ∙ ap (λ n. 5 + 8 * n) last.1.elements.counted in
+          omega (arith, same, sized);
+      most = omega (arith, few, sized);
+      sized = omega (arith, sized);
+    }
+
+sums_begun : (job : VerifierJob) (outcome : VerifierOutcome) (rest : List ℕ) → IsSaid job outcome 2 rest
+    → length rest ≤ longest (expect.Sums (section_count job.task.statement.program job.section_length))
+    → IsBegun (expect.Sums (section_count job.task.statement.program job.section_length)) outcome rest
+sums_begun job outcome rest said few =
+    let both = said.u.sums in
+    let sized = (length_third job said.u said.is).0 in
+    record {
+      frame = sums both;
+      allowed = (both, refl, said.is.pairs);
+      more = openings_frame said.u.openings;
+      begun = (said.begun.0, sym (third_said said.u said.is.none) ∙ said.begun.1);
+      whole = λ ended.
+          let last = said.ended ended in
+          let same = ap length (last.2 ∙ third_said last.0 last.1.none) ∙ length-append (sums_frame last.0.sums) (openings_frame last.0.openings) in
+          let other = (length_third job last.0 last.1).0 in
+          omega (arith, same, other, sized);
+      most = omega (arith, few, sized);
+      sized = omega (arith, sized);
+    }
+
+openings_begun : (job : VerifierJob) (outcome : VerifierOutcome) (both : List (ℕ × ℕ)) (rest : List ℕ)
+    → AreSums (section_count job.task.statement.program job.section_length) both → IsSaid job outcome 2 (sums_frame both ++ rest)
+    → length rest ≤ longest (expect.Openings (length job.task.statement.program.opened))
+    → IsBegun (expect.Openings (length job.task.statement.program.opened)) outcome rest
+openings_begun job outcome both rest pairs said few =
+    let macs = said.u.openings in
+    let third = length_third job said.u said.is in
+    let sized = third.1 in
+    let n = length (sums_frame both) in
+    let before : n ≡ 5 + 16 * section_count job.task.statement.program job.section_length = length_sums both ∙ ap (λ k. 5 + 16 * k) pairs.counted in
+    record {
+      frame = openings macs;
+      allowed = (macs, refl, said.is.macs);
+      more = [];
+      begun = (
+        said.begun.0,
+        append-nil (openings_frame macs)
+            ∙ sym (drop_at (sums_frame said.u.sums) (openings_frame macs) n (third.0 ∙ sym before))
+            ∙ ap (drop n) (sym (third_said said.u said.is.none) ∙ said.begun.1 ∙ append_assoc (sums_frame both) rest said.begun.0)
+            ∙ drop_at (sums_frame both) (rest ++ said.begun.0) n refl,
+      );
+      whole = λ ended.
+          let last = said.ended ended in
+          let same = sym (length-append (sums_frame both) rest) ∙ ap length (last.2 ∙ third_said last.0 last.1.none)
+          ∙ length-append (sums_frame last.0.sums) (openings_frame last.0.openings) in
+          let others = length_third job last.0 last.1 in
+          omega (arith, same, others.0, others.1, before, sized);
+      most = omega (arith, few, sized);
+      sized = omega (arith, sized);
+    }
+
+-- behind the grant no hello is expected
+late : (job : VerifierJob) (start : ℕ) (place : VerifierPlace) (rest : List ℕ) (first now : Moment) (differs : HelloDiffers) → StartsAt start place
+    → StopCause job place rest first now (BadHello differs) → ⊥
+late job start place rest first now differs starts cause = subst (StartsAt start) cause.0 starts
+
+behind_completes : (job : VerifierJob) (start : ℕ) (place : VerifierPlace) (prover : ProverTask) (outcome : VerifierOutcome) (first now : Moment)
+    → ServedSessionExists → HonestTurn → HonestTurnEnds → IsKnown job → StartsAt start place → IsStopped job place outcome first now
+    → HasHonestPeer job prover outcome now.log → ¬ Rose first.faults now.faults → IsComplete outcome
+unfolding cut_behind Rattle.session_verifier.proofs.ServedLemmas.cut_at
+behind_completes job start (awaits_corrections begun) prover outcome first now law turn ends known starts stopped peer rose =
+    goes_on job (awaits_corrections begun) stopped.rest first now outcome (expect.Corrections job.task.statement.program.givens) refl
+    (corrections_begun job outcome stopped.rest
+    (honest_said job start prover outcome now.log turn ends known peer (cut_behind job start (awaits_corrections begun) outcome first now law known starts stopped))
+    (stopped.few (expect.Corrections job.task.statement.program.givens) refl))
+    (λ differs is. late job start (awaits_corrections begun) stopped.rest first now differs starts) rose stopped.cause
+behind_completes job start (awaits_sums begun d) prover outcome first now law turn ends known starts stopped peer rose =
+    goes_on job (awaits_sums begun d) stopped.rest first now outcome (expect.Sums (section_count job.task.statement.program job.section_length)) refl
+    (sums_begun job outcome stopped.rest
+    (honest_said job start prover outcome now.log turn ends known peer (cut_behind job start (awaits_sums begun d) outcome first now law known starts stopped))
+    (stopped.few (expect.Sums (section_count job.task.statement.program job.section_length)) refl))
+    (λ differs is. late job start (awaits_sums begun d) stopped.rest first now differs starts) rose stopped.cause
+behind_completes job start (awaits_openings begun d both) prover outcome first now law turn ends known starts stopped peer rose =
+    goes_on job (awaits_openings begun d both) stopped.rest first now outcome (expect.Openings (length job.task.statement.program.opened)) refl
+    (openings_begun job outcome both stopped.rest stopped.waited.2
+    (honest_said job start prover outcome now.log turn ends known peer (cut_behind job start (awaits_openings begun d both) outcome first now law known starts stopped))
+    (stopped.few (expect.Openings (length job.task.statement.program.opened)) refl))
+    (λ differs is. late job start (awaits_openings begun d both) stopped.rest first now differs starts) rose stopped.cause
+behind_completes job start awaits_hello prover outcome first now law turn ends known starts stopped peer rose = absurd starts
+behind_completes job start owes_grant prover outcome first now law turn ends known starts stopped peer rose = absurd starts
+behind_completes job start (has_judged begun judgement) prover outcome first now law turn ends known starts stopped peer rose = absurd starts
+behind_completes job start has_refused prover outcome first now law turn ends known starts stopped peer rose = absurd starts
+
+-- where a grant is due no frame is expected
+none_expected : {expect : Expect} → None ≡ Some expect → ⊥
+none_expected is = subst is_none is tt
+  where
+    is_none : Option Expect → Type 0
+    is_none None = Unit {0}
+    is_none (Some expect) = ⊥
+
+due_completes : (job : VerifierJob) (outcome : VerifierOutcome) (rest : List ℕ) (first now : Moment) → ¬ Rose first.faults now.faults
+    → StopCause job owes_grant rest first now outcome → IsComplete outcome
+due_completes job (PeerEnded at) rest first now rose cause = absurd (none_expected cause.0.1)
+due_completes job (BadFrame at) rest first now rose cause = absurd (none_expected cause.1.1)
+due_completes job (BadHello differs) rest first now rose cause = absurd (subst is_due cause.0 tt)
+  where
+    is_due : VerifierPlace → Type 0
+    is_due awaits_hello = ⊥
+    is_due owes_grant = Unit {0}
+    is_due (awaits_corrections start) = ⊥
+    is_due (awaits_sums start d) = ⊥
+    is_due (awaits_openings start d both) = ⊥
+    is_due (has_judged start judgement) = ⊥
+    is_due has_refused = ⊥
+due_completes job Link rest first now rose cause = absurd (rose cause)
+due_completes job NoMemory rest first now rose cause = inr refl
+due_completes job Accepted rest first now rose cause = absurd cause
+due_completes job (RejectedSum section left right) rest first now rose cause = absurd cause
+due_completes job (RejectedOpening output left right) rest first now rose cause = absurd cause
+due_completes job (Exhausted at count total) rest first now rose cause = absurd cause
+due_completes job Device rest first now rose cause = absurd cause
+due_completes job (Broken at) rest first now rose cause = absurd cause
+
+-- ---- the whole session
+
+-- the laws of honest peers
+pub record AreLaws : Type 0 where
+  pub another : NoneBeginsAnother
+  pub exists : ServedSessionExists
+  pub turn : HonestTurn
+  pub ends : HonestTurnEnds
+  pub accepted : HonestWholeIsAccepted
+
+pub completes : (job : VerifierJob) (answer : Option (Result Span LeaseFault)) (granted : Option Span) (outcome : VerifierOutcome) (first now : Moment) → AreLaws
+    → IsKnown job → IsCourse job answer granted outcome first now → Completes job answer outcome first now
+completes job None granted outcome first now laws known course prover peer leased rose =
+    unmet_completes job outcome prover first now laws.another known course.1 peer rose
+completes job (Some (Err fault)) granted outcome first now laws known course prover peer leased rose = absurd (leased fault refl)
+completes job (Some (Ok span)) granted outcome first now laws known course prover peer leased rose = by_course course.1.course
+  where
+    by_course : (IsStopped job owes_grant outcome first now ⊎ StopsBehind job span.start outcome first now
+        ⊎ ((other : Judgement) × (outcome ≡ judgement_outcome other) × IsWaiting job (has_judged span.start other) first now))
+        → IsComplete outcome
+    by_course (inl stopped) = due_completes job outcome stopped.rest first now rose stopped.cause
+    by_course (inr (inl stops)) =
+        behind_completes job span.start stops.place prover outcome first now laws.exists laws.turn laws.ends known stops.behind stops.stopped peer rose
+    by_course (inr (inr found)) =
+        let session = judged_session job span (Some span) found.0 now.log known refl found.2.log in
+        let accepted = laws.accepted prover job.task session.t (verdict_in found.0) now.log peer.counterparts peer.witness peer.claims session.served peer.honest in
+        inl (found.1 ∙ accepted_judgement found.0 (ap verdict_code accepted))

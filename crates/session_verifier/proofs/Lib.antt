@@ -1,0 +1,4 @@
+pub mod StageLemmas
+pub mod CourseLemmas
+pub mod ServedLemmas
+pub mod HonestLemmas

@@ -1,0 +1,354 @@
+-- The log of a session that may have ended early, as one that a verifier serves; and that no cut one is accepted.
+use Rattle.std.proofs.Common.{◌≡◌, ◌⊎◌, inl, inr, ℕ, ◌+◌, ◌*◌, ◌≤◌, ◌<◌, List, [], ◌∷◌, ◌++◌, length, take, replicate, slice_index_or, Option, Some, None, Result, Ok, Err, refl, ap, sym, ◌∙◌, subst, arith, append-nil, append_assoc, length-append}
+use Rattle.std.proofs.lemmas.List.{map-append, get_or-replicate, length-replicate}
+use Rattle.std.proofs.lemmas.List.Elements.{All-nil}
+use Rattle.zk_model.specs.Field.{IsElement}
+use Rattle.zk_model.specs.Program.{section_count}
+use Rattle.zk_model.specs.Files.{rounds_of}
+use Rattle.zk_model.specs.Transcript.{Setup, Commitment, Transcript, IsSetup, IsRound, BeginsWith, wanted_hello, hello_frame, corrections_frame, sums_frame, openings_frame, verdict_frame, refuse_frame, bytes_from, turn_bytes, sent_by, session_turns, spelling}
+use Rattle.zk_model.specs.Frames.{AreElements}
+use Rattle.zk_model.specs.View.{verdict_code}
+use Rattle.zk_model.specs.ServedVerifier.{IsServed, IsAccepted, IsCutInTurn, ServesWith, challenge_coin, round_replies}
+use Rattle.zk_model.specs.declared.Expect.TheVariants as expect
+use Rattle.zk_model.specs.declared.Side.{Side}
+use Rattle.zk_model.specs.declared.Side.TheVariants.{Prover, Verifier}
+use Rattle.zk_model.specs.declared.Span.{Span}
+use Rattle.zk_laws.proofs.SentBytes.{sent_by-append, own_bytes, none_of_prover, sent_by-verifier}
+use Rattle.session_laws.specs.Serving.{ServedSessionExists, HasServedSession}
+use Rattle.session_laws.specs.Cuts.{CutIsNotAccepted, VerdictIsSaid}
+use Rattle.proof_frames.proofs.FrameLemmas.{length-elements, length-sums}
+use Rattle.lease_store.specs.declared.LeaseFault.{LeaseFault}
+use Rattle.session_core.specs.Jobs.{VerifierJob, units_of_job, granted_from}
+use Rattle.session_core.specs.Judgements.{verdict_in}
+use Rattle.session_core.specs.Cores.{VerifierPlace, awaits_hello, owes_grant, awaits_corrections, awaits_sums, awaits_openings, has_judged, has_refused}
+use Rattle.session_core.specs.declared.judgement.Judgement.{Judgement}
+use Rattle.session_core.specs.declared.judgement.Judgement.TheVariants as judged
+use Rattle.session_verifier.specs.Outcomes.{judgement_outcome}
+use Rattle.session_verifier.specs.Stages.{Moment, first_turn, second_turn, IsLogAt, StartsAt, IsStopped, StopsBehind, IsRefused, RefusesBy, IsWaiting, IsCourse}
+use Rattle.session_verifier.specs.Notes.{IsUngranted, SendsRightly, AcceptsExactly, refusal_of, IsJudgedSession}
+use Rattle.session_verifier.proofs.CourseLemmas.{IsKnown, grant_is, judged_session}
+use Rattle.session_verifier.specs.declared.note.VerifierOutcome.{VerifierOutcome}
+use Rattle.session_verifier.specs.declared.note.VerifierOutcome.TheVariants.{Accepted, RejectedSum, RejectedOpening, PeerEnded, BadFrame, BadHello, Exhausted, Device, Broken, Link, NoMemory}
+
+-- ---- a session that goes on
+
+pub zeros : (count : ℕ) → AreElements count (replicate count 0)
+zeros count = record {
+  counted = length-replicate {A = ℕ} count 0;
+  ranged = λ k d below. subst IsElement (sym (get_or-replicate count k 0 d (omega (arith, below, length-replicate {A = ℕ} count 0)))) (omega arith);
+}
+
+abbrev pub setup_of : VerifierJob → ℕ → Setup
+setup_of job start = record { hello = wanted_hello job.task.file.id job.task.statement; grant = granted_from job start; rounds = [] }
+
+pub setup_is : (job : VerifierJob) (start : ℕ) → IsKnown job → start + units_of_job job ≤ job.task.file.params.total
+    → IsSetup job.task.file.params job.task.statement.program (setup_of job start)
+setup_is job start known within = record {
+  hello = record { id = known.file.id; circuit = known.stated.circuit; outputs = known.stated.outputs; version = known.stated.version };
+  grant = grant_is job start known.is within;
+  round_count = sym (ap rounds_of known.is.direct);
+  rounds = All-nil (IsRound job.task.file.params (granted_from job start));
+}
+
+pub goes_further : (job : VerifierJob) (start : ℕ) (d : List ℕ) → ServedSessionExists → IsKnown job → start + units_of_job job ≤ job.task.file.params.total
+    → AreElements job.task.statement.program.givens d → HasServedSession job.task (setup_of job start) d
+goes_further job start d law known within elements =
+    law job.task (setup_of job start) d known.file known.stated (setup_is job start known within) refl
+    (All-nil (λ round. round.replies ≡ round_replies job.task.file (granted_from job start) round.asks)) elements
+
+-- its turns
+abbrev pub last_turn : Transcript → List ℕ × List ℕ
+last_turn t = (sums_frame t.sums ++ openings_frame t.openings, verdict_frame t.code t.number)
+
+pub turns_are : (job : VerifierJob) (start : ℕ) (d : List ℕ) (s : HasServedSession job.task (setup_of job start) d)
+    → session_turns s.t ≡ first_turn job start ∷ second_turn job start d ∷ last_turn s.t ∷ []
+turns_are job start d s =
+    let coin : s.t.challenge ≡ challenge_coin job.task.file start = s.served.challenge ∙ ap (λ (c : Commitment). challenge_coin job.task.file c.setup.grant.start) s.commitment in
+    λ i. session_turns (record s.t { commitment = s.commitment i; challenge = coin i })
+
+pub serves_with : (job : VerifierJob) (start : ℕ) (d : List ℕ) (log : List (Side × ℕ)) (s : HasServedSession job.task (setup_of job start) d)
+    → BeginsWith (spelling s.t) log ⊎ IsCutInTurn s.t log → ServesWith job.task (granted_from job start) log
+serves_with job start d log s bytes = record {
+  t = s.t;
+  verdict = s.verdict;
+  served = s.served;
+  granted = ap (λ (c : Commitment). c.setup.grant) s.commitment;
+  bytes = bytes;
+}
+
+-- bytes of a turn in place of it
+unfoldable pub cut_at : (job : VerifierJob) (start : ℕ) (d : List ℕ) (log : List (Side × ℕ)) (s : HasServedSession job.task (setup_of job start) d) (whole : ℕ) (rest : List ℕ)
+    → whole < 3 → length rest ≤ length (slice_index_or (first_turn job start ∷ second_turn job start d ∷ last_turn s.t ∷ []) whole ([], [])).0
+    → log ≡ turn_bytes (take whole (first_turn job start ∷ second_turn job start d ∷ last_turn s.t ∷ [])) ++ bytes_from Prover rest
+    → IsCutInTurn s.t log
+cut_at job start d log s whole rest below most is =
+    let turns = sym (turns_are job start d s) in
+    record {
+      whole = whole;
+      more = subst (λ (l : List (List ℕ × List ℕ)). whole < length l) turns below;
+      rest = rest;
+      most = subst (λ (l : List (List ℕ × List ℕ)). length rest ≤ length (slice_index_or l whole ([], [])).0) turns most;
+      bytes = is ∙ ap (λ (l : List (List ℕ × List ℕ)). turn_bytes (take whole l) ++ bytes_from Prover rest) turns;
+    }
+
+pub length_corrections : (d : List ℕ) → length (corrections_frame d) ≡ 5 + 8 * length d
+length_corrections d = omega (arith, length-elements d)
+
+pub length_sums : (both : List (ℕ × ℕ)) → length (sums_frame both) ≡ 5 + 16 * length both
+length_sums both = omega (arith, length-sums both)
+
+pub length_openings : (macs : List ℕ) → length (openings_frame macs) ≡ 5 + 8 * length macs
+length_openings macs = omega (arith, length-elements macs)
+
+-- how long the last turn is
+pub last_length : (job : VerifierJob) (start : ℕ) (d : List ℕ) (s : HasServedSession job.task (setup_of job start) d)
+    → (length (sums_frame s.t.sums) ≡ 5 + 16 * section_count job.task.statement.program job.section_length)
+    × (length (openings_frame s.t.openings) ≡ 5 + 8 * length job.task.statement.program.opened)
+last_length job start d s =
+    let same = ap (λ (c : Commitment). section_count job.task.statement.program c.setup.grant.section_length) s.commitment in (
+      length_sums s.t.sums ∙ ap (λ n. 5 + 16 * n) (s.served.in_order.transcript.sum_count ∙ same),
+      length_openings s.t.openings ∙ ap (λ n. 5 + 8 * n) s.served.in_order.transcript.opening_count,
+    )
+
+-- a stop behind the grant is a cut of a session that goes on
+pub record IsCutOf (job : VerifierJob) (start : ℕ) (log : List (Side × ℕ)) : Type 0 where
+  pub d : List ℕ
+  pub session : HasServedSession job.task (setup_of job start) d
+  pub cut : IsCutInTurn session.t log
+
+unfoldable pub cut_behind : (job : VerifierJob) (start : ℕ) (place : VerifierPlace) (outcome : VerifierOutcome) (first now : Moment) → ServedSessionExists → IsKnown job
+    → StartsAt start place → IsStopped job place outcome first now → IsCutOf job start now.log
+cut_behind job start awaits_hello outcome first now law known starts stopped = absurd starts
+cut_behind job start owes_grant outcome first now law known starts stopped = absurd starts
+cut_behind job start (awaits_corrections begun) outcome first now law known starts stopped =
+    let at = subst (λ b. IsLogAt job (awaits_corrections b) stopped.before) starts stopped.waited in
+    let givens = job.task.statement.program.givens in
+    let s = goes_further job start (replicate givens 0) law known at.0 (zeros givens) in
+    record {
+      d = replicate givens 0;
+      session = s;
+      cut = cut_at job start (replicate givens 0) now.log s 1 stopped.rest (omega arith)
+          (omega (arith, stopped.few (expect.Corrections givens) refl, length_corrections (replicate givens 0), length-replicate {A = ℕ} givens 0))
+          (stopped.log ∙ ap (λ l. l ++ bytes_from Prover stopped.rest) at.1);
+    }
+cut_behind job start (awaits_sums begun d) outcome first now law known starts stopped =
+    let at = subst (λ b. IsLogAt job (awaits_sums b d) stopped.before) starts stopped.waited in
+    let s = goes_further job start d law known at.0 at.1 in
+    let last = last_length job start d s in
+    record {
+      d = d;
+      session = s;
+      cut = cut_at job start d now.log s 2 stopped.rest (omega arith)
+          (omega (arith, stopped.few (expect.Sums (section_count job.task.statement.program job.section_length)) refl, last.0, length-append (sums_frame s.t.sums) (openings_frame s.t.openings)))
+          (stopped.log ∙ ap (λ l. l ++ bytes_from Prover stopped.rest) at.2);
+    }
+cut_behind job start (awaits_openings begun d both) outcome first now law known starts stopped =
+    let at = subst (λ b. IsLogAt job (awaits_openings b d both) stopped.before) starts stopped.waited in
+    let s = goes_further job start d law known at.0 at.1 in
+    let last = last_length job start d s in
+    let turns = turn_bytes (first_turn job start ∷ second_turn job start d ∷ []) in
+    record {
+      d = d;
+      session = s;
+      cut = cut_at job start d now.log s 2 (sums_frame both ++ stopped.rest) (omega arith)
+          (omega (
+            arith,
+            stopped.few (expect.Openings (length job.task.statement.program.opened)) refl,
+            last.0,
+            last.1,
+            length_sums both,
+            at.2.counted,
+            length-append (sums_frame s.t.sums) (openings_frame s.t.openings),
+            length-append (sums_frame both) stopped.rest,
+          ))
+          (stopped.log ∙ ap (λ l. l ++ bytes_from Prover stopped.rest) at.3
+          ∙ append_assoc turns (bytes_from Prover (sums_frame both)) (bytes_from Prover stopped.rest)
+          ∙ ap (λ l. turns ++ l) (sym (map-append (λ (byte : ℕ). (Prover, byte)) (sums_frame both) stopped.rest)));
+    }
+cut_behind job start (has_judged begun judgement) outcome first now law known starts stopped = absurd starts
+cut_behind job start has_refused outcome first now law known starts stopped = absurd starts
+
+-- ---- what the verifier sends
+
+-- a refusal, or nothing
+record IsAnswer (outcome : VerifierOutcome) (mid now : Moment) : Type 0 where
+  answer : List ℕ
+  refused : (answer ≡ []) ⊎ ((code : ℕ) × (refusal_of outcome ≡ Some code) × (answer ≡ refuse_frame code))
+  log : now.log ≡ mid.log ++ bytes_from Verifier answer
+
+answers_nothing : (outcome : VerifierOutcome) (mid now : Moment) → now ≡ mid → IsAnswer outcome mid now
+answers_nothing outcome mid now same =
+    record { answer = []; refused = inl refl; log = ap (λ (m : Moment). m.log) same ∙ sym (append-nil mid.log) }
+
+answers_refusal : (outcome : VerifierOutcome) (code : ℕ) (mid now : Moment) → refusal_of outcome ≡ Some code → IsRefused code mid now → IsAnswer outcome mid now
+answers_refusal outcome code mid now of refused = either refused.log
+  where
+    either : ((now.log ≡ mid.log ++ bytes_from Verifier (refuse_frame code)) ⊎ (now.log ≡ mid.log)) → IsAnswer outcome mid now
+    either (inl log) = record { answer = refuse_frame code; refused = inr (code, of, refl); log = log }
+    either (inr log) = record { answer = []; refused = inl refl; log = log ∙ sym (append-nil mid.log) }
+
+answers_by : (outcome : VerifierOutcome) (mid now : Moment) → RefusesBy outcome mid now → IsAnswer outcome mid now
+answers_by Accepted mid now by = answers_nothing Accepted mid now by
+answers_by (RejectedSum section left right) mid now by = answers_nothing (RejectedSum section left right) mid now by
+answers_by (RejectedOpening output left right) mid now by = answers_nothing (RejectedOpening output left right) mid now by
+answers_by (PeerEnded at) mid now by = answers_nothing (PeerEnded at) mid now by
+answers_by (BadFrame at) mid now by = answers_nothing (BadFrame at) mid now by
+answers_by (BadHello differs) mid now by = answers_refusal (BadHello differs) 1 mid now refl by
+answers_by (Exhausted at count total) mid now by = answers_refusal (Exhausted at count total) 2 mid now refl by
+answers_by Device mid now by = answers_refusal Device 3 mid now refl by
+answers_by (Broken at) mid now by = answers_refusal (Broken at) 3 mid now refl by
+answers_by Link mid now by = answers_nothing Link mid now by
+answers_by NoMemory mid now by = answers_nothing NoMemory mid now by
+
+-- a hello has 102 bytes
+pub hello_length : (job : VerifierJob) → IsKnown job → length (hello_frame (wanted_hello job.task.file.id job.task.statement)) ≡ 102
+hello_length job known =
+    let id = job.task.file.id in
+    let circuit = job.task.statement.circuit in
+    let outputs = job.task.statement.outputs in
+    let version : List ℕ = job.task.statement.version ∷ [] in
+    omega (
+      arith,
+      length-append (id ++ circuit ++ outputs) version,
+      length-append (id ++ circuit) outputs,
+      length-append id circuit,
+      known.file.id.0,
+      known.stated.circuit.0,
+      known.stated.outputs.0,
+    )
+
+ungranted : (outcome : VerifierOutcome) (mid now : Moment) (rest : List ℕ) → mid.log ≡ bytes_from Prover rest → length rest ≤ 102
+    → RefusesBy outcome mid now → IsUngranted outcome now.log
+ungranted outcome mid now rest log most by =
+    let is = answers_by outcome mid now by in
+    record {
+      rest = rest;
+      most = most;
+      answer = is.answer;
+      refused = is.refused;
+      bytes = is.log ∙ ap (λ l. l ++ bytes_from Verifier is.answer) log;
+    }
+
+-- what is left of a list behind its first part
+before_grant : (job : VerifierJob) (start : ℕ) (log : List (Side × ℕ)) → ServedSessionExists → IsKnown job → start + units_of_job job ≤ job.task.file.params.total
+    → log ≡ bytes_from Prover (hello_frame (wanted_hello job.task.file.id job.task.statement)) → ServesWith job.task (granted_from job start) log
+before_grant job start log law known within is =
+    let givens = job.task.statement.program.givens in
+    let s = goes_further job start (replicate givens 0) law known within (zeros givens) in
+    let hello = bytes_from Prover (first_turn job start).0 in
+    let grant = bytes_from Verifier (first_turn job start).1 in
+    let more = turn_bytes (second_turn job start (replicate givens 0) ∷ last_turn s.t ∷ []) in
+    serves_with job start (replicate givens 0) log s (inl (
+      grant ++ more,
+      ap turn_bytes (turns_are job start (replicate givens 0) s) ∙ append_assoc hello grant more ∙ ap (λ l. l ++ (grant ++ more)) (sym is),
+    ))
+
+serves_judged : (job : VerifierJob) (span : Span) (judgement : Judgement) (log : List (Side × ℕ)) → IsJudgedSession job (Some span) judgement log
+    → ServesWith job.task (granted_from job span.start) log
+serves_judged job span judgement log session =
+    let same : session.span ≡ span = ap (λ (o : Option Span). or_span o) (sym session.leased) in
+    record {
+      t = session.t;
+      verdict = verdict_in judgement;
+      served = subst (λ l. IsServed job.task session.t (verdict_in judgement) l) session.served.in_order.bytes session.served;
+      granted = session.grant ∙ ap (λ (s : Span). granted_from job s.start) same;
+      bytes = inl ([], sym session.served.in_order.bytes ∙ sym (append-nil log));
+    }
+  where
+    or_span : Option Span → Span
+    or_span None = span
+    or_span (Some other) = other
+
+pub sends_rightly : (job : VerifierJob) (answer : Option (Result Span LeaseFault)) (granted : Option Span) (outcome : VerifierOutcome) (first now : Moment)
+    → ServedSessionExists → IsKnown job → IsCourse job answer granted outcome first now → SendsRightly job granted outcome now.log
+sends_rightly job None granted outcome first now law known course =
+    let stopped = course.1.stopped in
+    subst (λ g. SendsRightly job g outcome now.log) (sym course.0)
+    (ungranted outcome course.1.mid now stopped.rest (stopped.log ∙ ap (λ l. l ++ bytes_from Prover stopped.rest) stopped.waited)
+    (stopped.few expect.Hello refl) course.1.refused)
+sends_rightly job (Some (Err fault)) granted outcome first now law known course =
+    subst (λ g. SendsRightly job g outcome now.log) (sym course.0)
+    (ungranted outcome course.1.mid now (hello_frame (wanted_hello job.task.file.id job.task.statement)) course.1.waiting.log
+    (omega (arith, hello_length job known)) course.1.refused)
+sends_rightly job (Some (Ok span)) granted outcome first now law known course =
+    subst (λ g. SendsRightly job g outcome now.log) (sym course.0) (by_course course.1.course)
+  where
+    within : span.start + units_of_job job ≤ job.task.file.params.total
+    within = omega (arith, course.1.units, course.1.within)
+
+    by_course : (IsStopped job owes_grant outcome first now ⊎ StopsBehind job span.start outcome first now
+        ⊎ ((other : Judgement) × (outcome ≡ judgement_outcome other) × IsWaiting job (has_judged span.start other) first now))
+        → ServesWith job.task (granted_from job span.start) now.log
+    by_course (inl stopped) = before_grant job span.start now.log law known within
+        (stopped.log ∙ (λ i. stopped.waited i ++ bytes_from Prover (stopped.none refl i)) ∙ append-nil (bytes_from Prover (hello_frame (wanted_hello job.task.file.id job.task.statement))))
+    by_course (inr (inl stops)) =
+        let cut = cut_behind job span.start stops.place outcome first now law known stops.behind stops.stopped in
+        serves_with job span.start cut.d now.log cut.session (inr cut.cut)
+    by_course (inr (inr found)) = serves_judged job span found.0 now.log (judged_session job span (Some span) found.0 now.log known refl found.2.log)
+
+-- ---- no cut session is accepted
+
+-- a hello of a session in order is the wanted one
+hello_of : (job : VerifierJob) (log : List (Side × ℕ)) → IsKnown job → (accepted : IsAccepted job.task log) → length (hello_frame accepted.t.commitment.setup.hello) ≡ 102
+hello_of job log known accepted = ap (λ h. length (hello_frame h)) accepted.in_order.hello ∙ hello_length job known
+
+-- no part of the prover's first turn is accepted
+first_is_cut : (job : VerifierJob) (log : List (Side × ℕ)) (rest : List ℕ) → CutIsNotAccepted → IsKnown job → log ≡ bytes_from Prover rest → length rest ≤ 102
+    → IsAccepted job.task log → ⊥
+first_is_cut job log rest law known is most accepted =
+    law job.task accepted.t log known.file.params accepted.in_order.transcript
+    (record { whole = 0; more = omega arith; rest = rest; most = omega (arith, most, hello_of job log known accepted); bytes = is }) accepted
+
+-- the verifier's first byte is that of a grant
+grant_first : (job : VerifierJob) (log : List (Side × ℕ)) (accepted : IsAccepted job.task log) → slice_index_or (sent_by Verifier log) 0 0 ≡ 2
+grant_first job log accepted =
+    ap (λ l. slice_index_or (sent_by Verifier l) 0 0) accepted.in_order.bytes
+    ∙ ap (λ l. slice_index_or l 0 0) (sent_by-verifier (session_turns accepted.t))
+
+-- so no refusal is accepted
+refusal_is_cut : (job : VerifierJob) (log : List (Side × ℕ)) (rest : List ℕ) (code : ℕ) → log ≡ bytes_from Prover rest ++ bytes_from Verifier (refuse_frame code)
+    → IsAccepted job.task log → ⊥
+refusal_is_cut job log rest code is accepted =
+    let sent : sent_by Verifier log ≡ refuse_frame code =
+    ap (sent_by Verifier) is ∙ sent_by-append Verifier (bytes_from Prover rest) (bytes_from Verifier (refuse_frame code))
+    ∙ (λ i. none_of_prover rest i ++ own_bytes Verifier (refuse_frame code) i) in
+    let both : 10 ≡ 2 = sym (ap (λ l. slice_index_or l 0 0) sent) ∙ grant_first job log accepted in
+    absurd (omega (arith, both))
+
+ungranted_is_cut : (job : VerifierJob) (outcome : VerifierOutcome) (log : List (Side × ℕ)) → CutIsNotAccepted → IsKnown job → IsUngranted outcome log
+    → IsAccepted job.task log → ⊥
+ungranted_is_cut job outcome log law known is accepted = either is.refused
+  where
+    either : ((is.answer ≡ []) ⊎ ((code : ℕ) × (refusal_of outcome ≡ Some code) × (is.answer ≡ refuse_frame code))) → ⊥
+    either (inl none) = first_is_cut job log is.rest law known
+        (is.bytes ∙ ap (λ l. bytes_from Prover is.rest ++ bytes_from Verifier l) none ∙ append-nil (bytes_from Prover is.rest)) is.most accepted
+    either (inr refused) = refusal_is_cut job log is.rest refused.0 (is.bytes ∙ ap (λ l. bytes_from Prover is.rest ++ bytes_from Verifier l) refused.2) accepted
+
+-- a judgement whose log is accepted accepts
+pub accepted_judgement : (judgement : Judgement) → verdict_code (verdict_in judgement) ≡ 0 → judgement_outcome judgement ≡ Accepted
+accepted_judgement judged.Accepted code = refl
+accepted_judgement (judged.RejectedSum section left right) code = absurd (omega (arith, code))
+accepted_judgement (judged.RejectedOpening output left right) code = absurd (omega (arith, code))
+
+pub accepts_exactly : (job : VerifierJob) (answer : Option (Result Span LeaseFault)) (granted : Option Span) (outcome : VerifierOutcome) (first now : Moment)
+    → ServedSessionExists → CutIsNotAccepted → VerdictIsSaid → IsKnown job → IsCourse job answer granted outcome first now → AcceptsExactly job outcome now.log
+accepts_exactly job None granted outcome first now law cut said known course accepted =
+    absurd (ungranted_is_cut job outcome now.log cut known (subst (λ g. SendsRightly job g outcome now.log) course.0 (sends_rightly job None granted outcome first now law known course)) accepted)
+accepts_exactly job (Some (Err fault)) granted outcome first now law cut said known course accepted =
+    absurd (ungranted_is_cut job outcome now.log cut known (subst (λ g. SendsRightly job g outcome now.log) course.0 (sends_rightly job (Some (Err fault)) granted outcome first now law known course)) accepted)
+accepts_exactly job (Some (Ok span)) granted outcome first now law cut said known course accepted = by_course course.1.course
+  where
+    by_course : (IsStopped job owes_grant outcome first now ⊎ StopsBehind job span.start outcome first now
+        ⊎ ((other : Judgement) × (outcome ≡ judgement_outcome other) × IsWaiting job (has_judged span.start other) first now))
+        → outcome ≡ Accepted
+    by_course (inl stopped) = absurd (first_is_cut job now.log (hello_frame (wanted_hello job.task.file.id job.task.statement)) cut known
+        (stopped.log ∙ (λ i. stopped.waited i ++ bytes_from Prover (stopped.none refl i)) ∙ append-nil (bytes_from Prover (hello_frame (wanted_hello job.task.file.id job.task.statement))))
+        (omega (arith, hello_length job known)) accepted)
+    by_course (inr (inl stops)) =
+        let is = cut_behind job span.start stops.place outcome first now law known stops.behind stops.stopped in
+        absurd (cut job.task is.session.t now.log known.file.params is.session.served.in_order.transcript is.cut accepted)
+    by_course (inr (inr found)) =
+        let session = judged_session job span (Some span) found.0 now.log known refl found.2.log in
+        let codes = said job.task.file.params job.task.statement.program session.t accepted.t now.log known.file.params
+        session.served.in_order.transcript accepted.in_order.transcript session.served.in_order.bytes accepted.in_order.bytes in
+        found.1 ∙ accepted_judgement found.0 (sym session.served.judged.said.code ∙ codes.0 ∙ accepted.said.code)

@@ -1,0 +1,49 @@
+use Rattle.std.proofs.Common.{sym, ◌∙◌, subst, map, flat_map}
+use Rattle.zk_model.specs.Frames.{frame_spelling}
+use Rattle.frame_link.specs.Lines.{Sends}
+use Rattle.proof_frames.specs.Frames.{said}
+use Rattle.frame_link.proofs.LineLemmas.{fails_at}
+use Rattle.session_verifier.specs.Outcomes.{line_outcome, session_outcome}
+use Rattle.session_verifier.specs.Stages.{IsShortAnswer}
+use Rattle.session_verifier.proofs.StageLemmas.{goes_on, stops_without, stops_refused, stops_unsent, short_answers}
+use Rattle.session_verifier.proofs.course.advance.Goals as goal
+
+pub returns-in_err-frame-clause-stops : goal.returns-in_err-frame-clause-stops
+returns-in_err-frame-clause-stops g c =
+    let job = c.args.core.now.job in
+    let place = c.args.core.now.place in
+    let expects = sym c.expects.ensures.place ∙ c.in-Some.is in
+    fails_at _ c.from_residual.result (line_outcome c.in_err-frame.field-0.0) c.from_residual.ensures.1
+    (λ first at. stops_without job place c.in-Some.place c.in_err-frame.field-0.0 first c.args.line.now c.take.new.self expects at c.in_err-frame.ensures.fails)
+
+pub returns-in_err-answer-clause-stops : goal.returns-in_err-answer-clause-stops
+returns-in_err-answer-clause-stops g c =
+    let job = c.args.core.now.job in
+    let place = c.args.core.now.place in
+    let expects = sym c.expects.ensures.place ∙ c.in-Some.is in
+    fails_at _ c.from_residual-in_err-answer.result (session_outcome c.in_err-answer.field-0.0) c.from_residual-in_err-answer.ensures.1
+    (λ first at. stops_refused job place c.in-Some.place (said c.in_ok-frame.frame) c.in_err-answer.field-0.0 first c.args.line.now c.take.new.self expects at
+    c.in_ok-frame.ensures.arrives c.in_err-answer.ensures.refused)
+
+pub send_answer-requires-clause-short : goal.send_answer-requires-clause-short
+send_answer-requires-clause-short g c =
+    subst (λ l. IsShortAnswer (map said l)) (sym c.deref.ensures.value)
+    (short_answers c.args.core.now.job c.args.core.now.place _ (said c.in_ok-frame.frame) _ c.in_ok-answer.ensures.answered)
+
+pub returns-in_err-send_answer-clause-stops : goal.returns-in_err-send_answer-clause-stops
+returns-in_err-send_answer-clause-stops g c =
+    let job = c.args.core.now.job in
+    let place = c.args.core.now.place in
+    let expects = sym c.expects.ensures.place ∙ c.in-Some.is in
+    fails_at _ c.from_residual-in_err-send_answer.result (line_outcome c.in_err-send_answer.field-0.0) c.from_residual-in_err-send_answer.ensures.1
+    (λ first at. stops_unsent job place c.in-Some.place (said c.in_ok-frame.frame) _ c.in_err-send_answer.field-0.0 first c.args.line.now c.take.new.self c.send_answer.new.line expects at
+    c.in_ok-frame.ensures.arrives c.in_err-send_answer.ensures.fails)
+
+pub returns-clause-goes_on : goal.returns-clause-goes_on
+returns-clause-goes_on g c first at =
+    let job = c.args.core.now.job in
+    let place = c.args.core.now.place in
+    let expects = sym c.expects.ensures.place ∙ c.in-Some.is in
+    goes_on job place c.step.new.self.place c.in-Some.place (said c.in_ok-frame.frame) _ first c.args.line.now c.take.new.self c.send_answer.new.line expects c.in-Some.ensures.short at
+    c.in_ok-frame.ensures.arrives c.in_ok-answer.ensures.answered
+    (subst (λ l. Sends (flat_map frame_spelling (map said l)) c.take.new.self c.send_answer.new.line) c.deref.ensures.value c.in_ok-send_answer.ensures.sends)

@@ -1,0 +1,3 @@
+pub mod Outcomes
+pub mod Stages
+pub mod Notes

@@ -1,0 +1,25 @@
+// Who leases units to sessions.
+ghost use Rattle.std.specs.Prelude.{◌≡◌, ◌+◌, ◌≤◌, None, Some, IfOk};
+
+use lease_store::{LeaseFault, Span};
+
+/// Leases units, once: it is made for one session.
+pub trait Grantor {
+    ghost use Rattle.std.specs.Prelude.{ℕ, Option, Result};
+    ghost use Rattle.zk_model.specs.declared.Span.{Span};
+    ghost use Rattle.lease_store.specs.declared.LeaseFault.{LeaseFault};
+
+    /// What it answered, once it was asked.
+    ghost answer: { Self → Option (Result Span LeaseFault) };
+
+    /// The total of the units that it leases from.
+    ghost total: { Self → ℕ };
+
+    /// Leases so many units in a row that end at or below the total, or says why not.
+    fn grant(&mut self, count: u32) -> Result<Span, LeaseFault>
+        requires once { answer self.old ≡ None }
+        ensures told { answer self.new ≡ Some result }
+        ensures counted { IfOk result (λ span. span.end ≡ span.start + count) }
+        ensures within { IfOk result (λ span. span.end ≤ total self.old) }
+        ensures total { total self.new ≡ total self.old };
+}

@@ -1,0 +1,13 @@
+//! A verifier's session with any peer over a link (Weng, Yang, Katz and Wang, Wolverine, IEEE S&P 2021; Yang, Sarkar, Weng and
+//! Wang, QuickSilver, ACM CCS 2021): it meets the hello, grants units, challenges, and judges; and it says what came of it.
+#![tactic(auto)]
+
+mod course;
+mod grantor;
+mod note;
+mod serve;
+mod verify;
+
+pub use grantor::Grantor;
+pub use note::{SessionNote, VerifierOutcome};
+pub use verify::verify_session;

@@ -1,0 +1,112 @@
+// What came of a session at the verifier.
+ghost use Rattle.std.specs.Prelude.{◌≡◌};
+ghost use Rattle.session_verifier.specs.Outcomes.{lease_outcome, line_outcome, session_outcome, judgement_outcome};
+
+use frame_link::{LineFault, Log};
+use lease_store::{LeaseFault, Span};
+use mersenne_field::Fe;
+use session_core::{HelloDiffers, Judgement, SessionFault};
+
+/// How a session ended for the verifier.
+#[derive(Clone, Copy, Debug, PartialEq, Eq)]
+pub enum VerifierOutcome {
+    /// Every check holds, and the verdict was sent.
+    Accepted,
+    /// The sums of this section are the first that fail, with both sides of their equation; the verdict was sent.
+    RejectedSum { section: u32, left: Fe, right: Fe },
+    /// All sections hold, and the MAC of this opened wire is the first that fails; the verdict was sent.
+    RejectedOpening { output: u32, left: Fe, right: Fe },
+    /// The peer ended when so many bytes had come from it, and more were wanted.
+    PeerEnded { at: u64 },
+    /// The peer's byte at this place is the first after which no frame that is expected can follow.
+    BadFrame { place: u64 },
+    /// The hello is not the wanted one.
+    BadHello(HelloDiffers),
+    /// The units that the session takes, from here on, would end above the total.
+    Exhausted { at: u64, count: u32, total: u64 },
+    /// A call of the journal's disk failed.
+    Device,
+    /// A call of the journal's disk failed before.
+    Broken { first: u64 },
+    /// A call of the link failed.
+    Link,
+    /// Memory was wanting.
+    NoMemory,
+}
+
+impl From<LeaseFault> for VerifierOutcome {
+    ghost from_gives = { λ fault o. o ≡ lease_outcome fault };
+
+    fn from(fault: LeaseFault) -> Self {
+        match fault {
+            LeaseFault::Exhausted { at, count, total } => {
+                VerifierOutcome::Exhausted { at, count, total }
+            }
+            LeaseFault::Device => VerifierOutcome::Device,
+            LeaseFault::Broken { first } => VerifierOutcome::Broken { first },
+        }
+    }
+}
+
+impl From<LineFault> for VerifierOutcome {
+    ghost from_gives = { λ fault o. o ≡ line_outcome fault };
+
+    fn from(fault: LineFault) -> Self {
+        match fault {
+            LineFault::PeerEnded { at } => VerifierOutcome::PeerEnded { at },
+            LineFault::BadFrame { place } => VerifierOutcome::BadFrame { place },
+            LineFault::Link => VerifierOutcome::Link,
+            LineFault::NoMemory => VerifierOutcome::NoMemory,
+        }
+    }
+}
+
+impl From<SessionFault> for VerifierOutcome {
+    ghost from_gives = { λ fault o. o ≡ session_outcome fault };
+
+    fn from(fault: SessionFault) -> Self {
+        match fault {
+            SessionFault::BadHello(differs) => VerifierOutcome::BadHello(differs),
+            SessionFault::BadGrant | SessionFault::PeerRefused { .. } | SessionFault::NoMemory => {
+                VerifierOutcome::NoMemory
+            }
+        }
+    }
+}
+
+impl From<Judgement> for VerifierOutcome {
+    ghost from_gives = { λ judgement o. o ≡ judgement_outcome judgement };
+
+    fn from(judgement: Judgement) -> Self {
+        match judgement {
+            Judgement::Accepted => VerifierOutcome::Accepted,
+            Judgement::RejectedSum {
+                section,
+                left,
+                right,
+            } => VerifierOutcome::RejectedSum {
+                section,
+                left,
+                right,
+            },
+            Judgement::RejectedOpening {
+                output,
+                left,
+                right,
+            } => VerifierOutcome::RejectedOpening {
+                output,
+                left,
+                right,
+            },
+        }
+    }
+}
+
+/// What came of a session: the units that were granted, if any were; how it ended; all frames that passed; and the link.
+#[derive(Drop)]
+pub struct SessionNote<L> {
+    pub granted: Option<Span>,
+    pub outcome: VerifierOutcome,
+    pub log: Log,
+    pub link: L,
+}

@@ -1,0 +1,167 @@
+// A verifier's session over a link.
+ghost use Rattle.std.specs.Prelude.{◌≡◌, ◌≤◌, None, [], IsTrue};
+ghost use Rattle.zk_model.specs.declared.Side.TheVariants.{Verifier};
+ghost use Rattle.session_verifier.specs.Stages.{IsCourse};
+ghost use Rattle.session_verifier.specs.Notes.{granted_by, JudgesRightly, AcceptsExactly, IsShown, SendsRightly, EndsBecause, IsTold, ReceivesFew, Completes};
+ghost use Rattle.session_verifier.specs.declared.note.VerifierOutcome.TheVariants.{Accepted};
+
+use crate::grantor::Grantor;
+use crate::note::SessionNote;
+use crate::serve::serve;
+use frame_link::Line;
+use proof_frames::laws::none_begins_another;
+use session_core::VerifierJob;
+use session_laws::{
+    cut_is_not_accepted, honest_turn, honest_turn_ends, honest_whole_is_accepted,
+    served_session_exists, verdict_is_said,
+};
+use std::alloc::Global;
+use zk_laws::extraction_holds;
+use zk_model::Side;
+use zk_port::{Gate, Link};
+
+/// The session over a line, from its first call of the link to its last.
+fn lead<L: Link, R: Grantor, G: Gate>(
+    alloc: Global,
+    job: &VerifierJob<'_>,
+    grantor: &mut R,
+    link: L,
+    gate: &G,
+) -> SessionNote<L>
+    requires open { IsTrue (L.is_open link) }
+    requires side { L.side link ≡ Verifier }
+    requires once { R.answer grantor.old ≡ None }
+    requires total { R.total grantor.old ≤ job.now.task.file.params.total }
+    ensures course { IsCourse job.now (R.answer grantor.new) result.granted result.outcome
+        (record {
+          log = [];
+          told = L.log link;
+          to_come = L.to_come link;
+          ended = L.ended link;
+          receives = L.receives link;
+          faults = L.faults link;
+        })
+        (record {
+          log = result.log;
+          told = L.log result.link;
+          to_come = L.to_come result.link;
+          ended = L.ended result.link;
+          receives = L.receives result.link;
+          faults = L.faults result.link;
+        }) }
+{
+    let mut line = Line::new(alloc, link, Side::Verifier);
+    let course = serve(alloc, job, grantor, gate, &mut line);
+    let (link, log) = line.end();
+    SessionNote {
+        granted: course.granted,
+        outcome: course.outcome,
+        log,
+        link,
+    }
+}
+
+/// Leads a session with a peer that may send anything: meets its hello, leases the units that the session takes, grants them,
+/// challenges, and judges (Weng, Yang, Katz and Wang, Wolverine, IEEE S&P 2021; Yang, Sarkar, Weng and Wang, QuickSilver, ACM CCS
+/// 2021). The gate is told when units are leased and when such a session has ended. Each receive asks for no more bytes than the
+/// frame under way still wants; `end` is the last call of the link. A refusal is sent for a hello that differs and for units that
+/// are not leased; whether that send fails changes nothing.
+pub fn verify_session<L: Link, R: Grantor, G: Gate>(
+    alloc: Global,
+    job: &VerifierJob<'_>,
+    grantor: &mut R,
+    link: L,
+    gate: &G,
+) -> SessionNote<L>
+    requires open { IsTrue (L.is_open link) }
+    requires side { L.side link ≡ Verifier }
+    requires once { R.answer grantor.old ≡ None }
+    requires total { R.total grantor.old ≤ job.now.task.file.params.total }
+    ensures granted { result.granted ≡ granted_by (R.answer grantor.new) }
+    ensures verdict { JudgesRightly job.now result.granted result.outcome result.log }
+    ensures accepted { AcceptsExactly job.now result.outcome result.log }
+    ensures shown { result.outcome ≡ Accepted → IsShown job.now result.granted result.log }
+    ensures sends { SendsRightly job.now result.granted result.outcome result.log }
+    ensures cause { EndsBecause job.now (R.answer grantor.new) result.outcome
+        (record {
+          log = [];
+          told = L.log link;
+          to_come = L.to_come link;
+          ended = L.ended link;
+          receives = L.receives link;
+          faults = L.faults link;
+        })
+        (record {
+          log = result.log;
+          told = L.log result.link;
+          to_come = L.to_come result.link;
+          ended = L.ended result.link;
+          receives = L.receives result.link;
+          faults = L.faults result.link;
+        }) }
+    ensures told { IsTold result.outcome
+        (record {
+          log = [];
+          told = L.log link;
+          to_come = L.to_come link;
+          ended = L.ended link;
+          receives = L.receives link;
+          faults = L.faults link;
+        })
+        (record {
+          log = result.log;
+          told = L.log result.link;
+          to_come = L.to_come result.link;
+          ended = L.ended result.link;
+          receives = L.receives result.link;
+          faults = L.faults result.link;
+        }) }
+    ensures receives { ReceivesFew
+        (record {
+          log = [];
+          told = L.log link;
+          to_come = L.to_come link;
+          ended = L.ended link;
+          receives = L.receives link;
+          faults = L.faults link;
+        })
+        (record {
+          log = result.log;
+          told = L.log result.link;
+          to_come = L.to_come result.link;
+          ended = L.ended result.link;
+          receives = L.receives result.link;
+          faults = L.faults result.link;
+        }) }
+    ensures complete { Completes job.now (R.answer grantor.new) result.outcome
+        (record {
+          log = [];
+          told = L.log link;
+          to_come = L.to_come link;
+          ended = L.ended link;
+          receives = L.receives link;
+          faults = L.faults link;
+        })
+        (record {
+          log = result.log;
+          told = L.log result.link;
+          to_come = L.to_come result.link;
+          ended = L.ended result.link;
+          receives = L.receives result.link;
+          faults = L.faults result.link;
+        }) }
+    ensures faults { L.faults link ≤ L.faults result.link }
+{
+    none_begins_another();
+    honest_turn();
+    honest_turn_ends();
+    honest_whole_is_accepted();
+    served_session_exists();
+    cut_is_not_accepted();
+    verdict_is_said();
+    extraction_holds();
+    let _opened = job.statement().program().opened();
+    let _total = job.file().total();
+    let note = lead(alloc, job, grantor, link, gate);
+    note
+}

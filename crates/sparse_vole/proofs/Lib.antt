@@ -1,0 +1,4 @@
+mod Sums
+mod Keys
+mod Vectors
+mod Examples

@@ -1,0 +1,359 @@
+// A verifier's sessions over the files of a seed, with a peer whose bytes are stated: those of a rehearsal's prover, and others.
+ghost use Rattle.std.specs.Prelude.{◌≡◌, ◌≤◌, ◌^◌, None, OnOk};
+ghost use Rattle.proof_frames.specs.Readings.{IsShortPlace};
+
+use crate::run_tests::AND;
+use bristol_reader::read;
+use dealer_files::deal;
+use frame_link::Log;
+use gate_translate::translate;
+use lease_store::{LeaseFault, Span};
+use mersenne_field::Fe;
+use proof_frames::{Decoder, Expect};
+use session_core::{HelloDiffers, Statement, VerifierJob, outputs_digest, rehearse};
+use session_verifier::{Grantor, SessionNote, VerifierOutcome, verify_session};
+use std::alloc::{AllocError, Global};
+use std::test::Fail;
+use zk_model::{Kind, Params, Side};
+use zk_port::{FailAt, FaultPlan, Link, NoFault, QuietGate, ScriptedLink};
+
+/// The most products of a section, and as many where nothing is said.
+const LONG: u32 = 1 << 20;
+
+/// The seed of all files.
+const SEED: [u8; 32] = [7; 32];
+
+/// Files of kind direct with one unit.
+const DIRECT: Params = Params {
+    kind: Kind::Direct,
+    height: 0,
+    trees: 0,
+    base: 0,
+    total: 1,
+};
+
+/// A frame that refuses by this code.
+fn refusal(code: u8) -> [u8; 6] {
+    [10, 1, 0, 0, 0, code]
+}
+
+/// Leases units from 0 on, or answers by a fault.
+#[derive(Drop)]
+struct FirstUnits {
+    total: u64,
+    fault: Option<LeaseFault>,
+    answer: Option<Result<Span, LeaseFault>>,
+}
+
+impl Grantor for FirstUnits {
+    ghost answer = { λ g. g.answer };
+
+    ghost total = { λ g. g.total };
+
+    fn grant(&mut self, count: u32) -> Result<Span, LeaseFault> {
+        let end = u64::from(count);
+        let answer = match self.fault {
+            Some(fault) => Err(fault),
+            None if end > self.total => Err(LeaseFault::Exhausted {
+                at: 0,
+                count,
+                total: self.total,
+            }),
+            None => Ok(Span { start: 0, end }),
+        };
+        self.answer = Some(answer);
+        answer
+    }
+}
+
+/// A verifier's session over one unit about the claim that the and gate gives 1, in sections of this length, whose peer sends
+/// these bytes, and whose units are leased or not.
+fn served<P: FaultPlan + Drop>(
+    alloc: Global,
+    section: u32,
+    script: &[u8],
+    plan: P,
+    fault: Option<LeaseFault>,
+) -> Result<SessionNote<ScriptedLink<P>>, Fail>
+    requires some { 1 ≤ section }
+    requires most { section ≤ 2 ^ 20 }
+{
+    let Ok(circuit) = read(alloc, AND.as_bytes()) else {
+        return Err(Fail::new("no circuit"));
+    };
+    let program = translate(alloc, &circuit)?;
+    if program.public() != 0 || program.opened().len() != 1 {
+        return Err(Fail::new("another program"));
+    }
+    if program.need(u64::from(section)) > 64 {
+        return Err(Fail::new("more than a unit"));
+    }
+    let claims = [Fe::ONE];
+    let outputs = outputs_digest(alloc, &[true])?;
+    let statement = Statement::new(&program, &[], &claims, 1, [0; 32], outputs);
+    let (_, file) = deal(alloc, &DIRECT, &SEED)?;
+    let job = VerifierJob::new(&statement, &file, section);
+    let mut grantor = FirstUnits {
+        total: 1,
+        fault,
+        answer: None,
+    };
+    let link = ScriptedLink::new(alloc, Side::Verifier, script.to_vec(alloc)?, plan);
+    Ok(verify_session(alloc, &job, &mut grantor, link, &QuietGate))
+}
+
+/// The log of the session's rehearsal, in sections of this length.
+fn rehearsed(alloc: Global, section: u32) -> Result<Log, Fail>
+    requires some { 1 ≤ section }
+    requires most { section ≤ 2 ^ 20 }
+{
+    let Ok(circuit) = read(alloc, AND.as_bytes()) else {
+        return Err(Fail::new("no circuit"));
+    };
+    match rehearse(alloc, &circuit, &[true, true], section, &SEED) {
+        Ok(rehearsal) => Ok(rehearsal.log),
+        Err(_) => Err(Fail::new("no rehearsal")),
+    }
+}
+
+/// What one side sent.
+fn part_of(alloc: Global, log: &Log, side: Side) -> Result<Vec<u8>, AllocError> {
+    let mut part = Vec::new(alloc);
+    let mut rest = log.bytes();
+    for run in log.runs() {
+        let Some((bytes, behind)) = rest.split_at_checked(run.count) else {
+            break;
+        };
+        if run.side == side {
+            part.extend_from_slice(bytes)?;
+        }
+        rest = behind;
+    }
+    Ok(part)
+}
+
+/// The prover's part of the rehearsal in the longest sections: the script of a peer that is accepted.
+fn whole_script(alloc: Global) -> Result<Vec<u8>, Fail> {
+    let log = rehearsed(alloc, LONG)?;
+    Ok(part_of(alloc, &log, Side::Prover)?)
+}
+
+/// Whether a session with a rehearsal's prover, which sends a byte more, is accepted and has the rehearsal's log, where both
+/// sides send so many bytes.
+fn is_as_rehearsed(alloc: Global, section: u32, sent: usize, answered: usize) -> Result<bool, Fail>
+    requires some { 1 ≤ section }
+    requires most { section ≤ 2 ^ 20 }
+{
+    let log = rehearsed(alloc, section)?;
+    let mut script = part_of(alloc, &log, Side::Prover)?;
+    let answers = part_of(alloc, &log, Side::Verifier)?;
+    if script.len() != sent || answers.len() != answered {
+        return Ok(false);
+    }
+    script.push(0)?;
+    let note = served(alloc, section, &script, NoFault, None)?;
+    Ok(
+        note.outcome == VerifierOutcome::Accepted
+            && note.granted == Some(Span { start: 0, end: 1 })
+            && note.log.bytes() == log.bytes()
+            && note.log.runs() == log.runs(),
+    )
+}
+
+#[test]
+fn a_session_is_served_as_it_is_rehearsed(rt: HostRuntime) -> Result<(), Fail> {
+    let alloc = rt.alloc();
+    assert!(rt; is_as_rehearsed(alloc, LONG, 165, 44)?);
+    assert!(rt; is_as_rehearsed(alloc, 1, 197, 44)?);
+    Ok(())
+}
+
+/// The outcome where the peer sends these bytes, and the bytes of the log.
+fn outcome_of(alloc: Global, script: &[u8]) -> Result<(VerifierOutcome, Vec<u8>), Fail> {
+    let note = served(alloc, LONG, script, NoFault, None)?;
+    Ok((note.outcome, note.log.bytes().to_vec(alloc)?))
+}
+
+#[test]
+fn a_peer_may_end_or_send_another_frame(rt: HostRuntime) -> Result<(), Fail> {
+    let alloc = rt.alloc();
+    let script = whole_script(alloc)?;
+    for cut in 0..script.len() {
+        let at = cut as u64;
+        let (outcome, _) = outcome_of(alloc, &script[..cut])?;
+        assert_eq!(rt; outcome, VerifierOutcome::PeerEnded { at });
+    }
+    let Some((hello, behind)) = script.split_at_checked(102) else {
+        return Err(Fail::new("a short script"));
+    };
+    let mut twice = hello.to_vec(alloc)?;
+    twice.extend_from_slice(hello)?;
+    let (outcome, log) = outcome_of(alloc, &twice)?;
+    assert_eq!(rt; outcome, VerifierOutcome::BadFrame { place: 102 });
+    // What came behind the grant is logged up to the piece that has the bad byte.
+    assert_eq!(rt; log.len(), 102 + 21 + 29);
+    let mut prime = hello.to_vec(alloc)?;
+    prime.extend_from_slice(&[5, 24, 0, 0, 0])?;
+    prime.extend_from_slice(&((1u64 << 61) - 1).to_le_bytes())?;
+    prime.extend_from_slice(behind)?;
+    let (outcome, _) = outcome_of(alloc, &prime)?;
+    assert_eq!(rt; outcome, VerifierOutcome::BadFrame { place: 114 });
+    Ok(())
+}
+
+/// Whether this is what comes of a prover's byte that is changed at this place: an element stays below the prime unless the
+/// highest bit of its last byte is set.
+fn is_of_changed(place: usize, outcome: &VerifierOutcome, is_high: bool) -> bool {
+    let is_bad = *outcome
+        == VerifierOutcome::BadFrame {
+            place: place as u64,
+        };
+    match place {
+        0..5 | 102..107 | 131..136 | 152..157 => is_bad,
+        5..37 => matches!(outcome, VerifierOutcome::BadHello(HelloDiffers::Id { .. })),
+        37..69 => matches!(
+            outcome,
+            VerifierOutcome::BadHello(HelloDiffers::Circuit { .. })
+        ),
+        69..101 => matches!(
+            outcome,
+            VerifierOutcome::BadHello(HelloDiffers::Outputs { .. })
+        ),
+        101 => matches!(
+            outcome,
+            VerifierOutcome::BadHello(HelloDiffers::Version { .. })
+        ),
+        114 | 122 | 130 | 143 | 151 | 164 if is_high => is_bad,
+        107..131 | 136..152 => matches!(outcome, VerifierOutcome::RejectedSum { section: 0, .. }),
+        157..165 => matches!(outcome, VerifierOutcome::RejectedOpening { output: 0, .. }),
+        _ => false,
+    }
+}
+
+#[test]
+fn a_changed_byte_is_never_accepted(rt: HostRuntime) -> Result<(), Fail> {
+    let alloc = rt.alloc();
+    let mut script = whole_script(alloc)?;
+    for bit in [1, 128] {
+        for place in 0..script.len() {
+            script[place] ^= bit;
+            let (outcome, log) = outcome_of(alloc, &script)?;
+            script[place] ^= bit;
+            assert!(rt; is_of_changed(place, &outcome, bit == 128), "{place}");
+            if matches!(outcome, VerifierOutcome::BadHello(_)) {
+                assert_eq!(rt; log.len(), 108, "{place}");
+                assert_eq!(rt; &log[102..], refusal(1).as_slice(), "{place}");
+            }
+        }
+    }
+    Ok(())
+}
+
+#[test]
+fn a_fault_of_the_link_or_of_the_lease_ends_a_session(rt: HostRuntime) -> Result<(), Fail> {
+    let alloc = rt.alloc();
+    let script = whole_script(alloc)?;
+    let log = rehearsed(alloc, LONG)?;
+    // The calls are the hello, the grant, the corrections, the challenge, the sums, the openings and the verdict.
+    for (call, passed) in [
+        (1, 0),
+        (2, 102),
+        (3, 123),
+        (4, 152),
+        (5, 165),
+        (6, 186),
+        (7, 199),
+    ] {
+        let plan = FailAt::new([call].to_vec(alloc)?);
+        let note = served(alloc, LONG, &script, plan, None)?;
+        assert_eq!(rt; note.outcome, VerifierOutcome::Link, "{call}");
+        assert_eq!(rt; note.link.faults(), 1, "{call}");
+        assert_eq!(rt; Some(note.log.bytes()), log.bytes().get(..passed), "{call}");
+        assert_eq!(rt; note.granted.is_some(), call > 1, "{call}");
+    }
+    let (at, count, total) = (0, 1, 1);
+    let first = 5;
+    for (fault, wanted, code) in [
+        (
+            LeaseFault::Exhausted { at, count, total },
+            VerifierOutcome::Exhausted { at, count, total },
+            2,
+        ),
+        (LeaseFault::Device, VerifierOutcome::Device, 3),
+        (
+            LeaseFault::Broken { first },
+            VerifierOutcome::Broken { first },
+            3,
+        ),
+    ] {
+        let note = served(alloc, LONG, &script, NoFault, Some(fault))?;
+        assert_eq!(rt; note.outcome, wanted, "{code}");
+        assert_eq!(rt; note.granted, None, "{code}");
+        assert_eq!(rt; note.log.bytes().len(), 108, "{code}");
+        assert_eq!(rt;
+            note.log.bytes().get(102..),
+            Some(refusal(code).as_slice()),
+            "{code}"
+        );
+    }
+    Ok(())
+}
+
+/// The next frame of the prover's, in words, from pieces of this length.
+fn frame_told(
+    alloc: Global,
+    decoder: &mut Decoder,
+    place: Expect,
+    script: &[u8],
+    length: usize,
+) -> Result<String, Fail>
+    requires short { IsShortPlace place }
+    requires idle { decoder.old.expected ≡ None }
+    requires some { 1 ≤ length }
+    ensures idle { OnOk result (decoder.new.expected ≡ None) }
+{
+    let start = decoder.received();
+    if start > 1000 {
+        return Err(Fail::new("a long script"));
+    }
+    decoder.expect(place)?;
+    let Some(rest) = script.get(start as usize..) else {
+        return Err(Fail::new("a short script"));
+    };
+    for piece in rest.chunks(length) {
+        if decoder.feed(piece).is_err() {
+            return Err(Fail::new("a bad frame"));
+        }
+    }
+    match decoder.next() {
+        Some(frame) => Ok(format!(in alloc; "{frame:?}")?),
+        None => Err(Fail::new("no frame")),
+    }
+}
+
+/// All frames of the prover's, in words, from pieces of this length.
+fn frames_told(alloc: Global, script: &[u8], length: usize) -> Result<String, Fail>
+    requires { 1 ≤ length }
+{
+    let mut decoder = Decoder::new(alloc);
+    let mut told = frame_told(alloc, &mut decoder, Expect::Hello, script, length)?;
+    let three = Expect::Corrections { count: 3 };
+    told.push_str(&frame_told(alloc, &mut decoder, three, script, length)?)?;
+    let one = Expect::Sums { sections: 1 };
+    told.push_str(&frame_told(alloc, &mut decoder, one, script, length)?)?;
+    let opened = Expect::Openings { count: 1 };
+    told.push_str(&frame_told(alloc, &mut decoder, opened, script, length)?)?;
+    Ok(told)
+}
+
+#[test]
+fn frames_are_the_same_in_pieces_of_any_length(rt: HostRuntime) -> Result<(), Fail> {
+    let alloc = rt.alloc();
+    let script = whole_script(alloc)?;
+    let whole = frames_told(alloc, &script, 165)?;
+    assert_eq!(rt; frames_told(alloc, &script, 1)?, whole);
+    assert_eq!(rt; frames_told(alloc, &script, 7)?, whole);
+    assert!(rt; whole.starts_with("Hello(Hello { id: [244, 0, 146, "));
+    assert!(rt; whole.contains("Corrections(["));
+    Ok(())
+}

@@ -1,0 +1,124 @@
+-- Frames as values, the places of a session where they may come, and what is wrong with bytes that begin none.
+use Rattle.std.specs.Prelude.{◌≡◌, ◌⊎◌, ℕ, zero, suc, ◌+◌, ◌*◌, ◌-◌, ◌^◌, ◌<◌, ◌≤◌, Bool, true, false, if◌then◌else◌, nat_eq, List, [], ◌∷◌, length, take, All}
+use Rattle.zk_model.specs.Field.{IsElement}
+use Rattle.zk_model.specs.Transcript.{Hello, Grant, IsHello, BeginsWith, hello_frame, grant_frame, corrections_frame, challenge_frame, sums_frame, openings_frame, verdict_frame, refuse_frame}
+use Rattle.zk_model.specs.declared.Expect.{Expect}
+use Rattle.zk_model.specs.declared.Expect.TheVariants as expect
+use Rattle.zk_model.specs.declared.FrameKind.{FrameKind}
+use Rattle.zk_model.specs.declared.FrameKind.TheVariants as kind
+
+-- ---- frames as values
+
+-- what one frame says
+pub data Frame : Type 0 where
+  hello : Hello → Frame
+  grant : Grant → Frame
+  corrections : List ℕ → Frame
+  challenge : ℕ → Frame
+  sums : List (ℕ × ℕ) → Frame
+  openings : List ℕ → Frame
+  verdict : ℕ → ℕ → Frame
+  refuse : ℕ → Frame
+
+-- the bytes of a frame
+abbrev pub frame_spelling : Frame → List ℕ
+frame_spelling (hello said) = hello_frame said
+frame_spelling (grant given) = grant_frame given
+frame_spelling (corrections elements) = corrections_frame elements
+frame_spelling (challenge element) = challenge_frame element
+frame_spelling (sums both) = sums_frame both
+frame_spelling (openings macs) = openings_frame macs
+frame_spelling (verdict code number) = verdict_frame code number
+frame_spelling (refuse code) = refuse_frame code
+
+-- ---- what may come at a place
+
+-- a start of 64 bits, a count and a length of sections of 32
+pub record FitsGrant (given : Grant) : Type 0 where
+  pub start : given.start < 2 ^ 64
+  pub count : given.count < 2 ^ 32
+  pub section_length : given.section_length < 2 ^ 32
+
+-- so many elements
+pub record AreElements (count : ℕ) (elements : List ℕ) : Type 0 where
+  pub counted : length elements ≡ count
+  pub ranged : All IsElement elements
+
+-- U and V of so many sections
+pub record AreSums (count : ℕ) (both : List (ℕ × ℕ)) : Type 0 where
+  pub counted : length both ≡ count
+  pub ranged : All (λ q. IsElement q.0 × IsElement q.1) both
+
+-- a code of 0 to 2, and any number of 32 bits
+pub record FitsVerdict (code number : ℕ) : Type 0 where
+  pub said : code ≤ 2
+  pub numbered : number < 2 ^ 32
+
+-- a code of 1 to 4
+pub record FitsRefusal (code : ℕ) : Type 0 where
+  pub least : 1 ≤ code
+  pub most : code ≤ 4
+
+-- The frames that a place allows: a greeting whatever it names, a grant of any numbers or a refusal in its place, so many
+-- elements, a verdict.
+abbrev pub Allows : Expect → Frame → Type 0
+Allows expect.Hello frame = (said : Hello) × (frame ≡ hello said) × IsHello said
+Allows expect.Grant frame =
+    ((given : Grant) × (frame ≡ grant given) × FitsGrant given)
+    ⊎ ((code : ℕ) × (frame ≡ refuse code) × FitsRefusal code)
+Allows (expect.Corrections count) frame =
+    (elements : List ℕ) × (frame ≡ corrections elements) × AreElements count elements
+Allows expect.Challenge frame = (element : ℕ) × (frame ≡ challenge element) × IsElement element
+Allows (expect.Sums sections) frame = (both : List (ℕ × ℕ)) × (frame ≡ sums both) × AreSums sections both
+Allows (expect.Openings count) frame = (macs : List ℕ) × (frame ≡ openings macs) × AreElements count macs
+Allows expect.Verdict frame = (code : ℕ) × (number : ℕ) × (frame ≡ verdict code number) × FitsVerdict code number
+
+-- ---- bytes at a place
+
+-- the bytes are a whole frame that the place allows
+pub record IsWhole (place : Expect) (bytes : List ℕ) (frame : Frame) : Type 0 where
+  pub allowed : Allows place frame
+  pub spelled : bytes ≡ frame_spelling frame
+
+-- some frame that the place allows begins with the bytes
+pub record CanGoOn (place : Expect) (bytes : List ℕ) : Type 0 where
+  pub frame : Frame
+  pub allowed : Allows place frame
+  pub begun : BeginsWith (frame_spelling frame) bytes
+
+-- the byte at n is the first after which no frame that the place allows can follow
+pub record IsFirstBad (place : Expect) (bytes : List ℕ) (n : ℕ) : Type 0 where
+  pub within : n < length bytes
+  pub before : CanGoOn place (take n bytes)
+  pub ends : ¬ CanGoOn place (take (n + 1) bytes)
+
+-- how many bytes a frame of elements has: five of its kind and its length, and eight for each element
+abbrev pub elements_length : ℕ → ℕ
+elements_length count = 5 + 8 * count
+
+-- The length of the frame that begins with these bytes. Where the place allows two lengths, one byte decides between them,
+-- and without it the length is taken to be 1.
+abbrev pub frame_length : Expect → List ℕ → ℕ
+frame_length expect.Hello bytes = 102
+frame_length expect.Grant [] = 1
+frame_length expect.Grant (first ∷ bytes) = if nat_eq first 10 then 6 else 21
+frame_length (expect.Corrections count) bytes = elements_length count
+frame_length expect.Challenge bytes = elements_length 1
+frame_length (expect.Sums sections) bytes = elements_length (2 * sections)
+frame_length (expect.Openings count) bytes = elements_length count
+frame_length expect.Verdict bytes = 10
+
+-- how many bytes are still wanted behind these
+abbrev pub bytes_wanted : Expect → List ℕ → ℕ
+bytes_wanted place bytes = frame_length place bytes - length bytes
+
+-- the kind of frame that is expected behind these bytes: in a grant's place a refusal where they begin one
+abbrev pub expected_kind : Expect → List ℕ → FrameKind
+expected_kind expect.Hello bytes = kind.Hello
+expected_kind expect.Grant [] = kind.Grant
+expected_kind expect.Grant (first ∷ bytes) = if nat_eq first 10 then kind.Refuse else kind.Grant
+expected_kind (expect.Corrections count) bytes = kind.Corrections
+expected_kind expect.Challenge bytes = kind.Challenge
+expected_kind (expect.Sums sections) bytes = kind.Sums
+expected_kind (expect.Openings count) bytes = kind.Openings
+expected_kind expect.Verdict bytes = kind.Verdict
