@@ -1,5 +1,5 @@
 -- What either end of a session is to do.
-use Rattle.std.specs.Prelude.{◌≡◌, ◌^◌, ◌≤◌, ℕ, List, length}
+use Rattle.std.specs.Prelude.{◌≡◌, ◌^◌, ◌<◌, ◌≤◌, ℕ, List, length}
 use Rattle.zk_model.specs.Program.{Program, correlations_needed}
 use Rattle.zk_model.specs.Statement.{Statement}
 use Rattle.zk_model.specs.Files.{ProverFile, VerifierFile}
@@ -7,6 +7,7 @@ use Rattle.zk_model.specs.Transcript.{Grant, units_for}
 use Rattle.zk_model.specs.ServedVerifier.{VerifierTask}
 use Rattle.zk_model.specs.declared.Kind.TheVariants.{Direct}
 use Rattle.zk_model.specs.declared.Params.{Params}
+use Rattle.session_core.specs.declared.verifier_job.TooManyUnits.{TooManyUnits}
 
 -- a verifier's file and statement, and how many products its sections have
 pub record VerifierJob : Type 0 where
@@ -54,3 +55,9 @@ pub record Suits (params : Params) (program : Program) (grant : Grant) : Type 0 
   pub section_most : grant.section_length ≤ 2 ^ 20
   pub count : grant.count ≡ units_for params (correlations_needed program grant.section_length)
   pub count_most : grant.count ≤ 4096
+
+-- the session of such a job would take more than 4,096 units
+pub record IsTooLarge (job : VerifierJob) (found : TooManyUnits) : Type 0 where
+  pub need : found.need ≡ correlations_needed job.task.statement.program job.section_length
+  pub units : found.units ≡ units_of_job job
+  pub many : 4096 < found.units

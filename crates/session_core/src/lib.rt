@@ -25,5 +25,5 @@ pub use rehearsing::rehearse;
 pub use session::{Session, hold};
 pub use statement::{Statement, outputs_digest};
 pub use verifier_core::VerifierCore;
-pub use verifier_job::{MOST_UNITS, VerifierJob};
+pub use verifier_job::{MOST_UNITS, TooManyUnits, VerifierJob};
 pub use zk_model::Verdict;

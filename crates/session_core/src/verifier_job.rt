@@ -1,11 +1,11 @@
 // What a verifier is to do, and how it judges a session.
-ghost use Rattle.std.specs.Prelude.{◌≡◌, ◌+◌, ◌≤◌, ◌^◌, max, length, IfOk};
+ghost use Rattle.std.specs.Prelude.{◌≡◌, ◌+◌, ◌≤◌, ◌^◌, max, length, IfOk, IfErr};
 ghost use Rattle.zk_model.specs.Program.{section_count, part_count};
 ghost use Rattle.zk_model.specs.ServedVerifier.{challenge_coin};
 ghost use Rattle.zk_model.specs.View.{IsVerdictOf};
 ghost use Rattle.zk_model.specs.declared.Kind.TheVariants.{Direct};
 ghost use Rattle.mult_check.specs.Checks.{product_check, opening_check};
-ghost use Rattle.session_core.specs.Jobs.{IsVerifierJob, units_of_job, granted_from};
+ghost use Rattle.session_core.specs.Jobs.{IsVerifierJob, IsTooLarge, units_of_job, granted_from, verifier_of};
 ghost use Rattle.session_core.specs.Judgements.{HasSides, IsJudgement, direct_transcript, verdict_in};
 
 use crate::judgement::Judgement;
@@ -27,6 +27,13 @@ pub(crate) fn direct_units_for(need: u64) -> u64
     ensures { result ≡ max 1 (part_count need 64) }
 {
     need.div_ceil(64).max(1)
+}
+
+/// A session needs so many correlations, and units of them above 4,096.
+#[derive(Clone, Copy, Debug, PartialEq, Eq)]
+pub struct TooManyUnits {
+    pub need: u64,
+    pub units: u64,
 }
 
 /// What a verifier is to do: its statement and its file of kind direct, and how many products its sections have, which are 1
@@ -94,6 +101,28 @@ fn judgement_of(
 }
 
 impl<'a> VerifierJob<'a> {
+    /// A job over a file of kind direct, with sections of 1 to 2^20 products, where its session takes at most 4,096 units; or what
+    /// the session would take.
+    pub fn fit(
+        statement: &'a Statement<'a>,
+        file: &'a VerifierFile,
+        section: u32,
+    ) -> Result<Self, TooManyUnits>
+        requires direct { file.now.params.kind ≡ Direct }
+        requires some { 1 ≤ section }
+        requires most { section ≤ 2 ^ 20 }
+        ensures fits { IfOk result (λ job. job ≡ verifier_of statement.now file.now section) }
+        ensures few { IfOk result (λ job. units_of_job job ≤ 4096) }
+        ensures many { IfErr result (IsTooLarge (verifier_of statement.now file.now section)) }
+    {
+        let need = statement.program().need(u64::from(section));
+        let units = direct_units_for(need);
+        if units > MOST_UNITS {
+            return Err(TooManyUnits { need, units });
+        }
+        Ok(VerifierJob::new(statement, file, section))
+    }
+
     /// A job over a file of kind direct, with sections of 1 to 2^20 products and at most 4,096 units.
     pub fn new(statement: &'a Statement<'a>, file: &'a VerifierFile, section: u32) -> Self
         requires { IsVerifierJob (record {

@@ -21,7 +21,7 @@ same_bit false true same = absurd (omega arith)
 same_bit true false same = absurd (omega arith)
 same_bit true true same = refl
 
-same_bits : (xs ys : List Bool) → map from_bit xs ≡ map from_bit ys → xs ≡ ys
+pub same_bits : (xs ys : List Bool) → map from_bit xs ≡ map from_bit ys → xs ≡ ys
 same_bits [] [] same = refl
 same_bits [] (y ∷ ys) same = let whole = ap length same in absurd (omega (arith, whole))
 same_bits (x ∷ xs) [] same = let whole = ap length same in absurd (omega (arith, whole))

@@ -13,3 +13,4 @@ pub mod SessionsMeet
 pub mod Answered
 pub mod CircuitProved
 pub mod OfBoth
+pub mod OutputsShown

@@ -1,9 +1,13 @@
--- Provers of the outputs of a circuit.
+-- Sessions about the outputs of a circuit.
 use Rattle.std.specs.Prelude.{◌≡◌, ℕ, Bool, List, map}
 use Rattle.zk_model.specs.Bits.{from_bit}
 use Rattle.zk_model.specs.Circuit.{Circuit, Satisfies, IsWellFormed}
+use Rattle.zk_model.specs.Files.{ProverFile, VerifierFile}
 use Rattle.zk_model.specs.Statement.{circuit_statement}
+use Rattle.zk_model.specs.Transcript.{Transcript}
+use Rattle.zk_model.specs.Headline.{ShowsOutputs}
 use Rattle.zk_model.specs.HonestProver.{ProverTask}
+use Rattle.zk_laws.specs.Extraction.{IsExtracted}
 use Rattle.session_laws.specs.Peers.{HasWitness, GivesClaims}
 
 -- where input bits make a circuit give the claimed outputs, a prover with them has a witness, and gives the claims
@@ -12,3 +16,11 @@ CircuitIsProved = (circuit : Circuit) (digest : List ℕ) (inputs outputs : List
     → IsWellFormed circuit → Satisfies circuit inputs outputs
     → prover.statement ≡ circuit_statement circuit digest outputs → prover.inputs ≡ map from_bit inputs
     → HasWitness prover × GivesClaims prover
+
+-- What every finding of a session about a circuit's outputs shows is that the input bits make the circuit give them, or a root
+-- at the challenge, or one at the key.
+abbrev pub ExtractedShowsOutputs : Type 0
+ExtractedShowsOutputs = (circuit : Circuit) (digest : List ℕ) (outputs : List Bool) (prover : ProverFile) (verifier : VerifierFile)
+    (t : Transcript) → IsWellFormed circuit
+    → IsExtracted prover verifier (circuit_statement circuit digest outputs) t
+    → ShowsOutputs circuit outputs prover verifier.key (circuit_statement circuit digest outputs) t

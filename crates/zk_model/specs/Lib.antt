@@ -30,6 +30,7 @@ pub mod Replies
 pub mod Check
 pub mod View
 pub mod Finding
+pub mod Headline
 pub mod HonestProver
 pub mod ServedVerifier
 pub mod BothEnds
