@@ -3,6 +3,7 @@
 #![tactic(auto)]
 
 mod bits;
+mod circuit_claim;
 mod fault;
 mod judgement;
 mod noting;
@@ -16,6 +17,7 @@ mod verifier_core;
 mod verifier_job;
 
 pub use bits::Bits;
+pub use circuit_claim::CircuitClaim;
 pub use fault::{HelloDiffers, SessionFault};
 pub use judgement::Judgement;
 pub use prover_core::ProverCore;

@@ -1,6 +1,5 @@
 // A rehearsal: files of kind direct from a seed, and a session of both ends over them.
 ghost use Rattle.std.specs.Prelude.{◌≡◌, ◌≤◌, ◌^◌, length, map, drop, List, Bool, IfOk, IfErr};
-ghost use Rattle.zk_model.specs.Bits.{from_bit};
 ghost use Rattle.zk_model.specs.Circuit.{AreWireBits, output_wire};
 ghost use Rattle.zk_model.specs.Boolean.{circuit_program};
 ghost use Rattle.zk_model.specs.Transcript.{units_for};
@@ -12,23 +11,15 @@ ghost use Rattle.session_core.specs.Rehearsals.{IsRehearsalOf, RehearseCause, Ar
 use crate::bits::Bits;
 use crate::rehearsal::{Rehearsal, RehearseFault};
 use crate::session::{Session, hold};
-use crate::statement::{Statement, outputs_digest};
+use crate::statement::{Statement, elements_of, outputs_digest};
 use crate::verifier_job::{MOST_UNITS, direct_units_for};
 use bool_eval::eval_wires;
 use bristol_reader::Circuit;
 use dealer_files::{Kind, Params, deal};
 use gate_translate::{FieldProgram, translate};
-use mersenne_field::Fe;
 use std::alloc::{AllocError, Global};
 use wire_auth::bit_products;
 use zk_laws::{bits_solve, circuit_is_statement, honest_session_is_accepted, one_outcome};
-
-/// Bits as elements.
-fn elements_of(alloc: Global, bits: &[bool]) -> Result<Vec<Fe>, AllocError>
-    ensures { IfOk result (λ elements. elements.items ≡ map from_bit bits.now) }
-{
-    bits.iter().map(|bit| Fe::from_bit(*bit)).collect(alloc)
-}
 
 /// The bits of a circuit's output wires, from those of all wires.
 fn output_bits<'a>(circuit: &Circuit, bits: &'a [bool]) -> &'a [bool]

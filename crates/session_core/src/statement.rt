@@ -1,6 +1,6 @@
 // What a session is to prove.
-ghost use Rattle.std.specs.Prelude.{◌≡◌, length, IfOk};
-ghost use Rattle.zk_model.specs.Bits.{digits_of};
+ghost use Rattle.std.specs.Prelude.{◌≡◌, length, map, IfOk};
+ghost use Rattle.zk_model.specs.Bits.{digits_of, from_bit};
 ghost use Rattle.zk_model.specs.Statement.{IsStatement};
 ghost use Rattle.zk_model.specs.Transcript.{wanted_hello};
 ghost use Rattle.sha2.specs.Sha256.{sha256};
@@ -122,6 +122,13 @@ impl<'a> Statement<'a> {
             version: self.version,
         }
     }
+}
+
+/// Bits as elements.
+pub(crate) fn elements_of(alloc: Global, bits: &[bool]) -> Result<Vec<Fe>, AllocError>
+    ensures { IfOk result (λ elements. elements.items ≡ map from_bit bits.now) }
+{
+    bits.iter().map(|bit| Fe::from_bit(*bit)).collect(alloc)
 }
 
 /// The digest of claimed bits, written 0 and 1.

@@ -111,6 +111,17 @@ pub record Moment : Type 0 where
   pub receives : ℕ
   pub faults : ℕ
 
+-- by these
+abbrev pub moment_at : List (Side × ℕ) → Option (List (Side × ℕ)) → Option (List ℕ) → Option Bool → ℕ → ℕ → Moment
+moment_at log told to_come ended receives faults = record {
+  log = log;
+  told = told;
+  to_come = to_come;
+  ended = ended;
+  receives = receives;
+  faults = faults;
+}
+
 -- of a line
 abbrev pub moment_of : LineState → Moment
 moment_of line = record {

@@ -12,6 +12,9 @@ pub trait Grantor {
     /// What it answered, once it was asked.
     ghost answer: { Self → Option (Result Span LeaseFault) };
 
+    /// How many units it was asked for, once it was.
+    ghost asked: { Self → Option ℕ };
+
     /// The total of the units that it leases from.
     ghost total: { Self → ℕ };
 
@@ -19,6 +22,7 @@ pub trait Grantor {
     fn grant(&mut self, count: u32) -> Result<Span, LeaseFault>
         requires once { answer self.old ≡ None }
         ensures told { answer self.new ≡ Some result }
+        ensures asked { asked self.new ≡ Some count }
         ensures counted { IfOk result (λ span. span.end ≡ span.start + count) }
         ensures within { IfOk result (λ span. span.end ≤ total self.old) }
         ensures total { total self.new ≡ total self.old };

@@ -1,5 +1,5 @@
 // A verifier's session over a line.
-ghost use Rattle.std.specs.Prelude.{◌≡◌, ◌+◌, ◌≤◌, None, Some, IfOk, IfErr};
+ghost use Rattle.std.specs.Prelude.{◌≡◌, ◌+◌, ◌≤◌, None, Some, IfSome, IfOk, IfErr};
 ghost use Rattle.frame_link.specs.Lines.{LineState};
 ghost use Rattle.session_core.specs.Jobs.{units_of_job};
 ghost use Rattle.session_core.specs.Cores.{awaits_hello, owes_grant, awaits_corrections, has_judged};
@@ -70,6 +70,8 @@ pub(crate) fn serve<L: Link, R: Grantor, G: Gate>(
     requires once { R.answer grantor.old ≡ None }
     requires total { R.total grantor.old ≤ job.now.task.file.params.total }
     requires at { (first : LineState) × IsLineAt job.now awaits_hello first line.old }
+    ensures same { R.total grantor.new ≡ R.total grantor.old }
+    ensures asked { IfSome (R.answer grantor.new) (λ _. R.asked grantor.new ≡ Some (units_of_job job.now)) }
     ensures course { (first : LineState) → IsLineAt job.now awaits_hello first line.old
         → IsCourse job.now (R.answer grantor.new) result.granted result.outcome
         (moment_of first) (moment_of line.new) }

@@ -1,7 +1,8 @@
 // A verifier's session over a link.
-ghost use Rattle.std.specs.Prelude.{◌≡◌, ◌≤◌, None, [], IsTrue};
+ghost use Rattle.std.specs.Prelude.{◌≡◌, ◌≤◌, None, Some, [], IfSome, IsTrue};
 ghost use Rattle.zk_model.specs.declared.Side.TheVariants.{Verifier};
-ghost use Rattle.session_verifier.specs.Stages.{IsCourse};
+ghost use Rattle.session_core.specs.Jobs.{units_of_job};
+ghost use Rattle.session_verifier.specs.Stages.{IsCourse, moment_at};
 ghost use Rattle.session_verifier.specs.Notes.{granted_by, JudgesRightly, AcceptsExactly, IsShown, SendsRightly, EndsBecause, IsTold, ReceivesFew, Completes};
 ghost use Rattle.session_verifier.specs.declared.note.VerifierOutcome.TheVariants.{Accepted};
 
@@ -32,23 +33,12 @@ fn lead<L: Link, R: Grantor, G: Gate>(
     requires side { L.side link ≡ Verifier }
     requires once { R.answer grantor.old ≡ None }
     requires total { R.total grantor.old ≤ job.now.task.file.params.total }
+    ensures same { R.total grantor.new ≡ R.total grantor.old }
+    ensures asked { IfSome (R.answer grantor.new) (λ _. R.asked grantor.new ≡ Some (units_of_job job.now)) }
     ensures course { IsCourse job.now (R.answer grantor.new) result.granted result.outcome
-        (record {
-          log = [];
-          told = L.log link;
-          to_come = L.to_come link;
-          ended = L.ended link;
-          receives = L.receives link;
-          faults = L.faults link;
-        })
-        (record {
-          log = result.log;
-          told = L.log result.link;
-          to_come = L.to_come result.link;
-          ended = L.ended result.link;
-          receives = L.receives result.link;
-          faults = L.faults result.link;
-        }) }
+        (moment_at [] (L.log link) (L.to_come link) (L.ended link) (L.receives link) (L.faults link))
+        (moment_at result.log (L.log result.link) (L.to_come result.link)
+        (L.ended result.link) (L.receives result.link) (L.faults result.link)) }
 {
     let mut line = Line::new(alloc, link, Side::Verifier);
     let course = serve(alloc, job, grantor, gate, &mut line);
@@ -77,79 +67,29 @@ pub fn verify_session<L: Link, R: Grantor, G: Gate>(
     requires side { L.side link ≡ Verifier }
     requires once { R.answer grantor.old ≡ None }
     requires total { R.total grantor.old ≤ job.now.task.file.params.total }
+    ensures same { R.total grantor.new ≡ R.total grantor.old }
+    ensures asked { IfSome (R.answer grantor.new) (λ _. R.asked grantor.new ≡ Some (units_of_job job.now)) }
     ensures granted { result.granted ≡ granted_by (R.answer grantor.new) }
     ensures verdict { JudgesRightly job.now result.granted result.outcome result.log }
     ensures accepted { AcceptsExactly job.now result.outcome result.log }
     ensures shown { result.outcome ≡ Accepted → IsShown job.now result.granted result.log }
     ensures sends { SendsRightly job.now result.granted result.outcome result.log }
     ensures cause { EndsBecause job.now (R.answer grantor.new) result.outcome
-        (record {
-          log = [];
-          told = L.log link;
-          to_come = L.to_come link;
-          ended = L.ended link;
-          receives = L.receives link;
-          faults = L.faults link;
-        })
-        (record {
-          log = result.log;
-          told = L.log result.link;
-          to_come = L.to_come result.link;
-          ended = L.ended result.link;
-          receives = L.receives result.link;
-          faults = L.faults result.link;
-        }) }
+        (moment_at [] (L.log link) (L.to_come link) (L.ended link) (L.receives link) (L.faults link))
+        (moment_at result.log (L.log result.link) (L.to_come result.link)
+        (L.ended result.link) (L.receives result.link) (L.faults result.link)) }
     ensures told { IsTold result.outcome
-        (record {
-          log = [];
-          told = L.log link;
-          to_come = L.to_come link;
-          ended = L.ended link;
-          receives = L.receives link;
-          faults = L.faults link;
-        })
-        (record {
-          log = result.log;
-          told = L.log result.link;
-          to_come = L.to_come result.link;
-          ended = L.ended result.link;
-          receives = L.receives result.link;
-          faults = L.faults result.link;
-        }) }
+        (moment_at [] (L.log link) (L.to_come link) (L.ended link) (L.receives link) (L.faults link))
+        (moment_at result.log (L.log result.link) (L.to_come result.link)
+        (L.ended result.link) (L.receives result.link) (L.faults result.link)) }
     ensures receives { ReceivesFew
-        (record {
-          log = [];
-          told = L.log link;
-          to_come = L.to_come link;
-          ended = L.ended link;
-          receives = L.receives link;
-          faults = L.faults link;
-        })
-        (record {
-          log = result.log;
-          told = L.log result.link;
-          to_come = L.to_come result.link;
-          ended = L.ended result.link;
-          receives = L.receives result.link;
-          faults = L.faults result.link;
-        }) }
+        (moment_at [] (L.log link) (L.to_come link) (L.ended link) (L.receives link) (L.faults link))
+        (moment_at result.log (L.log result.link) (L.to_come result.link)
+        (L.ended result.link) (L.receives result.link) (L.faults result.link)) }
     ensures complete { Completes job.now (R.answer grantor.new) result.outcome
-        (record {
-          log = [];
-          told = L.log link;
-          to_come = L.to_come link;
-          ended = L.ended link;
-          receives = L.receives link;
-          faults = L.faults link;
-        })
-        (record {
-          log = result.log;
-          told = L.log result.link;
-          to_come = L.to_come result.link;
-          ended = L.ended result.link;
-          receives = L.receives result.link;
-          faults = L.faults result.link;
-        }) }
+        (moment_at [] (L.log link) (L.to_come link) (L.ended link) (L.receives link) (L.faults link))
+        (moment_at result.log (L.log result.link) (L.to_come result.link)
+        (L.ended result.link) (L.receives result.link) (L.faults result.link)) }
     ensures faults { L.faults link ≤ L.faults result.link }
 {
     none_begins_another();

@@ -27,6 +27,8 @@ returns g c =
       faults = sym c.end-link.ensures.faults i;
     } in
     record {
+      same = c.serve-course.ensures.same;
+      asked = c.serve-course.ensures.asked;
       course = subst (λ (q : Moment × Moment). IsCourse c.args.job.now (g.R.Grantor.answer c.serve-course.new.grantor) c.serve-course.result.granted c.serve-course.result.outcome q.0 q.1)
           (λ i. (ap moment_of is i, ended i)) course;
     }

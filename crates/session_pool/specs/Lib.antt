@@ -1,0 +1,3 @@
+pub mod FirstUnits
+pub mod Notes
+pub mod Doors
