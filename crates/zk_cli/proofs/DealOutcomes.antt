@@ -7,7 +7,7 @@ use Rattle.zk_cli.specs.Changes.{ShelfChange, SinkChange, CountsStay}
 use Rattle.zk_cli.specs.DealRuns.{DealLines, StoreStop, StoresDealt, dealt_lines, file_lines, with_files}
 use Rattle.zk_cli.specs.Outcomes.{IsDealStatus, DealsAll, HasStoreFailed, IsDone}
 use Rattle.zk_cli.specs.Stops.{PrintsStop, PrintsMade, stop_status, stop_line}
-use Rattle.zk_cli.specs.Words.{DealAsk}
+use Rattle.command_words.specs.Words.{DealAsk}
 use Rattle.zk_cli.specs.declared.stop.Stop.{Stop}
 use Rattle.zk_cli.specs.declared.stop.Stop.TheVariants as stop
 use Rattle.zk_cli.proofs.Answering.{stop_answers, high_stop, memory_answers}

@@ -12,7 +12,7 @@ use Rattle.zk_cli.specs.EvalRuns.{EvalStop, EvalLines, outputs_line}
 use Rattle.zk_cli.specs.Outcomes.{IsEvalStatus, WritesOutputs, IsRefused, IsReady, IsDone, HasFailed}
 use Rattle.zk_cli.specs.Stops.{PrintsStop, PrintsMade, stop_status, stop_line}
 use Rattle.zk_cli.specs.StopsOf.{eval_stop}
-use Rattle.zk_cli.specs.Words.{EvalAsk}
+use Rattle.command_words.specs.Words.{EvalAsk}
 use Rattle.zk_cli.specs.declared.stop.Stop.{Stop}
 use Rattle.zk_cli.specs.declared.stop.Stop.TheVariants as stop
 use Rattle.zk_cli.proofs.Answering.{stop_answers, high_stop, memory_answers}

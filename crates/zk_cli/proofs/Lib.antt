@@ -1,8 +1,6 @@
 pub mod Answering
 pub mod DealOutcomes
-pub mod Decimals
 pub mod EvalOutcomes
-pub mod Orders
 pub mod Outcomes
 pub mod Refusals
 pub mod Stopping

@@ -11,7 +11,7 @@ use Rattle.session_core.specs.Rehearsals.{EndsWithVerdict, RehearseCause, direct
 use Rattle.zk_cli.specs.RehearseRuns.{HasOutputs, HasNumbers, IsRehearsed, SaysPart, RehearseLines, RehearseStop, verdict_status, rehearsal_lines}
 use Rattle.zk_cli.specs.Stops.{PrintsMade, stop_status, stop_line}
 use Rattle.zk_cli.specs.StopsOf.{rehearse_stop}
-use Rattle.zk_cli.specs.Words.{RehearseAsk}
+use Rattle.command_words.specs.Words.{RehearseAsk}
 use Rattle.zk_cli.specs.declared.finish.Part.{Part}
 use Rattle.zk_cli.specs.declared.finish.Part.TheVariants.{Plain, Rehearsed, Served}
 use Rattle.session_core.specs.declared.rehearsal.Rehearsal.{Rehearsal}

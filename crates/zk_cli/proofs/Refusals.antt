@@ -11,7 +11,7 @@ use Rattle.zk_cli.specs.CircuitFiles.{IsLoaded, CircuitStop}
 use Rattle.zk_cli.specs.Outcomes.{IsRefused}
 use Rattle.zk_cli.specs.Stops.{stop_status}
 use Rattle.zk_cli.specs.StopsOf.{load_stop, read_stop}
-use Rattle.zk_cli.specs.declared.TheConstants.{FILE_LIMIT}
+use Rattle.command_words.specs.declared.TheConstants.{FILE_LIMIT}
 use Rattle.zk_cli.specs.declared.stop.Stop.{Stop}
 
 -- the status with what it stands for

@@ -4,7 +4,7 @@ use Rattle.zk_port.specs.declared.fault.LoadFault.TheVariants as load
 use Rattle.zk_cli.specs.Changes.{ShelfChange, SinkChange}
 use Rattle.zk_cli.specs.RehearseRuns.{RehearseStop, SaysStop}
 use Rattle.zk_cli.specs.Stops.{PrintsStop, PrintsMade, stop_status, stop_line}
-use Rattle.zk_cli.specs.Words.{RehearseAsk}
+use Rattle.command_words.specs.Words.{RehearseAsk}
 use Rattle.zk_cli.specs.declared.stop.Stop.{Stop}
 use Rattle.zk_cli.specs.declared.stop.Stop.TheVariants.{NoMemory}
 

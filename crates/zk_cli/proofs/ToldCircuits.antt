@@ -6,7 +6,7 @@ use Rattle.zk_port.specs.Files.{Files, StandsAs, StandsLonger}
 use Rattle.bristol_reader.specs.Laws.{OneCircuit}
 use Rattle.zk_cli.specs.CircuitFiles.{IsCircuitFile, IsToldCircuit}
 use Rattle.zk_cli.specs.Outcomes.{IsRefused, IsReady}
-use Rattle.zk_cli.specs.declared.TheConstants.{FILE_LIMIT}
+use Rattle.command_words.specs.declared.TheConstants.{FILE_LIMIT}
 
 pub told_text : (told : Option Files) (name : List ℕ) (some other : List ℕ) → IsSomeAnd told (λ files. files name ≡ Some some) → StandsAs told name other → other ≡ some
 told_text None name some other is_told stands = absurd is_told

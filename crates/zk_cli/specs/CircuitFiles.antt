@@ -9,7 +9,7 @@ use Rattle.bristol_reader.specs.declared.fault.ReadError.{ReadError}
 use Rattle.zk_cli.specs.Changes.{ShelfChange}
 use Rattle.zk_cli.specs.StopsOf.{load_stop, read_stop}
 use Rattle.zk_cli.specs.declared.stop.Stop.{Stop}
-use Rattle.zk_cli.specs.declared.TheConstants.{FILE_LIMIT}
+use Rattle.command_words.specs.declared.TheConstants.{FILE_LIMIT}
 
 -- where a shelf tells, this text stands under the name, and it may be loaded
 pub record IsLoaded (told : Option Files) (name text : List ℕ) : Type 0 where

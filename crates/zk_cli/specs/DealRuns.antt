@@ -14,7 +14,7 @@ use Rattle.zk_model.specs.declared.Params.{Params}
 use Rattle.zk_port.specs.Files.{Files, stored}
 use Rattle.zk_cli.specs.Changes.{ShelfChange, SinkChange, CountsStay, SomeFailed}
 use Rattle.zk_cli.specs.Stops.{PrintsStop, PrintsMade}
-use Rattle.zk_cli.specs.Words.{DealAsk}
+use Rattle.command_words.specs.Words.{DealAsk}
 use Rattle.zk_cli.specs.declared.deal_command.Stored.{Stored}
 use Rattle.zk_cli.specs.declared.deal_command.Stored.TheVariants.{ProverFile, VerifierFile, ProverJournal, VerifierJournal}
 use Rattle.zk_cli.specs.declared.stop.Stop.{Stop}

@@ -4,12 +4,12 @@ use Rattle.zk_model.specs.Circuit.{Circuit}
 use Rattle.zk_port.specs.Files.{Files}
 use Rattle.bool_eval.specs.Answers.{IsCause}
 use Rattle.bool_eval.specs.declared.EvalFault.{EvalFault}
-use Rattle.zk_cli.specs.BitWords.{bits_word}
+use Rattle.command_words.specs.BitWords.{bits_word}
 use Rattle.zk_cli.specs.Changes.{ShelfChange, SinkChange}
 use Rattle.zk_cli.specs.CircuitFiles.{IsCircuitFile, GivesOutputs, CircuitStop}
 use Rattle.zk_cli.specs.Stops.{PrintsStop, PrintsMade}
 use Rattle.zk_cli.specs.StopsOf.{eval_stop}
-use Rattle.zk_cli.specs.Words.{EvalAsk}
+use Rattle.command_words.specs.Words.{EvalAsk}
 use Rattle.zk_cli.specs.declared.stop.Stop.{Stop}
 
 -- the outputs, on one line

@@ -1,7 +1,7 @@
 -- What holds of a run for the words that it is given.
 use Rattle.std.specs.Prelude.{◌≡◌, List, Some, None, String}
 use Rattle.std.specs.declared.alloc.Global.{Global}
-use Rattle.zk_cli.specs.Words.{RehearseAsk, EvalAsk, DealAsk, rehearse, eval, deal, asked, texts}
+use Rattle.command_words.specs.Words.{RehearseAsk, EvalAsk, DealAsk, rehearse, eval, deal, asked, texts}
 
 -- where the words ask for nothing
 abbrev pub OnUsage : List (String Global) → Type 0 → Type 0

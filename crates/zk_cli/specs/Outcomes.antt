@@ -11,12 +11,12 @@ use Rattle.session_core.specs.Rehearsals.{EndsWithVerdict, direct_units}
 use Rattle.zk_cli.specs.RehearseRuns.{rehearsal_lines}
 use Rattle.zk_cli.specs.DealRuns.{StoresDealt, IsDealName, dealt_lines}
 use Rattle.zk_cli.specs.EvalRuns.{outputs_line}
-use Rattle.zk_cli.specs.Words.{RehearseAsk, EvalAsk, DealAsk}
+use Rattle.command_words.specs.Words.{RehearseAsk, EvalAsk, DealAsk}
 use Rattle.zk_cli.specs.declared.finish.Part.{Part}
 use Rattle.zk_cli.specs.declared.finish.Part.TheVariants.{Rehearsed}
 use Rattle.session_core.specs.declared.rehearsal.Rehearsal.{Rehearsal}
 use Rattle.zk_model.specs.declared.Verdict.TheVariants.{Accepted}
-use Rattle.zk_cli.specs.declared.TheConstants.{FILE_LIMIT}
+use Rattle.command_words.specs.declared.TheConstants.{FILE_LIMIT}
 
 -- the statuses of a rehearsal, and of an evaluation
 abbrev pub IsRehearseStatus : ℕ → Type 0

@@ -5,14 +5,14 @@ use Rattle.zk_model.specs.Circuit.{Circuit}
 use Rattle.zk_model.specs.Program.{section_count}
 use Rattle.zk_model.specs.Boolean.{circuit_products, circuit_program}
 use Rattle.zk_port.specs.Files.{Files}
-use Rattle.zk_cli.specs.BitWords.{bits_word}
+use Rattle.command_words.specs.BitWords.{bits_word}
 use Rattle.zk_cli.specs.Changes.{ShelfChange, SinkChange}
 use Rattle.zk_cli.specs.CircuitFiles.{IsCircuitFile, GivesOutputs, CircuitStop}
 use Rattle.zk_cli.specs.Made.{Effects}
 use Rattle.session_core.specs.Rehearsals.{IsRehearsalOf, RehearseCause, rehearsal_need, direct_units}
 use Rattle.zk_cli.specs.Stops.{PrintsStop, PrintsMade}
 use Rattle.zk_cli.specs.StopsOf.{rehearse_stop}
-use Rattle.zk_cli.specs.Words.{RehearseAsk}
+use Rattle.command_words.specs.Words.{RehearseAsk}
 use Rattle.zk_cli.specs.declared.finish.Part.{Part}
 use Rattle.zk_cli.specs.declared.finish.Part.TheVariants.{Plain, Rehearsed}
 use Rattle.session_core.specs.declared.rehearsal.Rehearsal.{Rehearsal}

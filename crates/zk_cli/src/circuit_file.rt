@@ -3,9 +3,9 @@ ghost use Rattle.std.specs.Prelude.{IfOk, IfErr};
 ghost use Rattle.zk_cli.specs.Changes.{shelf_change, OnlyLoads};
 ghost use Rattle.zk_cli.specs.CircuitFiles.{IsCircuitFile, CircuitStop};
 
-use crate::FILE_LIMIT;
 use crate::stop::Stop;
 use bristol_reader::{Circuit, read};
+use command_words::FILE_LIMIT;
 use std::alloc::Global;
 use zk_port::Shelf;
 

@@ -10,7 +10,7 @@ ghost use Rattle.zk_cli.specs.DealRuns.{DealLines, IsDealName, StoreStop, Stores
 ghost use Rattle.zk_cli.specs.DealRuns.{ending, file_lines, kind_name, with_files, with_journals};
 ghost use Rattle.zk_cli.specs.declared.deal_command.Stored.TheVariants as kinds;
 ghost use Rattle.zk_cli.specs.Stops.{PrintsMade};
-ghost use Rattle.zk_cli.specs.Words.{deal_ask};
+ghost use Rattle.command_words.specs.Words.{deal_ask};
 
 use crate::say::{say, say_memory, say_stop};
 use crate::stop::Stop;

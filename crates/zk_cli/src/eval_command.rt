@@ -4,13 +4,13 @@ ghost use Rattle.zk_cli.specs.Changes.{shelf_change, sink_change, OnlyLoads};
 ghost use Rattle.zk_cli.specs.CircuitFiles.{GivesOutputs};
 ghost use Rattle.zk_cli.specs.EvalRuns.{EvalLines, EvalStop, outputs_line};
 ghost use Rattle.zk_cli.specs.Stops.{PrintsMade};
-ghost use Rattle.zk_cli.specs.Words.{eval_ask};
+ghost use Rattle.command_words.specs.Words.{eval_ask};
 
-use crate::bits::write_bits;
 use crate::circuit_file::load_circuit;
 use crate::say::{say, say_memory, say_stop};
 use crate::stop::Stop;
 use bool_eval::eval;
+use command_words::write_bits;
 use std::alloc::{AllocError, Global};
 use zk_port::{Shelf, Sink};
 

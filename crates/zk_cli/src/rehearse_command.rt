@@ -5,13 +5,13 @@ ghost use Rattle.zk_cli.specs.Made.{IfRehearsed, effects};
 ghost use Rattle.zk_cli.specs.RehearseRuns.{RehearseLines, RehearseStop, IsRehearsed};
 ghost use Rattle.zk_cli.specs.RehearseRuns.{named_numbers, counts_line, rehearsal_lines};
 ghost use Rattle.zk_cli.specs.RehearseRuns.{verdict_line, verdict_status};
-ghost use Rattle.zk_cli.specs.Words.{rehearse_ask};
+ghost use Rattle.command_words.specs.Words.{rehearse_ask};
 
-use crate::bits::write_bits;
 use crate::circuit_file::load_circuit;
 use crate::finish::{Ending, Part};
 use crate::say::{say, say_memory, say_stop};
 use crate::stop::Stop;
+use command_words::write_bits;
 use session_core::{Rehearsal, Verdict, rehearse};
 use std::alloc::{AllocError, Global};
 use zk_port::{Shelf, Sink};

@@ -12,7 +12,7 @@ ghost use Rattle.zk_cli.specs.EvalRuns.{EvalLines};
 ghost use Rattle.session_core.specs.Rehearsals.{direct_units};
 ghost use Rattle.zk_cli.specs.RehearseRuns.{HasOutputs, HasNumbers, IsRehearsed, RehearseLines};
 ghost use Rattle.zk_cli.specs.Stops.{PrintsUsage};
-ghost use Rattle.zk_cli.specs.Words.{texts, asked};
+ghost use Rattle.command_words.specs.Words.{texts, asked};
 
 use crate::deal_command::run_deal;
 use crate::eval_command::run_eval;
@@ -20,8 +20,8 @@ use crate::finish::{Ending, Finish, Part};
 use crate::rehearse_command::run_rehearse;
 use crate::say::{say_memory, say_stop};
 use crate::stop::Stop;
-use crate::words::{Command, read_words};
 use bristol_reader::one_circuit;
+use command_words::{Command, read_words};
 use std::alloc::Global;
 use std::sync::Wait;
 use std::thread::Threads;

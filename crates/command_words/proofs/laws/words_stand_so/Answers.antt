@@ -1,0 +1,5 @@
+use Rattle.command_words.proofs.Orders.{stands, complete}
+use Rattle.command_words.proofs.laws.words_stand_so.Goals as goal
+
+pub returns : goal.returns
+returns c = λ words places options. (stands words places options, complete)

@@ -1,0 +1,22 @@
+-- Commands as what they ask for.
+use Rattle.std.specs.Prelude.{ℕ, ◌≤◌, ◌^◌}
+use Rattle.zk_model.specs.Files.{AreParams}
+use Rattle.command_words.specs.Words.{Ask, rehearse, rehearse_ask, eval, eval_ask, deal, deal_ask}
+use Rattle.command_words.specs.declared.words.Command.{Command}
+use Rattle.command_words.specs.declared.words.Command.TheVariants.{Rehearse, Eval, Deal}
+
+abbrev pub ask_of : Command → Ask
+ask_of (Rehearse circuit bits section) = rehearse (rehearse_ask circuit.now bits.items section)
+ask_of (Eval circuit bits) = eval (eval_ask circuit.now bits.items)
+ask_of (Deal name params) = deal (deal_ask name.now params)
+
+-- a section has so many products
+pub record IsSectionSize (section : ℕ) : Type 0 where
+  pub least : 1 ≤ section
+  pub most : section ≤ 2 ^ 20
+
+-- the numbers that a command names are within their limits
+abbrev pub IsWithinLimits : Command → Type 0
+IsWithinLimits (Rehearse circuit bits section) = IsSectionSize section
+IsWithinLimits (Eval circuit bits) = Unit {0}
+IsWithinLimits (Deal name params) = AreParams params

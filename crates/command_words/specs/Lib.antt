@@ -1,0 +1,7 @@
+pub mod Arranged
+pub mod BitWords
+pub mod Commands
+pub mod Numbers
+pub mod Orders
+pub mod PartsOf
+pub mod Words

@@ -1,0 +1,128 @@
+-- What the words of a command line ask for.
+use Rattle.std.specs.Prelude.{◌^◌, ◌&&◌, nat_le, ℕ, List, [], ◌∷◌, map, Bool, if◌then◌else◌, Option, Some, None, String, string_bytes, codes}
+use Rattle.std.specs.Option.{option_map, option_and_then}
+use Rattle.std.specs.List.{list_any}
+use Rattle.std.specs.Str.{bytes_eq}
+use Rattle.std.specs.declared.alloc.Global.{Global}
+use Rattle.zk_model.specs.FileFaults.{file_length}
+use Rattle.zk_model.specs.declared.Kind.TheVariants.{Direct, Extended}
+use Rattle.zk_model.specs.declared.Params.{Params}
+use Rattle.zk_model.specs.declared.Side.TheVariants.{Prover, Verifier}
+use Rattle.command_words.specs.declared.TheConstants.{FILE_LIMIT}
+use Rattle.command_words.specs.BitWords.{bits_of}
+use Rattle.command_words.specs.Numbers.{number_within}
+use Rattle.command_words.specs.Arranged.{arranged, option_named, stand_once, Word}
+
+-- the words as their bytes
+abbrev pub texts : List (String Global) → List (List ℕ)
+texts words = map (λ w. string_bytes w) words
+
+-- what the words of a rehearsal name: the circuit's file, the bits, and how many products a section has
+pub record RehearseAsk : Type 0 where
+  pub circuit : List ℕ
+  pub bits : List Bool
+  pub section : ℕ
+
+abbrev pub rehearse_ask : List ℕ → List Bool → ℕ → RehearseAsk
+rehearse_ask circuit bits section = record { circuit = circuit; bits = bits; section = section }
+
+-- what the words of an evaluation name: the circuit's file and the bits
+pub record EvalAsk : Type 0 where
+  pub circuit : List ℕ
+  pub bits : List Bool
+
+abbrev pub eval_ask : List ℕ → List Bool → EvalAsk
+eval_ask circuit bits = record { circuit = circuit; bits = bits }
+
+-- what the words of a dealing name: the first part of the files' names, and what they are made for
+pub record DealAsk : Type 0 where
+  pub name : List ℕ
+  pub params : Params
+
+abbrev pub deal_ask : List ℕ → Params → DealAsk
+deal_ask name params = record { name = name; params = params }
+
+-- what can be asked for
+pub data Ask : Type 0 where
+  rehearse : RehearseAsk → Ask
+  eval : EvalAsk → Ask
+  deal : DealAsk → Ask
+
+-- each option has one of these names, and no two the same
+abbrev pub stand_once_among : List (List ℕ) → List Word → Bool
+stand_once_among names options = stand_once (λ name. list_any (λ n. bytes_eq n name) names) options
+
+-- the section's length that a word says, or the greatest
+abbrev pub length_of : Option (List ℕ) → Option ℕ
+length_of None = Some (2 ^ 20)
+length_of (Some word) = number_within 1 (2 ^ 20) word
+
+-- `[--section G]`, and nothing else
+abbrev pub section_of : List Word → Option ℕ
+section_of options =
+    if stand_once_among (codes "--section" ∷ []) options then length_of (option_named (codes "--section") options)
+    else None
+
+-- `rehearse CIRCUIT BITS [--section G]`
+abbrev pub rehearse_of : List (List ℕ) → List Word → Option Ask
+rehearse_of (circuit ∷ bits ∷ []) options =
+    option_and_then (λ section. option_map (λ read. rehearse (rehearse_ask circuit read section))
+    (bits_of bits)) (section_of options)
+rehearse_of places options = None
+
+-- `eval CIRCUIT BITS`
+abbrev pub eval_of : List (List ℕ) → List Word → Option Ask
+eval_of (circuit ∷ bits ∷ []) [] = option_map (λ read. eval (eval_ask circuit read)) (bits_of bits)
+eval_of places options = None
+
+-- what files of so many units are made for, of kind direct, and of kind extended
+abbrev pub direct_params : ℕ → Params
+direct_params units = record { kind = Direct; height = 0; trees = 0; base = 0; total = units }
+
+abbrev pub extended_params : ℕ → ℕ → ℕ → ℕ → Params
+extended_params units trees height base =
+    record { kind = Extended; height = height; trees = trees; base = base; total = units }
+
+-- those of which both files may be loaded again
+abbrev pub loadable : Params → Option Params
+loadable params =
+    if nat_le (file_length Prover params) FILE_LIMIT && nat_le (file_length Verifier params) FILE_LIMIT
+    then Some params else None
+
+-- all of these numbers, within their limits
+abbrev pub extended_of : ℕ → List ℕ → List ℕ → List ℕ → Option Params
+extended_of units trees height base =
+    option_and_then (λ t. option_and_then (λ h. option_map (λ k. extended_params units t h k)
+    (number_within 10 65536 base)) (number_within 1 16 height)) (number_within 1 1024 trees)
+
+-- without `--trees`, `--height` and `--base` those of kind direct, and with all three those of kind extended
+abbrev pub of_kind : ℕ → Option (List ℕ) → Option (List ℕ) → Option (List ℕ) → Option Params
+of_kind units None None None = Some (direct_params units)
+of_kind units (Some trees) (Some height) (Some base) = extended_of units trees height base
+of_kind units trees height base = None
+
+-- `--units N`, and with it all or none of `--trees T --height H --base K`
+abbrev pub params_of : List Word → Option Params
+params_of options =
+    option_and_then (λ word. option_and_then (λ units. option_and_then loadable
+    (of_kind units (option_named (codes "--trees") options) (option_named (codes "--height") options)
+    (option_named (codes "--base") options))) (number_within 1 (2 ^ 32) word)) (option_named (codes "--units") options)
+
+abbrev pub deal_options : List (List ℕ)
+deal_options = codes "--units" ∷ codes "--trees" ∷ codes "--height" ∷ codes "--base" ∷ []
+
+-- `deal NAME --units N [--trees T --height H --base K]`
+abbrev pub deal_of : List (List ℕ) → List Word → Option Ask
+deal_of (name ∷ []) options =
+    if stand_once_among deal_options options then option_map (λ params. deal (deal_ask name params)) (params_of options)
+    else None
+deal_of places options = None
+
+-- what the words ask for, if they are valid
+abbrev pub asked : List (List ℕ) → Option Ask
+asked [] = None
+asked (name ∷ words) = option_and_then (λ parts.
+    if bytes_eq name (codes "rehearse") then rehearse_of parts.0 parts.1
+    else if bytes_eq name (codes "eval") then eval_of parts.0 parts.1
+    else if bytes_eq name (codes "deal") then deal_of parts.0 parts.1
+    else None) (arranged words)

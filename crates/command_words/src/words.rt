@@ -1,0 +1,203 @@
+// What the words of a command line ask for.
+ghost use Rattle.std.specs.Prelude.{◌≡◌, ◌≤◌, ◌^◌, ◌↔◌, map, IfOk, IfSome, IsTrue};
+ghost use Rattle.std.specs.Option.{option_map};
+ghost use Rattle.command_words.specs.Words.{texts, asked, eval_of, rehearse_of, section_of};
+ghost use Rattle.command_words.specs.Words.{deal_of, params_of, direct_params, extended_of};
+ghost use Rattle.zk_model.specs.FileFaults.{file_length};
+ghost use Rattle.zk_model.specs.Files.{AreParams};
+ghost use Rattle.zk_model.specs.declared.Side.TheVariants.{Prover, Verifier};
+ghost use Rattle.command_words.specs.declared.TheConstants.{FILE_LIMIT};
+ghost use Rattle.command_words.specs.PartsOf.{word_of};
+ghost use Rattle.command_words.specs.Commands.{ask_of, IsWithinLimits, IsSectionSize};
+
+use crate::FILE_LIMIT;
+use crate::arrange::{Arranged, Named, are_once, arrange, find_option};
+use crate::bits::read_bits;
+use crate::numbers::read_number;
+use dealer_files::{Kind, Params, Side, file_length};
+use std::alloc::{AllocError, Global};
+
+/// How many products a section has at most, and where nothing is said.
+const MOST_SECTION: u32 = 1 << 20;
+
+/// A command with its words.
+#[derive(Debug, Drop)]
+pub enum Command<'a> {
+    /// `rehearse CIRCUIT BITS [--section G]`
+    Rehearse {
+        circuit: &'a str,
+        bits: Vec<bool>,
+        section: u32,
+    },
+    /// `eval CIRCUIT BITS`
+    Eval {
+        circuit: &'a str,
+        bits: Vec<bool>,
+    },
+    /// `deal NAME --units N [--trees T --height H --base K]`
+    Deal {
+        name: &'a str,
+        params: Params,
+    },
+}
+
+/// The command that the words ask for, if they are valid.
+pub fn read_words(alloc: Global, words: &[String]) -> Result<Option<Command<'_>>, AllocError>
+    ensures asked { IfOk result (λ found. option_map ask_of found ≡ asked (texts words.now)) }
+    ensures limits { IfOk result (λ found. IfSome found IsWithinLimits) }
+{
+    let [name, rest @ ..] = words else {
+        return Ok(None);
+    };
+    let Some(found) = arrange(alloc, rest)? else {
+        return Ok(None);
+    };
+    let Arranged { places, options } = found;
+    match name.as_str() {
+        "rehearse" => read_rehearse(alloc, &places, &options),
+        "eval" => read_eval(alloc, &places, &options),
+        "deal" => Ok(read_deal(&places, &options)),
+        _ => Ok(None),
+    }
+}
+
+/// `CIRCUIT BITS [--section G]`
+fn read_rehearse<'a>(
+    alloc: Global,
+    places: &[&'a str],
+    options: &[Named],
+) -> Result<Option<Command<'a>>, AllocError>
+    ensures asked { IfOk result (λ found. option_map ask_of found
+        ≡ rehearse_of (map (λ p. p.now) places.now) (map word_of options.now)) }
+    ensures limits { IfOk result (λ found. IfSome found IsWithinLimits) }
+{
+    let [circuit, word] = places else {
+        return Ok(None);
+    };
+    let Some(section) = read_section(options) else {
+        return Ok(None);
+    };
+    let Some(bits) = read_bits(alloc, word)? else {
+        return Ok(None);
+    };
+    Ok(Some(Command::Rehearse {
+        circuit,
+        bits,
+        section,
+    }))
+}
+
+/// `CIRCUIT BITS`, and no option
+fn read_eval<'a>(
+    alloc: Global,
+    places: &[&'a str],
+    options: &[Named],
+) -> Result<Option<Command<'a>>, AllocError>
+    ensures asked { IfOk result (λ found. option_map ask_of found
+        ≡ eval_of (map (λ p. p.now) places.now) (map word_of options.now)) }
+    ensures limits { IfOk result (λ found. IfSome found IsWithinLimits) }
+{
+    let [circuit, word] = places else {
+        return Ok(None);
+    };
+    if !options.is_empty() {
+        return Ok(None);
+    }
+    let Some(bits) = read_bits(alloc, word)? else {
+        return Ok(None);
+    };
+    Ok(Some(Command::Eval { circuit, bits }))
+}
+
+/// The length of a section: the value of `--section`, which is the only option, or else the greatest.
+fn read_section(options: &[Named]) -> Option<u32>
+    ensures value { result ≡ section_of (map word_of options.now) }
+    ensures size { IfSome result IsSectionSize }
+{
+    if !are_once(options, &["--section"]) {
+        return None;
+    }
+    let Some(value) = find_option(options, "--section") else {
+        return Some(MOST_SECTION);
+    };
+    Some(read_number(value, 1, u64::from(MOST_SECTION))? as u32)
+}
+
+/// `NAME --units N [--trees T --height H --base K]`
+fn read_deal<'a>(places: &[&'a str], options: &[Named]) -> Option<Command<'a>>
+    ensures asked { option_map ask_of result
+        ≡ deal_of (map (λ p. p.now) places.now) (map word_of options.now) }
+    ensures limits { IfSome result IsWithinLimits }
+{
+    let [name] = places else {
+        return None;
+    };
+    if !are_once(options, &["--units", "--trees", "--height", "--base"]) {
+        return None;
+    }
+    let params = read_params(options)?;
+    Some(Command::Deal { name, params })
+}
+
+/// What dealt files are made for, if both may be loaded again.
+fn read_params(options: &[Named]) -> Option<Params>
+    ensures params { result ≡ params_of (map word_of options.now) }
+    ensures limits { IfSome result AreParams }
+{
+    let units = read_number(find_option(options, "--units")?, 1, 1 << 32)?;
+    let trees = find_option(options, "--trees");
+    let height = find_option(options, "--height");
+    let base = find_option(options, "--base");
+    let params = match (trees, height, base) {
+        (None, None, None) => direct_params(units),
+        (Some(trees), Some(height), Some(base)) => read_extended(units, trees, height, base)?,
+        _ => return None,
+    };
+    if are_loadable(&params) {
+        Some(params)
+    } else {
+        None
+    }
+}
+
+/// What files of kind direct are made for, of so many units.
+fn direct_params(units: u64) -> Params
+    ensures { result ≡ direct_params units }
+{
+    Params {
+        kind: Kind::Direct,
+        height: 0,
+        trees: 0,
+        base: 0,
+        total: units,
+    }
+}
+
+/// What files of kind extended are made for, of so many units.
+fn read_extended(units: u64, trees: &str, height: &str, base: &str) -> Option<Params>
+    requires some { 1 ≤ units }
+    requires most { units ≤ 2 ^ 32 }
+    ensures params { result ≡ extended_of units trees.now height.now base.now }
+    ensures limits { IfSome result AreParams }
+{
+    let trees = read_number(trees, 1, 1024)? as u32;
+    let height = read_number(height, 1, 16)? as u8;
+    let base = read_number(base, 10, 65_536)? as u32;
+    Some(Params {
+        kind: Kind::Extended,
+        height,
+        trees,
+        base,
+        total: units,
+    })
+}
+
+/// Whether no file of these numbers has more bytes than may be loaded.
+fn are_loadable(params: &Params) -> bool
+    requires { AreParams params.now }
+    ensures { IsTrue result ↔ ((file_length Prover params.now ≤ FILE_LIMIT)
+        × (file_length Verifier params.now ≤ FILE_LIMIT)) }
+{
+    file_length(Side::Prover, params) <= FILE_LIMIT
+        && file_length(Side::Verifier, params) <= FILE_LIMIT
+}

@@ -1,7 +1,0 @@
-use Rattle.std.proofs.Common.{◌≡◌, min, take}
-use Rattle.zk_model.specs.Bristol.{decimal_value}
-use Rattle.zk_cli.proofs.numbers.capped_value.Given as goal
-
--- the number of the digits so far
-abbrev pub invariant-loop-c : goal.invariant-loop-c
-invariant-loop-c l = l.value ≡ min (decimal_value (take l.c-index l.word)) l.most
