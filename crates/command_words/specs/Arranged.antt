@@ -14,7 +14,7 @@ begins_with_dash (c ∷ word) = bytes_eq (c ∷ []) (codes "-")
 abbrev pub is_valued : List ℕ → Bool
 is_valued word =
     bytes_eq word (codes "--section") || bytes_eq word (codes "--units") || bytes_eq word (codes "--trees")
-    || bytes_eq word (codes "--height") || bytes_eq word (codes "--base")
+    || bytes_eq word (codes "--height") || bytes_eq word (codes "--base") || bytes_eq word (codes "--sessions")
 
 -- what a word is, by itself
 abbrev pub kind_of : List ℕ → Kind

@@ -1,14 +1,16 @@
 -- Commands as what they ask for.
 use Rattle.std.specs.Prelude.{ℕ, ◌≤◌, ◌^◌}
 use Rattle.zk_model.specs.Files.{AreParams}
-use Rattle.command_words.specs.Words.{Ask, rehearse, rehearse_ask, eval, eval_ask, deal, deal_ask}
+use Rattle.command_words.specs.Words.{Ask, rehearse, rehearse_ask, eval, eval_ask, deal, deal_ask, serve, serve_ask}
 use Rattle.command_words.specs.declared.words.Command.{Command}
-use Rattle.command_words.specs.declared.words.Command.TheVariants.{Rehearse, Eval, Deal}
+use Rattle.command_words.specs.declared.words.Command.TheVariants.{Rehearse, Eval, Deal, Serve}
 
 abbrev pub ask_of : Command → Ask
 ask_of (Rehearse circuit bits section) = rehearse (rehearse_ask circuit.now bits.items section)
 ask_of (Eval circuit bits) = eval (eval_ask circuit.now bits.items)
 ask_of (Deal name params) = deal (deal_ask name.now params)
+ask_of (Serve address file circuit outputs section) =
+    serve (serve_ask address.now file.now circuit.now outputs.items section)
 
 -- a section has so many products
 pub record IsSectionSize (section : ℕ) : Type 0 where
@@ -20,3 +22,4 @@ abbrev pub IsWithinLimits : Command → Type 0
 IsWithinLimits (Rehearse circuit bits section) = IsSectionSize section
 IsWithinLimits (Eval circuit bits) = Unit {0}
 IsWithinLimits (Deal name params) = AreParams params
+IsWithinLimits (Serve address file circuit outputs section) = IsSectionSize section

@@ -42,11 +42,25 @@ pub record DealAsk : Type 0 where
 abbrev pub deal_ask : List ℕ → Params → DealAsk
 deal_ask name params = record { name = name; params = params }
 
+-- what the words of a verifier that serves name: where provers connect, the verifier's file, the circuit's file, the
+-- claimed outputs, and how many products a section has
+pub record ServeAsk : Type 0 where
+  pub address : List ℕ
+  pub file : List ℕ
+  pub circuit : List ℕ
+  pub outputs : List Bool
+  pub section : ℕ
+
+abbrev pub serve_ask : List ℕ → List ℕ → List ℕ → List Bool → ℕ → ServeAsk
+serve_ask address file circuit outputs section =
+    record { address = address; file = file; circuit = circuit; outputs = outputs; section = section }
+
 -- what can be asked for
 pub data Ask : Type 0 where
   rehearse : RehearseAsk → Ask
   eval : EvalAsk → Ask
   deal : DealAsk → Ask
+  serve : ServeAsk → Ask
 
 -- each option has one of these names, and no two the same
 abbrev pub stand_once_among : List (List ℕ) → List Word → Bool
@@ -118,6 +132,27 @@ deal_of (name ∷ []) options =
     else None
 deal_of places options = None
 
+-- how many sessions are served: one, for now
+abbrev pub sessions_of : List Word → Option ℕ
+sessions_of options = option_and_then (λ word. number_within 1 1 word) (option_named (codes "--sessions") options)
+
+abbrev pub serve_options : List (List ℕ)
+serve_options = codes "--sessions" ∷ codes "--section" ∷ []
+
+-- `--sessions 1 [--section G]`, and nothing else: the section's length
+abbrev pub serve_section_of : List Word → Option ℕ
+serve_section_of options =
+    if stand_once_among serve_options options
+    then option_and_then (λ sessions. length_of (option_named (codes "--section") options)) (sessions_of options)
+    else None
+
+-- `serve ADDRESS FILE CIRCUIT OUTPUTS --sessions 1 [--section G]`
+abbrev pub serve_of : List (List ℕ) → List Word → Option Ask
+serve_of (address ∷ file ∷ circuit ∷ outputs ∷ []) options =
+    option_and_then (λ section. option_map (λ read. serve (serve_ask address file circuit read section))
+    (bits_of outputs)) (serve_section_of options)
+serve_of places options = None
+
 -- what the words ask for, if they are valid
 abbrev pub asked : List (List ℕ) → Option Ask
 asked [] = None
@@ -125,4 +160,5 @@ asked (name ∷ words) = option_and_then (λ parts.
     if bytes_eq name (codes "rehearse") then rehearse_of parts.0 parts.1
     else if bytes_eq name (codes "eval") then eval_of parts.0 parts.1
     else if bytes_eq name (codes "deal") then deal_of parts.0 parts.1
+    else if bytes_eq name (codes "serve") then serve_of parts.0 parts.1
     else None) (arranged words)

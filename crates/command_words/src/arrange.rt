@@ -50,6 +50,7 @@ fn is_valued(word: &str) -> bool
         || word == "--trees"
         || word == "--height"
         || word == "--base"
+        || word == "--sessions"
 }
 
 /// What a word behind the name is, by itself.

@@ -1,12 +1,14 @@
 // What the words of a command line ask for.
-ghost use Rattle.std.specs.Prelude.{◌≡◌, ◌≤◌, ◌^◌, ◌↔◌, map, IfOk, IfSome, IsTrue};
+ghost use Rattle.std.specs.Prelude.{◌≡◌, ◌≤◌, ◌^◌, ◌↔◌, map, codes, IfOk, IfSome, IsTrue};
 ghost use Rattle.std.specs.Option.{option_map};
-ghost use Rattle.command_words.specs.Words.{texts, asked, eval_of, rehearse_of, section_of};
+ghost use Rattle.command_words.specs.Words.{texts, asked, eval_of, rehearse_of, section_of, length_of};
+ghost use Rattle.command_words.specs.Words.{serve_of, serve_section_of, sessions_of};
 ghost use Rattle.command_words.specs.Words.{deal_of, params_of, direct_params, extended_of};
 ghost use Rattle.zk_model.specs.FileFaults.{file_length};
 ghost use Rattle.zk_model.specs.Files.{AreParams};
 ghost use Rattle.zk_model.specs.declared.Side.TheVariants.{Prover, Verifier};
 ghost use Rattle.command_words.specs.declared.TheConstants.{FILE_LIMIT};
+ghost use Rattle.command_words.specs.Arranged.{option_named};
 ghost use Rattle.command_words.specs.PartsOf.{word_of};
 ghost use Rattle.command_words.specs.Commands.{ask_of, IsWithinLimits, IsSectionSize};
 
@@ -39,6 +41,14 @@ pub enum Command<'a> {
         name: &'a str,
         params: Params,
     },
+    /// `serve ADDRESS FILE CIRCUIT OUTPUTS --sessions 1 [--section G]`
+    Serve {
+        address: &'a str,
+        file: &'a str,
+        circuit: &'a str,
+        outputs: Vec<bool>,
+        section: u32,
+    },
 }
 
 /// The command that the words ask for, if they are valid.
@@ -57,6 +67,7 @@ pub fn read_words(alloc: Global, words: &[String]) -> Result<Option<Command<'_>>
         "rehearse" => read_rehearse(alloc, &places, &options),
         "eval" => read_eval(alloc, &places, &options),
         "deal" => Ok(read_deal(&places, &options)),
+        "serve" => read_serve(alloc, &places, &options),
         _ => Ok(None),
     }
 }
@@ -117,10 +128,65 @@ fn read_section(options: &[Named]) -> Option<u32>
     if !are_once(options, &["--section"]) {
         return None;
     }
+    read_length(options)
+}
+
+/// The value of the first `--section`, or else the greatest.
+fn read_length(options: &[Named]) -> Option<u32>
+    ensures value { result ≡ length_of (option_named (codes "--section") (map word_of options.now)) }
+    ensures size { IfSome result IsSectionSize }
+{
     let Some(value) = find_option(options, "--section") else {
         return Some(MOST_SECTION);
     };
     Some(read_number(value, 1, u64::from(MOST_SECTION))? as u32)
+}
+
+/// `ADDRESS FILE CIRCUIT OUTPUTS --sessions 1 [--section G]`
+fn read_serve<'a>(
+    alloc: Global,
+    places: &[&'a str],
+    options: &[Named],
+) -> Result<Option<Command<'a>>, AllocError>
+    ensures asked { IfOk result (λ found. option_map ask_of found
+        ≡ serve_of (map (λ p. p.now) places.now) (map word_of options.now)) }
+    ensures limits { IfOk result (λ found. IfSome found IsWithinLimits) }
+{
+    let [address, file, circuit, word] = places else {
+        return Ok(None);
+    };
+    let Some(section) = read_serve_section(options) else {
+        return Ok(None);
+    };
+    let Some(outputs) = read_bits(alloc, word)? else {
+        return Ok(None);
+    };
+    Ok(Some(Command::Serve {
+        address,
+        file,
+        circuit,
+        outputs,
+        section,
+    }))
+}
+
+/// The length of a section, where `--sessions 1` stands, and at most `--section` beside it.
+fn read_serve_section(options: &[Named]) -> Option<u32>
+    ensures value { result ≡ serve_section_of (map word_of options.now) }
+    ensures size { IfSome result IsSectionSize }
+{
+    if !are_once(options, &["--sessions", "--section"]) {
+        return None;
+    }
+    let _one = read_sessions(options)?;
+    read_length(options)
+}
+
+/// How many sessions are served: one, for now.
+fn read_sessions(options: &[Named]) -> Option<u64>
+    ensures { result ≡ sessions_of (map word_of options.now) }
+{
+    read_number(find_option(options, "--sessions")?, 1, 1)
 }
 
 /// `NAME --units N [--trees T --height H --base K]`
