@@ -28,8 +28,11 @@ stop_answers status text answer sink high (inr (inr short)) = inr short.answered
 pub high_stop : (stop : Stop) → 2 ≤ stop_status stop
 high_stop stop.Usage = omega arith
 high_stop (stop.BadText fault) = omega arith
+high_stop (stop.BadFile fault) = omega arith
 high_stop (stop.TooLong limit) = omega arith
 high_stop (stop.WrongLength need got) = omega arith
+high_stop (stop.WrongOutputs need got) = omega arith
+high_stop stop.DoorFailed = omega arith
 high_stop stop.ShelfFailed = omega arith
 high_stop stop.NoMemory = omega arith
 high_stop (stop.TooLarge need units) = omega arith

@@ -6,3 +6,4 @@ pub mod Refusals
 pub mod Stopping
 pub mod Storing
 pub mod ToldCircuits
+pub mod Serving

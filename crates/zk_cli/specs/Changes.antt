@@ -56,6 +56,12 @@ pub record OnlyLoads (name : List ℕ) (shelf : ShelfChange) : Type 0 where
   pub later : (other : List ℕ) → shelf.old.faults_of other ≤ shelf.new.faults_of other
   pub counts : NameFailed name shelf ⊎ CountsStay shelf
 
+-- the same of two names
+pub record OnlyLoadsBoth (one other : List ℕ) (shelf : ShelfChange) : Type 0 where
+  pub told : shelf.new.told ≡ shelf.old.told
+  pub later : (name : List ℕ) → shelf.old.faults_of name ≤ shelf.new.faults_of name
+  pub counts : NameFailed one shelf ⊎ NameFailed other shelf ⊎ CountsStay shelf
+
 -- all names but these have what they had
 abbrev pub OthersStay : (List ℕ → Type 0) → Option Files → Option Files → Type 0
 OthersStay IsNamed None new = new ≡ None

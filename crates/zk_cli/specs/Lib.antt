@@ -3,10 +3,14 @@ pub mod CircuitFiles
 pub mod DealRuns
 pub mod EvalRuns
 pub mod FaultLines
+pub mod FileLines
 pub mod Guards
 pub mod Made
+pub mod NoteLines
 pub mod Outcomes
 pub mod Prints
 pub mod RehearseRuns
+pub mod ServeRuns
+pub mod ServedNotes
 pub mod Stops
 pub mod StopsOf

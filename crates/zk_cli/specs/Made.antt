@@ -1,14 +1,20 @@
 -- What a run hands back beside its status.
-use Rattle.std.specs.Prelude.{ℕ}
+use Rattle.std.specs.Prelude.{ℕ, All}
 use Rattle.zk_cli.specs.Changes.{ShelfChange, SinkChange}
 use Rattle.zk_cli.specs.declared.finish.Part.{Part}
-use Rattle.zk_cli.specs.declared.finish.Part.TheVariants.{Plain, Rehearsed}
+use Rattle.zk_cli.specs.declared.finish.Part.TheVariants.{Plain, Rehearsed, Served}
 use Rattle.session_core.specs.declared.rehearsal.Rehearsal.{Rehearsal}
+use Rattle.session_verifier.specs.declared.note.SessionNote.{SessionNote}
 
 -- of the rehearsal, if one is handed back
 abbrev pub IfRehearsed : {L : Type 0} → Part L → (Rehearsal → Type 0) → Type 0
 IfRehearsed (Rehearsed r) Holds = Holds r
 IfRehearsed part Holds = Unit {0}
+
+-- of each session that was served, if any are handed back
+abbrev pub EachNote : {L : Type 0} → Part L → (SessionNote L → Type 0) → Type 0
+EachNote (Served notes) Holds = All Holds notes.items
+EachNote part Holds = Unit {0}
 
 -- nothing is handed back
 abbrev pub IsPlain : {L : Type 0} → Part L → Type 0

@@ -3,17 +3,21 @@ use Rattle.std.specs.Prelude.{◌⊎◌, ℕ, List, ◌++◌, codes}
 use Rattle.std.specs.Fmt.{decimal}
 use Rattle.zk_cli.specs.Changes.{SinkChange}
 use Rattle.zk_cli.specs.FaultLines.{fault_line}
+use Rattle.zk_cli.specs.FileLines.{file_fault_line}
 use Rattle.zk_cli.specs.Prints.{Prints}
 use Rattle.zk_cli.specs.declared.stop.Stop.{Stop}
-use Rattle.zk_cli.specs.declared.stop.Stop.TheVariants.{Usage, BadText, TooLong, WrongLength, TooLarge, ShelfFailed, NoMemory}
+use Rattle.zk_cli.specs.declared.stop.Stop.TheVariants.{Usage, BadText, BadFile, TooLong, WrongLength, WrongOutputs, TooLarge, ShelfFailed, DoorFailed, NoMemory}
 
 -- the status that is answered
 abbrev pub stop_status : Stop → ℕ
 stop_status Usage = 2
 stop_status (BadText fault) = 3
+stop_status (BadFile fault) = 3
 stop_status (TooLong limit) = 3
 stop_status (WrongLength need got) = 3
+stop_status (WrongOutputs need got) = 3
 stop_status ShelfFailed = 4
+stop_status DoorFailed = 4
 stop_status NoMemory = 7
 stop_status (TooLarge need units) = 9
 
@@ -21,10 +25,14 @@ stop_status (TooLarge need units) = 9
 abbrev pub stop_line : Stop → List ℕ
 stop_line Usage = codes "usage: zk deal, eval, rehearse, prove, serve or audit\n"
 stop_line (BadText fault) = fault_line fault
+stop_line (BadFile fault) = file_fault_line fault
 stop_line (TooLong limit) = codes "refused TooLong 0 " ++ decimal limit ++ codes "\n"
 stop_line (WrongLength need got) =
     codes "refused bits " ++ decimal need ++ codes " " ++ decimal got ++ codes "\n"
+stop_line (WrongOutputs need got) =
+    codes "refused outputs " ++ decimal need ++ codes " " ++ decimal got ++ codes "\n"
 stop_line ShelfFailed = codes "failed shelf\n"
+stop_line DoorFailed = codes "failed door\n"
 stop_line NoMemory = codes "memory\n"
 stop_line (TooLarge need units) =
     codes "too large " ++ decimal need ++ codes " " ++ decimal units ++ codes "\n"

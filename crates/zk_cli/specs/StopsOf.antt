@@ -7,6 +7,9 @@ use Rattle.bristol_reader.specs.declared.fault.ReadError.{ReadError}
 use Rattle.bristol_reader.specs.declared.fault.ReadError.TheVariants as text
 use Rattle.bool_eval.specs.declared.EvalFault.{EvalFault}
 use Rattle.bool_eval.specs.declared.EvalFault.TheVariants as evaluation
+use Rattle.dealer_files.specs.declared.fault.FileFault.{FileFault}
+use Rattle.dealer_files.specs.declared.fault.FileFault.TheVariants as file
+use Rattle.session_core.specs.declared.verifier_job.TooManyUnits.{TooManyUnits}
 use Rattle.session_core.specs.declared.rehearsal.RehearseFault.{RehearseFault}
 use Rattle.session_core.specs.declared.rehearsal.RehearseFault.TheVariants as session
 use Rattle.zk_cli.specs.declared.stop.Stop.{Stop}
@@ -38,3 +41,18 @@ eval_stop evaluation.NoMemory = stop.NoMemory
 abbrev pub store_stop : PortFault → Stop
 store_stop port.Failed = stop.ShelfFailed
 store_stop port.NoMemory = stop.NoMemory
+
+-- whose verifier's file is refused
+abbrev pub file_stop : FileFault → Stop
+file_stop file.BadMagic = stop.BadFile file.BadMagic
+file_stop file.BadKind = stop.BadFile file.BadKind
+file_stop file.BadParam = stop.BadFile file.BadParam
+file_stop (file.Length need got) = stop.BadFile (file.Length need got)
+file_stop (file.BadElement place) = stop.BadFile (file.BadElement place)
+file_stop file.ZeroKey = stop.BadFile file.ZeroKey
+file_stop file.BadDigest = stop.BadFile file.BadDigest
+file_stop file.NoMemory = stop.NoMemory
+
+-- whose session takes too many units
+abbrev pub units_stop : TooManyUnits → Stop
+units_stop found = stop.TooLarge found.need found.units

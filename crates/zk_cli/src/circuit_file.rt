@@ -1,13 +1,23 @@
-// Circuits that stand as files.
+// Files that are loaded, and circuits that stand as such.
 ghost use Rattle.std.specs.Prelude.{IfOk, IfErr};
 ghost use Rattle.zk_cli.specs.Changes.{shelf_change, OnlyLoads};
-ghost use Rattle.zk_cli.specs.CircuitFiles.{IsCircuitFile, CircuitStop};
+ghost use Rattle.zk_cli.specs.CircuitFiles.{IsLoaded, IsUnloaded, IsCircuitFile, CircuitStop};
 
 use crate::stop::Stop;
 use bristol_reader::{Circuit, read};
 use command_words::FILE_LIMIT;
 use std::alloc::Global;
 use zk_port::Shelf;
+
+/// The bytes of the file of this name.
+pub fn load_file<F: Shelf>(alloc: Global, shelf: &mut F, name: &str) -> Result<Vec<u8>, Stop>
+    ensures loaded { IfOk result (λ bytes. IsLoaded (F.told shelf.old) name.now bytes.items) }
+    ensures stop { IfErr result
+        (IsUnloaded (shelf_change F.told F.faults F.faults_of shelf.old shelf.new) name.now) }
+    ensures kept { OnlyLoads name.now (shelf_change F.told F.faults F.faults_of shelf.old shelf.new) }
+{
+    Ok(shelf.load(alloc, name, FILE_LIMIT)?)
+}
 
 /// The circuit that the file of this name says.
 pub fn load_circuit<F: Shelf>(alloc: Global, shelf: &mut F, name: &str) -> Result<Circuit, Stop>
@@ -16,6 +26,6 @@ pub fn load_circuit<F: Shelf>(alloc: Global, shelf: &mut F, name: &str) -> Resul
         (CircuitStop (shelf_change F.told F.faults F.faults_of shelf.old shelf.new) name.now) }
     ensures kept { OnlyLoads name.now (shelf_change F.told F.faults F.faults_of shelf.old shelf.new) }
 {
-    let text = shelf.load(alloc, name, FILE_LIMIT)?;
+    let text = load_file(alloc, shelf, name)?;
     Ok(read(alloc, &text)?)
 }

@@ -1,5 +1,6 @@
 // What a run hands back.
 use session_core::Rehearsal;
+use session_verifier::SessionNote;
 use zk_port::Door;
 
 /// What a run made beside its lines; L is what a connection is made of.
@@ -9,8 +10,8 @@ pub enum Part<L> {
     Plain,
     /// What a rehearsal gave.
     Rehearsed(Rehearsal),
-    /// The links of the sessions that were served, in order. No command serves yet, so none hands this back.
-    Served(Vec<L>),
+    /// What came of the sessions with the peers that called, in order: exactly where the door listened.
+    Served(Vec<SessionNote<L>>),
 }
 
 /// How a command ends: the status that the program ends with, and what it made beside its lines.

@@ -5,9 +5,11 @@ mod circuit_file;
 mod deal_command;
 mod eval_command;
 mod finish;
+mod note_lines;
 mod rehearse_command;
 mod run;
 mod say;
+mod serve_command;
 mod stop;
 
 pub use command_words::FILE_LIMIT;

@@ -1,9 +1,9 @@
 // The top call.
 ghost use Rattle.std.specs.Prelude.{◌≡◌, ℕ, List, None};
 ghost use Rattle.zk_model.specs.Circuit.{Circuit};
-ghost use Rattle.zk_cli.specs.Changes.{shelf_change, sink_change, OnlyLoads, OnlyStores};
-ghost use Rattle.zk_cli.specs.Guards.{OnUsage, OnDeal, OnEval, OnRehearse};
-ghost use Rattle.zk_cli.specs.Made.{IsPlain, IfRehearsed, effects};
+ghost use Rattle.zk_cli.specs.Changes.{shelf_change, sink_change, OnlyLoads, OnlyLoadsBoth, OnlyStores};
+ghost use Rattle.zk_cli.specs.Guards.{OnUsage, OnDeal, OnEval, OnRehearse, OnServe};
+ghost use Rattle.zk_cli.specs.Made.{IsPlain, IfRehearsed, EachNote, effects};
 ghost use Rattle.zk_cli.specs.Outcomes.{IsRehearseStatus, Accepts, IsRefused, HasFailed, TakesTooMany};
 ghost use Rattle.zk_cli.specs.Outcomes.{IsReady, AnswersFor, IsEvalStatus, WritesOutputs, IsDone};
 ghost use Rattle.zk_cli.specs.Outcomes.{IsDealStatus, DealsAll, HasStoreFailed};
@@ -11,6 +11,11 @@ ghost use Rattle.zk_cli.specs.DealRuns.{DealLines, IsDealName};
 ghost use Rattle.zk_cli.specs.EvalRuns.{EvalLines};
 ghost use Rattle.session_core.specs.Rehearsals.{direct_units};
 ghost use Rattle.zk_cli.specs.RehearseRuns.{HasOutputs, HasNumbers, IsRehearsed, RehearseLines};
+ghost use Rattle.session_pool.specs.Doors.{door_state};
+ghost use Rattle.session_verifier.specs.Stages.{moment_at};
+ghost use Rattle.session_verifier.specs.declared.note.VerifierOutcome.TheVariants.{Accepted};
+ghost use Rattle.zk_cli.specs.ServeRuns.{ServeLines, serve_effects, door_change};
+ghost use Rattle.zk_cli.specs.ServedNotes.{IsHeadline, IsServedNote};
 ghost use Rattle.zk_cli.specs.Stops.{PrintsUsage};
 ghost use Rattle.command_words.specs.Words.{texts, asked};
 
@@ -19,9 +24,11 @@ use crate::eval_command::run_eval;
 use crate::finish::{Ending, Finish, Part};
 use crate::rehearse_command::run_rehearse;
 use crate::say::{say_memory, say_stop};
+use crate::serve_command::{ServeWords, run_serve};
 use crate::stop::Stop;
 use bristol_reader::one_circuit;
 use command_words::{Command, read_words};
+use session_laws::extracted_shows_outputs;
 use std::alloc::Global;
 use std::sync::Wait;
 use std::thread::Threads;
@@ -35,15 +42,17 @@ use zk_port::{Disk, Door, Gate, Shelf, Sink};
 /// failed, or the output before a 0; 7 where memory is wanting; 9 where the session would take more than 4,096
 /// units. `eval CIRCUIT BITS` ends with 0 where it wrote the outputs, and with 3, 4 and 7 in the same cases. `deal NAME
 /// --units N [--trees T --height H --base K]` ends with 0 where all is stored and said, 4 where a store or the output
-/// failed, and 7.
+/// failed, and 7. `serve ADDRESS FILE CIRCUIT OUTPUTS --sessions 1 [--section G]` ends with 0 where each session is accepted, or
+/// no peer called; 1 where one is not; 3 where a file is refused, or the outputs for it; 4 where a load, the door, a link or the
+/// output failed; 6 where units are wanting; and with 7 and 9.
 pub fn run_zk<R, F, D, B, O, G>(
     _rt: &R,
     alloc: Global,
     words: &[String],
     shelf: &mut F,
     journal: B,
-    door: D,
-    _gate: &G,
+    mut door: D,
+    gate: &G,
     seed: &[u8; 32],
     out: &mut O,
 ) -> Finish<B, D>
@@ -158,8 +167,36 @@ where
     ensures deal_done { OnDeal words.now (λ ask. ¬ HasStoreFailed ask.name
         (shelf_change F.told F.faults F.faults_of shelf.old shelf.new)
         (sink_change O.written O.faults out.old out.new) → IsDone result.status) }
+
+    // `serve ADDRESS FILE CIRCUIT OUTPUTS --sessions 1 [--section G]`: what an accepted session shows. For every prover's file
+    // that is dealt with the verifier's, the input bits that this file and its frames fix make the circuit give the claimed
+    // outputs, or the challenge is a root of a named nonzero polynomial of at most the number of products in degree, or the
+    // key is one of a named nonzero polynomial of degree two at most.
+    ensures serve_headline { OnServe words.now (λ ask. EachNote result.part (λ note. note.outcome ≡ Accepted →
+        IsHeadline (F.told shelf.old) ask note.granted note.log)) }
+
+    // What each note says: the units that were leased, the verdict, what the verifier sent, why the session ended, and
+    // that with an honest peer it is accepted.
+    ensures serve_notes { OnServe words.now (λ ask. EachNote result.part (λ note.
+        IsServedNote (F.told shelf.old) ask note.granted note.outcome
+        (moment_at note.log (D.Link.log note.link) (D.Link.to_come note.link)
+        (D.Link.ended note.link) (D.Link.receives note.link) (D.Link.faults note.link)))) }
+
+    // One session at most is served, with a peer that called, and its lines are written; or nothing is handed back, and the
+    // line of a stop with its cause is written.
+    ensures serve_lines { OnServe words.now (λ ask. ServeLines ask
+        (serve_effects result.status result.part (shelf_change F.told F.faults F.faults_of shelf.old shelf.new)
+        (sink_change O.written O.faults out.old out.new)
+        (door_change (D.offers door 1) (door_state (D.left door) (D.faults door))
+        (door_state (D.left result.door) (D.faults result.door))))) }
+
+    // Nothing but the files of the circuit and of the verifier is asked of the shelf; the disk is as it was.
+    ensures serve_kept { OnServe words.now (λ ask.
+        OnlyLoadsBoth ask.circuit ask.file (shelf_change F.told F.faults F.faults_of shelf.old shelf.new)
+        × (result.journal ≡ journal)) }
 {
     one_circuit();
+    extracted_shows_outputs();
     let found = match read_words(alloc, words) {
         Ok(found) => found,
         Err(_) => {
@@ -201,6 +238,28 @@ where
             let Ending { status, part } = run_rehearse(
                 alloc, shelf, out, circuit, bits, section, seed,
             );
+            Finish {
+                status,
+                journal,
+                door,
+                part,
+            }
+        }
+        Command::Serve {
+            address,
+            file,
+            circuit,
+            outputs,
+            section,
+        } => {
+            let named = ServeWords {
+                address,
+                file,
+                circuit,
+                outputs: outputs.as_slice(),
+                section,
+            };
+            let Ending { status, part } = run_serve(alloc, shelf, &mut door, gate, out, &named);
             Finish {
                 status,
                 journal,

@@ -3,12 +3,14 @@ ghost use Rattle.std.specs.Prelude.{◌≡◌, ◌++◌, IfOk, codes, string_byt
 ghost use Rattle.std.specs.Fmt.{decimal};
 ghost use Rattle.zk_cli.specs.Changes.{sink_change};
 ghost use Rattle.zk_cli.specs.FaultLines.{fault_name, fault_number, fault_place, fault_line};
+ghost use Rattle.zk_cli.specs.FileLines.{file_fault_line};
 ghost use Rattle.zk_cli.specs.Prints.{Prints};
 ghost use Rattle.zk_cli.specs.Stops.{PrintsStop, PrintsMade, stop_line, stop_status};
 ghost use Rattle.zk_cli.specs.declared.stop.Stop.TheVariants.{NoMemory};
 
 use crate::stop::Stop;
 use bristol_reader::ReadFault;
+use dealer_files::FileFault;
 use std::alloc::{AllocError, Global};
 use zk_port::{PortFault, Sink};
 
@@ -51,6 +53,24 @@ fn write_fault(alloc: Global, fault: ReadFault) -> Result<String, AllocError>
     Ok(format!(in alloc; "refused {name} {number} {place}\n")?)
 }
 
+/// The line that says the fault of a verifier's file.
+fn write_file_fault(alloc: Global, fault: FileFault) -> Result<String, AllocError>
+    ensures { IfOk result (λ line. string_bytes line ≡ file_fault_line fault) }
+{
+    match fault {
+        FileFault::BadMagic => String::from_str(alloc, "refused BadMagic 1\n"),
+        FileFault::BadKind => String::from_str(alloc, "refused BadKind 2\n"),
+        FileFault::BadParam => String::from_str(alloc, "refused BadParam 3\n"),
+        FileFault::Length { need, got } => write_pair(alloc, "refused Length 4", need, got),
+        FileFault::BadElement { place } => {
+            Ok(format!(in alloc; "refused BadElement 5 {place}\n")?)
+        }
+        FileFault::ZeroKey => String::from_str(alloc, "refused ZeroKey 6\n"),
+        FileFault::BadDigest => String::from_str(alloc, "refused BadDigest 7\n"),
+        FileFault::NoMemory => String::from_str(alloc, "refused memory\n"),
+    }
+}
+
 /// A line of these words and two numbers.
 fn write_pair(alloc: Global, words: &str, first: u64, second: u64) -> Result<String, AllocError>
     ensures { IfOk result (λ line. string_bytes line
@@ -71,10 +91,13 @@ fn write_stop(alloc: Global, stop: Stop) -> Result<String, AllocError>
             )
         }
         Stop::BadText(fault) => write_fault(alloc, fault),
+        Stop::BadFile(fault) => write_file_fault(alloc, fault),
         Stop::TooLong { limit } => Ok(format!(in alloc; "refused TooLong 0 {limit}\n")?),
         Stop::WrongLength { need, got } => write_pair(alloc, "refused bits", need, got),
+        Stop::WrongOutputs { need, got } => write_pair(alloc, "refused outputs", need, got),
         Stop::TooLarge { need, units } => write_pair(alloc, "too large", need, units),
         Stop::ShelfFailed => String::from_str(alloc, "failed shelf\n"),
+        Stop::DoorFailed => String::from_str(alloc, "failed door\n"),
         Stop::NoMemory => String::from_str(alloc, "memory\n"),
     }
 }
@@ -85,8 +108,12 @@ fn status_of(stop: Stop) -> u8
 {
     match stop {
         Stop::Usage => 2,
-        Stop::BadText(_) | Stop::TooLong { .. } | Stop::WrongLength { .. } => 3,
-        Stop::ShelfFailed => 4,
+        Stop::BadText(_)
+        | Stop::BadFile(_)
+        | Stop::TooLong { .. }
+        | Stop::WrongLength { .. }
+        | Stop::WrongOutputs { .. } => 3,
+        Stop::ShelfFailed | Stop::DoorFailed => 4,
         Stop::NoMemory => 7,
         Stop::TooLarge { .. } => 9,
     }

@@ -4,7 +4,8 @@ ghost use Rattle.zk_cli.specs.declared.stop.Stop.TheVariants as stop;
 
 use bool_eval::EvalFault;
 use bristol_reader::{ReadError, ReadFault};
-use session_core::RehearseFault;
+use dealer_files::FileFault;
+use session_core::{RehearseFault, TooManyUnits};
 use std::alloc::AllocError;
 use zk_port::{LoadFault, PortFault};
 
@@ -15,14 +16,20 @@ pub enum Stop {
     Usage,
     /// A circuit's text is refused.
     BadText(ReadFault),
+    /// A verifier's file is refused; this is never for want of memory.
+    BadFile(FileFault),
     /// A file has more bytes than this.
     TooLong { limit: u64 },
     /// There are `got` bits in place of `need`.
     WrongLength { need: u64, got: u64 },
+    /// There are `got` claimed outputs in place of `need`.
+    WrongOutputs { need: u64, got: u64 },
     /// The session needs so many correlations, and units of them above 4,096.
     TooLarge { need: u64, units: u64 },
     /// A call of the shelf failed.
     ShelfFailed,
+    /// The door does not listen.
+    DoorFailed,
     /// Memory was wanting.
     NoMemory,
 }
@@ -101,6 +108,32 @@ impl From<PortFault> for Stop {
         match fault {
             PortFault::Failed => Stop::ShelfFailed,
             PortFault::NoMemory => Stop::NoMemory,
+        }
+    }
+}
+
+impl From<FileFault> for Stop {
+    ghost use Rattle.zk_cli.specs.StopsOf.{file_stop};
+
+    ghost from_gives = { λ fault e. e ≡ file_stop fault };
+
+    fn from(fault: FileFault) -> Self {
+        match fault {
+            FileFault::NoMemory => Stop::NoMemory,
+            fault => Stop::BadFile(fault),
+        }
+    }
+}
+
+impl From<TooManyUnits> for Stop {
+    ghost use Rattle.zk_cli.specs.StopsOf.{units_stop};
+
+    ghost from_gives = { λ found e. e ≡ units_stop found };
+
+    fn from(found: TooManyUnits) -> Self {
+        Stop::TooLarge {
+            need: found.need,
+            units: found.units,
         }
     }
 }

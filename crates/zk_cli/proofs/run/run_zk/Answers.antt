@@ -1,4 +1,10 @@
-use Rattle.std.proofs.Common.{rules}
+use Rattle.std.proofs.Common.{◌≡◌, rules, refl, subst}
+use Rattle.command_words.specs.Words.{ServeAsk, serve_ask}
+use Rattle.session_verifier.specs.declared.note.SessionNote.{SessionNote}
+use Rattle.zk_cli.specs.Made.{EachNote}
+use Rattle.zk_cli.specs.ServedNotes.{IsServedNote}
+use Rattle.session_verifier.specs.Stages.{moment_at}
+use Rattle.zk_cli.proofs.Serving.{headlines, says_serve_memory}
 use Rattle.zk_cli.specs.Changes.{shelf_change, sink_change}
 use Rattle.zk_cli.specs.DealRuns.{DealLines}
 use Rattle.zk_cli.specs.EvalRuns.{EvalLines}
@@ -153,3 +159,24 @@ returns-in-Deal-clause-deal_done g c = λ ask is_asked.
     let sink = sink_change g.O.Sink.written g.O.Sink.faults c.args.out.now c.run_deal.new.out in
     let lines : DealLines ask c.args.seed.now c.run_deal.result shelf sink = search rules in
     (deal_statuses_mean ask c.args.seed.now c.run_deal.result shelf sink lines).done
+
+pub returns-in-Err-clause-serve_lines : goal.returns-in-Err-clause-serve_lines
+returns-in-Err-clause-serve_lines g c = λ ask is_asked. says_serve_memory ask _ _ _ _ _ c.say_memory.ensures
+
+pub returns-in-Serve-clause-serve_notes : goal.returns-in-Serve-clause-serve_notes
+returns-in-Serve-clause-serve_notes g c = λ ask is_asked.
+    let same : serve_ask c.in-Serve.address.now c.in-Serve.file.now c.in-Serve.circuit.now c.as_slice-in-Serve.result.now c.in-Serve.section ≡ ask =
+    search rules in
+    subst (λ (named : ServeAsk). EachNote c.run_serve-status.result.part (λ (note : SessionNote g.row.D-Link.Denot).
+    IsServedNote (g.F.Shelf.told c.args.shelf.now) named note.granted note.outcome
+    (moment_at note.log (g.D.Link.Link.log note.link) (g.D.Link.Link.to_come note.link)
+    (g.D.Link.Link.ended note.link) (g.D.Link.Link.receives note.link) (g.D.Link.Link.faults note.link))))
+    same c.run_serve-status.ensures.notes
+
+pub returns-in-Serve-clause-serve_headline : goal.returns-in-Serve-clause-serve_headline
+returns-in-Serve-clause-serve_headline g c = λ ask is_asked.
+    headlines {L = g.row.D-Link.Denot} c.extracted_shows_outputs.ensures
+    (λ note. moment_at note.log (g.D.Link.Link.log note.link) (g.D.Link.Link.to_come note.link)
+    (g.D.Link.Link.ended note.link) (g.D.Link.Link.receives note.link) (g.D.Link.Link.faults note.link))
+    (λ note. refl) (g.F.Shelf.told c.args.shelf.now) ask c.run_serve-status.result.part
+    (returns-in-Serve-clause-serve_notes g c ask is_asked)

@@ -1,0 +1,195 @@
+// `serve ADDRESS FILE CIRCUIT OUTPUTS --sessions 1 [--section G]`
+ghost use Rattle.std.specs.Prelude.{◌≡◌, ◌≤◌, ◌^◌, All, IfOk, IfErr, OnErr, length};
+ghost use Rattle.zk_model.specs.Circuit.{Circuit};
+ghost use Rattle.zk_model.specs.declared.Kind.TheVariants.{Direct};
+ghost use Rattle.session_core.specs.Jobs.{units_of_job, verifier_of};
+ghost use Rattle.session_pool.specs.Doors.{door_state, TakesOneAtMost};
+ghost use Rattle.session_pool.specs.Notes.{IsNote};
+ghost use Rattle.session_verifier.specs.Stages.{moment_at};
+ghost use Rattle.zk_cli.specs.Changes.{shelf_change, sink_change, OnlyLoads, OnlyLoadsBoth};
+ghost use Rattle.zk_cli.specs.Made.{EachNote};
+ghost use Rattle.zk_cli.specs.NoteLines.{served_text, served_status};
+ghost use Rattle.zk_cli.specs.Prints.{Prints};
+ghost use Rattle.zk_cli.specs.ServeRuns.{IsClaim, IsVerifierFileAt, ClaimStop, FileStop, OpeningStop, ServeStop, ServeLines};
+ghost use Rattle.zk_cli.specs.ServeRuns.{door_change, serve_effects, serve_words};
+ghost use Rattle.zk_cli.specs.ServedNotes.{IsServedNote};
+
+use crate::circuit_file::load_file;
+use crate::finish::{Ending, Part};
+use crate::note_lines::{served_status, write_served};
+use crate::say::{say, say_stop};
+use crate::stop::Stop;
+use bristol_reader::read;
+use dealer_files::{FileFault, Kind, VerifierFile, decode_verifier};
+use session_core::{CircuitClaim, VerifierJob};
+use session_pool::{Served, serve_first};
+use sha2::{Digest, Sha256};
+use std::alloc::Global;
+use zk_port::{Door, Gate, PortFault, Shelf, Sink};
+
+/// What the words of the command name.
+#[derive(Clone, Copy, Debug)]
+pub struct ServeWords<'a> {
+    pub address: &'a str,
+    pub file: &'a str,
+    pub circuit: &'a str,
+    pub outputs: &'a [bool],
+    pub section: u32,
+}
+
+/// The claim that the circuit under its name gives the outputs.
+fn load_claim<F: Shelf>(
+    alloc: Global,
+    shelf: &mut F,
+    words: &ServeWords<'_>,
+) -> Result<CircuitClaim, Stop>
+    ensures claim { IfOk result (λ claim. (circuit : Circuit)
+        × IsClaim (F.told shelf.old) (serve_words words.now) circuit claim) }
+    ensures stop { IfErr result (ClaimStop (serve_words words.now)
+        (shelf_change F.told F.faults F.faults_of shelf.old shelf.new)) }
+    ensures kept { OnlyLoads words.now.circuit.now (shelf_change F.told F.faults F.faults_of shelf.old shelf.new) }
+{
+    let text = load_file(alloc, shelf, words.circuit)?;
+    let circuit = read(alloc, &text)?;
+    if words.outputs.len() != circuit.outputs() {
+        return Err(Stop::WrongOutputs {
+            need: circuit.outputs() as u64,
+            got: words.outputs.len() as u64,
+        });
+    }
+    let digest = Sha256::digest(&text);
+    Ok(CircuitClaim::new(alloc, &circuit, digest, words.outputs)?)
+}
+
+/// The verifier's file of this name, of kind direct.
+fn load_verifier<F: Shelf>(alloc: Global, shelf: &mut F, name: &str) -> Result<VerifierFile, Stop>
+    ensures file { IfOk result (IsVerifierFileAt (F.told shelf.old) name.now) }
+    ensures direct { IfOk result (λ file. file.params.kind ≡ Direct) }
+    ensures stop { IfErr result
+        (FileStop (shelf_change F.told F.faults F.faults_of shelf.old shelf.new) name.now) }
+    ensures kept { OnlyLoads name.now (shelf_change F.told F.faults F.faults_of shelf.old shelf.new) }
+{
+    let bytes = load_file(alloc, shelf, name)?;
+    let file = decode_verifier(alloc, &bytes)?;
+    match file.params().kind {
+        Kind::Direct => Ok(file),
+        Kind::Extended => Err(Stop::BadFile(FileFault::BadKind)),
+    }
+}
+
+/// Listens for one session, and leads it with the first peer that calls.
+fn serve_claim<D: Door, G: Gate>(
+    alloc: Global,
+    claim: &CircuitClaim,
+    file: &VerifierFile,
+    words: &ServeWords<'_>,
+    door: &mut D,
+    gate: &G,
+) -> Result<Served<D::Link>, Stop>
+where
+    D::Link: Drop,
+    requires direct { file.now.params.kind ≡ Direct }
+    requires some { 1 ≤ words.now.section }
+    requires most { words.now.section ≤ 2 ^ 20 }
+    ensures notes { IfOk result (λ served. All (λ note.
+        IsNote (verifier_of claim.now file.now words.now.section) note.granted note.outcome
+        (moment_at note.log (D.Link.log note.link) (D.Link.to_come note.link)
+        (D.Link.ended note.link) (D.Link.receives note.link) (D.Link.faults note.link))) served.notes.items) }
+    ensures few { IfOk result (λ _. units_of_job (verifier_of claim.now file.now words.now.section) ≤ 4096) }
+    ensures taken { IfOk result (λ served. TakesOneAtMost (length served.notes.items)
+        served.door_failed served.memory_failed (door_state (D.offers door.old 1) (D.faults door.old))
+        (door_state (D.left door.new) (D.faults door.new))) }
+    ensures stop { IfErr result (OpeningStop (verifier_of claim.now file.now words.now.section)
+        (D.faults door.old) (D.faults door.new)) }
+    ensures left { OnErr result (D.left door.new ≡ D.left door.old) }
+{
+    let statement = claim.statement();
+    let job = VerifierJob::fit(&statement, file, words.section)?;
+    match door.listen(alloc, words.address, 1) {
+        Ok(()) => Ok(serve_first(alloc, &job, door, gate)),
+        Err(PortFault::Failed) => Err(Stop::DoorFailed),
+        Err(PortFault::NoMemory) => Err(Stop::NoMemory),
+    }
+}
+
+/// Serves one session about what the words name, or says why not.
+fn serve_files<F: Shelf, D: Door, G: Gate>(
+    alloc: Global,
+    shelf: &mut F,
+    words: &ServeWords<'_>,
+    door: &mut D,
+    gate: &G,
+) -> Result<Served<D::Link>, Stop>
+where
+    D::Link: Drop,
+    requires some { 1 ≤ words.now.section }
+    requires most { words.now.section ≤ 2 ^ 20 }
+    ensures notes { IfOk result (λ served. All (λ note.
+        IsServedNote (F.told shelf.old) (serve_words words.now) note.granted note.outcome
+        (moment_at note.log (D.Link.log note.link) (D.Link.to_come note.link)
+        (D.Link.ended note.link) (D.Link.receives note.link) (D.Link.faults note.link))) served.notes.items) }
+    ensures taken { IfOk result (λ served. TakesOneAtMost (length served.notes.items)
+        served.door_failed served.memory_failed (door_state (D.offers door.old 1) (D.faults door.old))
+        (door_state (D.left door.new) (D.faults door.new))) }
+    ensures stop { IfErr result (ServeStop (serve_words words.now)
+        (shelf_change F.told F.faults F.faults_of shelf.old shelf.new)
+        (door_change (D.offers door.old 1) (door_state (D.left door.old) (D.faults door.old))
+        (door_state (D.left door.new) (D.faults door.new)))) }
+    ensures left { OnErr result (D.left door.new ≡ D.left door.old) }
+    ensures kept { OnlyLoadsBoth words.now.circuit.now words.now.file.now
+        (shelf_change F.told F.faults F.faults_of shelf.old shelf.new) }
+{
+    let claim = load_claim(alloc, shelf, words)?;
+    let file = load_verifier(alloc, shelf, words.file)?;
+    serve_claim(alloc, &claim, &file, words, door, gate)
+}
+
+/// Writes the lines of what was served, and answers the status; for the lines no memory may be left.
+fn say_notes<O: Sink, L>(alloc: Global, out: &mut O, served: &Served<L>) -> u8
+    ensures { Prints (served_status served.now.notes.items served.now.door_failed served.now.memory_failed)
+        (served_text served.now.notes.items served.now.door_failed) result
+        (sink_change O.written O.faults out.old out.new) }
+{
+    let Ok(text) = write_served(alloc, &served.notes, served.door_failed) else {
+        return 7;
+    };
+    let status = served_status(&served.notes, served.door_failed, served.memory_failed);
+    say(alloc, out, text.as_bytes(), status)
+}
+
+/// Serves one session about what the words name, says what came of it and hands it back, or says why none is served.
+pub fn run_serve<F: Shelf, D: Door, O: Sink, G: Gate>(
+    alloc: Global,
+    shelf: &mut F,
+    door: &mut D,
+    gate: &G,
+    out: &mut O,
+    words: &ServeWords<'_>,
+) -> Ending<D::Link>
+where
+    D::Link: Drop,
+    requires some { 1 ≤ words.now.section }
+    requires most { words.now.section ≤ 2 ^ 20 }
+    ensures notes { EachNote result.part (λ note.
+        IsServedNote (F.told shelf.old) (serve_words words.now) note.granted note.outcome
+        (moment_at note.log (D.Link.log note.link) (D.Link.to_come note.link)
+        (D.Link.ended note.link) (D.Link.receives note.link) (D.Link.faults note.link))) }
+    ensures lines { ServeLines (serve_words words.now) (serve_effects result.status result.part
+        (shelf_change F.told F.faults F.faults_of shelf.old shelf.new)
+        (sink_change O.written O.faults out.old out.new)
+        (door_change (D.offers door.old 1) (door_state (D.left door.old) (D.faults door.old))
+        (door_state (D.left door.new) (D.faults door.new)))) }
+    ensures kept { OnlyLoadsBoth words.now.circuit.now words.now.file.now
+        (shelf_change F.told F.faults F.faults_of shelf.old shelf.new) }
+{
+    match serve_files(alloc, shelf, words, door, gate) {
+        Ok(served) => Ending {
+            status: say_notes(alloc, out, &served),
+            part: Part::Served(served.notes),
+        },
+        Err(stop) => Ending {
+            status: say_stop(alloc, out, stop),
+            part: Part::Plain,
+        },
+    }
+}
