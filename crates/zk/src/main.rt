@@ -75,6 +75,4 @@ mod row_tests;
 #[cfg(test)]
 mod run_tests;
 #[cfg(test)]
-mod session_tests;
-#[cfg(test)]
 mod vectors;

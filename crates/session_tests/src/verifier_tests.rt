@@ -1,41 +1,20 @@
 // A verifier's sessions over the files of a seed, with a peer whose bytes are stated: those of a rehearsal's prover, and others.
-ghost use Rattle.std.specs.Prelude.{◌≡◌, ◌≤◌, ◌^◌, None, OnOk};
+ghost use Rattle.std.specs.Prelude.{◌≡◌, ◌≤◌, None, OnOk};
 ghost use Rattle.proof_frames.specs.Readings.{IsShortPlace};
 
-use crate::run_tests::AND;
-use bristol_reader::read;
-use dealer_files::deal;
-use frame_link::Log;
+use crate::scene::{
+    LONG, Rehearsal, Scene, and_gate, circuit_of, elements_of, files_of, outputs_of, refusal,
+    rehearsed, statement_of,
+};
 use gate_translate::translate;
 use lease_store::{LeaseFault, Span};
-use mersenne_field::Fe;
 use proof_frames::{Decoder, Expect};
-use session_core::{HelloDiffers, Statement, VerifierJob, outputs_digest, rehearse};
+use session_core::{HelloDiffers, VerifierJob};
 use session_verifier::{Grantor, SessionNote, VerifierOutcome, verify_session};
-use std::alloc::{AllocError, Global};
+use std::alloc::Global;
 use std::test::Fail;
-use zk_model::{Kind, Params, Side};
+use zk_model::Side;
 use zk_port::{FailAt, FaultPlan, Link, NoFault, QuietGate, ScriptedLink};
-
-/// The most products of a section, and as many where nothing is said.
-const LONG: u32 = 1 << 20;
-
-/// The seed of all files.
-const SEED: [u8; 32] = [7; 32];
-
-/// Files of kind direct with one unit.
-const DIRECT: Params = Params {
-    kind: Kind::Direct,
-    height: 0,
-    trees: 0,
-    base: 0,
-    total: 1,
-};
-
-/// A frame that refuses by this code.
-fn refusal(code: u8) -> [u8; 6] {
-    [10, 1, 0, 0, 0, code]
-}
 
 /// Leases units from 0 on, or answers by a fault.
 #[derive(Drop)]
@@ -66,35 +45,31 @@ impl Grantor for FirstUnits {
     }
 }
 
-/// A verifier's session over one unit about the claim that the and gate gives 1, in sections of this length, whose peer sends
-/// these bytes, and whose units are leased or not.
-fn served<P: FaultPlan + Drop>(
+/// A verifier's session about the claim that a scene's circuit gives what it gives, whose peer sends these bytes, and whose
+/// units are leased or not.
+pub fn served<P: FaultPlan + Drop>(
     alloc: Global,
-    section: u32,
+    scene: &Scene<'_>,
     script: &[u8],
     plan: P,
     fault: Option<LeaseFault>,
-) -> Result<SessionNote<ScriptedLink<P>>, Fail>
-    requires some { 1 ≤ section }
-    requires most { section ≤ 2 ^ 20 }
-{
-    let Ok(circuit) = read(alloc, AND.as_bytes()) else {
-        return Err(Fail::new("no circuit"));
-    };
+) -> Result<SessionNote<ScriptedLink<P>>, Fail> {
+    let section = scene.section;
+    if section < 1 || section > LONG {
+        return Err(Fail::new("no section"));
+    }
+    let circuit = circuit_of(alloc, scene)?;
     let program = translate(alloc, &circuit)?;
-    if program.public() != 0 || program.opened().len() != 1 {
-        return Err(Fail::new("another program"));
+    let outputs = outputs_of(alloc, scene, &circuit)?;
+    let claims = elements_of(alloc, &outputs)?;
+    let statement = statement_of(alloc, &circuit, &program, &outputs, &claims)?;
+    let (_, file) = files_of(alloc, scene)?;
+    if program.need(u64::from(section)).div_ceil(64) > 4096 {
+        return Err(Fail::new("too many units"));
     }
-    if program.need(u64::from(section)) > 64 {
-        return Err(Fail::new("more than a unit"));
-    }
-    let claims = [Fe::ONE];
-    let outputs = outputs_digest(alloc, &[true])?;
-    let statement = Statement::new(&program, &[], &claims, 1, [0; 32], outputs);
-    let (_, file) = deal(alloc, &DIRECT, &SEED)?;
     let job = VerifierJob::new(&statement, &file, section);
     let mut grantor = FirstUnits {
-        total: 1,
+        total: file.total(),
         fault,
         answer: None,
     };
@@ -102,75 +77,47 @@ fn served<P: FaultPlan + Drop>(
     Ok(verify_session(alloc, &job, &mut grantor, link, &QuietGate))
 }
 
-/// The log of the session's rehearsal, in sections of this length.
-fn rehearsed(alloc: Global, section: u32) -> Result<Log, Fail>
-    requires some { 1 ≤ section }
-    requires most { section ≤ 2 ^ 20 }
-{
-    let Ok(circuit) = read(alloc, AND.as_bytes()) else {
-        return Err(Fail::new("no circuit"));
-    };
-    match rehearse(alloc, &circuit, &[true, true], section, &SEED) {
-        Ok(rehearsal) => Ok(rehearsal.log),
-        Err(_) => Err(Fail::new("no rehearsal")),
-    }
-}
-
-/// What one side sent.
-fn part_of(alloc: Global, log: &Log, side: Side) -> Result<Vec<u8>, AllocError> {
-    let mut part = Vec::new(alloc);
-    let mut rest = log.bytes();
-    for run in log.runs() {
-        let Some((bytes, behind)) = rest.split_at_checked(run.count) else {
-            break;
-        };
-        if run.side == side {
-            part.extend_from_slice(bytes)?;
-        }
-        rest = behind;
-    }
-    Ok(part)
-}
-
 /// The prover's part of the rehearsal in the longest sections: the script of a peer that is accepted.
 fn whole_script(alloc: Global) -> Result<Vec<u8>, Fail> {
-    let log = rehearsed(alloc, LONG)?;
-    Ok(part_of(alloc, &log, Side::Prover)?)
+    let rehearsal = rehearsed(alloc, &and_gate(LONG))?;
+    Ok(rehearsal.prover)
 }
 
-/// Whether a session with a rehearsal's prover, which sends a byte more, is accepted and has the rehearsal's log, where both
-/// sides send so many bytes.
-fn is_as_rehearsed(alloc: Global, section: u32, sent: usize, answered: usize) -> Result<bool, Fail>
-    requires some { 1 ≤ section }
-    requires most { section ≤ 2 ^ 20 }
-{
-    let log = rehearsed(alloc, section)?;
-    let mut script = part_of(alloc, &log, Side::Prover)?;
-    let answers = part_of(alloc, &log, Side::Verifier)?;
-    if script.len() != sent || answers.len() != answered {
-        return Ok(false);
-    }
+/// Whether a session with a rehearsal's prover, which sends a byte more, is accepted and has the rehearsal's log and units.
+pub fn is_as_rehearsed(
+    alloc: Global,
+    scene: &Scene<'_>,
+    rehearsal: &Rehearsal,
+) -> Result<bool, Fail> {
+    let mut script = rehearsal.prover.to_vec(alloc)?;
     script.push(0)?;
-    let note = served(alloc, section, &script, NoFault, None)?;
+    let note = served(alloc, scene, &script, NoFault, None)?;
+    let end = rehearsal.units;
     Ok(
         note.outcome == VerifierOutcome::Accepted
-            && note.granted == Some(Span { start: 0, end: 1 })
-            && note.log.bytes() == log.bytes()
-            && note.log.runs() == log.runs(),
+            && note.granted == Some(Span { start: 0, end })
+            && note.log.bytes() == rehearsal.log.bytes()
+            && note.log.runs() == rehearsal.log.runs(),
     )
 }
 
 #[test]
 fn a_session_is_served_as_it_is_rehearsed(rt: HostRuntime) -> Result<(), Fail> {
     let alloc = rt.alloc();
-    assert!(rt; is_as_rehearsed(alloc, LONG, 165, 44)?);
-    assert!(rt; is_as_rehearsed(alloc, 1, 197, 44)?);
+    for (section, sent, answered) in [(LONG, 165, 44), (1, 197, 44)] {
+        let scene = and_gate(section);
+        let rehearsal = rehearsed(alloc, &scene)?;
+        assert_eq!(rt; rehearsal.prover.len(), sent, "{section}");
+        assert_eq!(rt; rehearsal.verifier.len(), answered, "{section}");
+        assert_eq!(rt; rehearsal.units, 1, "{section}");
+        assert!(rt; is_as_rehearsed(alloc, &scene, &rehearsal)?, "{section}");
+    }
     Ok(())
 }
 
 /// The outcome where the peer sends these bytes, and the bytes of the log.
 fn outcome_of(alloc: Global, script: &[u8]) -> Result<(VerifierOutcome, Vec<u8>), Fail> {
-    let note = served(alloc, LONG, script, NoFault, None)?;
+    let note = served(alloc, &and_gate(LONG), script, NoFault, None)?;
     Ok((note.outcome, note.log.bytes().to_vec(alloc)?))
 }
 
@@ -253,7 +200,7 @@ fn a_changed_byte_is_never_accepted(rt: HostRuntime) -> Result<(), Fail> {
 fn a_fault_of_the_link_or_of_the_lease_ends_a_session(rt: HostRuntime) -> Result<(), Fail> {
     let alloc = rt.alloc();
     let script = whole_script(alloc)?;
-    let log = rehearsed(alloc, LONG)?;
+    let log = rehearsed(alloc, &and_gate(LONG))?.log;
     // The calls are the hello, the grant, the corrections, the challenge, the sums, the openings and the verdict.
     for (call, passed) in [
         (1, 0),
@@ -265,7 +212,7 @@ fn a_fault_of_the_link_or_of_the_lease_ends_a_session(rt: HostRuntime) -> Result
         (7, 199),
     ] {
         let plan = FailAt::new([call].to_vec(alloc)?);
-        let note = served(alloc, LONG, &script, plan, None)?;
+        let note = served(alloc, &and_gate(LONG), &script, plan, None)?;
         assert_eq!(rt; note.outcome, VerifierOutcome::Link, "{call}");
         assert_eq!(rt; note.link.faults(), 1, "{call}");
         assert_eq!(rt; Some(note.log.bytes()), log.bytes().get(..passed), "{call}");
@@ -286,7 +233,7 @@ fn a_fault_of_the_link_or_of_the_lease_ends_a_session(rt: HostRuntime) -> Result
             3,
         ),
     ] {
-        let note = served(alloc, LONG, &script, NoFault, Some(fault))?;
+        let note = served(alloc, &and_gate(LONG), &script, NoFault, Some(fault))?;
         assert_eq!(rt; note.outcome, wanted, "{code}");
         assert_eq!(rt; note.granted, None, "{code}");
         assert_eq!(rt; note.log.bytes().len(), 108, "{code}");

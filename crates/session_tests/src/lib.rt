@@ -1,0 +1,13 @@
+//! Tests of sessions over a link, with peers whose bytes are stated.
+#![tactic(auto)]
+
+#[cfg(test)]
+mod chains;
+#[cfg(test)]
+mod prover_tests;
+#[cfg(test)]
+mod scene;
+#[cfg(test)]
+mod size_tests;
+#[cfg(test)]
+mod verifier_tests;

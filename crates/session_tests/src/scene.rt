@@ -1,0 +1,154 @@
+// What both ends of a session have: a statement of what a circuit gives, and the log of a rehearsal.
+ghost use Rattle.std.specs.Prelude.{◌≡◌, length, map, IfOk};
+ghost use Rattle.zk_model.specs.Bits.{from_bit};
+ghost use Rattle.zk_model.specs.Boolean.{circuit_program};
+ghost use Rattle.zk_model.specs.declared.Kind.TheVariants.{Direct};
+
+use bool_eval::eval;
+use bristol_reader::{Circuit, read};
+use dealer_files::{ProverFile, VerifierFile, deal};
+use frame_link::Log;
+use gate_translate::{FieldProgram, translate};
+use mersenne_field::Fe;
+use session_core::{Statement, outputs_digest, rehearse};
+use std::alloc::{AllocError, Global};
+use std::test::Fail;
+use zk_laws::circuit_is_statement;
+use zk_model::{Kind, Params, Side};
+
+/// The most products of a section.
+pub const LONG: u32 = 1 << 20;
+
+/// The seed of all files.
+const SEED: [u8; 32] = [7; 32];
+
+/// A circuit's text, the bits that it is given, how many products a section has, and how many units the files have.
+#[derive(Clone, Copy)]
+pub struct Scene<'a> {
+    pub text: &'a str,
+    pub bits: &'a [bool],
+    pub section: u32,
+    pub total: u32,
+}
+
+/// One AND gate at bits 1, in sections of this length, and files of one unit.
+pub fn and_gate(section: u32) -> Scene<'static> {
+    Scene {
+        text: "1 3\n2 1 1\n1 1\n\n2 1 0 1 2 AND\n",
+        bits: &[true, true],
+        section,
+        total: 1,
+    }
+}
+
+/// The circuit of a scene.
+pub fn circuit_of(alloc: Global, scene: &Scene<'_>) -> Result<Circuit, Fail> {
+    match read(alloc, scene.text.as_bytes()) {
+        Ok(circuit) => Ok(circuit),
+        Err(_) => Err(Fail::new("no circuit")),
+    }
+}
+
+/// What a scene's circuit gives.
+pub fn outputs_of(alloc: Global, scene: &Scene<'_>, circuit: &Circuit) -> Result<Vec<bool>, Fail>
+    ensures { IfOk result (λ outputs. length outputs.items ≡ circuit.now.outputs) }
+{
+    match eval(alloc, circuit, scene.bits) {
+        Ok(outputs) => Ok(outputs),
+        Err(_) => Err(Fail::new("no outputs")),
+    }
+}
+
+/// Bits as elements.
+pub fn elements_of(alloc: Global, bits: &[bool]) -> Result<Vec<Fe>, AllocError>
+    ensures { IfOk result (λ elements. elements.items ≡ map from_bit bits.now) }
+{
+    bits.iter().map(|bit| Fe::from_bit(*bit)).collect(alloc)
+}
+
+/// The statement that a circuit gives these outputs, which are the claims as bits.
+pub fn statement_of<'a>(
+    alloc: Global,
+    circuit: &Circuit,
+    program: &'a FieldProgram,
+    outputs: &[bool],
+    claims: &'a [Fe],
+) -> Result<Statement<'a>, AllocError>
+    requires translated { program.now ≡ circuit_program 0 circuit.now }
+    requires outputs { length outputs.now ≡ circuit.now.outputs }
+    requires claims { claims.now ≡ map from_bit outputs.now }
+    ensures { IfOk result (λ statement. statement.program ≡ program.now) }
+{
+    circuit_is_statement();
+    let _wires = circuit.wires();
+    let digest = outputs_digest(alloc, outputs)?;
+    let statement = Statement::new(program, &[], claims, 1, [0; 32], digest);
+    Ok(statement)
+}
+
+/// Both files of a scene, of kind direct.
+pub fn files_of(alloc: Global, scene: &Scene<'_>) -> Result<(ProverFile, VerifierFile), Fail>
+    ensures prover { IfOk result (λ files. files.0.params.kind ≡ Direct) }
+    ensures verifier { IfOk result (λ files. files.1.params.kind ≡ Direct) }
+{
+    if scene.total < 1 {
+        return Err(Fail::new("no units"));
+    }
+    let params = Params {
+        kind: Kind::Direct,
+        height: 0,
+        trees: 0,
+        base: 0,
+        total: u64::from(scene.total),
+    };
+    Ok(deal(alloc, &params, &SEED)?)
+}
+
+/// A frame that refuses by this code.
+pub fn refusal(code: u8) -> [u8; 6] {
+    [10, 1, 0, 0, 0, code]
+}
+
+/// A scene's rehearsal: its log, what either side sends in it, and how many units it takes.
+#[derive(Drop)]
+pub struct Rehearsal {
+    pub log: Log,
+    pub prover: Vec<u8>,
+    pub verifier: Vec<u8>,
+    pub units: u64,
+}
+
+/// What one side sent.
+pub fn part_of(alloc: Global, log: &Log, side: Side) -> Result<Vec<u8>, AllocError> {
+    let mut part = Vec::new(alloc);
+    let mut rest = log.bytes();
+    for run in log.runs() {
+        let Some((bytes, behind)) = rest.split_at_checked(run.count) else {
+            break;
+        };
+        if run.side == side {
+            part.extend_from_slice(bytes)?;
+        }
+        rest = behind;
+    }
+    Ok(part)
+}
+
+/// The rehearsal of a scene.
+pub fn rehearsed(alloc: Global, scene: &Scene<'_>) -> Result<Rehearsal, Fail> {
+    if scene.section < 1 || scene.section > LONG {
+        return Err(Fail::new("no section"));
+    }
+    let circuit = circuit_of(alloc, scene)?;
+    let Ok(rehearsal) = rehearse(alloc, &circuit, scene.bits, scene.section, &SEED) else {
+        return Err(Fail::new("no rehearsal"));
+    };
+    let prover = part_of(alloc, &rehearsal.log, Side::Prover)?;
+    let verifier = part_of(alloc, &rehearsal.log, Side::Verifier)?;
+    Ok(Rehearsal {
+        log: rehearsal.log,
+        prover,
+        verifier,
+        units: rehearsal.units,
+    })
+}
