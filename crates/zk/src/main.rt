@@ -67,11 +67,7 @@ fn main(rt: HostRuntime) -> ExitCode {
 }
 
 #[cfg(test)]
-mod dealing_tests;
-#[cfg(test)]
-mod outside_tests;
-#[cfg(test)]
-mod row_tests;
+mod log_tests;
 #[cfg(test)]
 mod run_tests;
 #[cfg(test)]

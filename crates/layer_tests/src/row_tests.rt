@@ -1,21 +1,17 @@
-// Each part of a session at rows that the program did not make, and the log of one session.
-ghost use Rattle.proof_frames.specs.Readings.{IsShortPlace};
-
-use crate::run_tests::{AND, rehearsal_of};
-use crate::vectors::{AND_LOG, FILE_ID};
+// Each part of a session at rows that the program did not make.
+use crate::vectors::FILE_ID;
 use bool_eval::{eval, eval_wires};
 use bristol_reader::read;
 use dealer_files::{FileFault, NotDealt, Pads, deal, dealt, decode_prover, decode_verifier};
-use frame_link::Run;
 use gate_translate::{FieldProgram, translate};
 use mersenne_field::{Fe, Pair};
 use mult_check::{check_openings, section_left, section_sums};
-use proof_frames::{Decoder, Frame, encode_elements};
+use proof_frames::encode_elements;
 use std::alloc::{AllocError, Global};
 use std::test::Fail;
 use wire_auth::{KeyTriple, ProverWires, Triple, VerifierWires, bit_products};
 use zk_coins::CoinBox;
-use zk_model::{Expect, FrameKind, Kind, Params, Side, Span};
+use zk_model::{FrameKind, Kind, Params, Span};
 
 /// The element of a small number.
 fn small(number: u64) -> Fe {
@@ -118,7 +114,7 @@ fn a_circuit_gives_its_outputs(rt: HostRuntime) -> Result<(), Fail> {
 #[test]
 fn values_of_products_are_those_of_the_bits(rt: HostRuntime) -> Result<(), Fail> {
     let alloc = rt.alloc();
-    let Ok(circuit) = read(alloc, AND.as_bytes()) else {
+    let Ok(circuit) = read(alloc, b"1 3\n2 1 1\n1 1\n\n2 1 0 1 2 AND\n") else {
         return Err(Fail::new("no circuit"));
     };
     let program = translate(alloc, &circuit)?;
@@ -248,71 +244,6 @@ fn words_of_coins_stand_low_byte_first(rt: HostRuntime) {
 }
 
 #[test]
-fn a_log_is_the_session_byte_for_byte(rt: HostRuntime) -> Result<(), Fail> {
-    let rehearsal = rehearsal_of(&rt, rt.alloc(), AND, "11")?;
-    assert_eq!(rt; rehearsal.log.bytes(), AND_LOG.as_slice());
-    let runs = [
-        (Side::Prover, 102),
-        (Side::Verifier, 21),
-        (Side::Prover, 29),
-        (Side::Verifier, 13),
-        (Side::Prover, 66),
-        (Side::Verifier, 10),
-    ]
-    .map(|(side, count)| Run { side, count });
-    assert_eq!(rt; rehearsal.log.runs(), runs.as_slice());
-    Ok(())
-}
-
-/// The frame that stands in a log from this place on, up to the other, where such a one is expected; none where it is
-/// another, or is longer or shorter. Its bytes are fed one by one.
-fn frame_in(
-    alloc: Global,
-    log: &[u8],
-    first: usize,
-    end: usize,
-    place: Expect,
-) -> Result<Option<Frame>, AllocError>
-    requires { IsShortPlace place }
-{
-    let Some(bytes) = log.get(first..end) else {
-        return Ok(None);
-    };
-    let mut decoder = Decoder::new(alloc);
-    decoder.expect(place)?;
-    for byte in bytes {
-        if decoder.feed(&[*byte]) != Ok(1) {
-            return Ok(None);
-        }
-    }
-    Ok(decoder.next())
-}
-
-#[test]
-fn a_log_is_read_back(rt: HostRuntime) -> Result<(), Fail> {
-    let alloc = rt.alloc();
-    let rehearsal = rehearsal_of(&rt, alloc, AND, "11")?;
-    let log = rehearsal.log.bytes();
-    let hello = frame_in(alloc, log, 0, 102, Expect::Hello)?;
-    assert!(rt; matches!(&hello, Some(Frame::Hello(said)) if said.id == FILE_ID));
-    let grant = frame_in(alloc, log, 102, 123, Expect::Grant)?;
-    assert!(rt;
-        matches!(&grant, Some(Frame::Grant(given))
-        if given.start == 0 && given.count == 1 && given.section == 1)
-    );
-    let three = Expect::Corrections { count: 3 };
-    let corrections = frame_in(alloc, log, 123, 152, three)?;
-    assert!(rt; matches!(corrections, Some(Frame::Corrections(_))));
-    let sums = frame_in(alloc, log, 165, 218, Expect::Sums { sections: 3 })?;
-    assert!(rt; matches!(sums, Some(Frame::Sums(_))));
-    let others = frame_in(alloc, log, 165, 218, Expect::Sums { sections: 2 })?;
-    assert!(rt; others.is_none());
-    let verdict = frame_in(alloc, log, 231, 241, Expect::Verdict)?;
-    assert!(rt; matches!(verdict, Some(Frame::Verdict { code: 0, number: 0 })));
-    Ok(())
-}
-
-#[test]
 fn elements_are_framed(rt: HostRuntime) -> Result<(), Fail> {
     let alloc = rt.alloc();
     let challenge = encode_elements(alloc, FrameKind::Challenge, &[small(2)])?;
@@ -322,17 +253,5 @@ fn elements_are_framed(rt: HostRuntime) -> Result<(), Fail> {
     );
     let corrections = encode_elements(alloc, FrameKind::Corrections, &[])?;
     assert_eq!(rt; corrections.as_slice(), [5, 0, 0, 0, 0].as_slice());
-    Ok(())
-}
-
-#[test]
-fn a_circuit_without_wires_has_empty_frames(rt: HostRuntime) -> Result<(), Fail> {
-    let rehearsal = rehearsal_of(&rt, rt.alloc(), "0 0 0 0", "none")?;
-    let bytes = rehearsal.log.bytes();
-    assert_eq!(rt; bytes.len(), 161);
-    assert_eq!(rt; &bytes[123..128], [5, 0, 0, 0, 0].as_slice());
-    assert_eq!(rt; &bytes[128..133], [6, 8, 0, 0, 0].as_slice());
-    assert_eq!(rt; &bytes[141..151], [7, 0, 0, 0, 0, 8, 0, 0, 0, 0].as_slice());
-    assert_eq!(rt; &bytes[151..], [9, 5, 0, 0, 0, 0, 0, 0, 0, 0].as_slice());
     Ok(())
 }
