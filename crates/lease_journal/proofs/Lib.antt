@@ -5,3 +5,4 @@ pub mod SlotSteps
 pub mod Reading
 pub mod Scanning
 pub mod Headers
+pub mod Newly

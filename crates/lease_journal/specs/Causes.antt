@@ -97,3 +97,7 @@ pub record IsOpened (kind : JournalKind) (id : List ℕ) (total slots used : ℕ
 abbrev pub SaysSlots : Option (List ℕ) → ℕ → Type 0
 SaysSlots None slots = slots ≤ 2 ^ 28
 SaysSlots (Some bytes) slots = (slots ≡ slots_at bytes) × (slots ≤ 2 ^ 28)
+
+-- disks of this kind tell their content
+abbrev pub Tells : {D : Type 0} → (D → Option (List ℕ)) → Type 0
+Tells {D} content = (disk : D) → (bytes : List ℕ) × (content disk ≡ Some bytes)

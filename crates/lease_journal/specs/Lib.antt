@@ -1,3 +1,4 @@
 pub mod Steps
 pub mod Causes
 pub mod Scans
+pub mod New

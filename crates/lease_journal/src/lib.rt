@@ -12,6 +12,7 @@
 
 ghost use Rattle.std.specs.Prelude.{◌≡◌, ◌^◌, ◌≤◌, ◌++◌, IfOk, OnOk};
 ghost use Rattle.zk_model.specs.Journals.{blank_journal_bytes, ceiling_slots, claim_slots, journal_code, journal_header};
+ghost use Rattle.lease_journal.specs.New.{BlankSaysNothing};
 
 mod fault;
 mod journal;
@@ -44,6 +45,11 @@ pub fn blank(
     bytes.resize(length, 0)?;
     Ok(bytes)
 }
+
+/// A new journal says how many slots it has, and nothing else yet.
+pub fn blank_says_nothing()
+    ensures { BlankSaysNothing }
+{}
 
 /// Appends the first 64 bytes of a journal.
 fn push_header(

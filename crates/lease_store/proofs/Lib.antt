@@ -3,4 +3,3 @@ pub mod Putting
 pub mod Starting
 pub mod Refusing
 pub mod Closing
-pub mod Blank

@@ -1,10 +1,12 @@
--- A new journal is tidy: none of its slots is open.
-use Rattle.std.proofs.Common.{◌≡◌, ◌+◌, ◌-◌, ◌*◌, ◌++◌, ℕ, List, ◌∷◌, length, get_or, replicate, codes, ⊎_elim, refl, sym, ◌∙◌, subst, arith}
+-- A new journal says its number of slots, and none of them is open.
+use Rattle.std.proofs.Common.{◌≡◌, ◌≤◌, ◌^◌, ◌+◌, ◌-◌, ◌*◌, ◌++◌, ℕ, List, ◌∷◌, length, get_or, replicate, codes, ⊎_elim, refl, ◌∙◌, arith}
 use Rattle.std.proofs.lemmas.Bool.{cases_lt}
 use Rattle.std.proofs.lemmas.List.{get_or-append_right, get_or-replicate, get_or_past, length-append, length-replicate}
+use Rattle.std.proofs.lemmas.Nat.{from_le_bytes-to_le_bytes_8}
+use Rattle.lease_journal.specs.New.{BlankSaysNothing}
 use Rattle.std.specs.Int.{w64, to_le_bytes}
 use Rattle.zk_model.specs.declared.JournalKind.{JournalKind}
-use Rattle.zk_model.specs.Journals.{IsTidy, blank_journal_bytes, journal_code, journal_header, slots_at}
+use Rattle.zk_model.specs.Journals.{IsOpen, IsTidy, blank_journal_bytes, journal_code, journal_header, slots_at}
 
 header_size : (kind : JournalKind) (id : List ℕ) (total slots : ℕ) → length id ≡ 32 → length (journal_header kind id total slots) ≡ 64
 header_size kind id total slots size =
@@ -31,17 +33,30 @@ same_at n i z = ⊎_elim
     (λ past. get_or_past (replicate n z) i z (omega (arith, past, length-replicate n z)))
     (cases_lt i n)
 
-pub blank_tidy : (kind : JournalKind) (id : List ℕ) (total slots most : ℕ) → length id ≡ 32 → IsTidy most (blank_journal_bytes kind id total slots)
-blank_tidy kind id total slots most size earlier later before inside is_open =
+shut : (kind : JournalKind) (id : List ℕ) (total slots later : ℕ) → length id ≡ 32 → ¬ (IsOpen (blank_journal_bytes kind id total slots) later)
+shut kind id total slots later size is_open =
     let head : List ℕ = journal_header kind id total slots in
     let long : length (journal_header kind id total slots) ≡ 64 = header_size kind id total slots size in
     let place : ℕ = 64 + 32 * later + 31 in
     let none : get_or (blank_journal_bytes kind id total slots) (64 + 32 * later + 31) 0 ≡ 0 =
     get_or-append_right head (replicate (32 * slots) 0) 64 (64 + 32 * later + 31) 0 long (omega arith) ∙ same_at (32 * slots) (64 + 32 * later + 31 - 64) 0 in
-    absurd (omega (arith, none, is_open))
+    omega (arith, none, is_open)
 
--- where a disk tells a new journal
-pub told_tidy : (kind : JournalKind) (id : List ℕ) (total slots : ℕ) (bytes file : List ℕ) → length id ≡ 32 → file ≡ blank_journal_bytes kind id total slots
-    → bytes ≡ file → IsTidy (slots_at bytes) bytes
-told_tidy kind id total slots bytes file size blank same =
-    subst (λ b. IsTidy (slots_at b) b) (sym (same ∙ blank)) (blank_tidy kind id total slots _ size)
+blank_tidy : (kind : JournalKind) (id : List ℕ) (total slots most : ℕ) → length id ≡ 32 → IsTidy most (blank_journal_bytes kind id total slots)
+blank_tidy kind id total slots most size earlier later before inside is_open = absurd (shut kind id total slots later size is_open)
+
+-- what the header says
+blank_says : (kind : JournalKind) (id : List ℕ) (total slots : ℕ) → slots ≤ 2 ^ 28 → slots_at (blank_journal_bytes kind id total slots) ≡ slots
+blank_says kind id total slots few = from_le_bytes-to_le_bytes_8 slots (omega (arith, few))
+
+pub blank_says_nothing : BlankSaysNothing
+blank_says_nothing kind id total slots size few = record {
+  says = blank_says kind id total slots few;
+  tidy = blank_tidy kind id total slots _ size;
+  empty = record {
+    within = omega arith;
+    opened = λ slot before. absurd (omega (arith, before));
+    closed = λ more. shut kind id total slots 0 size;
+    read = refl;
+  };
+}

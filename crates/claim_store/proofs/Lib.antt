@@ -1,0 +1,5 @@
+pub mod Meeting
+pub mod Slots
+pub mod Moments
+pub mod Starting
+pub mod Claiming

@@ -1,0 +1,23 @@
+// Why a store of claims doesn't start.
+ghost use Rattle.claim_store.specs.declared.fault.StoreFault.TheVariants as store;
+ghost use Rattle.std.specs.Prelude.{◌≡◌};
+
+use lease_journal::StartFault;
+use std::alloc::AllocFailed;
+
+/// Why a store of claims doesn't start.
+#[derive(Clone, Copy, Debug, PartialEq, Eq)]
+pub enum StoreFault {
+    /// The journal is not opened; or it is `BadBody`, and a slot's span has a unit of an earlier one.
+    Journal(StartFault),
+    /// No memory was left for the list of claims.
+    NoMemory,
+}
+
+impl<T: Drop> From<AllocFailed<T>> for StoreFault {
+    ghost from_gives = { λ _ e. e ≡ store.NoMemory };
+
+    fn from(_: AllocFailed<T>) -> Self {
+        StoreFault::NoMemory
+    }
+}
