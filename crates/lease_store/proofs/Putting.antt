@@ -7,7 +7,8 @@ use Rattle.lease_core.specs.Machine.{ceiling_for}
 use Rattle.lease_journal.specs.Causes.{KeptAt}
 use Rattle.lease_words.specs.Views.{after_raise, after_mark}
 use Rattle.lease_words.specs.declared.view.View.{View}
-use Rattle.lease_store.specs.Ceilings.{RecoversAtLeast, Tells}
+use Rattle.lease_store.specs.Ceilings.{RecoversAtLeast}
+use Rattle.lease_journal.specs.Causes.{Tells}
 use Rattle.lease_store.specs.Desks.{IsDesk, IsKeptAt}
 use Rattle.lease_store.proofs.Bodies.{at_least, kept_more, last_more}
 

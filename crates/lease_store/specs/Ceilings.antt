@@ -1,5 +1,5 @@
 -- What a journal of ceilings says, and kinds of disks.
-use Rattle.std.specs.Prelude.{◌≡◌, ℕ, ◌-◌, ◌^◌, ◌<◌, ◌≤◌, List, length, get_or, Option, Some}
+use Rattle.std.specs.Prelude.{◌≡◌, ℕ, ◌-◌, ◌^◌, ◌<◌, ◌≤◌, List, length, get_or}
 use Rattle.zk_model.specs.Journals.{Recovers}
 
 -- the last ceiling, or 0 where there is none
@@ -17,10 +17,6 @@ RecoversAtLeast slots ceiling bytes = (bodies : List (ℕ × ℕ)) → Recovers 
 -- a start on these bytes finds such a ceiling
 abbrev pub FindsAtLeast : ℕ → ℕ → List ℕ → Type 0
 FindsAtLeast slots ceiling bytes = (bodies : List (ℕ × ℕ)) × Recovers slots bytes bodies × (ceiling ≤ last_ceiling bodies)
-
--- disks of this kind tell their content
-abbrev pub Tells : {D : Type 0} → (D → Option (List ℕ)) → Type 0
-Tells {D} content = (disk : D) → (bytes : List ℕ) × (content disk ≡ Some bytes)
 
 -- disks of this kind never fail: their count of faults is constant, and not at the end of its type, where it would stand still
 abbrev pub NeverFails : {D : Type 0} → (D → ℕ) → Type 0

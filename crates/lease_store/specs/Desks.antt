@@ -7,7 +7,8 @@ use Rattle.lease_journal.specs.Causes.{KeptAt}
 use Rattle.lease_journal.specs.declared.fault.JournalFault.{JournalFault}
 use Rattle.lease_journal.specs.declared.fault.JournalFault.TheVariants.{Device, Broken, Full}
 use Rattle.lease_words.specs.declared.view.View.{View}
-use Rattle.lease_store.specs.Ceilings.{last_ceiling, RecoversAtLeast, Tells, NeverFails}
+use Rattle.lease_store.specs.Ceilings.{last_ceiling, RecoversAtLeast, NeverFails}
+use Rattle.lease_journal.specs.Causes.{Tells}
 
 -- the name of no table
 abbrev pub no_table : TableId

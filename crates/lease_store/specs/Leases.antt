@@ -7,7 +7,8 @@ use Rattle.zk_model.specs.declared.Span.{Span}
 use Rattle.lease_words.specs.Views.{entry, after_draw, after_look}
 use Rattle.lease_words.specs.Calls.{seen, entries_of, number_of, known_of, mark_of, Drew, AreGathered}
 use Rattle.lease_words.specs.declared.pass.Pass.{Pass}
-use Rattle.lease_store.specs.Ceilings.{FindsAtLeast, Tells}
+use Rattle.lease_store.specs.Ceilings.{FindsAtLeast}
+use Rattle.lease_journal.specs.Causes.{Tells}
 use Rattle.lease_store.specs.declared.LeaseFault.{LeaseFault}
 use Rattle.lease_store.specs.declared.LeaseFault.TheVariants as lease
 use Rattle.lease_store.specs.declared.fault.TryFault.{TryFault}

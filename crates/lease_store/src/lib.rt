@@ -30,3 +30,6 @@ pub enum LeaseFault {
     /// A call of the journal's disk failed before: then its count of faults was this.
     Broken { first: u64 },
 }
+
+#[cfg(test)]
+mod tests;

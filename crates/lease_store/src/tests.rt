@@ -1,0 +1,399 @@
+// Leases over disks in memory.
+ghost use Rattle.std.specs.Prelude.{◌≡◌, ◌≤◌, false, All, IfOk};
+ghost use Rattle.lease_words.specs.Calls.{words_id};
+ghost use Rattle.lease_store.specs.Leases.{IsPassAt};
+
+use crate::{LeaseFault, LeaseName, LeaseParts, LeaseStore, Span, StoreFault, TryFault};
+use lease_journal::{JournalKind, StartFault, blank, blank_says_nothing};
+use lease_words::Pass;
+use std::alloc::{AllocError, Global};
+use std::marker::Brand;
+use std::sync::Wait;
+use std::test::Fail;
+use std::thread::{Threads, join};
+use zk_port::{Disk, FailAt, Failed, FaultPlan, Leftover, MemoryDisk, StopAt, SureDisk};
+
+const ID: [u8; 32] = [7; 32];
+
+/// A disk in memory that tells no content and no crash, so that a store starts on any bytes.
+#[derive(Drop)]
+struct QuietDisk<P: FaultPlan> {
+    disk: MemoryDisk<P>,
+}
+
+impl<P: FaultPlan> Disk for QuietDisk<P> {
+    ghost use Rattle.std.specs.Prelude.{None};
+
+    ghost content = { λ _. None };
+
+    ghost room = { λ _. None };
+
+    ghost images = { λ _ _. ⊥ };
+
+    ghost moment = { λ _. 0 };
+
+    ghost images_since = { λ _ _ _. ⊥ };
+
+    ghost faults = { λ d. P.count d.disk.plan };
+
+    ghost counts_now = { λ d t c le none. none };
+
+    ghost only_now = { λ d c none. none };
+
+    fn faults(&self) -> u64 {
+        self.disk.faults()
+    }
+
+    fn choose(&mut self, name: &str) -> Result<(), Failed> {
+        self.disk.choose(name)
+    }
+
+    fn read(&mut self, at: u64, buffer: &mut [u8]) -> Result<usize, Failed> {
+        self.disk.read(at, buffer)
+    }
+
+    fn write_at(&mut self, at: u64, bytes: &[u8]) -> Result<(), Failed> {
+        self.disk.write_at(at, bytes)
+    }
+
+    fn sync(&mut self) -> Result<(), Failed> {
+        self.disk.sync()
+    }
+}
+
+/// A call of a store.
+#[derive(Clone, Copy)]
+enum Call {
+    Lease(u32),
+    Try(u32),
+}
+
+/// What a call answers.
+#[derive(Clone, Copy, Debug, PartialEq, Eq)]
+enum Answer {
+    Leased(Span),
+    Refused(LeaseFault),
+    NotTried(TryFault),
+}
+
+fn leased(start: u64, end: u64) -> Answer {
+    Answer::Leased(Span { start, end })
+}
+
+fn answer_to<N: LeaseName, P: FaultPlan, R: Wait>(
+    rt: &R,
+    store: &LeaseStore<QuietDisk<P>, N>,
+    pass: &mut Pass,
+    call: Call,
+) -> Answer
+    requires { IsPassAt N.table N.total pass.old }
+    ensures { IsPassAt N.table N.total pass.new }
+{
+    match call {
+        Call::Lease(count) => match store.lease(rt, pass, count.clamp(1, 4096)) {
+            Ok(span) => Answer::Leased(span),
+            Err(fault) => Answer::Refused(fault),
+        },
+        Call::Try(count) => match store.try_lease(pass, count.clamp(1, 4096)) {
+            Ok(span) => Answer::Leased(span),
+            Err(fault) => Answer::NotTried(fault),
+        },
+    }
+}
+
+/// What the calls of the one pass of a store answer, and the disk behind them.
+fn answers_of<N: LeaseName, P: FaultPlan + Drop, R: Wait>(
+    rt: &R,
+    alloc: Global,
+    parts: LeaseParts<QuietDisk<P>>,
+    pass: Pass,
+    calls: &[Call],
+) -> Result<(Vec<Answer>, QuietDisk<P>), AllocError>
+    requires table { words_id parts.words ≡ N.table }
+    requires total { parts.total ≡ N.total }
+    requires passes { (parts.seat.seat.me.0.made ≡ N.passes) × (N.passes ≡ 1) }
+    requires faults { P.count parts.journal.disk.disk.plan ≡ N.faults }
+    requires own { IsPassAt N.table N.total pass }
+{
+    let store = parts.named::<N>();
+    let mut pass = pass;
+    let mut answers = Vec::new(alloc);
+    for call in calls {
+        answers.push(answer_to(rt, &store, &mut pass, *call))?;
+    }
+    let mut passes = Vec::with_capacity(alloc, 1)?;
+    passes.push(pass)?;
+    Ok((answers, store.close(passes)))
+}
+
+/// A new journal of ceilings up to 100.
+fn new_journal(alloc: Global) -> Result<Vec<u8>, Fail> {
+    Ok(blank(alloc, JournalKind::Ceilings, &ID, 100, 7)?)
+}
+
+/// A plan by which the calls of these numbers fail.
+fn failing(alloc: Global, numbers: &[u64]) -> Result<FailAt, Fail> {
+    Ok(FailAt::new(numbers.to_vec(alloc)?))
+}
+
+/// What calls of a store with one pass over these bytes answer, and the disk behind them.
+fn played<P: FaultPlan + Drop, R: Wait>(
+    rt: &R,
+    alloc: Global,
+    bytes: Vec<u8>,
+    plan: P,
+    calls: &[Call],
+) -> Result<(Vec<Answer>, MemoryDisk<P>), Fail>
+    requires { P.forgiving ≡ false }
+{
+    let disk = QuietDisk {
+        disk: MemoryDisk::new(alloc, bytes, 0, 60, plan)?,
+    };
+    let Ok((parts, mut passes)) = LeaseParts::start(alloc, disk, &ID, 100, 1) else {
+        return Err(Fail::new("a store does not start"));
+    };
+    let Some(pass) = passes.pop() else {
+        return Err(Fail::new("there is no pass"));
+    };
+    let (answers, disk) = answers_of::<Brand, P, R>(rt, alloc, parts, pass, calls)?;
+    Ok((answers, disk.disk))
+}
+
+#[test]
+fn leases_and_tries_are_answered(rt: HostRuntime) -> Result<(), Fail> {
+    let alloc: Global = rt.alloc();
+    let calls = [
+        Call::Try(3),
+        Call::Lease(3),
+        Call::Try(4),
+        Call::Lease(90),
+        Call::Lease(1),
+        Call::Try(2),
+    ];
+    let exhausted = LeaseFault::Exhausted {
+        at: 100,
+        count: 1,
+        total: 100,
+    };
+    let kept = TryFault::Exhausted {
+        at: 100,
+        count: 1,
+        total: 100,
+    };
+    let (answers, _disk) = played(
+        &rt,
+        alloc,
+        new_journal(alloc)?,
+        failing(alloc, &[])?,
+        &calls,
+    )?;
+    assert!(rt;
+        answers.as_slice()
+            == [
+                Answer::NotTried(TryFault::NeedsRoom { end: 3, known: 0 }),
+                leased(3, 6),
+                leased(6, 10),
+                leased(10, 100),
+                Answer::Refused(exhausted),
+                Answer::NotTried(kept),
+            ]
+            .as_slice()
+    );
+    Ok(())
+}
+
+#[test]
+fn a_disk_that_fails_breaks_the_store(rt: HostRuntime) -> Result<(), Fail> {
+    let alloc: Global = rt.alloc();
+    let calls = [Call::Lease(3), Call::Lease(1), Call::Try(1)];
+    // A start on a new journal makes three calls, and a put four.
+    for call in [4, 5, 6, 7] {
+        let plan = failing(alloc, &[call])?;
+        let (answers, disk) = played(&rt, alloc, new_journal(alloc)?, plan, &calls)?;
+        assert!(rt;
+            answers.as_slice()
+                == [
+                    Answer::Refused(LeaseFault::Device),
+                    Answer::Refused(LeaseFault::Broken { first: 1 }),
+                    Answer::NotTried(TryFault::NeedsRoom { end: 5, known: 0 }),
+                ]
+                .as_slice()
+        );
+        assert!(rt; disk.faults() == 1);
+    }
+    Ok(())
+}
+
+#[test]
+fn a_stop_leaves_the_old_ceiling_or_the_new(rt: HostRuntime) -> Result<(), Fail> {
+    let alloc: Global = rt.alloc();
+    // A stop in this call, after the three of the start, what the crash leaves, and what is leased then.
+    let rows = [
+        (4, Leftover::Old, leased(0, 3)),
+        (4, Leftover::New, leased(0, 3)),
+        (4, Leftover::Filled(0x5A), leased(0, 3)),
+        (5, Leftover::Old, leased(0, 3)),
+        (5, Leftover::New, leased(0, 3)),
+        (5, Leftover::Filled(0x5A), leased(0, 3)),
+        (6, Leftover::Old, leased(0, 3)),
+        (6, Leftover::New, leased(0, 3)),
+        (6, Leftover::Filled(0x5A), leased(16, 19)),
+        (7, Leftover::Old, leased(0, 3)),
+        (7, Leftover::New, leased(16, 19)),
+        (7, Leftover::Filled(0), leased(0, 3)),
+    ];
+    for (call, leftover, wanted) in rows {
+        let plan = StopAt::new(call);
+        let bytes = new_journal(alloc)?;
+        let (answers, disk) = played(&rt, alloc, bytes, plan, &[Call::Lease(3)])?;
+        assert!(rt; answers.as_slice() == [Answer::Refused(LeaseFault::Device)].as_slice());
+        let image = disk.image(alloc, &[leftover])?;
+        let plan = failing(alloc, &[])?;
+        let (answers, _disk) = played(&rt, alloc, image, plan, &[Call::Lease(3)])?;
+        assert!(rt; answers.as_slice() == [wanted].as_slice());
+    }
+    Ok(())
+}
+
+#[test]
+fn the_next_start_leases_above_the_ceiling(rt: HostRuntime) -> Result<(), Fail> {
+    let alloc: Global = rt.alloc();
+    let plan = failing(alloc, &[])?;
+    let (answers, disk) = played(&rt, alloc, new_journal(alloc)?, plan, &[Call::Lease(3)])?;
+    assert!(rt; answers.as_slice() == [leased(0, 3)].as_slice());
+    let image = disk.image(alloc, &[])?;
+    let plan = failing(alloc, &[])?;
+    let (answers, _disk) = played(&rt, alloc, image, plan, &[Call::Lease(3)])?;
+    assert!(rt; answers.as_slice() == [leased(16, 19)].as_slice());
+    Ok(())
+}
+
+#[test]
+fn a_journal_of_another_kind_is_refused(rt: HostRuntime) -> Result<(), Fail> {
+    let alloc: Global = rt.alloc();
+    let disk = QuietDisk {
+        disk: MemoryDisk::new(
+            alloc,
+            blank(alloc, JournalKind::Claims, &ID, 100, 7)?,
+            0,
+            60,
+            failing(alloc, &[])?,
+        )?,
+    };
+    match LeaseParts::start(alloc, disk, &ID, 100, 1) {
+        Ok(_) => Err(Fail::new("claims are read as ceilings")),
+        Err((fault, _disk)) => {
+            assert!(rt; fault == StoreFault::Journal(StartFault::BadHeader { place: 8 }));
+            Ok(())
+        }
+    }
+}
+
+/// Leases 500 times, as long as it is answered a span.
+fn lease_often<N: LeaseName, R: Wait>(
+    rt: &R,
+    alloc: Global,
+    store: &LeaseStore<SureDisk, N>,
+    mut pass: Pass,
+    count: u32,
+) -> Result<(Pass, Vec<Span>), AllocError>
+    requires own { IsPassAt N.table N.total pass }
+    requires count { (1 ≤ count) × (count ≤ 4096) }
+    ensures { IfOk result (λ r. IsPassAt N.table N.total r.0) }
+{
+    let mut spans = Vec::new(alloc);
+    for _ in 0..500 {
+        match store.lease(rt, &mut pass, count) {
+            Ok(span) => spans.push(span)?,
+            Err(_) => break,
+        }
+    }
+    Ok((pass, spans))
+}
+
+/// Ends a store that has two passes.
+fn close_two<N: LeaseName>(
+    alloc: Global,
+    store: LeaseStore<SureDisk, N>,
+    first: Pass,
+    second: Pass,
+) -> Result<(), AllocError>
+    requires own { IsPassAt N.table N.total first × IsPassAt N.table N.total second }
+    requires all { N.passes ≡ 2 }
+{
+    let mut passes = Vec::with_capacity(alloc, 2)?;
+    passes.push(first)?;
+    passes.push(second)?;
+    let _disk = store.close(passes);
+    Ok(())
+}
+
+/// What two threads lease, 3 and 5 units at a time.
+fn lease_by_two<N: LeaseName + Send, R: Threads + Wait + Sync>(
+    rt: &R,
+    alloc: Global,
+    parts: LeaseParts<SureDisk>,
+    first: Pass,
+    second: Pass,
+) -> Result<Vec<Span>, AllocError>
+    requires table { words_id parts.words ≡ N.table }
+    requires total { parts.total ≡ N.total }
+    requires passes { (parts.seat.seat.me.0.made ≡ N.passes) × (N.passes ≡ 2) }
+    requires faults { 0 ≡ N.faults }
+    requires own { IsPassAt N.table N.total first × IsPassAt N.table N.total second }
+{
+    let store = parts.named::<N>();
+    let shared = &store;
+    let (one, two) = join(
+        rt,
+        move || -> Result<(Pass, Vec<Span>), AllocError>
+            requires { IsPassAt N.table N.total first }
+            ensures { IfOk result (λ r. IsPassAt N.table N.total r.0) }
+        { lease_often(rt, alloc, shared, first, 3) },
+        move || -> Result<(Pass, Vec<Span>), AllocError>
+            requires { IsPassAt N.table N.total second }
+            ensures { IfOk result (λ r. IsPassAt N.table N.total r.0) }
+        { lease_often(rt, alloc, shared, second, 5) },
+    );
+    let (first, mut spans) = one?;
+    let (second, more) = two?;
+    close_two(alloc, store, first, second)?;
+    spans.extend_from_slice(&more)?;
+    Ok(spans)
+}
+
+/// A store of 4,000 units with two passes over a disk that never fails.
+fn sure_parts(alloc: Global) -> Result<(LeaseParts<SureDisk>, Vec<Pass>), Fail>
+    ensures passes { IfOk result (λ r. All (IsPassAt (words_id r.0.words) r.0.total) r.1.items) }
+    ensures made { IfOk result (λ r. r.0.seat.seat.me.0.made ≡ 2) }
+{
+    blank_says_nothing();
+    let bytes = blank(alloc, JournalKind::Ceilings, &ID, 4000, 250)?;
+    let disk = SureDisk::new(bytes, 64 + 32 * 250)?;
+    match LeaseParts::start(alloc, disk, &ID, 4000, 2) {
+        Ok(started) => Ok(started),
+        Err(_) => Err(Fail::new("a store does not start")),
+    }
+}
+
+#[test]
+fn what_two_threads_lease_tiles(rt: HostRuntime) -> Result<(), Fail> {
+    let alloc: Global = rt.alloc();
+    let (parts, mut passes) = sure_parts(alloc)?;
+    let Some(second) = passes.pop() else {
+        return Err(Fail::new("there is no pass"));
+    };
+    let Some(first) = passes.pop() else {
+        return Err(Fail::new("there is one pass"));
+    };
+    let mut spans = lease_by_two::<Brand, _>(&rt, alloc, parts, first, second)?;
+    assert!(rt; spans.len() == 1000);
+    spans.sort_by_key(|span| span.start)?;
+    let mut at = 0;
+    for span in &spans {
+        assert!(rt; span.start == at);
+        at = span.end;
+    }
+    assert!(rt; at == 4000);
+    Ok(())
+}
