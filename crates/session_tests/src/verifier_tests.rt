@@ -21,11 +21,14 @@ use zk_port::{FailAt, FaultPlan, Link, NoFault, QuietGate, ScriptedLink};
 struct FirstUnits {
     total: u64,
     fault: Option<LeaseFault>,
+    asked: Option<u32>,
     answer: Option<Result<Span, LeaseFault>>,
 }
 
 impl Grantor for FirstUnits {
     ghost answer = { λ g. g.answer };
+
+    ghost asked = { λ g. g.asked };
 
     ghost total = { λ g. g.total };
 
@@ -40,6 +43,7 @@ impl Grantor for FirstUnits {
             }),
             None => Ok(Span { start: 0, end }),
         };
+        self.asked = Some(count);
         self.answer = Some(answer);
         answer
     }
@@ -71,6 +75,7 @@ pub fn served<P: FaultPlan + Drop>(
     let mut grantor = FirstUnits {
         total: file.total(),
         fault,
+        asked: None,
         answer: None,
     };
     let link = ScriptedLink::new(alloc, Side::Verifier, script.to_vec(alloc)?, plan);

@@ -11,7 +11,7 @@ use zk_model::{Expect, Side};
 
 #[test]
 fn a_log_is_the_session_byte_for_byte(rt: HostRuntime) -> Result<(), Fail> {
-    let rehearsal = rehearsal_of(&rt, rt.alloc(), AND, "11")?;
+    let rehearsal = rehearsal_of(&rt, rt.alloc(), AND, "11", "1")?;
     assert_eq!(rt; rehearsal.log.bytes(), AND_LOG.as_slice());
     let runs = [
         (Side::Prover, 102),
@@ -53,7 +53,7 @@ fn frame_in(
 #[test]
 fn a_log_is_read_back(rt: HostRuntime) -> Result<(), Fail> {
     let alloc = rt.alloc();
-    let rehearsal = rehearsal_of(&rt, alloc, AND, "11")?;
+    let rehearsal = rehearsal_of(&rt, alloc, AND, "11", "1")?;
     let log = rehearsal.log.bytes();
     let hello = frame_in(alloc, log, 0, 102, Expect::Hello)?;
     assert!(rt; matches!(&hello, Some(Frame::Hello(said)) if said.id == FILE_ID));
@@ -76,7 +76,7 @@ fn a_log_is_read_back(rt: HostRuntime) -> Result<(), Fail> {
 
 #[test]
 fn a_circuit_without_wires_has_empty_frames(rt: HostRuntime) -> Result<(), Fail> {
-    let rehearsal = rehearsal_of(&rt, rt.alloc(), "0 0 0 0", "none")?;
+    let rehearsal = rehearsal_of(&rt, rt.alloc(), "0 0 0 0", "none", "1")?;
     let bytes = rehearsal.log.bytes();
     assert_eq!(rt; bytes.len(), 161);
     assert_eq!(rt; &bytes[123..128], [5, 0, 0, 0, 0].as_slice());

@@ -71,4 +71,6 @@ mod log_tests;
 #[cfg(test)]
 mod run_tests;
 #[cfg(test)]
+mod serve_tests;
+#[cfg(test)]
 mod vectors;

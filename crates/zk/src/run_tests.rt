@@ -17,7 +17,7 @@ const AND_LINES: &str = "outputs 1\nproducts 3 sections 3 correlations 6 units 1
 
 const FILE_ID_HEX: &str = "f400927857aaf64114f561baacb379708c79a1dc1476ab573216a4020764bde5";
 
-const USAGE: &str = "usage: zk deal, eval, rehearse, prove, serve or audit\n";
+pub const USAGE: &str = "usage: zk deal, eval, rehearse, prove, serve or audit\n";
 
 /// A gate that counts the phases that it is told.
 #[derive(Drop)]
@@ -39,7 +39,7 @@ struct Ran {
     phases: u64,
 }
 
-fn words_of(alloc: Global, texts: &[&str]) -> Result<Vec<String>, AllocError> {
+pub fn words_of(alloc: Global, texts: &[&str]) -> Result<Vec<String>, AllocError> {
     let mut words = Vec::new(alloc);
     for text in texts {
         words.push(String::from_str(alloc, text)?)?;
@@ -48,7 +48,7 @@ fn words_of(alloc: Global, texts: &[&str]) -> Result<Vec<String>, AllocError> {
 }
 
 /// The only file: these bytes under this name.
-fn file_of(
+pub fn file_of(
     alloc: Global,
     name: &str,
     text: &[u8],
@@ -58,7 +58,7 @@ fn file_of(
     Ok(files)
 }
 
-fn fail_at(alloc: Global, numbers: &[u64]) -> Result<FailAt, AllocError> {
+pub fn fail_at(alloc: Global, numbers: &[u64]) -> Result<FailAt, AllocError> {
     Ok(FailAt::new(numbers.to_vec(alloc)?))
 }
 
@@ -117,7 +117,7 @@ fn rehearsed<R: Threads + Wait>(
 
 /// A circuit's text that begins and ends so. Between stand 6,000 gates, 33,000 tokens: pairs of an INV of the
 /// last wire and an AND of that and wire 0, which set the wires 2 to 6,001.
-fn chain(alloc: Global, header: &str, tail: &str) -> Result<String, AllocError> {
+pub fn chain(alloc: Global, header: &str, tail: &str) -> Result<String, AllocError> {
     let mut text = String::from_str(alloc, header)?;
     for pair in 0..3000u32 {
         let last = 2 * pair + 1;
@@ -287,16 +287,17 @@ fn texts_of_64_mib_are_read_and_each_fault_behind_thousands_of_tokens_is_told(
     Ok(())
 }
 
-/// The rehearsal that is handed back for a circuit of this text at these bits.
+/// The rehearsal that is handed back for a circuit of this text at these bits, in sections of this length.
 pub fn rehearsal_of<R: Threads + Wait>(
     rt: &R,
     alloc: Global,
     text: &str,
     bits: &str,
+    section: &str,
 ) -> Result<Rehearsal, Fail> {
     let mut shelf = MemoryShelf::new(file_of(alloc, "c", text.as_bytes())?, NoFault);
     let mut out = MemorySink::new(alloc, NoFault);
-    let words = ["rehearse", "c", bits, "--section", "1"];
+    let words = ["rehearse", "c", bits, "--section", section];
     let Ran { part, phases, .. } = run(rt, alloc, &words, &mut shelf, &mut out)?;
     // A session that is rehearsed is none that a gate is told of.
     if phases > 0 {
@@ -310,7 +311,7 @@ pub fn rehearsal_of<R: Threads + Wait>(
 
 #[test]
 fn the_rehearsal_is_handed_back(rt: HostRuntime) -> Result<(), Fail> {
-    let rehearsal = rehearsal_of(&rt, rt.alloc(), AND, "11")?;
+    let rehearsal = rehearsal_of(&rt, rt.alloc(), AND, "11", "1")?;
     assert_eq!(rt; rehearsal.outputs.as_slice(), [true].as_slice());
     assert_eq!(rt; rehearsal.need, 6);
     assert_eq!(rt; rehearsal.verdict, Verdict::Accepted);
