@@ -19,10 +19,12 @@ by_inputs : (circuit : Circuit) (digest : List ℕ) (outputs : List Bool) (prove
     → IsFinding prover (circuit_statement circuit digest outputs) t (found_inputs inputs)
     → AreSatisfying circuit [] inputs (map from_bit outputs)
     → (bits : List Bool) × AreFixedBits prover (circuit_statement circuit digest outputs) t bits × Satisfies circuit bits outputs
-by_inputs circuit digest outputs prover t inputs found bits =
-    (bits.input_bits, record { view = found.view; seen = found.seen; inputs = sym bits.inputs_are ∙ found.gives.inputs_are },
-    subst (λ (others : List Bool). Satisfies circuit bits.input_bits others)
-    (sym (same_bits outputs bits.output_bits bits.claims_are)) bits.satisfied)
+by_inputs circuit digest outputs prover t inputs found bits = (
+  bits.input_bits,
+  record { view = found.view; seen = found.seen; inputs = sym bits.inputs_are ∙ found.gives.inputs_are },
+  subst (λ (others : List Bool). Satisfies circuit bits.input_bits others)
+      (sym (same_bits outputs bits.output_bits bits.claims_are)) bits.satisfied,
+)
 
 -- the root at the key that is found is that of a section, or of an opened wire
 by_key : (prover : ProverFile) (key : ℕ) (statement : Statement) (t : Transcript) (polynomial : List ℕ)

@@ -7,3 +7,5 @@ pub mod Stopping
 pub mod Storing
 pub mod ToldCircuits
 pub mod Serving
+pub mod ServeOutcomes
+pub mod ServeDone

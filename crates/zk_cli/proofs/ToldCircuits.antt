@@ -17,7 +17,7 @@ told_circuit one told name circuit other is_told file =
     let same = told_text told name is_told.text file.text is_told.stands file.loaded.stands in
     one is_told.text other circuit (subst (IsText other) same file.says) is_told.says
 
-no_longer : (told : Option Files) (name : List ℕ) (text : List ℕ) → IsSomeAnd told (λ files. files name ≡ Some text) → length text ≤ FILE_LIMIT → StandsLonger told name FILE_LIMIT → ⊥
+pub no_longer : (told : Option Files) (name : List ℕ) (text : List ℕ) → IsSomeAnd told (λ files. files name ≡ Some text) → length text ≤ FILE_LIMIT → StandsLonger told name FILE_LIMIT → ⊥
 no_longer None name text is_told fits longer = absurd is_told
 no_longer (Some files) name text is_told fits longer =
     let lt : FILE_LIMIT < length text = subst (λ o. IsSomeAnd o (λ bytes. FILE_LIMIT < length bytes)) is_told longer in

@@ -11,6 +11,7 @@ pub mod Outcomes
 pub mod Prints
 pub mod RehearseRuns
 pub mod ServeRuns
+pub mod ServeStatuses
 pub mod ServedNotes
 pub mod Stops
 pub mod StopsOf

@@ -15,6 +15,7 @@ ghost use Rattle.session_pool.specs.Doors.{door_state};
 ghost use Rattle.session_verifier.specs.Stages.{moment_at};
 ghost use Rattle.session_verifier.specs.declared.note.VerifierOutcome.TheVariants.{Accepted};
 ghost use Rattle.zk_cli.specs.ServeRuns.{ServeLines, serve_effects, door_change};
+ghost use Rattle.zk_cli.specs.ServeStatuses.{ServeMeans, IsServable, HasServeFailed, IsWithHonestPeer};
 ghost use Rattle.zk_cli.specs.ServedNotes.{IsHeadline, IsServedNote};
 ghost use Rattle.zk_cli.specs.Stops.{PrintsUsage};
 ghost use Rattle.command_words.specs.Words.{texts, asked};
@@ -189,6 +190,25 @@ where
         (sink_change O.written O.faults out.old out.new)
         (door_change (D.offers door 1) (door_state (D.left door) (D.faults door))
         (door_state (D.left result.door) (D.faults result.door))))) }
+
+    // What the status says: that of the sessions, or of a stop which has a cause.
+    ensures serve_status { OnServe words.now (λ ask. ServeMeans ask
+        (serve_effects result.status result.part (shelf_change F.told F.faults F.faults_of shelf.old shelf.new)
+        (sink_change O.written O.faults out.old out.new)
+        (door_change (D.offers door 1) (door_state (D.left door) (D.faults door))
+        (door_state (D.left result.door) (D.faults result.door))))) }
+
+    // Where a shelf tells a circuit and a file with room for its session, nothing fails and the peer that called, if one did,
+    // is honest, all is done unless memory runs out.
+    ensures serve_done { OnServe words.now (λ ask. IsServable (F.told shelf.old) ask →
+        ¬ HasServeFailed ask (shelf_change F.told F.faults F.faults_of shelf.old shelf.new)
+        (sink_change O.written O.faults out.old out.new)
+        (door_change (D.offers door 1) (door_state (D.left door) (D.faults door))
+        (door_state (D.left result.door) (D.faults result.door))) →
+        EachNote result.part (λ note. IsWithHonestPeer (F.told shelf.old) ask note.outcome
+        (moment_at note.log (D.Link.log note.link) (D.Link.to_come note.link)
+        (D.Link.ended note.link) (D.Link.receives note.link) (D.Link.faults note.link))) →
+        IsDone result.status) }
 
     // Nothing but the files of the circuit and of the verifier is asked of the shelf; the disk is as it was.
     ensures serve_kept { OnServe words.now (λ ask.

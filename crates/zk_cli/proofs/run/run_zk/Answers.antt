@@ -2,7 +2,12 @@ use Rattle.std.proofs.Common.{◌≡◌, rules, refl, subst}
 use Rattle.command_words.specs.Words.{ServeAsk, serve_ask}
 use Rattle.session_verifier.specs.declared.note.SessionNote.{SessionNote}
 use Rattle.zk_cli.specs.Made.{EachNote}
+use Rattle.session_pool.specs.Doors.{door_state}
+use Rattle.zk_cli.specs.ServeRuns.{ServeLines, serve_effects, door_change}
 use Rattle.zk_cli.specs.ServedNotes.{IsServedNote}
+use Rattle.zk_cli.specs.declared.finish.Part.TheVariants.{Plain}
+use Rattle.zk_cli.proofs.ServeDone.{serve_is_done}
+use Rattle.zk_cli.proofs.ServeOutcomes.{serve_means}
 use Rattle.session_verifier.specs.Stages.{moment_at}
 use Rattle.zk_cli.proofs.Serving.{headlines, says_serve_memory}
 use Rattle.zk_cli.specs.Changes.{shelf_change, sink_change}
@@ -180,3 +185,35 @@ returns-in-Serve-clause-serve_headline g c = λ ask is_asked.
     (g.D.Link.Link.ended note.link) (g.D.Link.Link.receives note.link) (g.D.Link.Link.faults note.link))
     (λ note. refl) (g.F.Shelf.told c.args.shelf.now) ask c.run_serve-status.result.part
     (returns-in-Serve-clause-serve_notes g c ask is_asked)
+
+pub returns-in-Err-clause-serve_status : goal.returns-in-Err-clause-serve_status
+returns-in-Err-clause-serve_status g c = λ ask is_asked.
+    serve_means {L = g.row.D-Link.Denot} (λ note. moment_at note.log (g.D.Link.Link.log note.link) (g.D.Link.Link.to_come note.link)
+    (g.D.Link.Link.ended note.link) (g.D.Link.Link.receives note.link) (g.D.Link.Link.faults note.link))
+    (g.F.Shelf.told c.args.shelf.now) ask Plain _ _ _ _ tt (returns-in-Err-clause-serve_lines g c ask is_asked)
+
+pub returns-in-Serve-clause-serve_lines : goal.returns-in-Serve-clause-serve_lines
+returns-in-Serve-clause-serve_lines g c = λ ask is_asked.
+    let same : serve_ask c.in-Serve.address.now c.in-Serve.file.now c.in-Serve.circuit.now c.as_slice-in-Serve.result.now c.in-Serve.section ≡ ask =
+    search rules in
+    subst (λ (named : ServeAsk). ServeLines named (serve_effects c.run_serve-status.result.status c.run_serve-status.result.part
+    (shelf_change g.F.Shelf.told g.F.Shelf.faults g.F.Shelf.faults_of c.args.shelf.now c.run_serve-status.new.shelf)
+    (sink_change g.O.Sink.written g.O.Sink.faults c.args.out.now c.run_serve-status.new.out)
+    (door_change (g.D.Door.offers c.args.door 1) (door_state (g.D.Door.left c.args.door) (g.D.Door.faults c.args.door))
+    (door_state (g.D.Door.left c.run_serve-status.new.door) (g.D.Door.faults c.run_serve-status.new.door)))))
+    same c.run_serve-status.ensures.lines
+
+pub returns-in-Serve-clause-serve_status : goal.returns-in-Serve-clause-serve_status
+returns-in-Serve-clause-serve_status g c = λ ask is_asked.
+    serve_means {L = g.row.D-Link.Denot} (λ note. moment_at note.log (g.D.Link.Link.log note.link) (g.D.Link.Link.to_come note.link)
+    (g.D.Link.Link.ended note.link) (g.D.Link.Link.receives note.link) (g.D.Link.Link.faults note.link))
+    (g.F.Shelf.told c.args.shelf.now) ask c.run_serve-status.result.part _ _ _ _
+    (returns-in-Serve-clause-serve_notes g c ask is_asked) (returns-in-Serve-clause-serve_lines g c ask is_asked)
+
+pub returns-in-Serve-clause-serve_done : goal.returns-in-Serve-clause-serve_done
+returns-in-Serve-clause-serve_done g c = λ ask is_asked ready calm honest.
+    serve_is_done {L = g.row.D-Link.Denot} (λ note. moment_at note.log (g.D.Link.Link.log note.link) (g.D.Link.Link.to_come note.link)
+    (g.D.Link.Link.ended note.link) (g.D.Link.Link.receives note.link) (g.D.Link.Link.faults note.link))
+    c.one_circuit.ensures ask c.run_serve-status.result.part _ _ _ _
+    (returns-in-Serve-clause-serve_notes g c ask is_asked) (returns-in-Serve-clause-serve_lines g c ask is_asked)
+    (returns-in-Serve-clause-serve_status g c ask is_asked) ready calm honest
