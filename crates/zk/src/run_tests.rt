@@ -51,10 +51,10 @@ pub fn words_of(alloc: Global, texts: &[&str]) -> Result<Vec<String>, AllocError
 pub fn file_of(
     alloc: Global,
     name: &str,
-    text: &[u8],
+    text: Vec<u8>,
 ) -> Result<BTreeMap<String, Vec<u8>>, AllocError> {
     let mut files = BTreeMap::new(alloc);
-    files.insert(String::from_str(alloc, name)?, text.to_vec(alloc)?)?;
+    files.insert(String::from_str(alloc, name)?, text)?;
     Ok(files)
 }
 
@@ -104,7 +104,7 @@ fn run<R: Threads + Wait, P: FaultPlan, Q: FaultPlan>(
 fn rehearsed<R: Threads + Wait>(
     rt: &R,
     alloc: Global,
-    text: &[u8],
+    text: Vec<u8>,
     bits: &str,
     section: &str,
 ) -> Result<(u8, Vec<u8>), AllocError> {
@@ -241,24 +241,14 @@ fn unit_cases(alloc: Global) -> Result<Vec<Case>, AllocError> {
     Ok(cases)
 }
 
-/// 64 MiB, and one byte more.
-fn length_cases(alloc: Global) -> Result<Vec<Case>, AllocError> {
-    let limit = 67_108_864;
-    let mut cases = Vec::new(alloc);
-    cases.push(long_case(alloc, limit, 0, AND_LINES)?)?;
-    let too_long = "refused TooLong 0 67108864\n";
-    cases.push(long_case(alloc, limit + 1, 3, too_long)?)?;
-    Ok(cases)
-}
-
 /// The lines of the first case of which something else comes, with the status and the bytes that come.
 fn first_other<R: Threads + Wait>(
     rt: &R,
     alloc: Global,
-    cases: &[Case],
+    cases: Vec<Case>,
 ) -> Result<Option<(&'static str, u8, Vec<u8>)>, AllocError> {
     for case in cases {
-        let (status, written) = rehearsed(rt, alloc, &case.text, &case.bits, case.section)?;
+        let (status, written) = rehearsed(rt, alloc, case.text, &case.bits, case.section)?;
         if written.as_slice() != case.lines.as_bytes() || status != case.status {
             return Ok(Some((case.lines, status, written)));
         }
@@ -266,24 +256,28 @@ fn first_other<R: Threads + Wait>(
     Ok(None)
 }
 
+/// 64 MiB.
+const LONGEST: usize = 67_108_864;
+
 #[test]
-fn circuits_of_4096_units_are_rehearsed_and_greater_ones_refused(
-    rt: HostRuntime,
-) -> Result<(), Fail> {
+fn a_text_of_64_mib_is_rehearsed(rt: HostRuntime) -> Result<(), Fail> {
     let alloc = rt.alloc();
-    let cases = unit_cases(alloc)?;
-    assert_eq!(rt; first_other(&rt, alloc, &cases)?, None);
+    let mut cases = Vec::new(alloc);
+    cases.push(long_case(alloc, LONGEST, 0, AND_LINES)?)?;
+    assert_eq!(rt; first_other(&rt, alloc, cases)?, None);
     Ok(())
 }
 
 #[test]
-fn texts_of_64_mib_are_read_and_each_fault_behind_thousands_of_tokens_is_told(
+fn circuits_of_4096_units_are_rehearsed_and_faults_of_large_texts_told(
     rt: HostRuntime,
 ) -> Result<(), Fail> {
     let alloc = rt.alloc();
     let mut cases = chain_cases(alloc)?;
-    cases.append(&mut length_cases(alloc)?)?;
-    assert_eq!(rt; first_other(&rt, alloc, &cases)?, None);
+    cases.append(&mut unit_cases(alloc)?)?;
+    let too_long = "refused TooLong 0 67108864\n";
+    cases.push(long_case(alloc, LONGEST + 1, 3, too_long)?)?;
+    assert_eq!(rt; first_other(&rt, alloc, cases)?, None);
     Ok(())
 }
 
@@ -295,7 +289,10 @@ pub fn rehearsal_of<R: Threads + Wait>(
     bits: &str,
     section: &str,
 ) -> Result<Rehearsal, Fail> {
-    let mut shelf = MemoryShelf::new(file_of(alloc, "c", text.as_bytes())?, NoFault);
+    let mut shelf = MemoryShelf::new(
+        file_of(alloc, "c", text.as_bytes().to_vec(alloc)?)?,
+        NoFault,
+    );
     let mut out = MemorySink::new(alloc, NoFault);
     let words = ["rehearse", "c", bits, "--section", section];
     let Ran { part, phases, .. } = run(rt, alloc, &words, &mut shelf, &mut out)?;
@@ -351,7 +348,7 @@ fn a_fault_of_the_outside_is_named(rt: HostRuntime) -> Result<(), Fail> {
             half_usage,
         ),
     ] {
-        let text = file_of(alloc, "c", AND.as_bytes())?;
+        let text = file_of(alloc, "c", AND.as_bytes().to_vec(alloc)?)?;
         let mut shelf = MemoryShelf::new(text, fail_at(alloc, &[shelf_fails])?);
         let mut out = MemorySink::new(alloc, fail_at(alloc, &[sink_fails])?);
         let ran = run(&rt, alloc, words, &mut shelf, &mut out)?;
@@ -385,7 +382,10 @@ fn dealt_files_stand_under_their_names(rt: HostRuntime) -> Result<(), Fail> {
             288,
         ),
     ] {
-        let mut shelf = MemoryShelf::new(file_of(alloc, "x.prover", b"old")?, NoFault);
+        let mut shelf = MemoryShelf::new(
+            file_of(alloc, "x.prover", b"old".to_vec(alloc)?)?,
+            NoFault,
+        );
         let mut out = MemorySink::new(alloc, fail_at(alloc, &[2])?);
         let mut words: Vec<&str> = Vec::new(alloc);
         for word in ["deal", "x"].iter().chain(options.iter()) {
@@ -429,7 +429,10 @@ fn words_may_be_long_and_many(rt: HostRuntime) -> Result<(), Fail> {
         for _ in 0..more {
             words.push(&long)?;
         }
-        let mut shelf = MemoryShelf::new(file_of(alloc, &long, AND.as_bytes())?, NoFault);
+        let mut shelf = MemoryShelf::new(
+            file_of(alloc, &long, AND.as_bytes().to_vec(alloc)?)?,
+            NoFault,
+        );
         let mut out = MemorySink::new(alloc, NoFault);
         let ran = run(&rt, alloc, &words, &mut shelf, &mut out)?;
         assert_eq!(rt; out.bytes(), lines.as_bytes(), "{more}");
