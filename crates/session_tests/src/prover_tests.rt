@@ -2,13 +2,12 @@
 ghost use Rattle.std.specs.Prelude.{◌≡◌, ◌≤◌, None, length, IfOk};
 
 use crate::scene::{
-    LONG, Rehearsal, Scene, and_gate, circuit_of, elements_of, files_of, outputs_of, part_of,
-    refusal, rehearsed, statement_of,
+    LONG, Rehearsal, Scene, and_gate, circuit_of, claim_of, files_of, part_of, refusal, rehearsed,
 };
 use bool_eval::eval_wires;
 use bristol_reader::Circuit;
 use claim_store::{ClaimFault, Span};
-use gate_translate::{FieldProgram, translate};
+use gate_translate::FieldProgram;
 use mersenne_field::Fe;
 use proof_frames::{Grant, encode_grant, encode_verdict};
 use session_core::ProverJob;
@@ -86,11 +85,9 @@ fn proved<P: FaultPlan + Drop>(
     fault: Option<ClaimFault>,
 ) -> Result<Ending<P>, Fail> {
     let circuit = circuit_of(alloc, scene)?;
-    let program = translate(alloc, &circuit)?;
-    let outputs = outputs_of(alloc, scene, &circuit)?;
-    let claims = elements_of(alloc, &outputs)?;
-    let statement = statement_of(alloc, &circuit, &program, &outputs, &claims)?;
-    let given = given_of(alloc, scene, &circuit, &program)?;
+    let claim = claim_of(alloc, scene, &circuit)?;
+    let statement = claim.statement();
+    let given = given_of(alloc, scene, &circuit, statement.program())?;
     let (file, _) = files_of(alloc, scene)?;
     let job = ProverJob::new(&statement, &file, &given);
     let mut claimant = AskedUnits {

@@ -1,19 +1,14 @@
-// What both ends of a session have: a statement of what a circuit gives, and the log of a rehearsal.
-ghost use Rattle.std.specs.Prelude.{◌≡◌, length, map, IfOk};
-ghost use Rattle.zk_model.specs.Bits.{from_bit};
-ghost use Rattle.zk_model.specs.Boolean.{circuit_program};
+// What both ends of a session have: the claim of what a circuit gives, files, and the log of a rehearsal.
+ghost use Rattle.std.specs.Prelude.{◌≡◌, IfOk};
 ghost use Rattle.zk_model.specs.declared.Kind.TheVariants.{Direct};
 
 use bool_eval::eval;
 use bristol_reader::{Circuit, read};
 use dealer_files::{ProverFile, VerifierFile, deal};
 use frame_link::Log;
-use gate_translate::{FieldProgram, translate};
-use mersenne_field::Fe;
-use session_core::{Statement, outputs_digest, rehearse};
+use session_core::{CircuitClaim, rehearse};
 use std::alloc::{AllocError, Global};
 use std::test::Fail;
-use zk_laws::circuit_is_statement;
 use zk_model::{Kind, Params, Side};
 
 /// The most products of a section.
@@ -49,41 +44,13 @@ pub fn circuit_of(alloc: Global, scene: &Scene<'_>) -> Result<Circuit, Fail> {
     }
 }
 
-/// What a scene's circuit gives.
-pub fn outputs_of(alloc: Global, scene: &Scene<'_>, circuit: &Circuit) -> Result<Vec<bool>, Fail>
-    ensures { IfOk result (λ outputs. length outputs.items ≡ circuit.now.outputs) }
-{
-    match eval(alloc, circuit, scene.bits) {
-        Ok(outputs) => Ok(outputs),
-        Err(_) => Err(Fail::new("no outputs")),
-    }
-}
-
-/// Bits as elements.
-pub fn elements_of(alloc: Global, bits: &[bool]) -> Result<Vec<Fe>, AllocError>
-    ensures { IfOk result (λ elements. elements.items ≡ map from_bit bits.now) }
-{
-    bits.iter().map(|bit| Fe::from_bit(*bit)).collect(alloc)
-}
-
-/// The statement that a circuit gives these outputs, which are the claims as bits.
-pub fn statement_of<'a>(
-    alloc: Global,
-    circuit: &Circuit,
-    program: &'a FieldProgram,
-    outputs: &[bool],
-    claims: &'a [Fe],
-) -> Result<Statement<'a>, AllocError>
-    requires translated { program.now ≡ circuit_program 0 circuit.now }
-    requires outputs { length outputs.now ≡ circuit.now.outputs }
-    requires claims { claims.now ≡ map from_bit outputs.now }
-    ensures { IfOk result (λ statement. statement.program ≡ program.now) }
-{
-    circuit_is_statement();
-    let _wires = circuit.wires();
-    let digest = outputs_digest(alloc, outputs)?;
-    let statement = Statement::new(program, &[], claims, 1, [0; 32], digest);
-    Ok(statement)
+/// The claim that a scene's circuit gives what it gives.
+pub fn claim_of(alloc: Global, scene: &Scene<'_>, circuit: &Circuit) -> Result<CircuitClaim, Fail> {
+    let Ok(outputs) = eval(alloc, circuit, scene.bits) else {
+        return Err(Fail::new("no outputs"));
+    };
+    let claim = CircuitClaim::new(alloc, circuit, [0; 32], &outputs)?;
+    Ok(claim)
 }
 
 /// Both files of a scene, of kind direct.

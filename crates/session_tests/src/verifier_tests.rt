@@ -3,10 +3,8 @@ ghost use Rattle.std.specs.Prelude.{◌≡◌, ◌≤◌, None, OnOk};
 ghost use Rattle.proof_frames.specs.Readings.{IsShortPlace};
 
 use crate::scene::{
-    LONG, Rehearsal, Scene, and_gate, circuit_of, elements_of, files_of, outputs_of, refusal,
-    rehearsed, statement_of,
+    LONG, Rehearsal, Scene, and_gate, circuit_of, claim_of, files_of, refusal, rehearsed,
 };
-use gate_translate::translate;
 use lease_store::{LeaseFault, Span};
 use proof_frames::{Decoder, Expect};
 use session_core::{HelloDiffers, VerifierJob};
@@ -63,15 +61,12 @@ pub fn served<P: FaultPlan + Drop>(
         return Err(Fail::new("no section"));
     }
     let circuit = circuit_of(alloc, scene)?;
-    let program = translate(alloc, &circuit)?;
-    let outputs = outputs_of(alloc, scene, &circuit)?;
-    let claims = elements_of(alloc, &outputs)?;
-    let statement = statement_of(alloc, &circuit, &program, &outputs, &claims)?;
+    let claim = claim_of(alloc, scene, &circuit)?;
+    let statement = claim.statement();
     let (_, file) = files_of(alloc, scene)?;
-    if program.need(u64::from(section)).div_ceil(64) > 4096 {
+    let Ok(job) = VerifierJob::fit(&statement, &file, section) else {
         return Err(Fail::new("too many units"));
-    }
-    let job = VerifierJob::new(&statement, &file, section);
+    };
     let mut grantor = FirstUnits {
         total: file.total(),
         fault,
