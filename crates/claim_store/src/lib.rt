@@ -1,8 +1,8 @@
 //! Claims of units: the prover writes down which units it has used, so that none is used twice, whatever crashes.
 //!
-//! A claim is a span of units. Claims stand in the slots of a journal, in order, and no two have a unit in common. A claim
-//! is answered once the journal is synced: so a crash at any moment leaves a journal that says every claim that was
-//! answered, and the next start finds them.
+//! A claim is a span of units. Claims stand in the slots of a journal, in order, and no two have a unit in common. A
+//! claim is answered once the journal is synced: so a crash at any moment leaves a journal that says every claim that
+//! was answered, and the next start finds them.
 #![tactic(auto)]
 
 ghost use Rattle.claim_store.specs.Claims.{BytesSayOneList};

@@ -47,7 +47,8 @@ fn read_claim<B: Disk>(journal: &mut Journal<B>, slot: u64) -> Result<Span, Stor
     requires used { slot < journal.old.used }
     ensures claim { IfOk result (λ claim. (bytes : List ℕ) → B.content journal.old.disk ≡ Some bytes
         → claim ≡ claim_at bytes slot) }
-    ensures stays { Stays B.content B.room B.images B.moment B.images_since journal.old.disk journal.new.disk }
+    ensures stays { Stays B.content B.room B.images B.moment B.images_since
+        journal.old.disk journal.new.disk }
     ensures used { journal.new.used ≡ journal.old.used }
     ensures slots { journal.new.slots ≡ journal.old.slots }
     ensures fault { OnOk result (journal.new.fault ≡ 0) }
@@ -64,8 +65,8 @@ fn read_claim<B: Disk>(journal: &mut Journal<B>, slot: u64) -> Result<Span, Stor
 ///
 /// # Errors
 ///
-/// `Device` where the disk failed; `BadBody` of the first slot whose span may not stand behind those before it; `NoMemory`
-/// only where memory runs out.
+/// `Device` where the disk failed; `BadBody` of the first slot whose span may not stand behind those before it;
+/// `NoMemory` only where memory runs out.
 pub fn read_claims<B: Disk>(
     alloc: Global,
     journal: &mut Journal<B>,
@@ -76,7 +77,8 @@ pub fn read_claims<B: Disk>(
     ensures count { IfOk result (λ claims. length claims.items ≡ journal.old.used) }
     ensures read { IfOk result (λ claims. (bytes : List ℕ) → B.content journal.old.disk ≡ Some bytes
         → claims.items ≡ first_claims journal.old.used bytes) }
-    ensures stays { Stays B.content B.room B.images B.moment B.images_since journal.old.disk journal.new.disk }
+    ensures stays { Stays B.content B.room B.images B.moment B.images_since
+        journal.old.disk journal.new.disk }
     ensures used { journal.new.used ≡ journal.old.used }
     ensures slots { journal.new.slots ≡ journal.old.slots }
     ensures fault { OnOk result (journal.new.fault ≡ 0) }

@@ -19,8 +19,8 @@ use std::alloc::Global;
 use std::marker::Model;
 use zk_port::Disk;
 
-/// The claims that a journal on a disk keeps. Contracts see of it the disk, the total, the number of slots, the kept count of
-/// faults and the claims (`ClaimState`).
+/// The claims that a journal on a disk keeps. Contracts see of it the disk, the total, the number of slots, the kept
+/// count of faults and the claims (`ClaimState`).
 #[derive(Drop)]
 pub struct ClaimStore<B: Disk> {
     journal: Journal<B>,
@@ -35,20 +35,22 @@ impl<B: Disk> Model for ClaimStore<B> {
 
     ghost coded = { model.state_code B.code };
 
-    ghost view = { λ s. model.state_of s.journal.disk s.total s.journal.slots s.journal.fault s.claims.items };
+    ghost view = { λ s.
+        model.state_of s.journal.disk s.total s.journal.slots s.journal.fault s.claims.items };
 
     ghost invariant = { λ s. model.IsKept B.content B.images s.journal.used
         (model.state_of s.journal.disk s.total s.journal.slots s.journal.fault s.claims.items) };
 }
 
 impl<B: Disk> ClaimStore<B> {
-    /// Opens the journal of claims of this id and total, in units, that stands on the disk, and reads its claims. The disk
-    /// of a refused start comes back.
+    /// Opens the journal of claims of this id and total, in units, that stands on the disk, and reads its claims. The
+    /// disk of a refused start comes back.
     ///
     /// # Errors
     ///
-    /// As the journal's start; then `BadBody` of the first slot whose span has a unit of an earlier one; `NoMemory` only
-    /// where memory runs out. `Device` where a call of the disk failed.
+    /// As the journal's start, whose `BadBody` is the first slot that has no span up to the total. Where all slots in use
+    /// have one, `BadBody` is the first whose span has a unit of an earlier one. `Device` where a call of the disk
+    /// failed; `NoMemory` only where memory runs out.
     pub fn start(alloc: Global, disk: B, id: &[u8; 32], total: u64) -> Result<Self, (StoreFault, B)>
         requires room { (size : ℕ) → B.room disk ≡ Some size
             → (slots : ℕ) → SaysSlots (B.content disk) slots → 64 + 32 * slots ≤ size }
@@ -69,7 +71,8 @@ impl<B: Disk> ClaimStore<B> {
         ensures device { IfErr result (λ e. e.0 ≡ store.Journal start.Device
             → Rose (B.faults disk) (B.faults e.1)) }
         ensures later { IfErr result (λ e. B.faults disk ≤ B.faults e.1) }
-        ensures stays_refused { IfErr result (λ e. Stays B.content B.room B.images B.moment B.images_since disk e.1) }
+        ensures stays_refused { IfErr result (λ e.
+            Stays B.content B.room B.images B.moment B.images_since disk e.1) }
     {
         let mut journal = match Journal::start(disk, JournalKind::Claims, id, total) {
             Ok(journal) => journal,
@@ -121,15 +124,15 @@ impl<B: Disk> ClaimStore<B> {
         Ok(span)
     }
 
-    /// Claims `count` units, at least 1, from `start` on: puts their span into the journal, behind the others. Where a call
-    /// of the disk fails, a crash may leave the journal with the span or without.
+    /// Claims `count` units, at least 1, from `start` on: puts their span into the journal, behind the others. Where a
+    /// call of the disk fails, a crash may leave the journal with the span or without.
     ///
     /// # Errors
     ///
-    /// The first of these that applies: `Broken` where a call of the disk failed in an earlier claim; `OutOfRange` where the
-    /// units end above the total; `Overlap` with the first claim that has one of them; `Full` where all slots are in use;
-    /// `NoMemory` only where memory runs out; `Device` where a call of the disk failed. All but `Device` leave the claims and
-    /// the disk as they were.
+    /// The first of these that applies: `Broken` where a call of the disk failed in an earlier claim; `OutOfRange` where
+    /// the units end above the total; `Overlap` with the first claim that has one of them; `Full` where all slots are in
+    /// use; `NoMemory` only where memory runs out; `Device` where a call of the disk failed. All but `Device` leave the
+    /// claims and the disk as they were.
     pub fn claim(&mut self, _alloc: Global, start: u64, count: u32) -> Result<Span, ClaimFault>
         requires { 1 ≤ count }
         ensures free { OnOk result (IsFree self.old start count) }

@@ -1,6 +1,6 @@
 -- Headers that were read.
 use Rattle.std.proofs.lemmas.Bool.{cases_lt}
-use Rattle.std.proofs.Common.{◌≡◌, ⊎_elim, ◌<◌, ◌≤◌, ◌+◌, ◌&&◌, ◌||◌, ◌==◌, ◌^◌, not, nat_lt, nat_le, if◌then◌else◌, ℕ, List, Bool, false, get_or, Some, None, ap, sym, ◌∙◌, subst, arith}
+use Rattle.std.proofs.Common.{◌≡◌, ⊎_elim, ◌<◌, ◌≤◌, ◌+◌, ◌&&◌, ◌||◌, ◌==◌, ◌^◌, not, nat_lt, nat_le, if◌then◌else◌, ℕ, List, Bool, true, false, refl, get_or, Some, None, ap, sym, ◌∙◌, subst, arith}
 use Rattle.zk_model.specs.Journals.{journal_header}
 use Rattle.std.proofs.lemmas.Bool.Decides.{nat_tests}
 use Rattle.zk_model.specs.declared.JournalKind.{JournalKind}
@@ -67,3 +67,11 @@ fits_few Ceilings total slots fits = grind (arith, nat_tests)
 -- a right header says few slots
 pub few_slots : (kind : JournalKind) (id : List ℕ) (total : ℕ) (header : List ℕ) (slots : ℕ) → slots ≡ slots_at header → IsFirstWrongOf kind id total header None → slots ≤ 2 ^ 28
 few_slots kind id total header slots is right = fits_few kind total slots (ap (λ n. not (are_slots kind total n)) is ∙ right 24 (omega arith))
+
+-- a right header says a number of slots that there may be
+pub right_slots : (kind : JournalKind) (id : List ℕ) (total : ℕ) (header : List ℕ) (slots : ℕ) → slots ≡ slots_at header → IsFirstWrongOf kind id total header None
+    → are_slots kind total slots ≡ true
+right_slots kind id total header slots is right = not-false (are_slots kind total slots) (ap (λ n. not (are_slots kind total n)) is ∙ right 24 (omega arith)) where
+  not-false : (b : Bool) → not b ≡ false → b ≡ true
+  not-false true e = refl
+  not-false false e = absurd (cc)

@@ -1,12 +1,12 @@
 -- How slots are gone through one by one.
-use Rattle.std.proofs.Common.{◌≡◌, ◌<◌, ◌≤◌, ◌+◌, ◌*◌, ◌^◌, ℕ, zero, suc, List, Bool, true, false, length, Option, Some, None, ⊎_elim, refl, ap, sym, ◌∙◌, subst, arith}
+use Rattle.std.proofs.Common.{◌≡◌, ◌<◌, ◌≤◌, ◌+◌, ◌*◌, ◌^◌, ℕ, zero, suc, List, [], ◌∷◌, Bool, true, false, length, Option, Some, None, ⊎_elim, refl, ap, sym, ◌∙◌, subst, arith}
 use Rattle.std.proofs.lemmas.Bool.{cases_lt}
 use Rattle.zk_model.specs.declared.JournalKind.{JournalKind}
 use Rattle.zk_model.specs.Journals.{slots_at, Recovers, first_bodies, IsOpen, IsCut, AreUsed, IsFirstBad, is_sound_at, keeps_rule, body_at, last_body}
 use Rattle.lease_journal.specs.Causes.{IsScanned, Stays, SlotCause, ScanCause, SlotSays, SaysSlots}
 use Rattle.lease_journal.specs.declared.fault.StartFault.{StartFault}
 use Rattle.lease_journal.specs.declared.fault.StartFault.TheVariants.{Device, Short, BadHeader, BadBody}
-use Rattle.lease_journal.specs.Scans.{next_bad}
+use Rattle.lease_journal.specs.Scans.{next_bad, HasRead}
 use Rattle.lease_journal.proofs.Torn.{before_end}
 use Rattle.lease_journal.proofs.Putting.{length-first}
 use Rattle.lease_journal.proofs.Moments.{started, then_leaves, leaves_also}
@@ -111,3 +111,21 @@ used_recovers slots used bytes are =
 pub says_slots : (content : Option (List ℕ)) (slots : ℕ) → slots ≤ 2 ^ 28 → ((bytes : List ℕ) → content ≡ Some bytes → slots ≡ slots_at bytes) → SaysSlots content slots
 says_slots None slots few is = few
 says_slots (Some bytes) slots few is = (is bytes refl, few)
+
+pub none_read : (kind : JournalKind) (total : ℕ) → HasRead kind total 0 (0, 0)
+none_read kind total = record { bodies = []; count = refl; sound = tt; last_is = refl }
+
+pub read_more : (kind : JournalKind) (total used : ℕ) (last body : ℕ × ℕ) → HasRead kind total used last → keeps_rule kind total last.0 body ≡ true
+    → HasRead kind total (used + 1) body
+read_more kind total used last body so_far keeps = record {
+  bodies = body ∷ so_far.bodies;
+  count = omega (arith, so_far.count);
+  sound = (ap (λ (b : ℕ × ℕ). keeps_rule kind total b.0 body) (sym so_far.last_is) ∙ keeps, so_far.sound);
+  last_is = refl;
+}
+
+-- none is bad with one slot more: none was, and that one keeps the rule
+pub none_bad : (bad : Option ℕ) (keeps : Bool) (slot : ℕ) → next_bad bad keeps slot ≡ None → (bad ≡ None) × (keeps ≡ true)
+none_bad (Some bad) keeps slot none = absurd (cc)
+none_bad None true slot none = (refl, refl)
+none_bad None false slot none = absurd (cc)

@@ -2,3 +2,4 @@ pub mod Steps
 pub mod Causes
 pub mod Scans
 pub mod New
+pub mod States

@@ -1,20 +1,23 @@
 // An open journal.
-ghost use Rattle.std.specs.Prelude.{◌≡◌, ◌<◌, ◌≤◌, ◌+◌, ◌-◌, ◌*◌, ◌^◌, ◌++◌, ◌∷◌, [], ℕ, List, Some, IfSome, IfOk, IfErr, OnOk, OnErr};
+ghost use Rattle.std.specs.Prelude.{◌≡◌, ◌<◌, ◌≤◌, ◌+◌, ◌-◌, ◌*◌, ◌^◌, ◌++◌, ◌∷◌, [], ℕ, List, Some, true, IfSome, IfOk, IfErr, OnOk, OnErr};
 ghost use Rattle.std.specs.Option.{option_map};
 ghost use Rattle.zk_port.specs.Counts.{Rose};
 ghost use Rattle.zk_port.specs.Images.{LeavesOnly, Only};
 ghost use Rattle.lease_journal.specs.declared.fault.StartFault.TheVariants as start;
-ghost use Rattle.zk_model.specs.Journals.{IsOpen, IsOldOrNew, Recovers, body_at, first_bodies};
+ghost use Rattle.zk_model.specs.Journals.{IsOldOrNew, Recovers, are_slots, body_at, first_bodies};
 ghost use Rattle.lease_journal.specs.Steps.{slot_written};
+ghost use Rattle.lease_journal.specs.Scans.{HasRead};
 ghost use Rattle.lease_journal.specs.Causes.{PutCause, BodyCause, KeptAt, SaysSlots, IsOpened, StartCause, Stays};
 
 use crate::fault::{JournalFault, StartFault};
 use crate::starting::{Opened, open};
 use crate::storing::{read_body, store_slot};
+use std::marker::Model;
 use zk_model::JournalKind;
 use zk_port::{Disk, Failed};
 
-/// An open journal over a disk: the list of the bodies in its first slots.
+/// An open journal over a disk: the list of the bodies in its first slots. Contracts see of it the disk, how many slots
+/// there are and are in use, the last body and the kept fault (`JournalState`).
 ///
 /// What is said of bodies holds where the disk tells its content, and is what stands there (`first_bodies`).
 #[derive(Drop)]
@@ -24,13 +27,24 @@ pub struct Journal<B: Disk> {
     used: u64,
     last: (u64, u64),
     fault: u64,
-    ghost few: { slots ≤ 2 ^ 28 },
-    ghost within: { used ≤ slots },
-    ghost room: { (size : ℕ) → B.room disk ≡ Some size → 64 + 32 * slots ≤ size },
-    ghost opened: { (bytes : List ℕ) → fault ≡ 0 → B.content disk ≡ Some bytes
-        → (slot : ℕ) → slot < used → IsOpen bytes slot },
-    ghost only: { (bytes : List ℕ) → fault ≡ 0 → B.content disk ≡ Some bytes
-        → (image : List ℕ) → B.images disk image → image ≡ bytes },
+}
+
+impl<B: Disk> Model for Journal<B> {
+    ghost use Rattle.lease_journal.specs.States as model;
+
+    ghost Value = { model.JournalState B };
+
+    ghost coded = { model.state_code B.code };
+
+    ghost view = { λ j. record {
+      disk = j.disk;
+      slots = j.slots;
+      used = j.used;
+      last = j.last;
+      fault = j.fault;
+    } };
+
+    ghost invariant = { λ j. model.IsJournal B.content B.room B.images j.disk j.slots j.used j.fault };
 }
 
 impl<B: Disk> Journal<B> {
@@ -55,6 +69,8 @@ impl<B: Disk> Journal<B> {
         ensures durable { IfOk result (λ journal. Only (B.content journal.disk) (B.images journal.disk)) }
         ensures stays { IfOk result (λ journal.
             Stays B.content B.room B.images B.moment B.images_since disk journal.disk) }
+        ensures fits { IfOk result (λ journal. are_slots kind total journal.slots ≡ true) }
+        ensures read { IfOk result (λ journal. HasRead kind total journal.used journal.last) }
         ensures fault { IfOk result (λ journal. journal.fault ≡ 0) }
         ensures faults { IfOk result (λ journal. B.faults journal.disk ≡ B.faults disk) }
         ensures cause { IfErr result (λ e. (bytes : List ℕ) → B.content disk ≡ Some bytes
@@ -79,7 +95,8 @@ impl<B: Disk> Journal<B> {
 
     /// How many slots are in use: so many bodies there are.
     pub fn used(&self) -> u64
-        ensures { result ≡ self.now.used }
+        ensures used { result ≡ self.now.used }
+        ensures within { result ≤ self.now.slots }
     {
         self.used
     }
@@ -93,7 +110,8 @@ impl<B: Disk> Journal<B> {
 
     /// How many slots there are.
     pub fn slots(&self) -> u64
-        ensures { result ≡ self.now.slots }
+        ensures slots { result ≡ self.now.slots }
+        ensures few { result ≤ 2 ^ 28 }
     {
         self.slots
     }

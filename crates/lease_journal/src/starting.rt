@@ -4,7 +4,7 @@ ghost use Rattle.zk_model.specs.Journals.{journal_header, ceiling_slots};
 ghost use Rattle.zk_model.specs.Journals.{are_slots, is_wrong_at, keeps_rule, IsFirstBad, AreUsed, HasHeader, slots_at};
 ghost use Rattle.lease_journal.specs.Causes.{Stays, HasStartCause, SlotSays, SlotCause, IsScanned, ScanCause, HeaderCause, StartCause, IsOpened};
 ghost use Rattle.zk_port.specs.Images.{Only};
-ghost use Rattle.lease_journal.specs.Scans.{next_bad, IsFirstWrongOf};
+ghost use Rattle.lease_journal.specs.Scans.{next_bad, HasRead, IsFirstWrongOf};
 
 use crate::fault::StartFault;
 use crate::storing::{OPEN, body_of, word_at};
@@ -96,6 +96,7 @@ pub fn read_slots<B: Disk>(
     ensures used { IfOk result (λ scan. (bytes : List ℕ) → B.content disk.old ≡ Some bytes
         → AreUsed slots scan.used bytes) }
     ensures within { IfOk result (λ scan. scan.used ≤ slots) }
+    ensures read { IfOk result (λ scan. scan.bad ≡ None → HasRead kind total scan.used scan.last) }
     ensures cause { IfErr result (λ e. (bytes : List ℕ) → B.content disk.old ≡ Some bytes
         → ScanCause slots bytes e) }
     ensures stays { Stays B.content B.room B.images B.moment B.images_since disk.old disk.new }
@@ -166,6 +167,7 @@ pub fn read_header<B: Disk>(
     ensures header { IfOk result (λ slots. (bytes : List ℕ) → B.content disk.old ≡ Some bytes
         → (slots ≡ slots_at bytes) × HasHeader kind id.now total bytes) }
     ensures few { IfOk result (λ slots. slots ≤ 2 ^ 28) }
+    ensures fits { IfOk result (λ slots. are_slots kind total slots ≡ true) }
     ensures cause { IfErr result (λ e. (bytes : List ℕ) → B.content disk.old ≡ Some bytes
         → HeaderCause kind id.now total bytes e) }
     ensures stays { Stays B.content B.room B.images B.moment B.images_since disk.old disk.new }
@@ -202,6 +204,8 @@ pub fn open<B: Disk>(
         → IsOpened kind id.now total o.slots o.used o.last bytes) }
     ensures few { IfOk result (λ o. o.slots ≤ 2 ^ 28) }
     ensures within { IfOk result (λ o. o.used ≤ o.slots) }
+    ensures fits { IfOk result (λ o. are_slots kind total o.slots ≡ true) }
+    ensures read { IfOk result (λ o. HasRead kind total o.used o.last) }
     ensures durable { OnOk result (Only (B.content disk.new) (B.images disk.new)) }
     ensures cause { IfErr result (λ e. (bytes : List ℕ) → B.content disk.old ≡ Some bytes
         → StartCause kind id.now total bytes e) }

@@ -16,8 +16,10 @@ pub const OPEN: u8 = 0x5A;
 /// Writes these bytes at this place, and syncs them.
 pub fn store_at<B: Disk>(disk: &mut B, at: u64, bytes: &[u8]) -> Result<(), Failed>
     requires { HasRoom (at + length bytes.now) (B.room disk.old) }
-    ensures written { OnOk result (B.content disk.new ≡ option_map (written_at at bytes.now) (B.content disk.old)) }
-    ensures torn { OnErr result (StepsBy (IsTorn at (length bytes.now)) (B.content disk.old) (B.content disk.new)) }
+    ensures written { OnOk result (B.content disk.new
+        ≡ option_map (written_at at bytes.now) (B.content disk.old)) }
+    ensures torn { OnErr result
+        (StepsBy (IsTorn at (length bytes.now)) (B.content disk.old) (B.content disk.new)) }
     ensures durable { OnOk result (Only (B.content disk.new) (B.images disk.new)) }
     ensures crash { Follows (IsTorn at (length bytes.now)) (B.images disk.old) (B.images disk.new) }
     ensures any_moment { LeavesOnly B.moment B.images_since disk.old disk.new

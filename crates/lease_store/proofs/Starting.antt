@@ -1,10 +1,11 @@
 -- What a journal says at its start.
-use Rattle.std.proofs.Common.{◌≡◌, ◌<◌, ◌≤◌, ◌*◌, ◌%◌, ◌&&◌, ◌||◌, ◌==◌, nat_le, not, ℕ, zero, suc, List, true, false, Option, Some, None, refl, ap, sym, ◌∙◌, subst, arith}
+use Rattle.std.proofs.Common.{◌≡◌, ◌<◌, ◌≤◌, ◌*◌, ◌%◌, ℕ, suc, List, [], ◌∷◌, length, true, Option, Some, refl, ap, sym, ◌∙◌, subst, arith}
 use Rattle.std.proofs.lemmas.Bool.Decides.{nat_tests}
 use Rattle.zk_port.specs.Images.{Only}
 use Rattle.zk_model.specs.declared.JournalKind.TheVariants.{Ceilings}
-use Rattle.zk_model.specs.Journals.{IsFirstBad, IsTidy, Recovers, are_slots, body_at, ceiling_slots, first_bodies, keeps_rule, last_body, slots_at}
+use Rattle.zk_model.specs.Journals.{IsTidy, Recovers, are_slots, ceiling_slots, first_bodies, keeps_rule, slots_at}
 use Rattle.lease_journal.specs.Causes.{IsOpened}
+use Rattle.lease_journal.specs.Scans.{AreSound, HasRead, newest}
 use Rattle.lease_words.specs.Views.{journal_at}
 use Rattle.lease_store.specs.Ceilings.{RecoversAtLeast, RecoversCeiling}
 use Rattle.lease_store.specs.Desks.{IsDesk, IsKeptAt}
@@ -27,50 +28,36 @@ keeps_high total used before body high sound =
           omega (arith, had, grows, whole);
     }
 
-high_at : (total used : ℕ) (bytes : List ℕ) → IsFirstBad Ceilings total bytes used None → IsHigh total used (last_body bytes used).0
-high_at total zero bytes sound = record { low = omega arith; steps = λ short. omega arith }
-high_at total (suc slot) bytes sound =
-    keeps_high total slot (last_body bytes slot).0 (body_at bytes slot)
-    (high_at total slot bytes (λ earlier before. sound earlier (omega (arith, before)))) (sound slot (omega arith))
+-- the bodies that were read make the last ceiling high enough, also where the disk tells no content
+high_bodies : (total : ℕ) (bodies : List (ℕ × ℕ)) → AreSound Ceilings total bodies → IsHigh total (length bodies) (newest bodies).0
+high_bodies total [] sound = record { low = omega arith; steps = λ short. omega arith }
+high_bodies total (body ∷ earlier) sound = keeps_high total (length earlier) (newest earlier).0 body (high_bodies total earlier sound.1) sound.0
 
--- the number of slots in a right header
-right_slots : (total slots : ℕ) → not (are_slots Ceilings total slots) ≡ false → slots ≡ ceiling_slots total
+right_slots : (total slots : ℕ) → are_slots Ceilings total slots ≡ true → slots ≡ ceiling_slots total
 right_slots total slots right = grind (arith, nat_tests)
 
-pub opened_slots : (id : List ℕ) (total slots used : ℕ) (last : ℕ × ℕ) (bytes : List ℕ) → IsOpened Ceilings id total slots used last bytes → slots ≡ ceiling_slots total
-opened_slots id total slots used last bytes opened = opened.slots_are ∙ right_slots total (slots_at bytes) (opened.header.right 24 (omega arith))
-
 -- a journal that was opened has a free slot wherever its ceiling is below the total
-pub opened_room : (id : List ℕ) (total slots used : ℕ) (last : ℕ × ℕ) (bytes : List ℕ) → IsOpened Ceilings id total slots used last bytes
-    → (slots == ceiling_slots total && nat_le last.0 total && (last.0 == total || nat_le (16 * used) last.0)) ≡ true
-opened_room id total slots used last bytes opened =
-    let is : slots ≡ ceiling_slots total = opened_slots id total slots used last bytes opened in
-    let high : IsHigh total used last.0 = subst (λ (b : ℕ × ℕ). IsHigh total used b.0) (sym opened.last_is) (high_at total used bytes opened.sound) in
-    room_of total slots used last.0 is high.low high.steps
-  where
-    room_of : (total slots used last : ℕ) → slots ≡ ceiling_slots total → last ≤ total → (last < total → 16 * used ≤ last)
-        → (slots == ceiling_slots total && nat_le last total && (last == total || nat_le (16 * used) last)) ≡ true
-    room_of total slots used last is low steps = grind (arith, nat_tests)
-
 pub record HasRoomLeft (total slots used last : ℕ) : Type 0 where
   pub slots_are : slots ≡ ceiling_slots total
   pub low : last ≤ total
   pub steps : last < total → 16 * used ≤ last
 
-pub room_left : (total slots used last : ℕ) → (slots == ceiling_slots total && nat_le last total && (last == total || nat_le (16 * used) last)) ≡ true
-    → HasRoomLeft total slots used last
-room_left total slots used last is = record {
-  slots_are = grind (arith, nat_tests);
-  low = grind (arith, nat_tests);
-  steps = λ short. grind (arith, nat_tests);
-}
+pub room_left : (total slots used : ℕ) (last : ℕ × ℕ) → are_slots Ceilings total slots ≡ true → HasRead Ceilings total used last → HasRoomLeft total slots used last.0
+room_left total slots used last fits read =
+    let high = high_bodies total read.bodies read.sound in
+    let is : last.0 ≡ (newest read.bodies).0 = ap (λ (b : ℕ × ℕ). b.0) read.last_is in
+    record {
+      slots_are = right_slots total slots fits;
+      low = omega (arith, is, high.low);
+      steps = λ short. let enough = high.steps (omega (arith, is, short)) in omega (arith, is, enough, read.count);
+    }
 
 -- the bytes recover the ceiling
 pub finds_ceiling : (id : List ℕ) (total slots used : ℕ) (last : ℕ × ℕ) (bytes : List ℕ) → IsOpened Ceilings id total slots used last bytes
-    → Recovers slots bytes (first_bodies used bytes) → RecoversCeiling (ceiling_slots total) last.0 bytes
-finds_ceiling id total slots used last bytes opened recovers = (
+    → slots ≡ ceiling_slots total → Recovers slots bytes (first_bodies used bytes) → RecoversCeiling (ceiling_slots total) last.0 bytes
+finds_ceiling id total slots used last bytes opened are recovers = (
   first_bodies used bytes,
-  subst (λ n. Recovers n bytes (first_bodies used bytes)) (opened_slots id total slots used last bytes opened) recovers,
+  subst (λ n. Recovers n bytes (first_bodies used bytes)) are recovers,
   last_of_first used bytes ∙ ap (λ (b : ℕ × ℕ). b.0) (sym opened.last_is),
 )
 

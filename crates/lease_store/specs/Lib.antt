@@ -1,3 +1,4 @@
 pub mod Ceilings
 pub mod Desks
 pub mod Leases
+pub mod States

@@ -19,30 +19,38 @@ use crate::store::LeaseStore;
 use lease_journal::{Journal, JournalKind, StartFault, ceiling_slots};
 use lease_words::{JournalSeat, Pass, Words};
 use std::alloc::{AllocError, Global};
-use std::marker::PhantomData;
+use std::marker::{Model, PhantomData};
 use std::sync::Mutex;
 use zk_port::Disk;
 
-/// A store as it starts, before it has a name.
+/// A store as it starts, before it has a name. Contracts see of it the disk, the table of its words, the first unit of
+/// its era, the total and how many passes there are (`PartsState`).
 #[derive(Drop)]
 pub struct LeaseParts<B: Disk> {
     words: Words,
     journal: Journal<B>,
     seat: JournalSeat,
     total: u64,
-    ghost few: { total ≤ 2 ^ 40 },
-    ghost own: { seat.seat.table_id ≡ words_id words },
-    ghost kept: { IsDesk B.content B.images B.faults (B.faults journal.disk) total journal.disk journal.slots
-        journal.used journal.last.0 journal.fault seat.seat.me.0 },
 }
 
-/// Whether a journal's numbers leave a free slot wherever its ceiling is below the total. They do in every journal that a
-/// start opens; of a disk that tells no content nothing is known, so it is tested.
-fn leaves_room(total: u64, slots: u64, used: u64, last: u64) -> bool
-    ensures { result ≡ (slots == ceiling_slots total && nat_le last total
-        && (last == total || nat_le (16 * used) last)) }
-{
-    slots == ceiling_slots(total) && last <= total && (last == total || used <= last / 16)
+impl<B: Disk> Model for LeaseParts<B> {
+    ghost use Rattle.lease_words.specs.Calls.{base_of, words_id};
+    ghost use Rattle.lease_store.specs.States as model;
+
+    ghost Value = { model.PartsState B };
+
+    ghost coded = { model.parts_code B.code };
+
+    ghost view = { λ p. record {
+      disk = p.journal.disk;
+      table = words_id p.words;
+      base = base_of p.words;
+      total = p.total;
+      passes = p.seat.seat.me.0.made;
+    } };
+
+    ghost invariant = { λ p. model.AreParts B.content B.images B.faults p.total (words_id p.words)
+        p.seat.seat.table_id p.journal p.seat.seat.me.0 };
 }
 
 impl<B: Disk> LeaseParts<B> {
@@ -65,36 +73,30 @@ impl<B: Disk> LeaseParts<B> {
             → (slots : ℕ) → SaysSlots (B.content disk) slots → 64 + 32 * slots ≤ size }
         requires tidy { (bytes : List ℕ) → B.content disk ≡ Some bytes → IsTidy (slots_at bytes) bytes }
         ensures base { IfOk result (λ r. (bytes : List ℕ) → B.content disk ≡ Some bytes
-            → RecoversCeiling (ceiling_slots total) (base_of r.0.words) bytes) }
+            → RecoversCeiling (ceiling_slots total) r.0.base bytes) }
         ensures total { IfOk result (λ r. r.0.total ≡ total) }
-        ensures made { IfOk result (λ r. r.0.seat.seat.me.0.made ≡ passes) }
-        ensures faults { IfOk result (λ r. B.faults r.0.journal.disk ≡ B.faults disk) }
+        ensures made { IfOk result (λ r. r.0.passes ≡ passes) }
+        ensures faults { IfOk result (λ r. B.faults r.0.disk ≡ B.faults disk) }
         ensures stays { IfOk result (λ r.
-            Stays B.content B.room B.images B.moment B.images_since disk r.0.journal.disk) }
-        ensures durable { IfOk result (λ r. Only (B.content r.0.journal.disk) (B.images r.0.journal.disk)) }
+            Stays B.content B.room B.images B.moment B.images_since disk r.0.disk) }
+        ensures durable { IfOk result (λ r. Only (B.content r.0.disk) (B.images r.0.disk)) }
         ensures count { IfOk result (λ r. length r.1.items ≡ passes) }
-        ensures fresh { IfOk result (λ r. AreFresh (words_id r.0.words) (base_of r.0.words) total r.1.items) }
-        ensures passes { IfOk result (λ r. All (IsPassAt (words_id r.0.words) r.0.total) r.1.items) }
+        ensures fresh { IfOk result (λ r. AreFresh r.0.table r.0.base total r.1.items) }
+        ensures passes { IfOk result (λ r. All (IsPassAt r.0.table r.0.total) r.1.items) }
         ensures cause { IfErr result (λ e. (bytes : List ℕ) → B.content disk ≡ Some bytes
             → (fault : StartFault) → e.0 ≡ store.Journal fault
             → StartCause kind.Ceilings id.now total bytes fault) }
         ensures device { IfErr result (λ e. e.0 ≡ store.Journal start.Device
             → Rose (B.faults disk) (B.faults e.1)) }
         ensures later { IfErr result (λ e. B.faults disk ≤ B.faults e.1) }
-        ensures stays_refused { IfErr result (λ e. Stays B.content B.room B.images B.moment B.images_since disk e.1) }
+        ensures stays_refused { IfErr result (λ e.
+            Stays B.content B.room B.images B.moment B.images_since disk e.1) }
     {
         let journal = match Journal::start(disk, JournalKind::Ceilings, id, total) {
             Ok(journal) => journal,
             Err((fault, disk)) => return Err((StoreFault::Journal(fault), disk)),
         };
         let base = journal.last().0;
-        if !leaves_room(total, journal.slots(), journal.used(), base) {
-            let slot = journal.used();
-            return Err((
-                StoreFault::Journal(StartFault::BadBody { slot }),
-                journal.into_disk(),
-            ));
-        }
         match lease_words::start(alloc, base, total, passes) {
             Ok((words, seat, passes)) => {
                 let parts = LeaseParts {
@@ -111,11 +113,11 @@ impl<B: Disk> LeaseParts<B> {
 
     /// The store, under the name of these parts.
     pub fn named<N: LeaseName>(self) -> LeaseStore<B, N>
-        requires table { words_id self.words ≡ N.table }
+        requires table { self.table ≡ N.table }
         requires total { self.total ≡ N.total }
-        requires passes { self.seat.seat.me.0.made ≡ N.passes }
-        requires faults { B.faults self.journal.disk ≡ N.faults }
-        ensures base { base_of result.words ≡ base_of self.words }
+        requires passes { self.passes ≡ N.passes }
+        requires faults { B.faults self.disk ≡ N.faults }
+        ensures base { result.base ≡ self.base }
     {
         let LeaseParts {
             words,

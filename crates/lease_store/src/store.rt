@@ -1,20 +1,32 @@
 // A store that threads share.
 ghost use Rattle.std.specs.Prelude.{◌≡◌, length, All};
-ghost use Rattle.lease_words.specs.Calls.{base_of, words_id};
 ghost use Rattle.lease_store.specs.Leases.{IsClosed, IsPassAt};
 
 use crate::desk::Desk;
 use crate::name::LeaseName;
 use lease_words::{Pass, Words};
+use std::marker::Model;
 use std::sync::Mutex;
 use zk_port::Disk;
 
-/// A store of units, which threads share by reference: each leases with a pass of its own.
+/// A store of units, which threads share by reference: each leases with a pass of its own. Contracts see of it the
+/// first unit of its era (`StoreState`).
 #[derive(Drop)]
 pub struct LeaseStore<B: Disk, N: LeaseName> {
     pub(crate) words: Words,
     pub(crate) desk: Mutex<Desk<B, N>>,
-    ghost named: { words_id words ≡ N.table },
+}
+
+impl<B: Disk, N: LeaseName> Model for LeaseStore<B, N> {
+    ghost use Rattle.std.specs.Prelude.{◌≡◌};
+    ghost use Rattle.lease_words.specs.Calls.{base_of, words_id};
+    ghost use Rattle.lease_store.specs.States as model;
+
+    ghost Value = { model.StoreState };
+
+    ghost view = { λ s. record { base = base_of s.words } };
+
+    ghost invariant = { λ s. words_id s.words ≡ N.table };
 }
 
 impl<B: Disk, N: LeaseName> LeaseStore<B, N> {
@@ -22,7 +34,7 @@ impl<B: Disk, N: LeaseName> LeaseStore<B, N> {
     pub fn close(self, passes: Vec<Pass>) -> B
         requires own { All (IsPassAt N.table N.total) passes.items }
         requires all { length passes.items ≡ N.passes }
-        ensures { IsClosed B.content B.images B.faults N.faults (base_of self.words) N.total result passes.items }
+        ensures { IsClosed B.content B.images B.faults N.faults self.base N.total result passes.items }
     {
         let LeaseStore { words, desk } = self;
         let Desk { journal, seat, .. } = desk.into_inner();

@@ -1,6 +1,5 @@
 // Leases over disks in memory.
 ghost use Rattle.std.specs.Prelude.{◌≡◌, ◌≤◌, false, All, IfOk};
-ghost use Rattle.lease_words.specs.Calls.{words_id};
 ghost use Rattle.lease_store.specs.Leases.{IsPassAt};
 
 use crate::{LeaseFault, LeaseName, LeaseParts, LeaseStore, Span, StoreFault, TryFault};
@@ -109,10 +108,10 @@ fn answers_of<N: LeaseName, P: FaultPlan + Drop, R: Wait>(
     pass: Pass,
     calls: &[Call],
 ) -> Result<(Vec<Answer>, QuietDisk<P>), AllocError>
-    requires table { words_id parts.words ≡ N.table }
+    requires table { parts.table ≡ N.table }
     requires total { parts.total ≡ N.total }
-    requires passes { (parts.seat.seat.me.0.made ≡ N.passes) × (N.passes ≡ 1) }
-    requires faults { P.count parts.journal.disk.disk.plan ≡ N.faults }
+    requires passes { (parts.passes ≡ N.passes) × (N.passes ≡ 1) }
+    requires faults { P.count parts.disk.disk.plan ≡ N.faults }
     requires own { IsPassAt N.table N.total pass }
 {
     let store = parts.named::<N>();
@@ -336,9 +335,9 @@ fn lease_by_two<N: LeaseName + Send, R: Threads + Wait + Sync>(
     first: Pass,
     second: Pass,
 ) -> Result<Vec<Span>, AllocError>
-    requires table { words_id parts.words ≡ N.table }
+    requires table { parts.table ≡ N.table }
     requires total { parts.total ≡ N.total }
-    requires passes { (parts.seat.seat.me.0.made ≡ N.passes) × (N.passes ≡ 2) }
+    requires passes { (parts.passes ≡ N.passes) × (N.passes ≡ 2) }
     requires faults { 0 ≡ N.faults }
     requires own { IsPassAt N.table N.total first × IsPassAt N.table N.total second }
 {
@@ -364,8 +363,8 @@ fn lease_by_two<N: LeaseName + Send, R: Threads + Wait + Sync>(
 
 /// A store of 4,000 units with two passes over a disk that never fails.
 fn sure_parts(alloc: Global) -> Result<(LeaseParts<SureDisk>, Vec<Pass>), Fail>
-    ensures passes { IfOk result (λ r. All (IsPassAt (words_id r.0.words) r.0.total) r.1.items) }
-    ensures made { IfOk result (λ r. r.0.seat.seat.me.0.made ≡ 2) }
+    ensures passes { IfOk result (λ r. All (IsPassAt r.0.table r.0.total) r.1.items) }
+    ensures made { IfOk result (λ r. r.0.passes ≡ 2) }
 {
     blank_says_nothing();
     let bytes = blank(alloc, JournalKind::Ceilings, &ID, 4000, 250)?;

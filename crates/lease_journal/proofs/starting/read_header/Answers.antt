@@ -1,7 +1,7 @@
 use Rattle.std.proofs.Common.{◌≡◌, ◌-◌, length, take, drop, min, ◌∙◌, subst, arith, rules}
 use Rattle.lease_journal.specs.Scans.{IsFirstWrongOf}
 use Rattle.lease_journal.proofs.Reading.{is_read}
-use Rattle.lease_journal.proofs.Headers.{header_read, wrong_read, few_slots}
+use Rattle.lease_journal.proofs.Headers.{header_read, wrong_read, few_slots, right_slots}
 use Rattle.lease_journal.proofs.starting.read_header.Goals as goal
 
 pub returns-in-Some-clause-cause : goal.returns-in-Some-clause-cause
@@ -26,4 +26,9 @@ returns-clause-header g c = λ bytes is.
 pub returns-clause-few : goal.returns-clause-few
 returns-clause-few g c =
     few_slots c.args.kind c.args.id.now c.args.total c.read.new.buffer c.word_at.result c.word_at.ensures
+    (subst (λ o. IsFirstWrongOf c.args.kind c.args.id.now c.args.total c.read.new.buffer o) c.in_default.is c.first_wrong.ensures)
+
+pub returns-clause-fits : goal.returns-clause-fits
+returns-clause-fits g c =
+    right_slots c.args.kind c.args.id.now c.args.total c.read.new.buffer c.word_at.result c.word_at.ensures
     (subst (λ o. IsFirstWrongOf c.args.kind c.args.id.now c.args.total c.read.new.buffer o) c.in_default.is c.first_wrong.ensures)

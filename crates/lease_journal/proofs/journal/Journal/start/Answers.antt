@@ -3,18 +3,16 @@ use Rattle.zk_port.specs.Images.{Only}
 use Rattle.lease_journal.proofs.Scanning.{used_recovers, says_slots}
 use Rattle.lease_journal.proofs.journal.Journal.start.Goals as goal
 
-pub invariant_of-result-clause-room : goal.invariant_of-result-clause-room
-invariant_of-result-clause-room g c = λ size is.
-    c.requires.room size (sym c.open.ensures.stays.room_same ∙ is) c.in-Ok.field-0.slots
-    (says_slots (g.B.Disk.content c.args.disk) c.in-Ok.field-0.slots c.in-Ok.ensures.few (λ bytes there. (c.in-Ok.ensures.opened bytes there).slots_are))
-
-pub invariant_of-result-clause-opened : goal.invariant_of-result-clause-opened
-invariant_of-result-clause-opened g c = λ bytes sound is.
-    (c.in-Ok.ensures.opened bytes (sym c.open.ensures.stays.same ∙ is)).slots_used.opened
-
-pub invariant_of-result-clause-only : goal.invariant_of-result-clause-only
-invariant_of-result-clause-only g c = λ bytes sound is.
-    subst (λ o. Only o (g.B.Disk.images c.open.new.disk)) is c.in-Ok.ensures.durable
+pub invariant_of-result : goal.invariant_of-result
+invariant_of-result g c = record {
+  few = c.in-Ok.ensures.few;
+  within = c.in-Ok.ensures.within;
+  has_room = λ size is.
+      c.requires.room size (sym c.open.ensures.stays.room_same ∙ is) c.in-Ok.field-0.slots
+      (says_slots (g.B.Disk.content c.args.disk) c.in-Ok.field-0.slots c.in-Ok.ensures.few (λ bytes there. (c.in-Ok.ensures.opened bytes there).slots_are));
+  opened = λ bytes sound is. (c.in-Ok.ensures.opened bytes (sym c.open.ensures.stays.same ∙ is)).slots_used.opened;
+  only = λ bytes sound is. subst (λ o. Only o (g.B.Disk.images c.open.new.disk)) is c.in-Ok.ensures.durable;
+}
 
 pub returns-in-Ok-clause-recovers : goal.returns-in-Ok-clause-recovers
 returns-in-Ok-clause-recovers g c = λ bytes is.

@@ -4,7 +4,7 @@ use Rattle.lease_store.proofs.store.LeaseStore.close.Goals as goal
 
 pub returns : goal.returns
 returns g c =
-    let desk = c.into_inner-journal.result in
+    let desk = c.journal.inside in
     let j = desk.journal in
-    rw c.into_disk.ensures (closed g.B.Disk.content g.B.Disk.images g.B.Disk.faults g.N.LeaseName.faults (base_of c.args.self.words)
-    g.N.LeaseName.total j.slots j.used j.last.0 j.fault desk.seat.seat.me.0 j.disk c.args.passes.items desk.kept c.gather.ensures)
+    rw (← c.self.view_is, c.into_disk.ensures) (closed g.B.Disk.content g.B.Disk.images g.B.Disk.faults g.N.LeaseName.faults (base_of c.self.inside.words)
+    g.N.LeaseName.total j.slots j.used j.last.0 j.fault desk.seat.seat.me.0 j.disk c.args.passes.items c.journal.invariant.kept c.gather.ensures)

@@ -1,0 +1,55 @@
+-- What contracts see of a store, of its parts, and of what stands behind its lock.
+use Rattle.std.specs.Prelude.{◌≡◌, ℕ, ◌^◌, ◌≤◌, List, Option, refl}
+use Rattle.std.specs.Coded.{Coded, code_by, coded×, coded_ℕ}
+use Rattle.atomic_table.specs.Seated.{TableId, table_id_coded}
+use Rattle.lease_journal.specs.States.{JournalState, state_code}
+use Rattle.lease_words.specs.declared.view.View.{View}
+use Rattle.lease_store.specs.Desks.{IsDesk}
+
+-- Parts of a store: its disk, the table of its words, the first unit of its era, the total of units, and how many passes there are
+pub record PartsState (D : Type 0) : Type 0 where
+  pub disk : D
+  pub table : TableId
+  pub base : ℕ
+  pub total : ℕ
+  pub passes : ℕ
+
+abbrev pub parts_code : {D : Type 0} → Coded D → Coded (PartsState D)
+parts_code {D} disk =
+    code_by (D × (TableId × (ℕ × (ℕ × ℕ))))
+    (coded× disk (coded× table_id_coded (coded× coded_ℕ (coded× coded_ℕ coded_ℕ))))
+    (λ p. (p.disk, (p.table, (p.base, (p.total, p.passes)))))
+    (λ p. record { disk = p.0; table = p.1.0; base = p.1.1.0; total = p.1.1.1.0; passes = p.1.1.1.1 })
+    (λ _. refl)
+
+-- the first unit of a store's era
+pub record StoreState : Type 0 where
+  pub base : ℕ
+
+-- behind the lock: the journal, the ceiling that its seat shows, and the mark that it set, or 0
+pub record DeskState (D : Type 0) : Type 0 where
+  pub journal : JournalState D
+  pub ceiling : ℕ
+  pub mark : ℕ
+
+abbrev pub desk_code : {D : Type 0} → Coded D → Coded (DeskState D)
+desk_code {D} disk =
+    code_by (JournalState D × (ℕ × ℕ))
+    (coded× (state_code disk) (coded× coded_ℕ coded_ℕ))
+    (λ d. (d.journal, (d.ceiling, d.mark)))
+    (λ p. record { journal = p.0; ceiling = p.1.0; mark = p.1.1 })
+    (λ _. refl)
+
+-- what parts keep: the seat is of these words, and the journal and the seat are a desk that has just started
+pub record AreParts {D : Type 0} (content : D → Option (List ℕ)) (images : D → List ℕ → Type 0) (faults : D → ℕ) (total : ℕ) (table seat : TableId) (journal : JournalState D) (v : View) : Type 0 where
+  pub few : total ≤ 2 ^ 40
+  pub own : seat ≡ table
+  pub kept : IsDesk content images faults (faults journal.disk) total journal.disk journal.slots journal.used journal.last.0 journal.fault v
+
+-- what the desk keeps, of the store that has this table, this total, so many passes, and this count of faults at its start
+pub record IsDeskOf {D : Type 0} (content : D → Option (List ℕ)) (images : D → List ℕ → Type 0) (faults : D → ℕ) (table : TableId) (total passes start : ℕ) (seat : TableId) (journal : JournalState D) (own_total : ℕ) (v : View) : Type 0 where
+  pub few : own_total ≤ 2 ^ 40
+  pub total_is : own_total ≡ total
+  pub own : seat ≡ table
+  pub made : v.made ≡ passes
+  pub kept : IsDesk content images faults start total journal.disk journal.slots journal.used journal.last.0 journal.fault v
