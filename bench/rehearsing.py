@@ -1,0 +1,36 @@
+#!/usr/bin/env python3
+"""Compares how fast two programs rehearse sessions, and how much memory they take.
+
+`rehearsing.py PROGRAM OTHER` runs `rehearse FILE BITS` of both, in sections of the default length, as `costs.py` says, and prints
+the best of five times (elapsed seconds of the whole run) and the largest resident memory of each. The circuits are chains: of
+AND gates, each of the wire before and input 0, half and all of 131,000; and of INV gates, half a million and a million.
+"""
+import pathlib
+import sys
+import tempfile
+
+from costs import compare, row, table_head
+
+
+def chain(gates: int, name: str) -> str:
+    """A circuit of two inputs and so many gates of this name, each of which reads the wire before it."""
+    first = "2 1 0" if name == "AND" else "1 1"
+    rows = [f"{gates} {gates + 2}", "1 2", "1 1", ""]
+    rows += [f"{first} {wire} {wire + 1} {name}" for wire in range(1, gates + 1)]
+    return "\n".join(rows) + "\n"
+
+
+def main() -> None:
+    given = sys.argv[1:]
+    if len(given) != 2:
+        sys.exit("rehearsing.py PROGRAM OTHER")
+    print(table_head("Circuit"))
+    with tempfile.TemporaryDirectory() as folder:
+        file = f"{folder}/text"
+        for gates, name in ((65_500, "AND"), (131_000, "AND"), (500_000, "INV"), (1_000_000, "INV")):
+            pathlib.Path(file).write_text(chain(gates, name))
+            print(row(f"{gates:,} {name}", compare(given, ["rehearse", file, "11"], folder)), flush=True)
+
+
+if __name__ == "__main__":
+    main()
