@@ -9,7 +9,8 @@ it prints what differs, and ends with 1 where anything does.
 Outputs come from what each circuit is for: sums, comparisons, the vectors of AES in FIPS 197 (2001). Faults stand here
 as they follow from the rules in `bristol.py`. That module must find the same of each; from it come the numbers of
 inputs and gates. A rehearsal has a product for each input wire and for each XOR and AND, a section for each product, a
-correlation for each product and each section, and units of 64 correlations, but one unit at least.
+correlation for each product and each section, and units of 64 correlations, but one unit at least. Nobody calls at the
+door, so a verifier that serves prints nothing, or why it does not listen.
 """
 import pathlib
 import sys
@@ -130,6 +131,14 @@ WRONG_WORDS = [
     "deal x --units 1 --section 1",
     "prove x",
     "serve x",
+    "serve here z.verifier and.txt 1",
+    "serve here z.verifier and.txt 1 --sessions 0",
+    "serve here z.verifier and.txt 1 --sessions 2",
+    "serve here z.verifier and.txt 1 --sessions 1 --sessions 1",
+    "serve here z.verifier and.txt 1 --sessions 1 --section 0",
+    "serve here z.verifier and.txt 2 --sessions 1",
+    "serve here z.verifier and.txt --sessions 1",
+    "serve here z.verifier and.txt 1 1 --sessions 1",
     "audit x",
 ]
 
@@ -261,6 +270,37 @@ def dealings() -> List[Run]:
     return [Run(words, [f"id {FILE_ID}", f"units {units}"], 0) for words, units in given]
 
 
+def services() -> List[Run]:
+    """Services over files that are dealt for them, and over those of kind extended that `dealings` leaves."""
+    given: List[Tuple[str, List[str], int]] = [
+        ("z.verifier and.txt 1", [], 0),
+        ("z.verifier no_outputs.txt none", [], 0),
+        ("z.verifier and.txt 10", ["refused outputs 1 2"], 3),
+        ("z.verifier and.txt none", ["refused outputs 1 0"], 3),
+        ("z.prover and.txt 1", ["refused BadKind 2"], 3),
+        ("y.verifier and.txt 1", ["refused BadKind 2"], 3),
+        ("and.txt and.txt 1", ["refused BadMagic 1"], 3),
+        ("z.verifier short_text.txt 1", ["refused ShortText 1 2"], 3),
+        ("missing and.txt 1", ["failed shelf"], 4),
+        ("z.verifier missing.txt 1", ["failed shelf"], 4),
+        # Outputs are counted before the verifier's file is read.
+        ("missing and.txt 10", ["refused outputs 1 2"], 3),
+    ]
+    runs = [Run("deal z --units 1", [f"id {FILE_ID}", "units 1 direct"], 0)]
+    runs += [Run(f"serve here {words} --sessions 1", lines, status) for words, lines, status in given]
+    return runs + [Run("serve --section 1 here z.verifier --sessions 01 and.txt 1", [], 0)]
+
+
+def too_large() -> List[Run]:
+    """A session of one unit more than there may be: a product for each input, and one section."""
+    file = "many_inputs.txt"
+    circuit = bristol.read((DATA / file).read_bytes())
+    assert isinstance(circuit, bristol.Circuit)
+    need = circuit.inputs + 1
+    line = f"too large {need} {-(-need // 64)}"
+    return [Run(f"serve here z.verifier {file} 1 --sessions 1", [line], 9)]
+
+
 def all_runs() -> List[Run]:
     """All runs in order."""
     aes = [aes_case(*AES_B), aes_case(*AES_C_1)]
@@ -268,7 +308,8 @@ def all_runs() -> List[Run]:
     for case in small_cases():
         runs += [eval_run(case.file, case.bits, case.outputs, 0), rehearse_run(case)]
     runs += [eval_run(case.file, case.bits, case.outputs, 0) for case in aes]
-    return runs + [rehearse_run(aes[1])] + refusals() + orders() + sections() + dealings()
+    runs += [rehearse_run(aes[1])] + refusals() + orders() + sections() + dealings()
+    return runs + services() + too_large()
 
 
 def differences(given: str, written: str) -> List[str]:
