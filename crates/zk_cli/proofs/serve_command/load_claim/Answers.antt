@@ -6,4 +6,4 @@ use Rattle.zk_model.specs.Bytes.{AreBytes}
 use Rattle.zk_cli.proofs.serve_command.load_claim.Goals as goal
 
 pub new-requires-clause-digest : goal.new-requires-clause-digest
-new-requires-clause-digest g c = subst (AreBytes 32) (sym c.digest-digest.ensures) (length-sha256 c.in_ok-text.text.items, sha256_octets c.in_ok-text.text.items)
+new-requires-clause-digest g c = subst (AreBytes 32) (sym c.digest-digest.ensures) (length-sha256 _, sha256_octets _)
