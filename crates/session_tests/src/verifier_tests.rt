@@ -6,12 +6,12 @@ use crate::scene::{
     LONG, Rehearsal, Scene, and_gate, circuit_of, claim_of, files_of, refusal, rehearsed,
 };
 use lease_store::{LeaseFault, Span};
-use proof_frames::{Decoder, Expect};
+use proof_frames::{BadFrame, Decoder, Expect};
 use session_core::{HelloDiffers, VerifierJob};
 use session_verifier::{Grantor, SessionNote, VerifierOutcome, verify_session};
 use std::alloc::Global;
 use std::test::Fail;
-use zk_model::Side;
+use zk_model::{FrameKind, Side};
 use zk_port::{FailAt, FaultPlan, Link, NoFault, QuietGate, ScriptedLink};
 
 /// Leases units from 0 on, or answers by a fault.
@@ -302,5 +302,38 @@ fn frames_are_the_same_in_pieces_of_any_length(rt: HostRuntime) -> Result<(), Fa
     assert_eq!(rt; frames_told(alloc, &script, 7)?, whole);
     assert!(rt; whole.starts_with("Hello(Hello { id: [244, 0, 146, "));
     assert!(rt; whole.contains("Corrections(["));
+    Ok(())
+}
+
+/// The first bad byte of these, where they come in place of corrections, behind the hello of the script.
+fn bad_correction(alloc: Global, script: &[u8], bytes: &[u8]) -> Result<Option<BadFrame>, Fail> {
+    let mut decoder = Decoder::new(alloc);
+    frame_told(alloc, &mut decoder, Expect::Hello, script, 102)?;
+    if decoder.received() != 102 {
+        return Err(Fail::new("another hello"));
+    }
+    decoder.expect(Expect::Corrections { count: 3 })?;
+    Ok(decoder.feed(bytes).err())
+}
+
+#[test]
+fn a_bad_byte_is_told_with_its_place_and_its_frame(rt: HostRuntime) -> Result<(), Fail> {
+    let alloc = rt.alloc();
+    let script = whole_script(alloc)?;
+    let kind = FrameKind::Corrections;
+    // A second hello.
+    let place = 102;
+    assert_eq!(rt;
+        bad_correction(alloc, &script, &script)?,
+        Some(BadFrame { place, kind })
+    );
+    // The first element is the prime.
+    let mut prime = [5, 24, 0, 0, 0].to_vec(alloc)?;
+    prime.extend_from_slice(&((1u64 << 61) - 1).to_le_bytes())?;
+    let place = 114;
+    assert_eq!(rt;
+        bad_correction(alloc, &script, &prime)?,
+        Some(BadFrame { place, kind })
+    );
     Ok(())
 }
