@@ -1,10 +1,10 @@
 -- Why a store of claims doesn't start, and why a span is not claimed.
-use Rattle.std.specs.Prelude.{◌≡◌, ◌≢◌, ◌⊎◌, ℕ, ◌+◌, ◌<◌, ◌≤◌, List, length, Some, None, true, false, Result, IsErrOf, OnOk}
+use Rattle.std.specs.Prelude.{◌≡◌, ◌≢◌, ◌⊎◌, ℕ, ◌+◌, ◌<◌, ◌≤◌, List, length, Some, None, false, Result, IsErrOf, OnOk}
 use Rattle.zk_port.specs.Counts.{Rose}
-use Rattle.zk_model.specs.Journals.{last_body, slots_at}
+use Rattle.zk_model.specs.Journals.{AreUsed, HasHeader, slots_at}
 use Rattle.zk_model.specs.declared.JournalKind.TheVariants.{Claims}
-use Rattle.lease_core.specs.Spans.{span, meets_any}
-use Rattle.lease_journal.specs.Causes.{StartCause, IsOpened}
+use Rattle.lease_core.specs.Spans.{span}
+use Rattle.lease_journal.specs.Causes.{StartCause}
 use Rattle.lease_journal.specs.declared.fault.StartFault.{StartFault}
 use Rattle.lease_journal.specs.declared.fault.StartFault.TheVariants as start
 use Rattle.claim_store.specs.declared.ClaimFault.{ClaimFault}
@@ -13,24 +13,23 @@ use Rattle.claim_store.specs.declared.fault.StoreFault.{StoreFault}
 use Rattle.claim_store.specs.declared.fault.StoreFault.TheVariants as store
 use Rattle.claim_store.specs.Claims.{ClaimState, AreClaims, claim_at, first_claims, first_met, may_follow}
 
--- the journal by itself has no fault, and this is the first slot in use whose span has a unit of an earlier one
-pub record IsFirstOverlap (id : List ℕ) (total : ℕ) (bytes : List ℕ) (slot : ℕ) : Type 0 where
+-- the first open slot whose span may not stand behind those before it: it has no unit, ends above the total, or has a unit of an
+-- earlier one
+pub record IsFirstBadSlot (id : List ℕ) (total : ℕ) (bytes : List ℕ) (slot : ℕ) : Type 0 where
+  pub header : HasHeader Claims id total bytes
   pub used : ℕ
-  pub opened : IsOpened Claims id total (slots_at bytes) used (last_body bytes used) bytes
+  pub slots_used : AreUsed (slots_at bytes) used bytes
   pub inside : slot < used
   pub before : AreClaims total (first_claims slot bytes)
-  pub meets : meets_any (claim_at bytes slot) (first_claims slot bytes) ≡ true
+  pub bad : may_follow total (first_claims slot bytes) (claim_at bytes slot) ≡ false
 
-abbrev pub OverlapCause : List ℕ → ℕ → List ℕ → StartFault → Type 0
-OverlapCause id total bytes start.Device = ⊥
-OverlapCause id total bytes (start.Short need got) = ⊥
-OverlapCause id total bytes (start.BadHeader place) = ⊥
-OverlapCause id total bytes (start.BadBody slot) = IsFirstOverlap id total bytes slot
-
--- why a store doesn't start on these bytes: as the journal, or because claims meet
+-- why a store doesn't start on these bytes
 abbrev pub StoreCause : List ℕ → ℕ → List ℕ → StoreFault → Type 0
 StoreCause id total bytes store.NoMemory = Unit {0}
-StoreCause id total bytes (store.Journal fault) = StartCause Claims id total bytes fault ⊎ OverlapCause id total bytes fault
+StoreCause id total bytes (store.Journal start.Device) = Unit {0}
+StoreCause id total bytes (store.Journal (start.Short need got)) = StartCause Claims id total bytes (start.Short need got)
+StoreCause id total bytes (store.Journal (start.BadHeader place)) = StartCause Claims id total bytes (start.BadHeader place)
+StoreCause id total bytes (store.Journal (start.BadBody slot)) = IsFirstBadSlot id total bytes slot
 
 -- why the slots in use are not read as claims: the first whose span may not stand behind those before it
 abbrev pub ReadCause : ℕ → ℕ → List ℕ → StoreFault → Type 0
@@ -40,6 +39,14 @@ ReadCause total used bytes (store.Journal (start.Short need got)) = ⊥
 ReadCause total used bytes (store.Journal (start.BadHeader place)) = ⊥
 ReadCause total used bytes (store.Journal (start.BadBody slot)) =
     (slot < used) × AreClaims total (first_claims slot bytes) × (may_follow total (first_claims slot bytes) (claim_at bytes slot) ≡ false)
+
+-- how a refusal of the journal is told: as it is, where no slot before a bad one is bad as a claim
+abbrev pub IsToldAs : ℕ → List ℕ → StartFault → StoreFault → Type 0
+IsToldAs total bytes start.Device told = told ≡ store.Journal start.Device
+IsToldAs total bytes (start.Short need got) told = told ≡ store.Journal (start.Short need got)
+IsToldAs total bytes (start.BadHeader place) told = told ≡ store.Journal (start.BadHeader place)
+IsToldAs total bytes (start.BadBody slot) told =
+    ReadCause total slot bytes told ⊎ ((told ≡ store.Journal (start.BadBody slot)) × AreClaims total (first_claims slot bytes))
 
 -- the disk's count doesn't fall, rises where a fault of it is told, and stands still where all is well
 pub record HasReadCause {T : Type 0} (before now : ℕ) (result : Result T StoreFault) : Type 0 where

@@ -8,7 +8,7 @@ use std::alloc::AllocFailed;
 /// Why a store of claims doesn't start.
 #[derive(Clone, Copy, Debug, PartialEq, Eq)]
 pub enum StoreFault {
-    /// The journal is not opened; or it is `BadBody`, and a slot's span has a unit of an earlier one.
+    /// The journal is not opened, or the span in a slot has a unit of an earlier one, which is `BadBody` too.
     Journal(StartFault),
     /// No memory was left for the list of claims.
     NoMemory,

@@ -7,6 +7,7 @@
 
 ghost use Rattle.claim_store.specs.Claims.{BytesSayOneList};
 
+mod checking;
 mod fault;
 mod reading;
 mod store;

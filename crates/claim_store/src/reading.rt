@@ -34,7 +34,7 @@ pub fn first_met(claims: &[Span], span: Span) -> Option<Span>
 
 /// Whether the span has a unit, ends at or below the total, and has no unit of these claims.
 #[tactic(auto, using(crate::proofs::Meeting::none_met))]
-fn may_follow(claims: &[Span], total: u64, span: Span) -> bool
+pub fn may_follow(claims: &[Span], total: u64, span: Span) -> bool
     ensures { result ≡ may_follow total claims.now span }
 {
     let fits = span.start < span.end && span.end <= total;

@@ -11,6 +11,7 @@ ghost use Rattle.claim_store.specs.declared.fault.StoreFault.TheVariants as stor
 ghost use Rattle.lease_journal.specs.declared.fault.StartFault.TheVariants as start;
 
 use crate::ClaimFault;
+use crate::checking::first_fault;
 use crate::fault::StoreFault;
 use crate::reading::{first_met, read_claims};
 use lease_core::Span;
@@ -48,9 +49,8 @@ impl<B: Disk> ClaimStore<B> {
     ///
     /// # Errors
     ///
-    /// As the journal's start, whose `BadBody` is the first slot that has no span up to the total. Where all slots in use
-    /// have one, `BadBody` is the first whose span has a unit of an earlier one. `Device` where a call of the disk
-    /// failed; `NoMemory` only where memory runs out.
+    /// As the journal's start, where `BadBody` is the first open slot that has no span up to the total, or whose span has
+    /// a unit of an earlier one. `Device` where a call of the disk failed; `NoMemory` only where memory runs out.
     pub fn start(alloc: Global, disk: B, id: &[u8; 32], total: u64) -> Result<Self, (StoreFault, B)>
         requires room { (size : ℕ) → B.room disk ≡ Some size
             → (slots : ℕ) → SaysSlots (B.content disk) slots → 64 + 32 * slots ≤ size }
@@ -76,7 +76,10 @@ impl<B: Disk> ClaimStore<B> {
     {
         let mut journal = match Journal::start(disk, JournalKind::Claims, id, total) {
             Ok(journal) => journal,
-            Err((fault, disk)) => return Err((StoreFault::Journal(fault), disk)),
+            Err((fault, mut disk)) => {
+                let fault = first_fault(alloc, &mut disk, total, fault);
+                return Err((fault, disk));
+            }
         };
         match read_claims(alloc, &mut journal, total) {
             Ok(claims) => Ok(ClaimStore {

@@ -157,7 +157,7 @@ fn a_disk_that_fails_breaks_the_store(rt: HostRuntime) -> Result<(), Fail> {
     Ok(())
 }
 
-/// The claims that a start finds after a stop in this call, from 1, of the second claim, where the crash leaves this.
+/// What a start finds after a stop in this call, from 1, of the second claim, where the crash leaves this.
 fn left(
     alloc: Global,
     call: u64,
@@ -223,6 +223,17 @@ const DAMAGED: &[Damage] = &[
             (159, 0x5A),
         ],
         StartFault::BadBody { slot: 2 },
+    ),
+    (
+        &[
+            (72, 4),
+            (95, 0x5A),
+            (96, 3),
+            (104, 5),
+            (127, 0x5A),
+            (159, 0x5A),
+        ],
+        StartFault::BadBody { slot: 1 },
     ),
 ];
 

@@ -1,5 +1,5 @@
 -- How slots are gone through one by one.
-use Rattle.std.proofs.Common.{◌≡◌, ◌<◌, ◌≤◌, ◌+◌, ◌*◌, ◌^◌, ℕ, zero, suc, List, [], ◌∷◌, Bool, true, false, length, Option, Some, None, ⊎_elim, refl, ap, sym, ◌∙◌, subst, arith}
+use Rattle.std.proofs.Common.{◌≡◌, ◌<◌, ◌≤◌, ◌+◌, ◌*◌, ◌^◌, ℕ, zero, suc, List, [], ◌∷◌, Bool, true, false, length, Option, Some, None, IfSome, ⊎_elim, refl, ap, sym, ◌∙◌, subst, arith}
 use Rattle.std.proofs.lemmas.Bool.{cases_lt}
 use Rattle.zk_model.specs.declared.JournalKind.{JournalKind}
 use Rattle.zk_model.specs.Journals.{slots_at, Recovers, first_bodies, IsOpen, IsCut, AreUsed, IsFirstBad, is_sound_at, keeps_rule, body_at, last_body}
@@ -129,3 +129,9 @@ pub none_bad : (bad : Option ℕ) (keeps : Bool) (slot : ℕ) → next_bad bad k
 none_bad (Some bad) keeps slot none = absurd (cc)
 none_bad None true slot none = (refl, refl)
 none_bad None false slot none = absurd (cc)
+
+-- a bad slot is one of those gone through
+pub bad_before : (bad : Option ℕ) (keeps : Bool) (used : ℕ) → IfSome bad (λ slot. slot < used) → IfSome (next_bad bad keeps used) (λ slot. slot < used + 1)
+bad_before (Some bad) keeps used before = omega (arith, before)
+bad_before None true used before = tt
+bad_before None false used before = omega arith

@@ -75,6 +75,7 @@ impl<B: Disk> Journal<B> {
         ensures faults { IfOk result (λ journal. B.faults journal.disk ≡ B.faults disk) }
         ensures cause { IfErr result (λ e. (bytes : List ℕ) → B.content disk ≡ Some bytes
             → StartCause kind id.now total bytes e.0) }
+        ensures bad { IfErr result (λ e. (slot : ℕ) → e.0 ≡ start.BadBody slot → slot < 2 ^ 28) }
         ensures device { IfErr result (λ e. e.0 ≡ start.Device → Rose (B.faults disk) (B.faults e.1)) }
         ensures later { IfErr result (λ e. B.faults disk ≤ B.faults e.1) }
         ensures stays_refused { IfErr result (λ e.

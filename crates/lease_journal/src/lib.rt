@@ -22,6 +22,7 @@ mod storing;
 pub use fault::{JournalFault, StartFault};
 pub use journal::Journal;
 use std::alloc::{AllocError, Global};
+pub use storing::read_body;
 pub use zk_model::JournalKind;
 
 /// A new journal of this many slots, in which all bytes behind the header are 0.

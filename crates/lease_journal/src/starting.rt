@@ -3,6 +3,7 @@ ghost use Rattle.std.specs.Prelude.{◌≡◌, ◌<◌, ◌≤◌, ◌+◌, ◌*
 ghost use Rattle.zk_model.specs.Journals.{journal_header, ceiling_slots};
 ghost use Rattle.zk_model.specs.Journals.{are_slots, is_wrong_at, keeps_rule, IsFirstBad, AreUsed, HasHeader, slots_at};
 ghost use Rattle.lease_journal.specs.Causes.{Stays, HasStartCause, SlotSays, SlotCause, IsScanned, ScanCause, HeaderCause, StartCause, IsOpened};
+ghost use Rattle.lease_journal.specs.declared.fault.StartFault.TheVariants as start;
 ghost use Rattle.zk_port.specs.Images.{Only};
 ghost use Rattle.lease_journal.specs.Scans.{next_bad, HasRead, IsFirstWrongOf};
 
@@ -66,6 +67,7 @@ fn read_slot<B: Disk>(disk: &mut B, slot: u64, slots: u64) -> Result<Option<(u64
         → SlotSays bytes slot says) }
     ensures cause { IfErr result (λ e. (bytes : List ℕ) → B.content disk.old ≡ Some bytes
         → SlotCause slots slot bytes e) }
+    ensures unread { IfErr result (λ e. (bad : ℕ) → e ≡ start.BadBody bad → ⊥) }
     ensures stays { Stays B.content B.room B.images B.moment B.images_since disk.old disk.new }
     ensures count { HasStartCause (B.faults disk.old) (B.faults disk.new) result }
 {
@@ -97,8 +99,10 @@ pub fn read_slots<B: Disk>(
         → AreUsed slots scan.used bytes) }
     ensures within { IfOk result (λ scan. scan.used ≤ slots) }
     ensures read { IfOk result (λ scan. scan.bad ≡ None → HasRead kind total scan.used scan.last) }
+    ensures bad { IfOk result (λ scan. IfSome scan.bad (λ slot. slot < scan.used)) }
     ensures cause { IfErr result (λ e. (bytes : List ℕ) → B.content disk.old ≡ Some bytes
         → ScanCause slots bytes e) }
+    ensures unread { IfErr result (λ e. (bad : ℕ) → e ≡ start.BadBody bad → ⊥) }
     ensures stays { Stays B.content B.room B.images B.moment B.images_since disk.old disk.new }
     ensures count { HasStartCause (B.faults disk.old) (B.faults disk.new) result }
 {
@@ -167,6 +171,7 @@ pub fn read_header<B: Disk>(
     ensures header { IfOk result (λ slots. (bytes : List ℕ) → B.content disk.old ≡ Some bytes
         → (slots ≡ slots_at bytes) × HasHeader kind id.now total bytes) }
     ensures few { IfOk result (λ slots. slots ≤ 2 ^ 28) }
+    ensures unread { IfErr result (λ e. (bad : ℕ) → e ≡ start.BadBody bad → ⊥) }
     ensures fits { IfOk result (λ slots. are_slots kind total slots ≡ true) }
     ensures cause { IfErr result (λ e. (bytes : List ℕ) → B.content disk.old ≡ Some bytes
         → HeaderCause kind id.now total bytes e) }
@@ -209,6 +214,7 @@ pub fn open<B: Disk>(
     ensures durable { OnOk result (Only (B.content disk.new) (B.images disk.new)) }
     ensures cause { IfErr result (λ e. (bytes : List ℕ) → B.content disk.old ≡ Some bytes
         → StartCause kind id.now total bytes e) }
+    ensures bad { IfErr result (λ e. (slot : ℕ) → e ≡ start.BadBody slot → slot < 2 ^ 28) }
     ensures stays { Stays B.content B.room B.images B.moment B.images_since disk.old disk.new }
     ensures count { HasStartCause (B.faults disk.old) (B.faults disk.new) result }
 {

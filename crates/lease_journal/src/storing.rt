@@ -82,7 +82,12 @@ pub fn word_at(bytes: &[u8], at: usize) -> u64
     u64::from_le_bytes(word)
 }
 
-/// Reads the body in a slot. Where the file ends before, the missing bytes count as 0.
+/// Reads the body in a slot of the journal on this disk, whether it is open or not. Where the file ends before, the
+/// missing bytes count as 0.
+///
+/// # Errors
+///
+/// Where the disk failed.
 pub fn read_body<B: Disk>(disk: &mut B, slot: u64) -> Result<(u64, u64), Failed>
     requires few { slot < 2 ^ 28 }
     ensures body { IfOk result (λ body. (bytes : List ℕ) → B.content disk.old ≡ Some bytes

@@ -1,8 +1,8 @@
-use Rattle.std.proofs.Common.{◌≡◌, ◌+◌, ap, sym, ◌∙◌, subst, arith}
+use Rattle.std.proofs.Common.{◌≡◌, ◌<◌, IfSome, ◌+◌, ap, sym, ◌∙◌, subst, arith}
 use Rattle.zk_model.specs.Journals.{keeps_rule}
 use Rattle.lease_journal.specs.Scans.{next_bad}
 use Rattle.lease_journal.specs.Causes.{IsScanned, SlotSays}
-use Rattle.lease_journal.proofs.Scanning.{next_starts, scan_more, scan_cause, used_to_closed, used_to_end, stays_then, none_bad, read_more}
+use Rattle.lease_journal.proofs.Scanning.{next_starts, scan_more, scan_cause, used_to_closed, used_to_end, stays_then, bad_before, none_bad, read_more}
 use Rattle.lease_journal.proofs.starting.read_slots.Goals as goal
 
 pub read_slot-requires-clause-starts : goal.read_slot-requires-clause-starts
@@ -37,6 +37,8 @@ loop-used-preserved g c = record {
       sym (c.next_bad-bad.ensures ∙ ap (λ k. next_bad c.loop-used.bad k c.loop-used.used) c.keeps_rule.ensures) in
       subst (λ bad. IsScanned c.args.kind c.args.total (c.loop-used.used + 1) c.in-Ok-Some.body bad bytes) same
       (scan_more c.args.kind c.args.total c.loop-used.used c.loop-used.last c.in-Ok-Some.body c.loop-used.bad bytes (c.loop-used.invariant.scanned bytes is) says.0 says.1);
+  bad = subst (λ o. IfSome o (λ slot. slot < c.loop-used.used + 1)) (sym c.next_bad-bad.ensures)
+      (bad_before c.loop-used.bad c.keeps_rule.result c.loop-used.used c.loop-used.invariant.bad);
   read = λ none.
       let both = none_bad c.loop-used.bad c.keeps_rule.result c.loop-used.used (sym c.next_bad-bad.ensures ∙ none) in
       read_more c.args.kind c.args.total c.loop-used.used c.loop-used.last c.in-Ok-Some.body (c.loop-used.invariant.read both.0) (sym c.keeps_rule.ensures ∙ both.1);

@@ -2,7 +2,7 @@ use Rattle.std.proofs.Common.{◌∙◌, sym, subst}
 use Rattle.zk_model.specs.Journals.{IsTidy}
 use Rattle.claim_store.proofs.Claiming.{durable_of}
 use Rattle.claim_store.proofs.Slots.{says_claims}
-use Rattle.claim_store.proofs.Starting.{begins, only_on, read_cause}
+use Rattle.claim_store.proofs.Starting.{begins, only_on, opened_before, read_cause, told_cause}
 use Rattle.claim_store.proofs.store.ClaimStore.start.Goals as goal
 
 pub invariant_of-result : goal.invariant_of-result
@@ -43,3 +43,14 @@ returns-in-Err-read_claims-clause-cause g c = λ bytes is.
     let e = c.in-Ok.ensures in
     read_cause c.args.id.now c.args.total j.slots j.used j.last bytes c.in-Err-read_claims.fault (e.opened bytes is)
     (c.in-Err-read_claims.ensures.cause bytes (e.stays.same ∙ is))
+
+pub returns-in-Err-clause-cause : goal.returns-in-Err-clause-cause
+returns-in-Err-clause-cause g c = λ bytes is.
+    let e = c.in-Err.ensures in
+    told_cause c.args.id.now c.args.total bytes c.in-Err.fault c.first_fault-fault.result (e.cause bytes is)
+    (c.first_fault-fault.ensures.told bytes (e.stays_refused.same ∙ is))
+
+pub first_fault-fault-requires-clause-opened : goal.first_fault-fault-requires-clause-opened
+first_fault-fault-requires-clause-opened g c = λ bytes is bad same.
+    let e = c.in-Err.ensures in
+    opened_before c.args.id.now c.args.total bytes c.in-Err.fault bad (e.cause bytes (sym e.stays_refused.same ∙ is)) same
