@@ -128,7 +128,8 @@ impl<B: Disk> ClaimStore<B> {
     }
 
     /// Claims `count` units, at least 1, from `start` on: puts their span into the journal, behind the others. Where a
-    /// call of the disk fails, a crash may leave the journal with the span or without.
+    /// call of the disk fails, a crash may leave the journal with the span or without. The list of claims grows by the
+    /// allocator of its start.
     ///
     /// # Errors
     ///

@@ -97,7 +97,7 @@ fn store_on<P: FaultPlan + Drop>(
     }
 }
 
-/// The faults of a plan by which the calls of these numbers fail.
+/// A plan by which the calls of these numbers fail.
 fn failing(alloc: Global, numbers: &[u64]) -> Result<FailAt, Fail> {
     Ok(FailAt::new(numbers.to_vec(alloc)?))
 }
