@@ -142,7 +142,7 @@ fn dealt_files<R: Threads + Wait>(
     if finish.status != 0 {
         return Err(Fail::new("not dealt"));
     }
-    let mut files = file_of(alloc, "c", text.as_bytes())?;
+    let mut files = file_of(alloc, "c", text.as_bytes().to_vec(alloc)?)?;
     for name in ["x.prover", "x.verifier"] {
         let Ok(bytes) = shelf.load(alloc, name, 1 << 26) else {
             return Err(Fail::new("not stored"));
