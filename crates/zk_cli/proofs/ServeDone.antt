@@ -1,5 +1,5 @@
 -- Where nothing is refused and nothing fails, and a peer is honest, what was asked for is done.
-use Rattle.std.proofs.Common.{◌≡◌, ◌⊎◌, ◌≤◌, ◌<◌, ◌+◌, ◌^◌, ℕ, zero, suc, Bool, true, false, List, [], ◌∷◌, All, length, replicate, Option, Some, None, IsSomeAnd, Result, Ok, Err, nat_le, refl, ap, sym, ◌∙◌, subst, inl, inr, arith}
+use Rattle.std.proofs.Common.{◌≡◌, ◌⊎◌, ◌≤◌, ◌<◌, ℕ, Bool, true, false, List, [], ◌∷◌, All, length, replicate, Option, Some, IsSomeAnd, Result, Ok, Err, nat_le, refl, ap, sym, ◌∙◌, subst, inl, inr, arith}
 use Rattle.std.proofs.lemmas.Bool.Decides.{nat_tests}
 use Rattle.std.proofs.lemmas.List.{length-replicate}
 use Rattle.std.specs.Prelude.{◌==◌, ◌||◌, ◌≢◌, if◌then◌else◌}
@@ -8,8 +8,6 @@ use Rattle.lease_store.specs.declared.LeaseFault.TheVariants as lease
 use Rattle.zk_model.specs.Circuit.{Circuit}
 use Rattle.zk_model.specs.Program.{correlations_needed}
 use Rattle.zk_model.specs.Transcript.{units_for}
-use Rattle.zk_model.specs.FileBytes.{verifier_file_bytes}
-use Rattle.zk_model.specs.Files.{VerifierFile}
 use Rattle.zk_model.specs.Boolean.{circuit_program}
 use Rattle.zk_model.specs.declared.Span.{Span}
 use Rattle.zk_model.specs.declared.Side.TheVariants.{Verifier}
@@ -32,11 +30,10 @@ use Rattle.session_verifier.specs.declared.note.VerifierOutcome.TheVariants.{Acc
 use Rattle.command_words.specs.Words.{ServeAsk}
 use Rattle.command_words.specs.declared.TheConstants.{FILE_LIMIT}
 use Rattle.zk_cli.specs.Changes.{ShelfChange, SinkChange}
-use Rattle.zk_cli.specs.CircuitFiles.{IsCircuitFile, CircuitStop}
 use Rattle.zk_cli.specs.Made.{EachNote}
 use Rattle.zk_cli.specs.NoteLines.{has_status, outcome_status}
 use Rattle.zk_cli.specs.Outcomes.{IsReady, IsDone}
-use Rattle.zk_cli.specs.ServeRuns.{IsServeJob, IsVerifierFileAt, ClaimStop, FileStop, LacksFile, LacksSession, OpeningStop, ServeStop, SaysServed, DoorChange}
+use Rattle.zk_cli.specs.ServeRuns.{IsServeJob, ClaimStop, FileStop, OpeningStop, ServeStop, SaysServed, DoorChange}
 use Rattle.zk_cli.specs.ServeStatuses.{IsServable, HasRoom, HasServeFailed, IsWithHonestPeer, NotesMean, PartMeans}
 use Rattle.zk_cli.specs.ServedNotes.{IsServedNote}
 use Rattle.zk_cli.specs.Stops.{stop_status}

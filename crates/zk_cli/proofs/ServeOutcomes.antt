@@ -1,5 +1,5 @@
 -- What is said of the sessions that were served gives what the status says.
-use Rattle.std.proofs.Common.{◌≡◌, ◌⊎◌, ◌≤◌, ◌+◌, ℕ, Bool, true, false, List, [], ◌∷◌, All, length, Option, Some, None, Result, Ok, Err, get_or, refl, ap, sym, ◌∙◌, subst, inl, inr, arith, zero, suc}
+use Rattle.std.proofs.Common.{◌≡◌, ◌⊎◌, ◌≤◌, ℕ, Bool, true, false, List, [], ◌∷◌, All, length, Option, Some, Result, Ok, Err, refl, ap, ◌∙◌, inl, inr, arith, zero, suc}
 use Rattle.std.specs.Prelude.{◌==◌, ◌||◌, nat_le, if◌then◌else◌}
 use Rattle.zk_port.specs.Logs.{appended}
 use Rattle.session_pool.specs.Doors.{TakesOneAtMost, door_state}
@@ -20,8 +20,8 @@ use Rattle.zk_cli.specs.Changes.{ShelfChange, SinkChange}
 use Rattle.zk_cli.specs.Made.{EachNote}
 use Rattle.zk_cli.specs.NoteLines.{has_status, served_status, served_text, outcome_status}
 use Rattle.zk_cli.specs.Prints.{Prints, after_sink_fault}
-use Rattle.zk_cli.specs.ServeRuns.{DoorChange, ServeEffects, SaysNotes, SaysServed, ServeLines}
-use Rattle.zk_cli.specs.ServeStatuses.{AllAccepted, NotesMean, StopMeans, PartMeans, ServeMeans}
+use Rattle.zk_cli.specs.ServeRuns.{DoorChange, SaysServed}
+use Rattle.zk_cli.specs.ServeStatuses.{NotesMean, PartMeans}
 use Rattle.zk_cli.specs.ServedNotes.{IsServedNote}
 use Rattle.zk_cli.specs.Stops.{stop_status, stop_line}
 use Rattle.zk_cli.specs.declared.finish.Part.{Part}

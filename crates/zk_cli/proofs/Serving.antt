@@ -1,6 +1,6 @@
 -- What a verifier that serves composes: its files, its notes, and what it says.
-use Rattle.std.proofs.Common.{◌≡◌, ◌≤◌, ◌+◌, ◌^◌, ℕ, List, [], All, Result, Ok, Err, IfOk, Option, Some, None, get_or, append-nil, refl, sym, ap, subst, inl, inr, arith}
-use Rattle.std.specs.Prelude.{min, take}
+use Rattle.std.proofs.Common.{◌≡◌, ◌≤◌, ℕ, List, All, Result, Ok, Err, IfOk, Option, Some, None, get_or, append-nil, refl, sym, ap, subst, inl, inr, arith}
+use Rattle.std.specs.Prelude.{take}
 use Rattle.zk_port.specs.Logs.{appended}
 use Rattle.zk_model.specs.Circuit.{Circuit}
 use Rattle.zk_model.specs.Files.{VerifierFile}
@@ -27,9 +27,8 @@ use Rattle.session_verifier.specs.declared.note.VerifierOutcome.TheVariants.{Acc
 use Rattle.command_words.specs.Words.{ServeAsk}
 use Rattle.command_words.specs.declared.TheConstants.{FILE_LIMIT}
 use Rattle.zk_cli.specs.Changes.{ShelfState, ShelfChange, SinkState, SinkChange}
-use Rattle.zk_cli.specs.CircuitFiles.{IsUnloaded}
 use Rattle.zk_cli.specs.Prints.{Prints}
-use Rattle.zk_cli.specs.ServeRuns.{IsClaim, IsVerifierFileAt, IsServeJob, FileStop, IsUndecoded, IsExtendedFile, ClaimStop, LacksFile, ServeStop, SaysNoService, DoorChange}
+use Rattle.zk_cli.specs.ServeRuns.{IsClaim, IsVerifierFileAt, FileStop, IsUndecoded, IsExtendedFile, ServeStop, SaysNoService, DoorChange}
 use Rattle.zk_cli.specs.Made.{EachNote}
 use Rattle.zk_cli.specs.ServedNotes.{IsServedNote, IsHeadline}
 use Rattle.zk_cli.specs.declared.finish.Part.{Part}

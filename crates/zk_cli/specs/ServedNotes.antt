@@ -1,5 +1,5 @@
 -- What the notes of the sessions that were served say.
-use Rattle.std.specs.Prelude.{◌≡◌, ℕ, ◌≤◌, List, Option, Some, Result}
+use Rattle.std.specs.Prelude.{◌≡◌, ℕ, ◌≤◌, List, Option, Some}
 use Rattle.zk_model.specs.Circuit.{Circuit}
 use Rattle.zk_model.specs.Files.{ProverFile, IsProverFile, AreDealt}
 use Rattle.zk_model.specs.Headline.{ShowsOutputs}
@@ -8,10 +8,8 @@ use Rattle.zk_model.specs.Transcript.{Transcript, spelling}
 use Rattle.zk_model.specs.declared.Side.{Side}
 use Rattle.zk_model.specs.declared.Span.{Span}
 use Rattle.zk_port.specs.Files.{Files}
-use Rattle.lease_store.specs.declared.LeaseFault.{LeaseFault}
 use Rattle.session_core.specs.Jobs.{VerifierJob, units_of_job}
-use Rattle.session_pool.specs.Notes.{IsNote, IsLeaseOf, IsFreshMoment}
-use Rattle.session_verifier.specs.Notes.{granted_by, JudgesRightly, AcceptsExactly, SendsRightly, EndsBecause, IsTold, Completes}
+use Rattle.session_pool.specs.Notes.{IsNote}
 use Rattle.session_verifier.specs.Stages.{Moment}
 use Rattle.session_verifier.specs.declared.note.VerifierOutcome.{VerifierOutcome}
 use Rattle.command_words.specs.Words.{ServeAsk}

@@ -1,6 +1,5 @@
 use Rattle.std.proofs.Common.{sym, subst}
 use Rattle.sha2.proofs.Facts256.{length-sha256}
-use Rattle.sha2.specs.Sha256.{sha256}
 use Rattle.zk_laws.proofs.Octets.{sha256_octets}
 use Rattle.zk_model.specs.Bytes.{AreBytes}
 use Rattle.zk_cli.proofs.serve_command.load_claim.Goals as goal

@@ -1,4 +1,4 @@
-use Rattle.std.proofs.Common.{inl, inr, refl, subst, ◌∙◌, sym, Option}
+use Rattle.std.proofs.Common.{inl, inr, subst, Option}
 use Rattle.frame_link.proofs.LineLemmas.{fails_at}
 use Rattle.session_verifier.specs.Stages.{moment_at}
 use Rattle.zk_port.specs.Files.{Files}
