@@ -1,15 +1,11 @@
 -- Children that are written in place of their parents, the last parent first.
-use Rattle.std.proofs.Common.{◌≡◌, ℕ, ◌+◌, ◌-◌, ◌*◌, ◌<◌, ◌≤◌, ◌⊎◌, inl, inr, ◌≢◌, Bool, true, false, List, [], length, get_or, set, get_or-set_other, get_or-set_same, subst, sym, ◌∙◌, ap, arith}
+use Rattle.std.proofs.Common.{◌≡◌, ℕ, ◌+◌, ◌*◌, ◌<◌, ◌≤◌, ◌⊎◌, inl, inr, ◌≢◌, Bool, true, false, List, [], length, get_or, set, get_or-set_other, get_or-set_same, subst, sym, ◌∙◌, ap, arith}
 use Rattle.std.proofs.lemmas.List.{length-set}
 use Rattle.zk_laws.proofs.Ancestors.{same_or_not}
 use Rattle.zk_model.specs.Bits.{from_bit}
 use Rattle.zk_model.specs.Tree.{child_of}
-
--- the children of the nodes from a place on are written, and the nodes below it are kept
-pub record IsDoubled (parents from : ℕ) (above row : List (List ℕ)) : Type 0 where
-  pub long : length row ≡ length above
-  pub kept : (k : ℕ) → k < 2 * from → get_or row k [] ≡ get_or above k []
-  pub made : (k : ℕ) (side : Bool) → from ≤ k → k < parents → get_or row (2 * k + from_bit side) [] ≡ child_of side (get_or above k [])
+use Rattle.sha2.specs.Sha256.{sha256}
+use Rattle.ggm_tree.specs.Rows.{IsDoubled}
 
 -- two nodes are written
 unfoldable pub with_two : List (List ℕ) → ℕ → List ℕ → List ℕ → List (List ℕ)
@@ -51,28 +47,33 @@ two_here row i left right true within value first second =
     get_or-set_same (set row (2 * i) left) (2 * i + 1) right [] (omega (arith, within, length-set row (2 * i) left)) ∙ sym second
 
 -- one parent more
-pub doubled_more : (parents from : ℕ) (above row : List (List ℕ)) (left right : List ℕ) → 0 < from → from ≤ parents → 2 * parents ≤ length row
-    → left ≡ child_of false (get_or row (from - 1) []) → right ≡ child_of true (get_or row (from - 1) []) → IsDoubled parents from above row
-    → IsDoubled parents (from - 1) above (with_two row (from - 1) left right)
-doubled_more parents from above row left right some most room first second so_far = record {
-  long = two_length row i left right ∙ so_far.long;
-  kept = λ k below. two_elsewhere row i left right k (inl below) ∙ so_far.kept k (omega (arith, below));
-  made = λ k side low high. by_place k side low high (same_or_not k i);
+pub doubled_more : (parents place : ℕ) (above row : List (List ℕ)) (left right : List ℕ) → 2 * place + 2 ≤ length row
+    → left ≡ child_of false (get_or above place []) → right ≡ child_of true (get_or above place []) → IsDoubled parents (place + 1) above row
+    → IsDoubled parents place above (with_two row place left right)
+doubled_more parents place above row left right room first second so_far = record {
+  long = two_length row place left right ∙ so_far.long;
+  kept = λ k below. two_elsewhere row place left right k (inl below) ∙ so_far.kept k (omega (arith, below));
+  made = λ k side low high. by_place k side low high (same_or_not k place);
 }
   where
-    i : ℕ
-    i = from - 1
-
-    past : (k : ℕ) (side : Bool) → i < k → 2 * i + 1 < 2 * k + from_bit side
+    past : (k : ℕ) (side : Bool) → place < k → 2 * place + 1 < 2 * k + from_bit side
     past k false more = omega (arith, more)
     past k true more = omega (arith, more)
 
-    by_place : (k : ℕ) (side : Bool) → i ≤ k → k < parents → (k ≡ i) ⊎ (k ≢ i)
-        → get_or (with_two row i left right) (2 * k + from_bit side) [] ≡ child_of side (get_or above k [])
+    by_place : (k : ℕ) (side : Bool) → place ≤ k → k < parents → (k ≡ place) ⊎ (k ≢ place)
+        → get_or (with_two row place left right) (2 * k + from_bit side) [] ≡ child_of side (get_or above k [])
     by_place k side low high (inl is) = subst
-        (λ (n : ℕ). get_or (with_two row i left right) (2 * n + from_bit side) [] ≡ child_of side (get_or above n [])) (sym is)
-        (two_here row i left right side (omega (arith, some, most, room)) (λ s. child_of s (get_or row i [])) (sym first) (sym second)
-        ∙ ap (child_of side) (so_far.kept i (omega (arith, some))))
+        (λ (n : ℕ). get_or (with_two row place left right) (2 * n + from_bit side) [] ≡ child_of side (get_or above n [])) (sym is)
+        (two_here row place left right side (omega (arith, room)) (λ s. child_of s (get_or above place [])) (sym first) (sym second))
     by_place k side low high (inr other) =
-        two_elsewhere row i left right (2 * k + from_bit side) (inr (past k side (omega (arith, low, other))))
+        two_elsewhere row place left right (2 * k + from_bit side) (inr (past k side (omega (arith, low, other))))
         ∙ so_far.made k side (omega (arith, low, other)) high
+
+-- a place by another name
+pub doubled_at : (parents here there : ℕ) (above row : List (List ℕ)) → here ≡ there → IsDoubled parents here above row → IsDoubled parents there above row
+doubled_at parents here there above row same so_far = subst (λ (place : ℕ). IsDoubled parents place above row) same so_far
+
+-- a node that is hashed before it is written over
+pub still_there : (parents from place : ℕ) (above row : List (List ℕ)) (digest : List ℕ) → place < 2 * from → IsDoubled parents from above row
+    → digest ≡ sha256 (get_or row place []) → digest ≡ sha256 (get_or above place [])
+still_there parents from place above row digest low so_far hashed = hashed ∙ ap sha256 (so_far.kept place low)

@@ -1,5 +1,5 @@
 -- Rows: the nodes of one level of a tree, in order, at the front of a buffer.
-use Rattle.std.specs.Prelude.{◌≡◌, ◌≢◌, ℕ, ◌+◌, ◌-◌, ◌*◌, ◌/◌, ◌%◌, ◌^◌, ◌<◌, Bool, true, false, List, [], length, map, replicate, slice_index_or}
+use Rattle.std.specs.Prelude.{◌≡◌, ◌≢◌, ℕ, ◌+◌, ◌-◌, ◌*◌, ◌/◌, ◌%◌, ◌^◌, ◌<◌, ◌≤◌, Bool, true, false, List, [], length, map, replicate, slice_index_or}
 use Rattle.std.specs.List.{range_with_len}
 use Rattle.zk_model.specs.Bits.{from_bit}
 use Rattle.zk_model.specs.Bytes.{LeftRight, xor_all}
@@ -14,6 +14,13 @@ IsRow root level row = (j : ℕ) → j < 2 ^ level
 abbrev pub AreChildren : ℕ → List (List ℕ) → List (List ℕ) → Type 0
 AreChildren parents above below = (k : ℕ) (side : Bool) → k < parents
     → slice_index_or below (2 * k + from_bit side) [] ≡ child_of side (slice_index_or above k [])
+
+-- a row has the children of the first nodes of another from a place on, and is that other one below them
+pub record IsDoubled (parents place : ℕ) (above row : List (List ℕ)) : Type 0 where
+  pub long : length row ≡ length above
+  pub kept : (k : ℕ) → k < 2 * place → slice_index_or row k [] ≡ slice_index_or above k []
+  pub made : (k : ℕ) (side : Bool) → place ≤ k → k < parents
+      → slice_index_or row (2 * k + from_bit side) [] ≡ child_of side (slice_index_or above k [])
 
 -- the XOR of the left children, or of the right ones, of so many nodes
 abbrev pub side_sum_of : List (List ℕ) → ℕ → Bool → List ℕ

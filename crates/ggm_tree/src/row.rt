@@ -1,10 +1,12 @@
 // Rows: the nodes of one level of a tree, in order, at the front of a buffer.
-ghost use Rattle.std.specs.Prelude.{◌≡◌, ◌*◌, ◌^◌, ◌≤◌, length, map, IfOk, vec_len};
+ghost use Rattle.std.specs.Prelude.{◌≡◌, ℕ, List, [], ◌+◌, ◌*◌, ◌^◌, ◌<◌, ◌≤◌, length, map, slice_index_or, IfOk, vec_len};
+ghost use Rattle.sha2.specs.Sha256.{sha256};
 ghost use Rattle.zk_model.specs.Bytes.{xor_bytes};
 ghost use Rattle.zk_model.specs.Tree.{leaf_value};
-ghost use Rattle.ggm_tree.specs.Rows.{AreChildren, side_sum_of};
+ghost use Rattle.ggm_tree.specs.Rows.{AreChildren, IsDoubled, side_sum_of};
 
 use mersenne_field::Fe;
+use sha_lanes::digest_four;
 use sha2::{Digest, Sha256};
 use std::alloc::{AllocError, Global};
 
@@ -18,17 +20,56 @@ pub fn width(level: u32) -> usize
 }
 
 /// Puts the children of the first nodes of a buffer in place of them, in order. The last go first, so that no node is
-/// written over before it is hashed. Nodes are hashed nowhere else.
+/// written over before it is hashed: one by one down to a multiple of four, and from there by fours. Nodes are hashed
+/// nowhere else.
 pub fn double(row: &mut [[u8; 16]], parents: usize)
     requires { 2 * parents ≤ length row.old }
     ensures { AreChildren parents row.old row.new }
 {
-    for i in (0..parents).rev() {
-        let digest = Sha256::digest(&row[i]);
-        let (left, right) = digest.split_at(16);
-        row[2 * i].copy_from_slice(left);
-        row[2 * i + 1].copy_from_slice(right);
+    let fours = parents / 4;
+    double_past(row, 4 * fours, parents);
+    for group in (0..fours).rev() {
+        double_four(row, 4 * group);
     }
+}
+
+/// Writes the children of the nodes from a place on, one by one, the last first.
+fn double_past(row: &mut [[u8; 16]], place: usize, parents: usize)
+    requires order { place ≤ parents }
+    requires room { 2 * parents ≤ length row.old }
+    ensures { IsDoubled parents place row.old row.new }
+{
+    for i in (place..parents).rev() {
+        let digest = Sha256::digest(&row[i]);
+        put_children(row, i, &digest);
+    }
+}
+
+/// Writes the children of the four nodes from a place on, which are hashed at once, where those of the nodes past them
+/// are written.
+fn double_four(row: &mut [[u8; 16]], place: usize)
+    requires { 2 * place + 8 ≤ length row.old }
+    ensures { (parents : ℕ) (above : List (List ℕ)) → place + 4 ≤ parents
+        → IsDoubled parents (place + 4) above row.old → IsDoubled parents place above row.new }
+{
+    let nodes = [row[place], row[place + 1], row[place + 2], row[place + 3]];
+    let digests = digest_four(&nodes);
+    put_children(row, place + 3, &digests[3]);
+    put_children(row, place + 2, &digests[2]);
+    put_children(row, place + 1, &digests[1]);
+    put_children(row, place, &digests[0]);
+}
+
+/// Writes the children of the node at a place, the halves of its digest, where those of the nodes past it are written.
+fn put_children(row: &mut [[u8; 16]], place: usize, digest: &[u8; 32])
+    requires { 2 * place + 2 ≤ length row.old }
+    ensures { (parents : ℕ) (above : List (List ℕ)) → place < parents
+        → digest.now ≡ sha256 (slice_index_or above place []) → IsDoubled parents (place + 1) above row.old
+        → IsDoubled parents place above row.new }
+{
+    let (left, right) = digest.split_at(16);
+    row[2 * place].copy_from_slice(left);
+    row[2 * place + 1].copy_from_slice(right);
 }
 
 /// The XOR of the left children, or of the right ones, of so many nodes.

@@ -1,5 +1,6 @@
-use Rattle.ggm_tree.proofs.Children.{IsDoubled}
+use Rattle.std.proofs.Common.{◌*◌}
+use Rattle.ggm_tree.specs.Rows.{IsDoubled}
 use Rattle.ggm_tree.proofs.row.double.Given as goal
 
-abbrev pub invariant-loop-i : goal.invariant-loop-i
-invariant-loop-i l = IsDoubled l.parents l.i l.fn.row l.row
+abbrev pub invariant-loop-group : goal.invariant-loop-group
+invariant-loop-group l = IsDoubled l.parents (4 * l.group) l.fn.row l.row

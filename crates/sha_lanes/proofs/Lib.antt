@@ -1,0 +1,3 @@
+mod Bitwise
+mod LaneLemmas
+mod Block

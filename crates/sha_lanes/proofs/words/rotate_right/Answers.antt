@@ -1,0 +1,5 @@
+use Rattle.sha_lanes.proofs.LaneLemmas.{shifts_rotate}
+use Rattle.sha_lanes.proofs.words.rotate_right.Goals as goal
+
+pub returns : goal.returns
+returns c = shifts_rotate c.args.count c.requires.some c.requires.few c.args.x c.fits-x.0

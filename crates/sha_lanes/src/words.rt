@@ -1,0 +1,154 @@
+// The functions of FIPS 180-4, 4.1.2, and one round, on four messages side by side. Each is the standard's in each lane.
+ghost use Rattle.std.specs.Prelude.{◌≡◌, ℕ, ◌/◌, ◌^◌, ◌<◌, bit_and, bit_xor, slice_index};
+ghost use Rattle.std.specs.Int.{bit_not, rotate_right, w32};
+ghost use Rattle.sha2.specs.Sha256.{add32, add_state, big_sigma0, big_sigma1, ch, maj, round, small_sigma0, small_sigma1};
+ghost use Rattle.sha_lanes.specs.Lanes.{lane};
+
+use std::simd::u32x4;
+
+/// A word in each lane.
+#[inline(always)]
+pub(crate) fn splat(x: u32) -> u32x4
+    ensures { (j : ℕ) → j < 4 → slice_index result j ≡ x }
+{
+    u32x4::splat(x)
+}
+
+/// Sums modulo 2^32.
+#[inline(always)]
+pub(crate) fn add(x: u32x4, y: u32x4) -> u32x4
+    ensures { (j : ℕ) → j < 4 → slice_index result j ≡ add32 (slice_index x j) (slice_index y j) }
+{
+    x + y
+}
+
+#[inline(always)]
+fn xor(x: u32x4, y: u32x4) -> u32x4
+    ensures { (j : ℕ) → j < 4 → slice_index result j ≡ bit_xor (slice_index x j) (slice_index y j) }
+{
+    x ^ y
+}
+
+#[inline(always)]
+fn and(x: u32x4, y: u32x4) -> u32x4
+    ensures { (j : ℕ) → j < 4 → slice_index result j ≡ bit_and (slice_index x j) (slice_index y j) }
+{
+    x & y
+}
+
+#[inline(always)]
+fn not(x: u32x4) -> u32x4
+    ensures { (j : ℕ) → j < 4 → slice_index result j ≡ bit_not w32 (slice_index x j) }
+{
+    !x
+}
+
+/// Words shifted to the right by so many bits.
+#[inline(always)]
+fn shift_right(x: u32x4, count: u32) -> u32x4
+    requires { count < 32 }
+    ensures { (j : ℕ) → j < 4 → slice_index result j ≡ slice_index x j / 2 ^ count }
+{
+    x >> u32x4::splat(count)
+}
+
+/// Words rotated to the right by so many bits.
+#[inline(always)]
+fn rotate_right(x: u32x4, count: u32) -> u32x4
+    requires some { 0 < count }
+    requires few { count < 32 }
+    ensures { (j : ℕ) → j < 4 → slice_index result j ≡ rotate_right w32 (slice_index x j) count }
+{
+    (x >> u32x4::splat(count)) | (x << u32x4::splat(32 - count))
+}
+
+/// Ch.
+#[inline(always)]
+fn ch(x: u32x4, y: u32x4, z: u32x4) -> u32x4
+    ensures { (j : ℕ) → j < 4
+        → slice_index result j ≡ ch (slice_index x j) (slice_index y j) (slice_index z j) }
+{
+    xor(and(x, y), and(not(x), z))
+}
+
+/// Maj with one `and`. The `x ^ y` of a round is the `y ^ z` of the next, so that it is made once.
+#[inline(always)]
+fn maj(x: u32x4, y: u32x4, z: u32x4) -> u32x4
+    ensures { (j : ℕ) → j < 4
+        → slice_index result j ≡ maj (slice_index x j) (slice_index y j) (slice_index z j) }
+{
+    let upper = xor(x, y);
+    let lower = xor(y, z);
+    xor(y, and(upper, lower))
+}
+
+/// The upper case sigma 0. Its rotations, and those of the three below, stand one inside the other: that takes fewer
+/// copies of `x` than to rotate it anew each time.
+#[inline(always)]
+fn big_sigma0(x: u32x4) -> u32x4
+    ensures { (j : ℕ) → j < 4 → slice_index result j ≡ big_sigma0 (slice_index x j) }
+{
+    let inner = xor(x, rotate_right(x, 9));
+    let outer = xor(x, rotate_right(inner, 11));
+    rotate_right(outer, 2)
+}
+
+/// The upper case sigma 1.
+#[inline(always)]
+fn big_sigma1(x: u32x4) -> u32x4
+    ensures { (j : ℕ) → j < 4 → slice_index result j ≡ big_sigma1 (slice_index x j) }
+{
+    let inner = xor(x, rotate_right(x, 14));
+    let outer = xor(x, rotate_right(inner, 5));
+    rotate_right(outer, 6)
+}
+
+/// The lower case sigma 0.
+#[inline(always)]
+pub(crate) fn small_sigma0(x: u32x4) -> u32x4
+    ensures { (j : ℕ) → j < 4 → slice_index result j ≡ small_sigma0 (slice_index x j) }
+{
+    let inner = xor(x, rotate_right(x, 11));
+    let rotated = rotate_right(inner, 7);
+    xor(rotated, shift_right(x, 3))
+}
+
+/// The lower case sigma 1.
+#[inline(always)]
+pub(crate) fn small_sigma1(x: u32x4) -> u32x4
+    ensures { (j : ℕ) → j < 4 → slice_index result j ≡ small_sigma1 (slice_index x j) }
+{
+    let inner = xor(x, rotate_right(x, 2));
+    let rotated = rotate_right(inner, 17);
+    xor(rotated, shift_right(x, 10))
+}
+
+/// The working variables after one more round (6.2.2, step 3), by its constant and its word of the schedule.
+#[inline(always)]
+pub(crate) fn next_state(state: [u32x4; 8], constant: u32x4, word: u32x4) -> [u32x4; 8]
+    ensures { (j : ℕ) → j < 4
+        → lane j result ≡ round (lane j state) (slice_index constant j) (slice_index word j) }
+{
+    let [a, b, c, d, e, f, g, h] = state;
+    let sum = add(add(h, big_sigma1(e)), ch(e, f, g));
+    let temp1 = add(add(sum, constant), word);
+    let temp2 = add(big_sigma0(a), maj(a, b, c));
+    [add(temp1, temp2), a, b, c, add(d, temp1), e, f, g]
+}
+
+/// The sum of a hash value and of the working variables (6.2.2, step 4).
+#[inline(always)]
+pub(crate) fn add_states(hash: [u32x4; 8], state: [u32x4; 8]) -> [u32x4; 8]
+    ensures { (j : ℕ) → j < 4 → lane j result ≡ add_state (lane j hash) (lane j state) }
+{
+    [
+        add(hash[0], state[0]),
+        add(hash[1], state[1]),
+        add(hash[2], state[2]),
+        add(hash[3], state[3]),
+        add(hash[4], state[4]),
+        add(hash[5], state[5]),
+        add(hash[6], state[6]),
+        add(hash[7], state[7]),
+    ]
+}
