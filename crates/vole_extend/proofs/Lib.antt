@@ -1,0 +1,7 @@
+mod Ranges
+mod Pieces
+mod Sides
+mod Asked
+mod Found
+mod Replied
+mod Fits
