@@ -15,7 +15,7 @@ use Rattle.zk_model.specs.declared.GateRow.{GateRow}
 use Rattle.zk_model.specs.declared.GateRow.TheVariants.{And, Xor, Inv, Eqw, Eq}
 use Rattle.zk_model.specs.declared.Product.{Product}
 use Rattle.zk_laws.proofs.ByGate.{from_given, from_given-more, by_gate_is, products_of_all}
-use Rattle.zk_laws.specs.Booleans.{CircuitIsProgram}
+use Rattle.zk_laws.specs.Booleans.{CircuitIsProgram, GatesAreFew}
 use Rattle.bristol_reader.specs.Circuits.{IsCircuit}
 use Rattle.gate_translate.specs.Programs.{IsHeld}
 use Rattle.gate_translate.specs.Steps.{step_equation, equations}
@@ -128,12 +128,12 @@ is_translated circuit wires inputs givens steps products opened w i g o far =
       opened = o j;
     }
 
-pub is_held : (circuit : Circuit) (program : Program) → CircuitIsProgram → IsCircuit circuit → program ≡ circuit_program 0 circuit → IsHeld program
-is_held circuit program law rules same = subst IsHeld (sym same) (record {
+pub is_held : (circuit : Circuit) (program : Program) → CircuitIsProgram → GatesAreFew → IsCircuit circuit → program ≡ circuit_program 0 circuit → IsHeld program
+is_held circuit program law few rules same = subst IsHeld (sym same) (record {
   formed = law 0 circuit rules.well_formed (omega arith);
   wires = rules.wires;
-  givens = omega (arith, few_products circuit.gates, rules.well_formed.inputs_within, rules.wires, rules.gates);
-  products = omega (arith, count, few_products circuit.gates, rules.well_formed.inputs_within, rules.wires, rules.gates);
+  givens = omega (arith, few_products circuit.gates, few circuit rules.well_formed, rules.wires);
+  products = omega (arith, count, few_products circuit.gates, few circuit rules.well_formed, rules.wires);
   opened = omega (
     arith,
     length-map (range_with_len 0 circuit.outputs) (λ o. circuit.wires - circuit.outputs + o),

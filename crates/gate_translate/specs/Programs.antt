@@ -22,6 +22,6 @@ program_of wires public inputs givens steps products opened = record {
 pub record IsHeld (program : Program) : Type 0 where
   pub formed : IsProgram program
   pub wires : program.wires ≤ 2 ^ 20
-  pub givens : program.givens ≤ 2 ^ 21
-  pub products : length program.products ≤ 2 ^ 21
+  pub givens : program.givens ≤ 2 ^ 20
+  pub products : length program.products ≤ 2 ^ 20
   pub opened : length program.opened ≤ 2 ^ 20

@@ -8,7 +8,7 @@ use crate::program::{FieldProgram, Step};
 use bristol_reader::{Circuit, GateRow};
 use mersenne_field::Fe;
 use std::alloc::{AllocError, Global};
-use zk_laws::circuit_is_program;
+use zk_laws::{circuit_is_program, gates_are_few};
 use zk_model::Product;
 
 /// The step of a gate whose product, if it has one, is the given value of this number.
@@ -89,6 +89,7 @@ pub fn translate(alloc: Global, circuit: &Circuit) -> Result<FieldProgram, Alloc
     ensures { IfOk result (λ program. program ≡ circuit_program 0 circuit.now) }
 {
     circuit_is_program();
+    gates_are_few();
     let wires = circuit.wires() as u32;
     let inputs = circuit.inputs() as u32;
     let mut products = bit_checks(alloc, inputs)?;

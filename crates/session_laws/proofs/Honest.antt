@@ -192,16 +192,16 @@ honest_rounds_are prover verifier grant Extended left right same within = record
   replies = All-cons (λ (round : Round). round.replies ≡ round_replies verifier grant round.asks) _ [] refl (All-nil _);
 }
   where
-    replied : ForEachTree verifier.params grant (IsTreeReply verifier.params) (round_replies verifier grant (round_asks prover grant))
+    replied : ForEachTree verifier.params grant (IsTreeReply verifier.params.height) (round_replies verifier grant (round_asks prover grant))
     replied = round_replies_shaped verifier grant (round_asks prover grant) right
         (subst (λ (params : Params). grant.start + grant.count ≤ params.total) same within)
-        (subst (λ (params : Params). ForEachTree params grant (IsTreeAsk params) (round_asks prover grant)) same
+        (subst (λ (params : Params). ForEachTree params grant (IsTreeAsk params.height) (round_asks prover grant)) same
         (round_asks_shaped prover grant left within))
 
     round : IsRound prover.params grant (record { asks = round_asks prover grant; replies = round_replies verifier grant (round_asks prover grant) })
     round = record {
       asks = round_asks_shaped prover grant left within;
-      replies = subst (λ (params : Params). ForEachTree params grant (IsTreeReply params) (round_replies verifier grant (round_asks prover grant)))
+      replies = subst (λ (params : Params). ForEachTree params grant (IsTreeReply params.height) (round_replies verifier grant (round_asks prover grant)))
           (sym same) replied;
     }
 

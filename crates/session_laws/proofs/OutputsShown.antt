@@ -1,5 +1,5 @@
 -- What a finding shows of a session about a circuit's outputs.
-use Rattle.std.proofs.Common.{◌≡◌, ℕ, ◌+◌, List, [], map, length, inl, inr, refl, sym, ◌∙◌, ap, subst, arith}
+use Rattle.std.proofs.Common.{ℕ, ◌+◌, List, [], map, length, inl, inr, sym, ◌∙◌, subst}
 use Rattle.std.specs.Prelude.{Bool, min, ◌⊎◌}
 use Rattle.session_laws.proofs.CircuitProved.{same_bits}
 use Rattle.session_laws.specs.Circuits.{ExtractedShowsOutputs}
@@ -9,7 +9,7 @@ use Rattle.zk_laws.specs.Extraction.{IsNamedRoot, Shows}
 use Rattle.zk_model.specs.Bits.{from_bit}
 use Rattle.zk_model.specs.Circuit.{Circuit, Satisfies, IsWellFormed}
 use Rattle.zk_model.specs.Files.{ProverFile}
-use Rattle.zk_model.specs.Finding.{Finding, found_inputs, found_challenge_root, found_key_root, IsFinding, Gives, IsSectionRoot, IsOpeningRoot, section_polynomial, wire_polynomial}
+use Rattle.zk_model.specs.Finding.{Finding, found_inputs, found_challenge_root, found_key_root, IsFinding, IsSectionRoot, IsOpeningRoot, section_polynomial, wire_polynomial}
 use Rattle.zk_model.specs.Headline.{AreFixedBits, HasRoot, ChallengeIsRoot, KeyIsRoot, ShowsOutputs}
 use Rattle.zk_model.specs.Statement.{Statement, circuit_statement}
 use Rattle.zk_model.specs.Transcript.{Transcript}

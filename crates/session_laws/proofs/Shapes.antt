@@ -40,7 +40,7 @@ path_length zero j = refl
 path_length (suc h) j = ap suc (path_length h j)
 
 ask_shaped : (file : ProverFile) (unit tree : ℕ) (transfers : List Transfer) → length transfers ≡ file.params.height
-    → IsTreeAsk file.params (honest_ask file unit tree transfers)
+    → IsTreeAsk file.params.height (honest_ask file unit tree transfers)
 ask_shaped file unit tree transfers counted = record {
   flips =
       let path = path_length file.params.height (place_coin file unit tree) in
@@ -50,19 +50,19 @@ ask_shaped file unit tree transfers counted = record {
 }
 
 asks_shaped : (file : ProverFile) (unit : ℕ) → IsProverUnit file.params (prover_unit file unit)
-    → (length (honest_asks file unit) ≡ file.params.trees) × All (IsTreeAsk file.params) (honest_asks file unit)
+    → (length (honest_asks file unit) ≡ file.params.trees) × All (IsTreeAsk file.params.height) (honest_asks file unit)
 asks_shaped file unit is = (
   length-map _ _ ∙ length-enumerate_from 0 (prover_unit file unit).trees ∙ is.trees.0,
-  all_numbered (λ entry. honest_ask file unit entry.0 entry.1) (IsTreeAsk file.params) 0 (prover_unit file unit).trees
+  all_numbered (λ entry. honest_ask file unit entry.0 entry.1) (IsTreeAsk file.params.height) 0 (prover_unit file unit).trees
       (λ i d below. ask_shaped file unit (0 + i) (slice_index_or (prover_unit file unit).trees i d) (is.trees.1 i d below).0),
 )
 
 -- an honest prover's asks
 pub round_asks_shaped : (file : ProverFile) (grant : Grant) → IsProverFile file → grant.start + grant.count ≤ file.params.total
-    → ForEachTree file.params grant (IsTreeAsk file.params) (round_asks file grant)
+    → ForEachTree file.params grant (IsTreeAsk file.params.height) (round_asks file grant)
 round_asks_shaped file grant is within = (
   length-map-range_with_len (honest_asks file) grant.start grant.count,
-  all_of_range (λ trees. (length trees ≡ file.params.trees) × All (IsTreeAsk file.params) trees) (honest_asks file) grant.start grant.count
+  all_of_range (λ trees. (length trees ≡ file.params.trees) × All (IsTreeAsk file.params.height) trees) (honest_asks file) grant.start grant.count
       (λ unit low high. asks_shaped file unit (is.units unit (record { pairs = []; trees = [] }) (omega (arith, high, within, is.count)))),
 )
 
@@ -88,7 +88,7 @@ masked_bytes pads flip messages left right = (
 )
 
 reply_shaped : (file : VerifierFile) (unit tree : ℕ) (ask : TreeAsk) → IsVerifierUnit file.params (verifier_unit file unit)
-    → tree < file.params.trees → IsTreeReply file.params (tree_reply file unit tree ask)
+    → tree < file.params.trees → IsTreeReply file.params.height (tree_reply file unit tree ask)
 reply_shaped file unit tree ask is below = record {
   count = length-map-range_with_len masked 0 file.params.height;
   messages = all_of_range (AreBothBytes 16) masked 0 file.params.height
@@ -109,22 +109,22 @@ reply_shaped file unit tree ask is below = record {
 
 replies_shaped : (file : VerifierFile) (unit : ℕ) (asks : List TreeAsk) → IsVerifierUnit file.params (verifier_unit file unit)
     → length asks ≡ file.params.trees
-    → (length (unit_reply file unit asks) ≡ file.params.trees) × All (IsTreeReply file.params) (unit_reply file unit asks)
+    → (length (unit_reply file unit asks) ≡ file.params.trees) × All (IsTreeReply file.params.height) (unit_reply file unit asks)
 replies_shaped file unit asks is counted = (
   length-map _ _ ∙ length-enumerate_from 0 asks ∙ counted,
-  all_numbered (λ entry. tree_reply file unit entry.0 entry.1) (IsTreeReply file.params) 0 asks
+  all_numbered (λ entry. tree_reply file unit entry.0 entry.1) (IsTreeReply file.params.height) 0 asks
       (λ i d below. reply_shaped file unit (0 + i) (slice_index_or asks i d) is (omega (arith, below, counted))),
 )
 
 -- a verifier's replies, whatever was asked
 pub round_replies_shaped : (file : VerifierFile) (grant : Grant) (asks : List (List TreeAsk)) → IsVerifierFile file
     → grant.start + grant.count ≤ file.params.total
-    → ForEachTree file.params grant (IsTreeAsk file.params) asks
-    → ForEachTree file.params grant (IsTreeReply file.params) (round_replies file grant asks)
+    → ForEachTree file.params grant (IsTreeAsk file.params.height) asks
+    → ForEachTree file.params grant (IsTreeReply file.params.height) (round_replies file grant asks)
 round_replies_shaped file grant asks is within asked = (
   length-map _ _ ∙ length-enumerate_from grant.start asks ∙ asked.0,
   all_numbered (λ entry. unit_reply file entry.0 entry.1)
-      (λ trees. (length trees ≡ file.params.trees) × All (IsTreeReply file.params) trees) grant.start asks
+      (λ trees. (length trees ≡ file.params.trees) × All (IsTreeReply file.params.height) trees) grant.start asks
       (λ i d below. replies_shaped file (grant.start + i) (slice_index_or asks i d)
       (is.units (grant.start + i) (record { keys = []; trees = [] }) (omega (arith, below, asked.0, within, is.count)))
       (asked.1 i d below).0),

@@ -54,7 +54,7 @@ asks_size params grant = grant.count * (5 + params.trees * (params.height + 8))
 abbrev pub replies_size : Params → Grant → ℕ
 replies_size params grant = grant.count * (5 + params.trees * (params.height * 32 + 8))
 
-tree_ask_length : (params : Params) (ask : TreeAsk) → IsTreeAsk params ask
+tree_ask_length : (params : Params) (ask : TreeAsk) → IsTreeAsk params.height ask
     → length (map from_bit ask.flips ++ element_bytes ask.base_correction) ≡ params.height + 8
 tree_ask_length params ask is =
     let flips = length-map ask.flips from_bit ∙ is.flips in
@@ -70,7 +70,7 @@ message_length both is =
     let right = is.1.0 in
     length-append both.left both.right ∙ omega (arith, left, right)
 
-tree_reply_length : (params : Params) (reply : TreeReply) → IsTreeReply params reply
+tree_reply_length : (params : Params) (reply : TreeReply) → IsTreeReply params.height reply
     → length (flat_map message_bytes reply.messages ++ element_bytes reply.leaf_offset) ≡ params.height * 32 + 8
 tree_reply_length params reply is =
     length-append (flat_map message_bytes reply.messages) (element_bytes reply.leaf_offset)
@@ -79,19 +79,19 @@ tree_reply_length params reply is =
 pub asks_length : (params : Params) (grant : Grant) (round : Round) → IsRound params grant round
     → length (flat_map ask_frame round.asks) ≡ asks_size params grant
 asks_length params grant round is =
-    many_length ask_frame (λ trees. (length trees ≡ params.trees) × All (IsTreeAsk params) trees)
+    many_length ask_frame (λ trees. (length trees ≡ params.trees) × All (IsTreeAsk params.height) trees)
     (5 + params.trees * (params.height + 8)) grant.count
     (λ trees each. frame_length kind.ExtendAsk _ (params.trees * (params.height + 8))
-    (many_length _ (IsTreeAsk params) (params.height + 8) params.trees (tree_ask_length params) trees each))
+    (many_length _ (IsTreeAsk params.height) (params.height + 8) params.trees (tree_ask_length params) trees each))
     round.asks is.asks
 
 replies_length : (params : Params) (grant : Grant) (round : Round) → IsRound params grant round
     → length (flat_map reply_frame round.replies) ≡ replies_size params grant
 replies_length params grant round is =
-    many_length reply_frame (λ trees. (length trees ≡ params.trees) × All (IsTreeReply params) trees)
+    many_length reply_frame (λ trees. (length trees ≡ params.trees) × All (IsTreeReply params.height) trees)
     (5 + params.trees * (params.height * 32 + 8)) grant.count
     (λ trees each. frame_length kind.ExtendReply _ (params.trees * (params.height * 32 + 8))
-    (many_length _ (IsTreeReply params) (params.height * 32 + 8) params.trees (tree_reply_length params) trees each))
+    (many_length _ (IsTreeReply params.height) (params.height * 32 + 8) params.trees (tree_reply_length params) trees each))
     round.replies is.replies
 
 -- ---- a session

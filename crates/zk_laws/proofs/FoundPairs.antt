@@ -137,7 +137,7 @@ extension_exists params code_seed unit round noisy = (
 
 -- the replies of a unit in a round are those of its trees
 abbrev AreReplies : Params → UnitRound → Type 0
-AreReplies params round = (length round.replies ≡ params.trees) × All (IsTreeReply params) round.replies
+AreReplies params round = (length round.replies ≡ params.trees) × All (IsTreeReply params.height) round.replies
 
 -- so each of its trees has noise
 tree_noise : (params : Params) (unit : ProverUnit) (round : UnitRound) (t : ℕ) → IsProverUnit params unit → AreReplies params round
@@ -160,7 +160,7 @@ tree_noise params unit round t is are below =
         × All (λ (transfer : Transfer). AreBytes 16 transfer.pad) (slice_index_or unit.trees t [])
     dealt = is.trees.1 t [] (omega (arith, is.trees.0, below))
 
-    replied : IsTreeReply params reply
+    replied : IsTreeReply params.height reply
     replied = are.1 t (record { messages = []; leaf_offset = 0 }) (omega (arith, are.0, below))
 
 -- a unit has pairs, whatever its kind

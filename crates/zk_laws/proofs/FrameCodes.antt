@@ -64,9 +64,9 @@ grant_code params program are x y ps qs left right same =
     section_fits grant is = omega (arith, is.section_most)
 
 -- what is asked for a tree
-tree_ask_code : (params : Params)
-    → IsCode (λ (ask : TreeAsk). map from_bit ask.flips ++ element_bytes ask.base_correction) (IsTreeAsk params)
-tree_ask_code params x y ps qs left right same =
+tree_ask_code : (height : ℕ)
+    → IsCode (λ (ask : TreeAsk). map from_bit ask.flips ++ element_bytes ask.base_correction) (IsTreeAsk height)
+tree_ask_code height x y ps qs left right same =
     let flips = same_bits x.flips y.flips (element_bytes x.base_correction ++ ps) (element_bytes y.base_correction ++ qs)
     (left.flips ∙ sym right.flips)
     (regroup (map from_bit x.flips) (element_bytes x.base_correction) ps (map from_bit y.flips) (element_bytes y.base_correction) qs same) in
@@ -84,15 +84,23 @@ messages_code x y ps qs first second same =
     (λ i. record { left = left.0 i; right = right.0 i }, right.1)
 
 -- what is replied for a tree
-tree_reply_code : (params : Params)
-    → IsCode (λ (reply : TreeReply). flat_map message_bytes reply.messages ++ element_bytes reply.leaf_offset) (IsTreeReply params)
-tree_reply_code params x y ps qs left right same =
-    let messages = many_code message_bytes (AreBothBytes 16) params.height messages_code
+tree_reply_code : (height : ℕ)
+    → IsCode (λ (reply : TreeReply). flat_map message_bytes reply.messages ++ element_bytes reply.leaf_offset) (IsTreeReply height)
+tree_reply_code height x y ps qs left right same =
+    let messages = many_code message_bytes (AreBothBytes 16) height messages_code
     x.messages y.messages (element_bytes x.leaf_offset ++ ps) (element_bytes y.leaf_offset ++ qs)
     (left.count, left.messages) (right.count, right.messages)
     (regroup (flat_map message_bytes x.messages) (element_bytes x.leaf_offset) ps (flat_map message_bytes y.messages) (element_bytes y.leaf_offset) qs same) in
     let offset = element_code x.leaf_offset y.leaf_offset ps qs left.leaf_offset right.leaf_offset messages.1 in
     (λ i. record { messages = messages.0 i; leaf_offset = offset.0 i }, offset.1)
+
+-- the asks of a unit
+pub asks_code : (height trees : ℕ) → IsCode ask_frame (λ said. (length said ≡ trees) × All (IsTreeAsk height) said)
+asks_code height trees = frame_code _ _ kind.ExtendAsk (many_code _ (IsTreeAsk height) trees (tree_ask_code height))
+
+-- the replies of a unit
+pub replies_code : (height trees : ℕ) → IsCode reply_frame (λ said. (length said ≡ trees) × All (IsTreeReply height) said)
+replies_code height trees = frame_code _ _ kind.ExtendReply (many_code _ (IsTreeReply height) trees (tree_reply_code height))
 
 -- the asks and the replies of a round
 abbrev pub round_bytes : Round → List ℕ
@@ -101,12 +109,12 @@ round_bytes round = flat_map ask_frame round.asks ++ flat_map reply_frame round.
 -- a round
 pub round_code : (params : Params) (grant : Grant) → IsCode round_bytes (IsRound params grant)
 round_code params grant x y ps qs left right same =
-    let asks = many_code ask_frame (λ trees. (length trees ≡ params.trees) × All (IsTreeAsk params) trees) grant.count
-    (frame_code _ _ kind.ExtendAsk (many_code _ (IsTreeAsk params) params.trees (tree_ask_code params)))
+    let asks = many_code ask_frame (λ trees. (length trees ≡ params.trees) × All (IsTreeAsk params.height) trees) grant.count
+    (asks_code params.height params.trees)
     x.asks y.asks (flat_map reply_frame x.replies ++ ps) (flat_map reply_frame y.replies ++ qs) left.asks right.asks
     (regroup (flat_map ask_frame x.asks) (flat_map reply_frame x.replies) ps (flat_map ask_frame y.asks) (flat_map reply_frame y.replies) qs same) in
-    let replies = many_code reply_frame (λ trees. (length trees ≡ params.trees) × All (IsTreeReply params) trees) grant.count
-    (frame_code _ _ kind.ExtendReply (many_code _ (IsTreeReply params) params.trees (tree_reply_code params)))
+    let replies = many_code reply_frame (λ trees. (length trees ≡ params.trees) × All (IsTreeReply params.height) trees) grant.count
+    (replies_code params.height params.trees)
     x.replies y.replies ps qs left.replies right.replies asks.1 in
     (λ i. record { asks = asks.0 i; replies = replies.0 i }, replies.1)
 

@@ -42,3 +42,4 @@ pub mod Satisfied
 pub mod CircuitIsStatement
 pub mod SentBytes
 pub mod HonestIsAccepted
+pub mod GatesAreFew

@@ -28,13 +28,13 @@ pub rounds_are : (params : Params) (program : Program) (setup : Setup) → IsSet
 rounds_are params program setup set = record { within = set.grant.within; count = set.round_count; each = set.rounds }
 
 -- every kind gives some
-gives_some : (params : Params) (kind : Kind) → AreWithinLimits kind (record params { kind = kind })
+pub gives_some : (params : Params) (kind : Kind) → AreWithinLimits kind (record params { kind = kind })
     → 1 ≤ correlations_per_unit (record params { kind = kind })
 gives_some params Direct limits = omega arith
 gives_some params Extended limits = mul-le 1 1 params.trees (2 ^ params.height) limits.2 (pow_pos params.height)
 
 -- as many parts as hold n hold n, and so do more
-parts_hold : (n size count : ℕ) → 1 ≤ size → count ≡ max 1 (part_count n size) → n ≤ count * size
+pub parts_hold : (n size count : ℕ) → 1 ≤ size → count ≡ max 1 (part_count n size) → n ≤ count * size
 parts_hold n size count some is = le_trans hold (mul-le (part_count n size) size count size more (le_refl size))
   where
     more : part_count n size ≤ count

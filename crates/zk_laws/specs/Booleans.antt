@@ -1,5 +1,5 @@
 -- Boolean circuits and their programs: satisfying the truth tables is solving the equations, both ways.
-use Rattle.std.specs.Prelude.{◌≡◌, ℕ, ◌≤◌, Bool, List, ◌++◌, length, map, take, slice_index}
+use Rattle.std.specs.Prelude.{◌≡◌, ℕ, ◌+◌, ◌≤◌, Bool, List, ◌++◌, length, map, take, slice_index}
 use Rattle.std.specs.List.{range_with_len}
 use Rattle.zk_model.specs.Bits.{from_bit}
 use Rattle.zk_model.specs.Bytes.{AreBytes}
@@ -12,6 +12,10 @@ use Rattle.zk_model.specs.Statement.{IsStatement, circuit_statement}
 abbrev pub CircuitIsProgram : Type 0
 CircuitIsProgram = (public : ℕ) (circuit : Circuit) → IsWellFormed circuit → public ≤ circuit.inputs
     → IsProgram (circuit_program public circuit)
+
+-- there are no more inputs and gates than wires
+abbrev pub GatesAreFew : Type 0
+GatesAreFew = (circuit : Circuit) → IsWellFormed circuit → circuit.inputs + length circuit.gates ≤ circuit.wires
 
 -- product i has given value i, and each given value is that of a product
 abbrev pub ProductsAreNumbered : Type 0

@@ -1,9 +1,14 @@
 // Laws of Boolean circuits and their programs.
-ghost use Rattle.zk_laws.specs.Booleans.{CircuitIsProgram, ProductsAreNumbered, CircuitIsStatement, BitsSolve, SolvedByBits, SolvedIsSatisfied, SatisfiedIsSolved, OneOutcome};
+ghost use Rattle.zk_laws.specs.Booleans.{CircuitIsProgram, GatesAreFew, ProductsAreNumbered, CircuitIsStatement, BitsSolve, SolvedByBits, SolvedIsSatisfied, SatisfiedIsSolved, OneOutcome};
 
 /// A circuit, with some of its first inputs public, is a program.
 pub fn circuit_is_program()
     ensures { CircuitIsProgram }
+{}
+
+/// A circuit has no more inputs and gates than wires: each gate sets a wire of its own.
+pub fn gates_are_few()
+    ensures { GatesAreFew }
 {}
 
 /// Product i of a circuit's program has given value i, and each given value is that of a product.

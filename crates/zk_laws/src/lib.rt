@@ -11,8 +11,8 @@ mod sessions;
 mod trees;
 
 pub use booleans::{
-    bits_solve, circuit_is_program, circuit_is_statement, one_outcome, products_are_numbered,
-    satisfied_is_solved, solved_by_bits, solved_is_satisfied,
+    bits_solve, circuit_is_program, circuit_is_statement, gates_are_few, one_outcome,
+    products_are_numbered, satisfied_is_solved, solved_by_bits, solved_is_satisfied,
 };
 pub use determined::{
     fixed_before_challenge, one_finding, one_on_set_wires, one_transcript, one_view,

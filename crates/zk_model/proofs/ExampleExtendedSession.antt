@@ -50,25 +50,25 @@ unfolding coin_word block_word double_rounds column_round diagonal_round quarter
 the_challenge = refl
 
 ask_fits : (ask : TreeAsk) → length ask.flips ≡ 1 → IsElement ask.base_correction
-    → (length (ask ∷ []) ≡ 1) × All (IsTreeAsk params) (ask ∷ [])
-ask_fits ask flips element = (refl, All-from_recursion (IsTreeAsk params) (ask ∷ []) (record { flips = flips; base_correction = element }, tt))
+    → (length (ask ∷ []) ≡ 1) × All (IsTreeAsk params.height) (ask ∷ [])
+ask_fits ask flips element = (refl, All-from_recursion (IsTreeAsk params.height) (ask ∷ []) (record { flips = flips; base_correction = element }, tt))
 
 reply_fits : (both : LeftRight) (leaf_offset : ℕ) → AreBothBytes 16 both → IsElement leaf_offset
-    → All (IsTreeReply params) (record { messages = both ∷ []; leaf_offset = leaf_offset } ∷ [])
+    → All (IsTreeReply params.height) (record { messages = both ∷ []; leaf_offset = leaf_offset } ∷ [])
 reply_fits both leaf_offset bytes element =
-    All-from_recursion (IsTreeReply params) (record { messages = both ∷ []; leaf_offset = leaf_offset } ∷ [])
+    All-from_recursion (IsTreeReply params.height) (record { messages = both ∷ []; leaf_offset = leaf_offset } ∷ [])
     (record { count = refl; messages = All-from_recursion (AreBothBytes 16) (both ∷ []) (bytes, tt); leaf_offset = element }, tt)
 
 round_fits : IsRound params grant round
 round_fits = record {
   asks = (
     refl,
-    All-from_recursion (λ (trees : List TreeAsk). (length trees ≡ 1) × All (IsTreeAsk params) trees) round.asks
+    All-from_recursion (λ (trees : List TreeAsk). (length trees ≡ 1) × All (IsTreeAsk params.height) trees) round.asks
         (ask_fits first_ask refl (lit< tt), (ask_fits second_ask refl (lit< tt), tt)),
   );
   replies = (
     refl,
-    All-from_recursion (λ (trees : List TreeReply). (length trees ≡ 1) × All (IsTreeReply params) trees) round.replies (
+    All-from_recursion (λ (trees : List TreeReply). (length trees ≡ 1) × All (IsTreeReply params.height) trees) round.replies (
       (refl, reply_fits first_messages first_reply.leaf_offset (bytes_by_test 16 first_messages.left refl refl, bytes_by_test 16 first_messages.right refl refl) (lit< tt)),
       ((refl, reply_fits second_messages second_reply.leaf_offset (bytes_by_test 16 second_messages.left refl refl, bytes_by_test 16 second_messages.right refl refl) (lit< tt)), tt),
     ),

@@ -1,7 +1,7 @@
 -- Frames as values, the places of a session where they may come, and what is wrong with bytes that begin none.
-use Rattle.std.specs.Prelude.{◌≡◌, ◌⊎◌, ℕ, zero, suc, ◌+◌, ◌*◌, ◌-◌, ◌^◌, ◌<◌, ◌≤◌, Bool, true, false, if◌then◌else◌, nat_eq, List, [], ◌∷◌, length, take, All}
+use Rattle.std.specs.Prelude.{◌≡◌, ◌⊎◌, ℕ, ◌+◌, ◌*◌, ◌-◌, ◌^◌, ◌<◌, ◌≤◌, if◌then◌else◌, nat_eq, List, [], ◌∷◌, length, take, All}
 use Rattle.zk_model.specs.Field.{IsElement}
-use Rattle.zk_model.specs.Transcript.{Hello, Grant, IsHello, BeginsWith, hello_frame, grant_frame, corrections_frame, challenge_frame, sums_frame, openings_frame, verdict_frame, refuse_frame}
+use Rattle.zk_model.specs.Transcript.{Hello, Grant, TreeAsk, TreeReply, IsHello, IsTreeAsk, IsTreeReply, BeginsWith, hello_frame, grant_frame, ask_frame, reply_frame, corrections_frame, challenge_frame, sums_frame, openings_frame, verdict_frame, refuse_frame}
 use Rattle.zk_model.specs.declared.Expect.{Expect}
 use Rattle.zk_model.specs.declared.Expect.TheVariants as expect
 use Rattle.zk_model.specs.declared.FrameKind.{FrameKind}
@@ -13,6 +13,8 @@ use Rattle.zk_model.specs.declared.FrameKind.TheVariants as kind
 pub data Frame : Type 0 where
   hello : Hello → Frame
   grant : Grant → Frame
+  asks : List TreeAsk → Frame
+  replies : List TreeReply → Frame
   corrections : List ℕ → Frame
   challenge : ℕ → Frame
   sums : List (ℕ × ℕ) → Frame
@@ -24,6 +26,8 @@ pub data Frame : Type 0 where
 abbrev pub frame_spelling : Frame → List ℕ
 frame_spelling (hello said) = hello_frame said
 frame_spelling (grant given) = grant_frame given
+frame_spelling (asks said) = ask_frame said
+frame_spelling (replies said) = reply_frame said
 frame_spelling (corrections elements) = corrections_frame elements
 frame_spelling (challenge element) = challenge_frame element
 frame_spelling (sums both) = sums_frame both
@@ -38,6 +42,16 @@ pub record FitsGrant (given : Grant) : Type 0 where
   pub start : given.start < 2 ^ 64
   pub count : given.count < 2 ^ 32
   pub section_length : given.section_length < 2 ^ 32
+
+-- asks for so many trees of this height
+pub record AreAsks (height trees : ℕ) (said : List TreeAsk) : Type 0 where
+  pub counted : length said ≡ trees
+  pub each : All (IsTreeAsk height) said
+
+-- replies for so many trees of this height
+pub record AreReplies (height trees : ℕ) (said : List TreeReply) : Type 0 where
+  pub counted : length said ≡ trees
+  pub each : All (IsTreeReply height) said
 
 -- so many elements
 pub record AreElements (count : ℕ) (elements : List ℕ) : Type 0 where
@@ -59,13 +73,16 @@ pub record FitsRefusal (code : ℕ) : Type 0 where
   pub least : 1 ≤ code
   pub most : code ≤ 4
 
--- The frames that a place allows: a greeting whatever it names, a grant of any numbers or a refusal in its place, so many
--- elements, a verdict.
+-- The frames that a place allows: a greeting whatever it names, a grant of any numbers or a refusal in its place, asks
+-- or replies for so many trees of one height, so many elements, a verdict.
 abbrev pub Allows : Expect → Frame → Type 0
 Allows expect.Hello frame = (said : Hello) × (frame ≡ hello said) × IsHello said
 Allows expect.Grant frame =
     ((given : Grant) × (frame ≡ grant given) × FitsGrant given)
     ⊎ ((code : ℕ) × (frame ≡ refuse code) × FitsRefusal code)
+Allows (expect.Ask height trees left) frame = (said : List TreeAsk) × (frame ≡ asks said) × AreAsks height trees said
+Allows (expect.Reply height trees left) frame =
+    (said : List TreeReply) × (frame ≡ replies said) × AreReplies height trees said
 Allows (expect.Corrections count) frame =
     (elements : List ℕ) × (frame ≡ corrections elements) × AreElements count elements
 Allows expect.Challenge frame = (element : ℕ) × (frame ≡ challenge element) × IsElement element
@@ -102,6 +119,8 @@ abbrev pub frame_length : Expect → List ℕ → ℕ
 frame_length expect.Hello bytes = 102
 frame_length expect.Grant [] = 1
 frame_length expect.Grant (first ∷ bytes) = if nat_eq first 10 then 6 else 21
+frame_length (expect.Ask height trees left) bytes = 5 + trees * (height + 8)
+frame_length (expect.Reply height trees left) bytes = 5 + trees * (32 * height + 8)
 frame_length (expect.Corrections count) bytes = elements_length count
 frame_length expect.Challenge bytes = elements_length 1
 frame_length (expect.Sums sections) bytes = elements_length (2 * sections)
@@ -117,6 +136,8 @@ abbrev pub expected_kind : Expect → List ℕ → FrameKind
 expected_kind expect.Hello bytes = kind.Hello
 expected_kind expect.Grant [] = kind.Grant
 expected_kind expect.Grant (first ∷ bytes) = if nat_eq first 10 then kind.Refuse else kind.Grant
+expected_kind (expect.Ask height trees left) bytes = kind.ExtendAsk
+expected_kind (expect.Reply height trees left) bytes = kind.ExtendReply
 expected_kind (expect.Corrections count) bytes = kind.Corrections
 expected_kind expect.Challenge bytes = kind.Challenge
 expected_kind (expect.Sums sections) bytes = kind.Sums

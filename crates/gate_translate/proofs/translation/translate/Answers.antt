@@ -30,7 +30,7 @@ pub from_parts-requires : goal.from_parts-requires
 from_parts-requires c =
     let end : c.loop-gate.gate-index ≡ length c.args.circuit.now.gates = omega (arith, ap length c.rows-gate-items.ensures.rows) in
     let givens : c.len-givens.result ≡ length c.loop-gate.products.items = search rules in
-    is_held c.args.circuit.now _ c.circuit_is_program.ensures c.wires-wires.ensures.rules
+    is_held c.args.circuit.now _ c.circuit_is_program.ensures c.gates_are_few.ensures c.wires-wires.ensures.rules
     (is_translated c.args.circuit.now c.wires-wires.result c.inputs-inputs.result c.len-givens.result c.loop-gate.steps.items c.loop-gate.products.items c.in_ok-opened.opened.items
     c.wires-wires.ensures.count c.inputs-inputs.ensures givens
     (c.in_ok-opened.ensures ∙ (λ i. map (λ o. c.wires-wires.ensures.count i - c.outputs.ensures i + o) (range_with_len 0 (c.outputs.ensures i))))
