@@ -76,6 +76,8 @@ frame_most expect.Grant (first ∷ bytes) = either (nat_eq first 10)
     either : (b : Bool) → (if b then 6 else 21) ≤ 21
     either true = omega arith
     either false = omega arith
+frame_most (expect.Ask height trees left) bytes = omega arith
+frame_most (expect.Reply height trees left) bytes = omega arith
 frame_most (expect.Corrections count) bytes = omega arith
 frame_most expect.Challenge bytes = omega arith
 frame_most (expect.Sums sections) bytes = omega arith
@@ -185,6 +187,8 @@ fails_more place old mid new f begun fails = record {
 wants_some : (place : Expect) → length {A = ℕ} [] < frame_length place []
 wants_some expect.Hello = omega arith
 wants_some expect.Grant = omega arith
+wants_some (expect.Ask height trees left) = omega arith
+wants_some (expect.Reply height trees left) = omega arith
 wants_some (expect.Corrections count) = omega arith
 wants_some expect.Challenge = omega arith
 wants_some (expect.Sums sections) = omega arith

@@ -74,6 +74,8 @@ pub record Arrives (place : Expect) (frame : Frame) (old new : LineState) : Type
 abbrev pub longest : Expect → ℕ
 longest expect.Hello = 102
 longest expect.Grant = 21
+longest (expect.Ask height trees left) = frame_length (expect.Ask height trees left) []
+longest (expect.Reply height trees left) = frame_length (expect.Reply height trees left) []
 longest (expect.Corrections count) = frame_length (expect.Corrections count) []
 longest expect.Challenge = frame_length expect.Challenge []
 longest (expect.Sums sections) = frame_length (expect.Sums sections) []

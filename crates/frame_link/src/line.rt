@@ -1,5 +1,5 @@
 // One end of a session's stream: frames over a link.
-ghost use Rattle.std.specs.Prelude.{◌≡◌, ◌+◌, ◌<◌, ◌≤◌, ◌^◌, None, Some, [], length, false, IfOk, IfErr, OnOk, IsTrue};
+ghost use Rattle.std.specs.Prelude.{◌≡◌, ◌+◌, ◌<◌, ◌≤◌, ◌^◌, None, Some, [], length, map, flat_map, false, All, IfOk, IfErr, OnOk, IsTrue};
 ghost use Rattle.zk_model.specs.Frames.{frame_spelling};
 ghost use Rattle.zk_port.specs.Logs.{peer_of};
 ghost use Rattle.proof_frames.specs.Frames.{said, IsShort};
@@ -9,7 +9,7 @@ ghost use Rattle.frame_link.specs.Lines.{PieceComes, PiecesCome, PieceFails, Arr
 use crate::fault::LineFault;
 use crate::log::Log;
 use proof_frames::{Decoder, Expect, Frame, encode};
-use std::alloc::Global;
+use std::alloc::{AllocError, Global};
 use std::marker::Model;
 use zk_model::Side;
 use zk_port::Link;
@@ -56,6 +56,19 @@ fn peer(side: Side) -> Side
         Side::Prover => Side::Verifier,
         Side::Verifier => Side::Prover,
     }
+}
+
+/// Frames as they are sent, one behind another.
+fn encode_frames(alloc: Global, frames: &[Frame]) -> Result<Vec<u8>, AllocError>
+    requires { All IsShort (map said frames.now) }
+    ensures { IfOk result (λ bytes. bytes.items ≡ flat_map frame_spelling (map said frames.now)) }
+{
+    let mut bytes = Vec::new(alloc);
+    for frame in frames {
+        let more = encode(alloc, frame)?;
+        bytes.extend_from_slice(&more)?;
+    }
+    Ok(bytes)
 }
 
 impl<L: Link> Line<L> {
@@ -164,6 +177,23 @@ impl<L: Link> Line<L> {
             SendFails (frame_spelling (said frame.now)) fault self.old self.new) }
     {
         let bytes = encode(alloc, frame)?;
+        self.log.send(alloc, &mut self.link, self.side, &bytes)?;
+        Ok(())
+    }
+
+    /// Sends frames, one behind another, by one call of the link: all of them are logged, or none.
+    ///
+    /// # Errors
+    ///
+    /// `Link` where the link failed, `NoMemory`; then a part of them may have gone out.
+    pub fn send_frames(&mut self, alloc: Global, frames: &[Frame]) -> Result<(), LineFault>
+        requires open { IsTrue self.old.is_open }
+        requires short { All IsShort (map said frames.now) }
+        ensures sends { OnOk result (Sends (flat_map frame_spelling (map said frames.now)) self.old self.new) }
+        ensures fails { IfErr result (λ fault.
+            SendFails (flat_map frame_spelling (map said frames.now)) fault self.old self.new) }
+    {
+        let bytes = encode_frames(alloc, frames)?;
         self.log.send(alloc, &mut self.link, self.side, &bytes)?;
         Ok(())
     }

@@ -3,7 +3,7 @@ use Rattle.std.proofs.Common.{◌≡◌, ℕ, ◌+◌, ◌-◌, ◌<◌, ◌≤�
 use Rattle.std.specs.Prelude.{All, Bool, true, false, nat_eq}
 use Rattle.std.proofs.lemmas.Bool.{cases_lt}
 use Rattle.std.proofs.lemmas.List.{take_all, nil_from_length, length-replicate, get_or-drop, get_or_append_left}
-use Rattle.std.proofs.lemmas.List.Elements.{All-append, All-cons, All-drop, All-replicate}
+use Rattle.std.proofs.lemmas.List.Elements.{All-nil, All-append, All-cons, All-drop, All-replicate}
 use Rattle.zk_model.specs.Field.{IsElement}
 use Rattle.zk_model.specs.Bytes.{element_bytes}
 use Rattle.zk_model.specs.Transcript.{BeginsWith}
@@ -11,17 +11,20 @@ use Rattle.zk_model.specs.Frames.{CanGoOn}
 use Rattle.zk_model.specs.declared.Expect.{Expect}
 use Rattle.zk_model.specs.declared.Expect.TheVariants as expect
 use Rattle.zk_model.specs.declared.FrameKind.{FrameKind}
+use Rattle.proof_frames.specs.declared.shape.Level.{Level}
 use Rattle.proof_frames.specs.declared.shape.Payload.{Payload}
 use Rattle.proof_frames.specs.declared.shape.Payload.TheVariants as payload
 use Rattle.proof_frames.specs.declared.shape.Shape.{Shape}
-use Rattle.proof_frames.specs.Shapes.{HoldsPayload, HoldsBytes, HoldsElements, IsHeld, shape_of, header, spelled}
+use Rattle.proof_frames.specs.Shapes.{HoldsPayload, HoldsBytes, HoldsElements, HoldsTrees, IsHeld, level_width, level_most, shape_of, header, spelled}
 use Rattle.proof_frames.proofs.Octets.{IsByte, part_of_element}
+use Rattle.proof_frames.proofs.TreeLemmas.{Complete, no_trees, trees_go_on}
 use Rattle.proof_frames.proofs.Words.{FitsPayload, IsWord, IsWordAt, word_whole}
 
 -- some first byte is in the range, and bytes are in it
 abbrev pub IsSound : Payload → Type 0
 IsSound (payload.Bytes count least most) = (1 ≤ count) × (count ≤ 97) × (least ≤ most) × (most < 256)
 IsSound (payload.Elements count) = Unit {0}
+IsSound (payload.Trees trees height level) = Unit {0}
 
 pub shapes_are_sound : (place : Expect) (first : ℕ) → IsSound (shape_of place first).payload
 shapes_are_sound expect.Hello first = (omega arith, omega arith, omega arith, omega arith)
@@ -30,6 +33,8 @@ shapes_are_sound expect.Grant first = by_first (nat_eq first 10) refl
     by_first : (b : Bool) → nat_eq first 10 ≡ b → IsSound (shape_of expect.Grant first).payload
     by_first true e = rw e (omega arith, omega arith, omega arith, omega arith)
     by_first false e = rw e (omega arith, omega arith, omega arith, omega arith)
+shapes_are_sound (expect.Ask height trees left) first = tt
+shapes_are_sound (expect.Reply height trees left) first = tt
 shapes_are_sound (expect.Corrections count) first = tt
 shapes_are_sound expect.Challenge first = tt
 shapes_are_sound (expect.Sums sections) first = tt
@@ -44,6 +49,8 @@ same_shape expect.Grant first = by_first (nat_eq first 10) refl
     by_first : (b : Bool) → nat_eq first 10 ≡ b → shape_of expect.Grant (get_or (header (shape_of expect.Grant first)) 0 0) ≡ shape_of expect.Grant first
     by_first true e = rw e refl
     by_first false e = rw e refl
+same_shape (expect.Ask height trees left) first = refl
+same_shape (expect.Reply height trees left) first = refl
 same_shape (expect.Corrections count) first = refl
 same_shape expect.Challenge first = refl
 same_shape (expect.Sums sections) first = refl
@@ -70,10 +77,15 @@ flat_map_append (element ∷ elements) others =
     ap (λ l. element_bytes element ++ l) (flat_map_append elements others)
     ∙ sym (append_assoc (element_bytes element) (flat_map element_bytes elements) (flat_map element_bytes others))
 
+-- some trees
+some_trees : (count width most : ℕ) → Complete count width most []
+some_trees count width most = trees_go_on count width most [] (All-nil IsByte) (no_trees count width most)
+
 -- some payload
 some_payload : Payload → List ℕ
 some_payload (payload.Bytes count least most) = least ∷ replicate (count - 1) 0
 some_payload (payload.Elements count) = flat_map element_bytes (replicate count 0)
+some_payload (payload.Trees trees height level) = (some_trees trees (level_width level height) (level_most level)).payload
 
 some_fits : (p : Payload) → IsSound p → FitsPayload p (some_payload p)
 unfolding some_payload
@@ -88,6 +100,7 @@ some_fits (payload.Elements count) sound = record {
   are = record { counted = length-replicate {A = ℕ} count 0; ranged = All-replicate IsElement count 0 (omega arith) };
   spelled = refl;
 }
+some_fits (payload.Trees trees height level) sound = (some_trees trees (level_width level height) (level_most level)).fits
 
 -- a payload that goes on with what is held
 abbrev Completes : FrameKind → Payload → List ℕ → Type 0
@@ -198,6 +211,26 @@ late_elements k count start elements part long begun all holds = by_count (cases
           ),
         )
 
+-- behind the header, of trees
+late_trees : (k : FrameKind) (trees height : ℕ) (level : Level) (start elements part : List ℕ) → 5 ≤ length start
+    → take 5 start ≡ take (length start) (header (record { kind = k; payload = payload.Trees trees height level })) → All IsByte start
+    → HoldsTrees trees (level_width level height) (level_most level) start elements part
+    → Completes k (payload.Trees trees height level) (spelled start elements part)
+late_trees k trees height level start elements part long begun all holds =
+    let head = header (record { kind = k; payload = payload.Trees trees height level }) in
+    let whole : take 5 start ≡ head = begun ∙ take_all (length start) head (omega arith) in
+    let done = trees_go_on trees (level_width level height) (level_most level) (drop 5 start) (All-drop IsByte 5 start all) holds.begins in
+    let bytes : spelled start elements part ≡ start =
+    (λ i. start ++ flat_map element_bytes (holds.no_elements i) ++ holds.no_part i) ∙ append-nil (start ++ []) ∙ append-nil start in (
+      done.payload,
+      done.fits,
+      (
+        done.rest,
+        ap (λ l. head ++ l) done.begun ∙ sym (append_assoc head (drop 5 start) done.rest) ∙ ap (λ l. (l ++ drop 5 start) ++ done.rest) (sym whole)
+            ∙ ap (λ l. l ++ done.rest) (take-append-drop 5 start ∙ sym bytes),
+      ),
+    )
+
 completes : (k : FrameKind) (p : Payload) (start elements part : List ℕ) → IsSound p
     → take 5 start ≡ take (length start) (header (record { kind = k; payload = p })) → All IsByte start → All IsByte part
     → HoldsPayload p start elements part → Completes k p (spelled start elements part)
@@ -211,6 +244,11 @@ completes k (payload.Elements count) start elements part sound begun all all_par
     by_length : (length start < 5) ⊎ (5 ≤ length start) → Completes k (payload.Elements count) (spelled start elements part)
     by_length (inl short) = early k (payload.Elements count) start elements part sound (omega arith) begun (holds.first short).0 (holds.first short).1
     by_length (inr long) = late_elements k count start elements part long begun all_part holds
+completes k (payload.Trees trees height level) start elements part sound begun all all_part holds = by_length (cases_lt (length start) 5)
+  where
+    by_length : (length start < 5) ⊎ (5 ≤ length start) → Completes k (payload.Trees trees height level) (spelled start elements part)
+    by_length (inl short) = early k (payload.Trees trees height level) start elements part sound (omega arith) begun holds.no_elements holds.no_part
+    by_length (inr long) = late_trees k trees height level start elements part long begun all holds
 
 -- what is held can go on
 pub held_goes_on : (place : Expect) (start elements part : List ℕ) → IsHeld place start elements part → CanGoOn place (spelled start elements part)

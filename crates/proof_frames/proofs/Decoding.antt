@@ -6,7 +6,7 @@ use Rattle.std.proofs.lemmas.List.{take_all, take_at, length-take-le, get_or-tak
 use Rattle.zk_model.specs.Frames.{Frame, CanGoOn, IsWhole, frame_length, frame_spelling, bytes_wanted, expected_kind}
 use Rattle.zk_model.specs.declared.Expect.{Expect}
 use Rattle.zk_model.specs.declared.Expect.TheVariants as expect
-use Rattle.proof_frames.specs.Readings.{Reading, IsReading, IsShortPlace, Takes, TurnsBad, Gives, wanted}
+use Rattle.proof_frames.specs.Readings.{Reading, IsReading, IsShortPlace, Takes, TurnsBad, Gives, IsNotWhole, wanted}
 use Rattle.proof_frames.specs.Holding.{Holds, StopsAt, IsUnderWay, IsSound, bytes_of}
 use Rattle.proof_frames.specs.Shapes.{shape_of, payload_length}
 use Rattle.proof_frames.specs.declared.decoder.BadFrame.{BadFrame}
@@ -28,6 +28,8 @@ least_length expect.Grant (first ∷ bytes) = by_first (nat_eq first 10) refl
     by_first : (b : Bool) → nat_eq first 10 ≡ b → 1 ≤ frame_length expect.Grant (first ∷ bytes)
     by_first true e = rw e (omega arith)
     by_first false e = rw e (omega arith)
+least_length (expect.Ask height trees left) bytes = omega arith
+least_length (expect.Reply height trees left) bytes = omega arith
 least_length (expect.Corrections count) bytes = omega arith
 least_length expect.Challenge bytes = omega arith
 least_length (expect.Sums sections) bytes = omega arith
@@ -309,6 +311,21 @@ taken_within expected bad place received taken pair_room held is sound =
 pub none_is : (bad : Option BadFrame) → is_some bad ≡ false → bad ≡ None
 none_is None is = refl
 none_is (Some bad) is = cc
+
+-- what is taken is no whole frame where more is wanted
+pub not_whole : (expected : Option Expect) (bad : Option BadFrame) (place : Expect) (received taken pair_room : ℕ) (held : Held) (old : Reading)
+    → expected ≡ Some place → bad ≡ None → IsSound expected received bad taken held pair_room → reading received expected bad taken held ≡ old
+    → taken < frame_length place (bytes_of held) → IsNotWhole old
+not_whole expected bad place received taken pair_room held old is fine sound view less = subst IsNotWhole view (λ other frame fine_too expected_too whole.
+    let all : taken ≡ length (bytes_of held) = all_is_taken expected bad place received taken pair_room held is fine sound in
+    let same : other ≡ place = one_place other (sym expected_too ∙ is) in
+    let bytes : take taken (bytes_of held) ≡ bytes_of held = all_taken (bytes_of held) taken all in
+    let sized : length (bytes_of held) ≡ frame_length place (bytes_of held) =
+    subst (λ (q : Expect × List ℕ). length q.1 ≡ frame_length q.0 q.1) (λ i. (same i, bytes i)) (whole_length other (take taken (bytes_of held)) frame whole) in
+    absurd (omega (arith, sized, all, less)))
+  where
+    one_place : (other : Expect) → Some other ≡ Some place → other ≡ place
+    one_place other is = cc
 
 pub whole_wants_nothing : WholeWantsNothing
 whole_wants_nothing place bytes frame whole = omega (arith, whole_length place bytes frame whole)

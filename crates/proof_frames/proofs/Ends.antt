@@ -2,18 +2,20 @@
 use Rattle.std.proofs.Common.{◌≡◌, ℕ, ◌<◌, ◌≤◌, ◌≢◌, ◌⊎◌, inl, inr, List, [], ◌∷◌, ◌++◌, flat_map, length, drop, get_or, refl, sym, ◌∙◌, ap, arith, length-append, append_assoc, subst}
 use Rattle.std.specs.Int.{w64, from_le_bytes}
 use Rattle.std.specs.List.{AllByRecursion}
-use Rattle.std.proofs.lemmas.Nat.{from_le_bytes-to_le_bytes_8}
-use Rattle.std.proofs.lemmas.List.{get_or_append_left, get_or_at, drop_at}
+use Rattle.std.proofs.lemmas.List.{get_or_append_left, get_or_at, drop_at, drop-append-le}
 use Rattle.std.proofs.lemmas.List.Elements.{recursion_from_All}
 use Rattle.zk_laws.proofs.Codes.{same_front}
 use Rattle.zk_model.specs.Field.{IsElement}
 use Rattle.zk_model.specs.Bytes.{element_bytes}
 use Rattle.zk_model.specs.Frames.{CanGoOn, frame_spelling}
 use Rattle.zk_model.specs.declared.Expect.{Expect}
+use Rattle.proof_frames.specs.declared.shape.Level.{Level}
 use Rattle.proof_frames.specs.declared.shape.Payload.{Payload}
 use Rattle.proof_frames.specs.declared.shape.Payload.TheVariants as payload
 use Rattle.proof_frames.specs.declared.shape.Shape.{Shape}
-use Rattle.proof_frames.specs.Shapes.{shape_of, header, spelled}
+use Rattle.proof_frames.specs.Shapes.{BeginsTrees, level_width, level_most, shape_of, header, spelled}
+use Rattle.proof_frames.proofs.Octets.{says_element}
+use Rattle.proof_frames.proofs.TreeLemmas.{GoesOn, trees_follow}
 use Rattle.proof_frames.proofs.Words.{FitsPayload, IsWord, IsWordAt, allowed_word}
 
 -- a word of a shape that begins with the bytes
@@ -69,6 +71,21 @@ plain_ends place start byte count least most headed shape out = λ can.
     refuted low high is (inl below) = omega arith
     refuted low high is (inr above) = omega arith
 
+-- a byte that goes on with no tree
+pub tree_ends : (place : Expect) (start : List ℕ) (byte trees height : ℕ) (level : Level) → 5 ≤ length start
+    → (shape_of place (get_or start 0 0)).payload ≡ payload.Trees trees height level
+    → (begins : BeginsTrees trees (level_width level height) (level_most level) (drop 5 start))
+    → ¬ GoesOn (level_width level height) (level_most level) begins.part byte → ¬ CanGoOn place (start ++ byte ∷ [])
+tree_ends place start byte trees height level long shape begins stops = λ can.
+    let on = continues place (start ++ byte ∷ []) (omega (arith, length-append start (byte ∷ []))) can in
+    let first : get_or (start ++ byte ∷ []) 0 0 ≡ get_or start 0 0 = get_or_append_left start (byte ∷ []) 0 0 (omega arith) in
+    let fits : FitsPayload (payload.Trees trees height level) on.payload =
+    fits_told place (get_or start 0 0) (get_or (start ++ byte ∷ []) 0 0) on.payload (payload.Trees trees height level) first shape on.fits in
+    let behind : on.payload ≡ (drop 5 start ++ byte ∷ []) ++ on.rest =
+    ap (drop 5) on.spelled ∙ drop-append-le 5 (start ++ byte ∷ []) on.rest (omega (arith, long, length-append start (byte ∷ [])))
+    ∙ ap (λ l. l ++ on.rest) (drop-append-le 5 start (byte ∷ []) long) in
+    stops (trees_follow trees (level_width level height) (level_most level) (drop 5 start) on.payload on.rest byte begins fits behind)
+
 -- where elements that are read go on as others, what is behind them begins with one of those
 pub next_element : (read elements rest : List ℕ) → length read < length elements → AllByRecursion IsElement elements
     → flat_map element_bytes read ++ rest ≡ flat_map element_bytes elements
@@ -77,11 +94,6 @@ next_element read [] rest less all same = absurd (omega arith)
 next_element [] (element ∷ elements) rest less all same = (element, flat_map element_bytes elements, all.0, same)
 next_element (first ∷ read) (element ∷ elements) rest less all same =
     next_element read elements rest (omega arith) all.1 (ap (drop 8) same)
-
--- the bytes of an element say one
-says_element : (eight : List ℕ) (element : ℕ) → IsElement element → eight ≡ element_bytes element → IsElement (from_le_bytes w64 eight)
-says_element eight element is same =
-    subst IsElement (sym (ap (from_le_bytes w64) same ∙ from_le_bytes-to_le_bytes_8 element (omega (arith, is)))) is
 
 -- so 8 bytes behind them say an element
 whole_element : (read elements eight rest : List ℕ) → length read < length elements → AllByRecursion IsElement elements

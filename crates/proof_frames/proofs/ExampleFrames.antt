@@ -1,17 +1,19 @@
 -- Bad bytes and whole frames at worked examples.
-use Rattle.std.proofs.Common.{◌≡◌, ℕ, List, [], ◌∷◌, ◌++◌, refl, arith}
+use Rattle.std.proofs.Common.{◌≡◌, ℕ, ◌≤◌, List, [], ◌∷◌, ◌++◌, replicate, refl, arith}
+use Rattle.std.specs.Prelude.{true}
 use Rattle.std.specs.Int.{w64, from_le_bytes}
 use Rattle.std.proofs.lemmas.List.Elements.{All-nil, All-from_recursion}
 use Rattle.zk_model.specs.Field.{prime, IsElement}
 use Rattle.zk_model.specs.Bytes.{element_bytes}
-use Rattle.zk_model.specs.Transcript.{Hello, hello_frame}
+use Rattle.zk_model.specs.Transcript.{Hello, TreeReply, IsTreeAsk, hello_frame}
 use Rattle.zk_model.specs.Frames as model
-use Rattle.zk_model.specs.Frames.{CanGoOn, IsWhole, IsFirstBad, bytes_wanted, expected_kind}
+use Rattle.zk_model.specs.Frames.{CanGoOn, IsWhole, IsFirstBad, bytes_wanted, frame_length, frame_spelling}
 use Rattle.zk_model.specs.declared.Expect.TheVariants as expect
-use Rattle.proof_frames.specs.Shapes.{IsHeld}
+use Rattle.proof_frames.specs.declared.shape.Level.TheVariants as level
+use Rattle.proof_frames.specs.Shapes.{IsTree, BeginsTrees, IsHeld}
 use Rattle.proof_frames.proofs.Octets.{IsByte}
 use Rattle.proof_frames.proofs.Begun.{held_goes_on}
-use Rattle.proof_frames.proofs.Ends.{header_ends, element_ends}
+use Rattle.proof_frames.proofs.Ends.{header_ends, element_ends, tree_ends}
 use Rattle.proof_frames.proofs.Steps.{nothing_held}
 
 -- a greeting in place of corrections is bad at its first byte
@@ -72,3 +74,60 @@ no_corrections = record { allowed = ([], refl, record { counted = refl; ranged =
 -- in a grant's place one byte is wanted, and then the rest of a grant or of a refusal
 wanted_bytes : bytes_wanted expect.Grant [] ∷ bytes_wanted expect.Grant (2 ∷ []) ∷ bytes_wanted expect.Grant (10 ∷ []) ∷ [] ≡ 1 ∷ 20 ∷ 5 ∷ []
 wanted_bytes = refl
+
+-- ---- trees
+
+-- asks and replies for one tree of height 1 have 14 and 45 bytes
+tree_lengths : frame_length (expect.Ask 1 1 0) [] ∷ frame_length (expect.Reply 1 1 0) [] ∷ [] ≡ 14 ∷ 45 ∷ []
+tree_lengths = refl
+
+-- the ask of one tree of height 1, whole: its flip, and a correction of 2
+whole_ask : IsWhole (expect.Ask 1 1 0) (3 ∷ 9 ∷ 0 ∷ 0 ∷ 0 ∷ 1 ∷ 2 ∷ 0 ∷ 0 ∷ 0 ∷ 0 ∷ 0 ∷ 0 ∷ 0 ∷ []) (model.asks (record { flips = true ∷ []; base_correction = 2 } ∷ []))
+whole_ask = record {
+  allowed = (
+    record { flips = true ∷ []; base_correction = 2 } ∷ [],
+    refl,
+    record { counted = refl; each = All-from_recursion (IsTreeAsk 1) (record { flips = true ∷ []; base_correction = 2 } ∷ []) (record { flips = refl; base_correction = omega arith }, tt) },
+  );
+  spelled = refl;
+}
+
+-- the reply for one tree of height 1: 16 bytes of 7, 16 bytes of 9, and an offset of 3
+one_reply : TreeReply
+one_reply = record { messages = record { left = replicate 16 7; right = replicate 16 9 } ∷ []; leaf_offset = 3 }
+
+-- its bytes
+reply_spelled : frame_spelling (model.replies (one_reply ∷ [])) ≡ 4 ∷ 40 ∷ 0 ∷ 0 ∷ 0 ∷ replicate 16 7 ++ replicate 16 9 ++ 3 ∷ 0 ∷ 0 ∷ 0 ∷ 0 ∷ 0 ∷ 0 ∷ 0 ∷ []
+unfolding one_reply
+reply_spelled = refl
+
+-- no bytes begin a tree
+no_bytes : BeginsTrees 1 1 1 []
+no_bytes = record {
+  trees = [];
+  part = [];
+  each = All-nil (IsTree 1 1);
+  partial = omega arith;
+  ranged = All-nil (λ byte. byte ≤ 1);
+  within = omega arith;
+  spelled = refl;
+}
+
+-- a frame of one tree of height 1 is begun by its header
+one_tree : IsHeld (expect.Ask 1 1 0) (3 ∷ 9 ∷ 0 ∷ 0 ∷ 0 ∷ []) [] []
+one_tree = record {
+  begun = refl;
+  bytes = All-from_recursion IsByte (3 ∷ 9 ∷ 0 ∷ 0 ∷ 0 ∷ []) (omega arith, (omega arith, (omega arith, (omega arith, (omega arith, tt)))));
+  part_bytes = All-nil IsByte;
+  payload = record { no_elements = refl; no_part = refl; begins = no_bytes };
+}
+
+-- a flip of 2 is bad at byte 5 of an ask's frame
+flip_of_two : IsFirstBad (expect.Ask 1 1 0) (3 ∷ 9 ∷ 0 ∷ 0 ∷ 0 ∷ 2 ∷ []) 5
+unfolding no_bytes
+flip_of_two = record {
+  within = omega arith;
+  before = held_goes_on (expect.Ask 1 1 0) (3 ∷ 9 ∷ 0 ∷ 0 ∷ 0 ∷ []) [] [] one_tree;
+  ends = tree_ends (expect.Ask 1 1 0) (3 ∷ 9 ∷ 0 ∷ 0 ∷ 0 ∷ []) 2 1 1 level.Bit (omega arith) refl no_bytes
+      (λ goes. let low : 2 ≤ 1 = goes.level (omega arith) in absurd (omega (arith, low)));
+}

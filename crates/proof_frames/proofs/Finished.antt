@@ -5,24 +5,29 @@ use Rattle.std.proofs.lemmas.Bool.{cases_lt}
 use Rattle.std.proofs.lemmas.List.{nil_from_length, take_all, get_or-drop}
 use Rattle.std.proofs.lemmas.List.Elements.{All-drop}
 use Rattle.zk_model.specs.Bytes.{element_bytes}
-use Rattle.zk_model.specs.Transcript.{Hello}
+use Rattle.zk_model.specs.Transcript.{Hello, TreeAsk, TreeReply}
 use Rattle.zk_model.specs.Frames as model
-use Rattle.zk_model.specs.Frames.{Frame, IsWhole, AreElements, frame_length}
+use Rattle.zk_model.specs.Frames.{Frame, IsWhole, AreAsks, AreReplies, AreElements, frame_length}
 use Rattle.zk_model.specs.declared.Expect.{Expect}
 use Rattle.zk_model.specs.declared.Expect.TheVariants as expect
+use Rattle.proof_frames.specs.declared.shape.Level.{Level}
+use Rattle.proof_frames.specs.declared.shape.Level.TheVariants as level
 use Rattle.proof_frames.specs.declared.shape.Payload.{Payload}
 use Rattle.proof_frames.specs.declared.shape.Payload.TheVariants as payload
-use Rattle.proof_frames.specs.Shapes.{HoldsBytes, HoldsElements, IsHeld, shape_of, header, payload_length, spelled}
+use Rattle.proof_frames.specs.Shapes.{HoldsBytes, HoldsElements, FitsTrees, IsHeld, level_width, level_most, shape_of, header, payload_length, spelled}
 use Rattle.proof_frames.proofs.Octets.{IsByte}
-use Rattle.proof_frames.proofs.Steps.{early_empty, elements_held, bytes_held}
+use Rattle.proof_frames.proofs.Steps.{early_empty, elements_held, trees_held, bytes_held}
+use Rattle.proof_frames.proofs.TreeLemmas.{trees_whole}
 use Rattle.proof_frames.proofs.Lengths.{length-spelled, length_told, length_held}
-use Rattle.proof_frames.proofs.Words.{FitsBytes, FitsPayload, IsWordAt, hello_word, grant_word, verdict_word, corrections_whole, openings_whole, challenge_whole, sums_whole}
-use Rattle.proof_frames.specs.Frames.{flattened, hello_in, grant_or_refusal_in, verdict_in}
+use Rattle.proof_frames.proofs.Words.{FitsBytes, FitsPayload, IsWordAt, hello_word, grant_word, verdict_word, asks_whole, replies_whole, corrections_whole, openings_whole, challenge_whole, sums_whole}
+use Rattle.proof_frames.specs.Frames.{ask_bytes, reply_bytes, flattened, hello_in, grant_or_refusal_in, verdict_in}
 
 -- a frame has some bytes
 pub some_bytes : (place : Expect) → 1 ≤ frame_length place []
 some_bytes expect.Hello = omega arith
 some_bytes expect.Grant = omega arith
+some_bytes (expect.Ask height trees left) = omega arith
+some_bytes (expect.Reply height trees left) = omega arith
 some_bytes (expect.Corrections count) = omega arith
 some_bytes expect.Challenge = omega arith
 some_bytes (expect.Sums sections) = omega arith
@@ -114,6 +119,28 @@ finished_elements place start elements part count held shape whole = by_length (
           bytes = (λ i. start ++ flat_map element_bytes elements ++ none i) ∙ append-nil (start ++ flat_map element_bytes elements) ∙ ap (λ l. l ++ flat_map element_bytes elements) front;
         }
 
+-- a whole frame of trees
+pub record HoldsForest (place : Expect) (start elements part : List ℕ) (trees height : ℕ) (level : Level) : Type 0 where
+  pub long : 5 ≤ length start
+  pub fits : FitsTrees trees (level_width level height) (level_most level) (drop 5 start)
+  pub bytes : spelled start elements part ≡ header (shape_of place (get_or start 0 0)) ++ drop 5 start
+
+pub finished_trees : (place : Expect) (start elements part : List ℕ) (trees height : ℕ) (level : Level) → IsHeld place start elements part
+    → (shape_of place (get_or start 0 0)).payload ≡ payload.Trees trees height level
+    → length (spelled start elements part) ≡ frame_length place (spelled start elements part) → HoldsForest place start elements part trees height level
+finished_trees place start elements part trees height level held shape whole =
+    let holds = trees_held place start elements part trees height level held shape in
+    let total = shaped place start elements part (payload.Trees trees height level) held shape whole in
+    let sized : length start ≡ 5 + trees * (level_width level height + 8) = omega (arith, total, ap length holds.no_elements, ap length holds.no_part) in
+    let head = header (shape_of place (get_or start 0 0)) in
+    let front : take 5 start ≡ head = held.begun ∙ take_all (length start) head (omega (arith, sized)) in
+    record {
+      long = omega (arith, sized);
+      fits = trees_whole trees (level_width level height) (level_most level) (drop 5 start) holds.begins (omega (arith, sized, length-drop 5 start));
+      bytes = (λ i. start ++ flat_map element_bytes (holds.no_elements i) ++ holds.no_part i) ∙ append-nil (start ++ []) ∙ append-nil start
+          ∙ sym (take-append-drop 5 start) ∙ ap (λ l. l ++ drop 5 start) front;
+    }
+
 -- the whole frame at a place, where it is known which place
 abbrev Finishes : Expect → List ℕ → List ℕ → List ℕ → Frame → Type 0
 Finishes place start elements part frame =
@@ -146,6 +173,36 @@ grant_finished place start elements part bytes frame is same read =
         → (b : Bool) → nat_eq (get_or start 0 0) 10 ≡ b → IsWhole expect.Grant (spelled start elements part) frame
     by_first held whole true e = ends (finished_bytes expect.Grant start elements part 1 1 4 held (rw e refl) (omega arith) whole)
     by_first held whole false e = ends (finished_bytes expect.Grant start elements part 16 0 255 held (rw e refl) (omega arith) whole)
+
+-- the trees that a whole frame of asks holds
+pub ask_trees : (place : Expect) (start elements part : List ℕ) (height trees left : ℕ) → place ≡ expect.Ask height trees left → IsHeld place start elements part
+    → length (spelled start elements part) ≡ frame_length place (spelled start elements part) → (5 ≤ length start) × FitsTrees trees height 1 (drop 5 start)
+ask_trees place start elements part height trees left is held whole =
+    let done = finished_trees place start elements part trees height level.Bit held (ap (λ p. (shape_of p (get_or start 0 0)).payload) is) whole in
+    (done.long, done.fits)
+
+pub asks_finished : (place : Expect) (start elements part given : List ℕ) (said : List TreeAsk) (height trees left : ℕ) → place ≡ expect.Ask height trees left
+    → given ≡ drop 5 start → flat_map ask_bytes said ≡ given → AreAsks height trees said → Finishes place start elements part (model.asks said)
+asks_finished place start elements part given said height trees left is same spells are =
+    subst (λ (p : Expect). Finishes p start elements part (model.asks said)) (sym is) (λ held whole.
+    let done = finished_trees (expect.Ask height trees left) start elements part trees height level.Bit held refl whole in
+    rw done.bytes (asks_whole height trees left (drop 5 start) said are (spells ∙ same)))
+
+-- the trees that a whole frame of replies holds
+pub reply_trees : (place : Expect) (start elements part : List ℕ) (height trees left : ℕ) → place ≡ expect.Reply height trees left → IsHeld place start elements part
+    → length (spelled start elements part) ≡ frame_length place (spelled start elements part)
+    → (5 ≤ length start) × FitsTrees trees (32 * height) 255 (drop 5 start)
+reply_trees place start elements part height trees left is held whole =
+    let done = finished_trees place start elements part trees height level.Messages held (ap (λ p. (shape_of p (get_or start 0 0)).payload) is) whole in
+    (done.long, done.fits)
+
+pub replies_finished : (place : Expect) (start elements part given : List ℕ) (said : List TreeReply) (height trees left : ℕ)
+    → place ≡ expect.Reply height trees left → given ≡ drop 5 start → flat_map reply_bytes said ≡ given → AreReplies height trees said
+    → Finishes place start elements part (model.replies said)
+replies_finished place start elements part given said height trees left is same spells are =
+    subst (λ (p : Expect). Finishes p start elements part (model.replies said)) (sym is) (λ held whole.
+    let done = finished_trees (expect.Reply height trees left) start elements part trees height level.Messages held refl whole in
+    rw done.bytes (replies_whole height trees left (drop 5 start) said are (spells ∙ same)))
 
 pub corrections_finished : (place : Expect) (start elements part given : List ℕ) (count : ℕ) → place ≡ expect.Corrections count → given ≡ elements
     → Finishes place start elements part (model.corrections given)

@@ -1,7 +1,7 @@
 -- The payloads of frames.
-use Rattle.std.proofs.Common.{◌≡◌, ℕ, ◌+◌, ◌*◌, ◌^◌, ◌<◌, ◌≤◌, List, [], ◌∷◌, ◌++◌, length, flat_map, take, get_or, refl, ap, sym, ◌∙◌, arith, append_assoc, subst}
+use Rattle.std.proofs.Common.{◌≡◌, ℕ, ◌+◌, ◌*◌, ◌^◌, ◌<◌, ◌≤◌, List, [], ◌∷◌, ◌++◌, length, flat_map, take, drop, get_or, refl, ap, sym, ◌∙◌, arith, append_assoc, subst, take-append-drop}
 use Rattle.std.specs.Prelude.{All}
-use Rattle.std.proofs.lemmas.List.Elements.{All-more}
+use Rattle.std.proofs.lemmas.List.Elements.{All-more, All-take}
 use Rattle.std.specs.Int.{w32, to_le_bytes}
 use Rattle.std.proofs.lemmas.List.{flat_map_more, take_more}
 use Rattle.zk_model.specs.Bytes.{element_bytes}
@@ -60,3 +60,22 @@ pub all_more : {A : Type 0} (P : A → Type 0) (items : List A) (i : ℕ) (item 
     → All P (take i items) → P item → All P (take (i + 1) items)
 all_more P items i item within at all holds =
     All-more P items i item within all (subst P at holds)
+
+-- the bytes of one item more
+pub items_more : {A : Type 0} (f : A → List ℕ) (items : List A) (i : ℕ) (item : A) (old before now : List ℕ) → i < length items → item ≡ get_or items i item
+    → before ≡ old ++ flat_map f (take i items) → now ≡ before ++ f item → now ≡ old ++ flat_map f (take (i + 1) items)
+items_more f items i item old before now within at far pushed =
+    let last : take i items ++ item ∷ [] ≡ take (i + 1) items = ap (λ q. take i items ++ q ∷ []) at ∙ sym (take_more items i item within) in
+    pushed ∙ ap (λ l. l ++ f item) far ∙ flat_map_more f old (take i items) item ∙ ap (λ l. old ++ flat_map f l) last
+
+-- the bytes of one item more, which were the front of the rest
+pub item_taken : {A : Type 0} (f : A → List ℕ) (items now : List A) (item : A) (front behind rest all : List ℕ) (n : ℕ) → now ≡ items ++ item ∷ []
+    → f item ≡ front → front ≡ take n rest → behind ≡ drop n rest → flat_map f items ++ rest ≡ all → flat_map f now ++ behind ≡ all
+item_taken f items now item front behind rest all n pushed is_front is_taken is_behind same =
+    let read : f item ++ behind ≡ rest = (λ i. (is_front ∙ is_taken) i ++ is_behind i) ∙ take-append-drop n rest in
+    ap (λ l. flat_map f l ++ behind) pushed ∙ ap (λ l. l ++ behind) (sym (flat_map_more f [] items item)) ∙ append_assoc (flat_map f items) (f item) behind
+    ∙ ap (λ l. flat_map f items ++ l) read ∙ same
+
+-- what holds of all holds of those that are left
+pub all_popped : {A : Type 0} (old now : List A) (n : ℕ) (P : A → Type 0) → now ≡ take n old → All P old → All P now
+all_popped old now n P left all = subst (All P) (sym left) (All-take P n old all)

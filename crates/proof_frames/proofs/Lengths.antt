@@ -1,5 +1,5 @@
 -- How long frames are, and what is held of them.
-use Rattle.std.proofs.Common.{◌≡◌, ℕ, ◌+◌, ◌*◌, ◌^◌, ◌<◌, ◌≤◌, ◌⊎◌, inl, inr, List, [], ◌∷◌, ◌++◌, flat_map, length, get_or, refl, sym, ◌∙◌, ap, arith, length-append, append_assoc, append-nil, subst}
+use Rattle.std.proofs.Common.{◌≡◌, ℕ, ◌+◌, ◌*◌, ◌^◌, ◌<◌, ◌≤◌, ◌⊎◌, inl, inr, List, [], ◌∷◌, ◌++◌, flat_map, length, get_or, refl, sym, ◌∙◌, ap, arith, length-append, length-drop, append_assoc, append-nil, subst}
 use Rattle.std.specs.Prelude.{Bool, true, false, nat_eq}
 use Rattle.std.proofs.lemmas.Bool.{cases_lt}
 use Rattle.std.proofs.lemmas.List.{get_or_append_left}
@@ -7,14 +7,16 @@ use Rattle.zk_model.specs.Bytes.{element_bytes}
 use Rattle.zk_model.specs.Frames.{Frame, IsWhole, frame_length, expected_kind}
 use Rattle.zk_model.specs.declared.Expect.{Expect}
 use Rattle.zk_model.specs.declared.Expect.TheVariants as expect
+use Rattle.proof_frames.specs.declared.shape.Level.{Level}
 use Rattle.proof_frames.specs.declared.shape.Payload.{Payload}
 use Rattle.proof_frames.specs.declared.shape.Payload.TheVariants as payload
 use Rattle.proof_frames.specs.declared.shape.Shape.{Shape}
 use Rattle.proof_frames.specs.Holding.{elements_at}
 use Rattle.proof_frames.specs.Readings.{IsShortPlace}
-use Rattle.proof_frames.specs.Shapes.{HoldsPayload, IsHeld, shape_of, header, payload_length, spelled}
+use Rattle.proof_frames.specs.Shapes.{HoldsPayload, IsHeld, level_width, level_most, shape_of, header, payload_length, spelled}
 use Rattle.proof_frames.proofs.FrameLemmas.{length-elements}
 use Rattle.proof_frames.proofs.Steps.{early_empty, elements_held}
+use Rattle.proof_frames.proofs.TreeLemmas.{length-trees}
 use Rattle.proof_frames.proofs.Words.{FitsPayload, IsWordAt, allowed_word}
 
 -- the bytes that are held
@@ -32,6 +34,8 @@ length_told expect.Grant (first ∷ bytes) some = by_first (nat_eq first 10) ref
     by_first : (b : Bool) → nat_eq first 10 ≡ b → frame_length expect.Grant (first ∷ bytes) ≡ 5 + payload_length (shape_of expect.Grant first).payload
     by_first true e = rw e refl
     by_first false e = rw e refl
+length_told (expect.Ask height trees left) bytes some = refl
+length_told (expect.Reply height trees left) bytes some = refl
 length_told (expect.Corrections count) bytes some = refl
 length_told expect.Challenge bytes some = refl
 length_told (expect.Sums sections) bytes some = refl
@@ -47,6 +51,8 @@ kind_told expect.Grant (first ∷ bytes) = by_first (nat_eq first 10) refl
     by_first : (b : Bool) → nat_eq first 10 ≡ b → expected_kind expect.Grant (first ∷ bytes) ≡ (shape_of expect.Grant first).kind
     by_first true e = rw e refl
     by_first false e = rw e refl
+kind_told (expect.Ask height trees left) bytes = refl
+kind_told (expect.Reply height trees left) bytes = refl
 kind_told (expect.Corrections count) bytes = refl
 kind_told expect.Challenge bytes = refl
 kind_told (expect.Sums sections) bytes = refl
@@ -61,6 +67,8 @@ short_payload expect.Grant first short = by_first (nat_eq first 10) refl
     by_first : (b : Bool) → nat_eq first 10 ≡ b → payload_length (shape_of expect.Grant first).payload ≤ 2 ^ 24
     by_first true e = rw e (omega arith)
     by_first false e = rw e (omega arith)
+short_payload (expect.Ask height trees left) first short = omega arith
+short_payload (expect.Reply height trees left) first short = omega arith
 short_payload (expect.Corrections count) first short = omega arith
 short_payload expect.Challenge first short = omega arith
 short_payload (expect.Sums sections) first short = omega arith
@@ -105,6 +113,15 @@ bytes_left place start elements part rest count least most long shape within =
     let left = payload_left place start elements part rest (payload.Bytes count least most) (omega arith) shape within in
     omega arith
 
+-- so many bytes of trees may still come
+pub trees_left : (place : Expect) (start elements part rest : List ℕ) (trees height : ℕ) (level : Level) → 5 ≤ length start
+    → (shape_of place (get_or start 0 0)).payload ≡ payload.Trees trees height level
+    → length (spelled start elements part ++ rest) ≤ frame_length place (spelled start elements part ++ rest)
+    → length start + length rest ≤ 5 + trees * (level_width level height + 8)
+trees_left place start elements part rest trees height level long shape within =
+    let left = payload_left place start elements part rest (payload.Trees trees height level) (omega arith) shape within in
+    omega arith
+
 -- the length of the frame that begins with what is held
 pub length_held : (place : Expect) (start elements part : List ℕ) → IsHeld place start elements part
     → frame_length place (spelled start elements part) ≡ frame_length place start
@@ -142,6 +159,8 @@ held_within place start elements part held =
         let within = holds.within in omega (arith, ap length holds.no_elements, ap length holds.no_part)
     at_most (payload.Elements count) holds =
         let within = holds.within in let short = holds.header in omega arith
+    at_most (payload.Trees trees height level) holds =
+        let within = holds.begins.within in omega (arith, ap length holds.no_elements, ap length holds.no_part, length-drop 5 start)
 
     by_length : (0 < length start) ⊎ (length start ≤ 0) → length (spelled start elements part) ≤ frame_length place start
     by_length (inl some) =
@@ -166,6 +185,7 @@ whole_length place bytes frame whole =
     length_fits : (p : Payload) (l : List ℕ) → FitsPayload p l → length l ≡ payload_length p
     length_fits (payload.Bytes count least most) l fits = fits.counted
     length_fits (payload.Elements count) l fits = ap length fits.spelled ∙ length-elements fits.elements ∙ ap (λ n. 8 * n) fits.are.counted
+    length_fits (payload.Trees trees height level) l fits = length-trees trees (level_width level height) (level_most level) l fits
 
 -- as many elements as a place allows
 pub elements_counted : (place : Expect) (first count : ℕ) → (shape_of place first).payload ≡ payload.Elements count → elements_at place ≡ count
@@ -175,6 +195,8 @@ elements_counted expect.Grant first count is = by_first (nat_eq first 10) refl
     by_first : (b : Bool) → nat_eq first 10 ≡ b → 0 ≡ count
     by_first true e = let none : payload.Bytes 1 1 4 ≡ payload.Elements count = rw e at is in cc
     by_first false e = let none : payload.Bytes 16 0 255 ≡ payload.Elements count = rw e at is in cc
+elements_counted (expect.Ask height trees left) first count is = cc
+elements_counted (expect.Reply height trees left) first count is = cc
 elements_counted (expect.Corrections sized) first count is = cc
 elements_counted expect.Challenge first count is = cc
 elements_counted (expect.Sums sections) first count is = cc

@@ -1,6 +1,8 @@
 pub mod FrameLemmas
 pub mod Octets
 pub mod Sums
+pub mod TreeLemmas
+pub mod TreeFrames
 pub mod Words
 pub mod Begun
 pub mod Ends

@@ -1,5 +1,5 @@
 -- Byte by byte, what is held, or the first bad byte.
-use Rattle.std.proofs.Common.{◌≡◌, ℕ, zero, suc, ◌+◌, ◌*◌, ◌<◌, ◌≤◌, ◌≢◌, ◌⊎◌, inl, inr, List, [], ◌∷◌, ◌++◌, flat_map, length, take, get_or, refl, sym, ◌∙◌, ap, arith, length-append, append-nil, subst}
+use Rattle.std.proofs.Common.{◌≡◌, ℕ, zero, suc, ◌+◌, ◌*◌, ◌<◌, ◌≤◌, ◌≢◌, ◌⊎◌, inl, inr, List, [], ◌∷◌, ◌++◌, flat_map, length, take, drop, get_or, refl, sym, ◌∙◌, ap, arith, length-append, append-nil, subst}
 use Rattle.std.specs.Prelude.{All}
 use Rattle.std.specs.Int.{w64, from_le_bytes}
 use Rattle.std.proofs.lemmas.Bool.{cases_lt, cases_eq}
@@ -9,15 +9,17 @@ use Rattle.zk_model.specs.Field.{prime, IsElement}
 use Rattle.zk_model.specs.Bytes.{element_bytes}
 use Rattle.zk_model.specs.Frames.{CanGoOn, IsFirstBad, frame_length}
 use Rattle.zk_model.specs.declared.Expect.{Expect}
+use Rattle.proof_frames.specs.declared.shape.Level.{Level}
 use Rattle.proof_frames.specs.declared.shape.Payload.{Payload}
 use Rattle.proof_frames.specs.declared.shape.Payload.TheVariants as payload
-use Rattle.proof_frames.specs.Shapes.{IsHeld, HoldsBytes, shape_of, header, spelled}
+use Rattle.proof_frames.specs.Shapes.{IsHeld, HoldsBytes, HoldsTrees, level_width, level_most, shape_of, header, spelled}
 use Rattle.proof_frames.specs.Laws.{GoesOnOrIsBad, NeverBoth}
 use Rattle.proof_frames.proofs.Octets.{IsByte, back_64}
 use Rattle.proof_frames.proofs.Begun.{held_goes_on}
-use Rattle.proof_frames.proofs.Ends.{header_ends, plain_ends, element_ends}
-use Rattle.proof_frames.proofs.Steps.{nothing_held, only_start, early_empty, header_step, plain_step, elements_step, start_more, part_more, element_more, elements_held, bytes_held}
-use Rattle.proof_frames.proofs.Lengths.{elements_left, bytes_left}
+use Rattle.proof_frames.proofs.Ends.{header_ends, plain_ends, tree_ends, element_ends}
+use Rattle.proof_frames.proofs.TreeLemmas.{GoesOn}
+use Rattle.proof_frames.proofs.Steps.{nothing_held, only_start, early_empty, header_step, plain_step, tree_step, elements_step, start_more, part_more, element_more, elements_held, trees_held, bytes_held}
+use Rattle.proof_frames.proofs.Lengths.{elements_left, trees_left, bytes_left}
 use Rattle.proof_frames.proofs.Decoding.{fewer_fit, fewer_go_on}
 
 -- bytes that are held in some way
@@ -125,6 +127,49 @@ next_element place start elements part byte count held small headed shape within
         let partial = holds.partial in
         inr (element_ends place start elements part byte count headed shape (omega arith) (omega arith) (λ below. omega arith))
 
+-- a byte of a payload of trees
+next_tree : (place : Expect) (start elements part : List ℕ) (byte trees height : ℕ) (level : Level) → IsHeld place start elements part → byte < 256 → 5 ≤ length start
+    → (shape_of place (get_or start 0 0)).payload ≡ payload.Trees trees height level → length start < 5 + trees * (level_width level height + 8)
+    → Next place (spelled start elements part) byte
+next_tree place start elements part byte trees height level held small long shape within =
+    by_part (cases_lt (length behind) width) (cases_lt (length behind) (width + 7)) (cases_lt most byte) (cases_lt (from_le_bytes w64 (drop width behind ++ byte ∷ [])) prime)
+  where
+    width : ℕ
+    width = level_width level height
+
+    most : ℕ
+    most = level_most level
+
+    holds : HoldsTrees trees width most start elements part
+    holds = trees_held place start elements part trees height level held shape
+
+    behind : List ℕ
+    behind = holds.begins.part
+
+    goes : GoesOn width most behind byte → Next place (spelled start elements part) byte
+    goes on = inl (record {
+      start = start ++ byte ∷ [];
+      elements = elements;
+      part = part;
+      held = tree_step place start elements part byte trees height level held long shape within small holds on;
+      spells = start_more start elements part byte holds.no_elements holds.no_part;
+    })
+
+    ends : ¬ GoesOn width most behind byte → Next place (spelled start elements part) byte
+    ends stops =
+        let only : spelled start elements part ≡ start =
+        (λ i. start ++ flat_map element_bytes (holds.no_elements i) ++ holds.no_part i) ∙ append-nil (start ++ []) ∙ append-nil start in
+        inr (λ can. tree_ends place start byte trees height level long shape holds.begins stops (subst (λ (l : List ℕ). CanGoOn place (l ++ byte ∷ [])) only can))
+
+    by_part : (length behind < width) ⊎ (width ≤ length behind) → (length behind < width + 7) ⊎ (width + 7 ≤ length behind) → (most < byte) ⊎ (byte ≤ most)
+        → (from_le_bytes w64 (drop width behind ++ byte ∷ []) < prime) ⊎ (prime ≤ from_le_bytes w64 (drop width behind ++ byte ∷ []))
+        → Next place (spelled start elements part) byte
+    by_part (inl level_byte) early (inl above) value = ends (λ on. let low = on.level level_byte in absurd (omega arith))
+    by_part (inl level_byte) early (inr low) value = goes (record { level = λ _. low; element = λ last. absurd (omega arith) })
+    by_part (inr past) (inl early) range value = goes (record { level = λ short. absurd (omega arith); element = λ last. absurd (omega arith) })
+    by_part (inr past) (inr last) range (inl below) = goes (record { level = λ short. absurd (omega arith); element = λ _. below })
+    by_part (inr past) (inr last) range (inr above) = ends (λ on. let below = on.element last in absurd (omega arith))
+
 -- a byte
 next : (place : Expect) (bytes : List ℕ) (byte : ℕ) → State place bytes → byte < 256
     → length (bytes ++ byte ∷ []) ≤ frame_length place (bytes ++ byte ∷ []) → Next place bytes byte
@@ -142,6 +187,9 @@ next place bytes byte state small within =
     by_payload (payload.Elements count) long shape =
         let left = elements_left place state.start state.elements state.part (byte ∷ []) count state.held long shape held_within in
         next_element place state.start state.elements state.part byte count state.held small left.0 shape (let more = left.1 in omega arith)
+    by_payload (payload.Trees trees height level) long shape =
+        let left = trees_left place state.start state.elements state.part (byte ∷ []) trees height level long shape held_within in
+        next_tree place state.start state.elements state.part byte trees height level state.held small long shape (omega arith)
 
     by_header : (length state.start < 5) ⊎ (5 ≤ length state.start) → Next place (spelled state.start state.elements state.part) byte
     by_header (inl short) = next_header place state.start state.elements state.part byte state.held small short

@@ -1,9 +1,9 @@
 -- Bytes, and the numbers that they say.
-use Rattle.std.proofs.Common.{◌≡◌, ℕ, zero, suc, ◌-◌, ◌/◌, ◌%◌, ◌^◌, ◌<◌, ◌≤◌, ◌⊎◌, inl, inr, List, ◌++◌, length, get_or, refl, ◌∙◌, arith, length-append, replicate}
+use Rattle.std.proofs.Common.{◌≡◌, ℕ, zero, suc, ◌-◌, ◌/◌, ◌%◌, ◌^◌, ◌<◌, ◌≤◌, ◌⊎◌, inl, inr, List, ◌++◌, length, get_or, refl, sym, ◌∙◌, ap, arith, length-append, replicate, subst}
 use Rattle.std.specs.Prelude.{All}
 use Rattle.std.specs.Int.{w32, w64, from_le_bytes, to_le_bytes}
 use Rattle.std.proofs.lemmas.Bool.{cases_lt}
-use Rattle.std.proofs.lemmas.Nat.{le_bytes_4, le_bytes_8}
+use Rattle.std.proofs.lemmas.Nat.{le_bytes_4, le_bytes_8, from_le_bytes-to_le_bytes_8}
 use Rattle.std.proofs.lemmas.List.{length-replicate, get_or_past, get_or-append_right}
 use Rattle.std.proofs.lemmas.List.Elements.{All-get_or, All-from_recursion, All-append, All-replicate}
 use Rattle.zk_model.specs.Field.{IsElement}
@@ -67,3 +67,8 @@ part_of_element part less all =
     zero_at zero i = refl
     zero_at (suc n) zero = refl
     zero_at (suc n) (suc i) = zero_at n i
+
+-- the bytes of an element say one
+pub says_element : (eight : List ℕ) (element : ℕ) → IsElement element → eight ≡ element_bytes element → IsElement (from_le_bytes w64 eight)
+says_element eight element is same =
+    subst IsElement (sym (ap (from_le_bytes w64) same ∙ from_le_bytes-to_le_bytes_8 element (omega (arith, is)))) is

@@ -1,22 +1,25 @@
 -- One byte more is held.
-use Rattle.std.proofs.Common.{◌≡◌, ℕ, ◌+◌, ◌*◌, ◌<◌, ◌≤◌, ◌⊎◌, inl, inr, List, [], ◌∷◌, ◌++◌, flat_map, length, take, get_or, refl, sym, ◌∙◌, ap, arith, length-append, append_assoc, append-nil, subst}
+use Rattle.std.proofs.Common.{◌≡◌, ℕ, ◌+◌, ◌*◌, ◌<◌, ◌≤◌, ◌⊎◌, inl, inr, List, [], ◌∷◌, ◌++◌, flat_map, length, take, drop, get_or, refl, sym, ◌∙◌, ap, arith, length-append, length-drop, append_assoc, append-nil, subst}
 use Rattle.std.specs.Prelude.{All}
 use Rattle.std.proofs.lemmas.Bool.{cases_lt}
-use Rattle.std.proofs.lemmas.List.{take_all, nil_from_length, get_or_append_left, get_or_push, take-append-le, take_more, flat_map_more}
-use Rattle.std.proofs.lemmas.List.Elements.{All-nil, All-push}
+use Rattle.std.proofs.lemmas.List.{take_all, nil_from_length, get_or_append_left, get_or_push, take-append-le, drop-append-le, take_more, flat_map_more}
+use Rattle.std.proofs.lemmas.List.Elements.{All-nil, All-push, All-drop}
 use Rattle.zk_model.specs.Field.{IsElement}
 use Rattle.zk_model.specs.Bytes.{element_bytes}
 use Rattle.zk_model.specs.declared.Expect.{Expect}
+use Rattle.proof_frames.specs.declared.shape.Level.{Level}
 use Rattle.proof_frames.specs.declared.shape.Payload.{Payload}
 use Rattle.proof_frames.specs.declared.shape.Payload.TheVariants as payload
 use Rattle.proof_frames.specs.declared.shape.Shape.{Shape}
-use Rattle.proof_frames.specs.Shapes.{HoldsPayload, HoldsBytes, HoldsElements, IsHeld, shape_of, header, spelled}
+use Rattle.proof_frames.specs.Shapes.{HoldsPayload, HoldsBytes, HoldsElements, HoldsTrees, BeginsTrees, IsHeld, level_width, level_most, shape_of, header, spelled}
 use Rattle.proof_frames.proofs.Octets.{IsByte}
+use Rattle.proof_frames.proofs.TreeLemmas.{GoesOn, no_trees, trees_more}
 
 -- as long as the header is not whole nothing else is held
 pub early_empty : (p : Payload) (start elements part : List ℕ) → HoldsPayload p start elements part → length start < 5 → (elements ≡ []) × (part ≡ [])
 early_empty (payload.Bytes count least most) start elements part holds short = (holds.no_elements, holds.no_part)
 early_empty (payload.Elements count) start elements part holds short = holds.first short
+early_empty (payload.Trees trees height level) start elements part holds short = (holds.no_elements, holds.no_part)
 
 -- up to the whole header anything may follow
 early_holds : (p : Payload) (start elements part : List ℕ) → length start ≤ 5 → elements ≡ [] → part ≡ [] → HoldsPayload p start elements part
@@ -28,6 +31,12 @@ early_holds (payload.Elements count) start elements part short no_elements no_pa
   ranged = subst (All IsElement) (sym no_elements) (All-nil IsElement);
   partial = omega (arith, ap length no_part);
   within = omega (arith, ap length no_part, ap length no_elements);
+}
+early_holds (payload.Trees trees height level) start elements part short no_elements no_part = record {
+  no_elements = no_elements;
+  no_part = no_part;
+  begins = subst (BeginsTrees trees (level_width level height) (level_most level)) (sym (nil_from_length (drop 5 start) (omega (arith, short, length-drop 5 start))))
+      (no_trees trees (level_width level height) (level_most level));
 }
 
 -- the first byte stays
@@ -70,12 +79,10 @@ payload_is : (place : Expect) (start elements part : List ℕ) (p : Payload) →
     → (shape_of place (get_or start 0 0)).payload ≡ p → HoldsPayload p start elements part
 payload_is place start elements part p held is = subst (λ (q : Payload). HoldsPayload q start elements part) is held.payload
 
--- a byte of a payload of bytes
-pub plain_step : (place : Expect) (start elements part : List ℕ) (byte count least most : ℕ) → IsHeld place start elements part → 5 ≤ length start
-    → (shape_of place (get_or start 0 0)).payload ≡ payload.Bytes count least most → length start < 5 + count
-    → (length start ≡ 5 → (least ≤ byte) × (byte ≤ most)) → byte < 256 → IsHeld place (start ++ byte ∷ []) elements part
-plain_step place start elements part byte count least most held long shape within range small =
-    let holds : HoldsBytes count least most start elements part = payload_is place start elements part (payload.Bytes count least most) held shape in
+-- a byte behind the header
+start_step : (place : Expect) (start elements part : List ℕ) (byte : ℕ) (p : Payload) → IsHeld place start elements part → 5 ≤ length start → byte < 256
+    → (shape_of place (get_or start 0 0)).payload ≡ p → HoldsPayload p (start ++ byte ∷ []) elements part → IsHeld place (start ++ byte ∷ []) elements part
+start_step place start elements part byte p held long small shape holds =
     let stays : get_or (start ++ byte ∷ []) 0 0 ≡ get_or start 0 0 = first_stays start byte (omega arith) in
     let sized : length (start ++ byte ∷ []) ≡ length start + 1 = length-append start (byte ∷ []) in
     record {
@@ -84,13 +91,36 @@ plain_step place start elements part byte count least most held long shape withi
           ∙ sym (take_all (length (start ++ byte ∷ [])) (header (shape_of place (get_or (start ++ byte ∷ []) 0 0))) (omega arith));
       bytes = All-push IsByte start byte held.bytes small;
       part_bytes = held.part_bytes;
-      payload = subst (λ (q : Payload). HoldsPayload q (start ++ byte ∷ []) elements part) (sym (ap (λ n. (shape_of place n).payload) stays ∙ shape)) (record {
-        within = omega arith;
-        no_elements = holds.no_elements;
-        no_part = holds.no_part;
-        ranged = λ past. by_length (cases_lt 5 (length start));
-      });
+      payload = subst (λ (q : Payload). HoldsPayload q (start ++ byte ∷ []) elements part) (sym (ap (λ n. (shape_of place n).payload) stays ∙ shape)) holds;
     }
+
+-- a byte of a payload of trees
+pub tree_step : (place : Expect) (start elements part : List ℕ) (byte trees height : ℕ) (level : Level) → IsHeld place start elements part → 5 ≤ length start
+    → (shape_of place (get_or start 0 0)).payload ≡ payload.Trees trees height level → length start < 5 + trees * (level_width level height + 8) → byte < 256
+    → (holds : HoldsTrees trees (level_width level height) (level_most level) start elements part)
+    → GoesOn (level_width level height) (level_most level) holds.begins.part byte → IsHeld place (start ++ byte ∷ []) elements part
+tree_step place start elements part byte trees height level held long shape within small holds goes =
+    start_step place start elements part byte (payload.Trees trees height level) held long small shape (record {
+      no_elements = holds.no_elements;
+      no_part = holds.no_part;
+      begins = subst (BeginsTrees trees (level_width level height) (level_most level)) (sym (drop-append-le 5 start (byte ∷ []) long))
+          (trees_more trees (level_width level height) (level_most level) (drop 5 start) byte holds.begins (omega (arith, within, long, length-drop 5 start))
+          (All-drop IsByte 5 start held.bytes) small goes);
+    })
+
+-- a byte of a payload of bytes
+pub plain_step : (place : Expect) (start elements part : List ℕ) (byte count least most : ℕ) → IsHeld place start elements part → 5 ≤ length start
+    → (shape_of place (get_or start 0 0)).payload ≡ payload.Bytes count least most → length start < 5 + count
+    → (length start ≡ 5 → (least ≤ byte) × (byte ≤ most)) → byte < 256 → IsHeld place (start ++ byte ∷ []) elements part
+plain_step place start elements part byte count least most held long shape within range small =
+    let holds : HoldsBytes count least most start elements part = payload_is place start elements part (payload.Bytes count least most) held shape in
+    let sized : length (start ++ byte ∷ []) ≡ length start + 1 = length-append start (byte ∷ []) in
+    start_step place start elements part byte (payload.Bytes count least most) held long small shape (record {
+      within = omega arith;
+      no_elements = holds.no_elements;
+      no_part = holds.no_part;
+      ranged = λ past. by_length (cases_lt 5 (length start));
+    })
   where
     by_length : (5 < length start) ⊎ (length start ≤ 5) → (least ≤ get_or (start ++ byte ∷ []) 5 0) × (get_or (start ++ byte ∷ []) 5 0 ≤ most)
     by_length (inl past) =
@@ -138,11 +168,16 @@ element_more start elements part byte element is =
     ∙ ap (λ l. (start ++ bytes) ++ l) is
     ∙ sym (append_assoc (start ++ bytes) part (byte ∷ []))
 
+-- where no elements are held all bytes are as they came
+pub only_raw : (start elements part : List ℕ) → elements ≡ [] → part ≡ [] → spelled start elements part ≡ start
+only_raw start elements part no_elements no_part =
+    (λ i. start ++ flat_map element_bytes (no_elements i) ++ no_part i) ∙ append-nil (start ++ []) ∙ append-nil start
+
 -- before the header is whole only its bytes are held
 pub only_start : (place : Expect) (start elements part : List ℕ) → IsHeld place start elements part → length start < 5 → spelled start elements part ≡ start
 only_start place start elements part held short =
     let empty = early_empty (shape_of place (get_or start 0 0)).payload start elements part held.payload short in
-    (λ i. start ++ flat_map element_bytes (empty.0 i) ++ empty.1 i) ∙ append-nil (start ++ []) ∙ append-nil start
+    only_raw start elements part empty.0 empty.1
 
 -- the first byte of what is held and of one byte more
 first_is : (start : List ℕ) (byte : ℕ) → get_or start 0 byte ≡ get_or (start ++ byte ∷ []) 0 0
@@ -161,6 +196,12 @@ due place start head byte first n shape is_first is_shape is_head is_n =
 pub elements_held : (place : Expect) (start elements part : List ℕ) (count : ℕ) → IsHeld place start elements part
     → (shape_of place (get_or start 0 0)).payload ≡ payload.Elements count → HoldsElements count start elements part
 elements_held place start elements part count held shape = payload_is place start elements part (payload.Elements count) held shape
+
+-- what is held of trees
+pub trees_held : (place : Expect) (start elements part : List ℕ) (trees height : ℕ) (level : Level) → IsHeld place start elements part
+    → (shape_of place (get_or start 0 0)).payload ≡ payload.Trees trees height level
+    → HoldsTrees trees (level_width level height) (level_most level) start elements part
+trees_held place start elements part trees height level held shape = payload_is place start elements part (payload.Trees trees height level) held shape
 
 -- what is held of bytes
 pub bytes_held : (place : Expect) (start elements part : List ℕ) (count least most : ℕ) → IsHeld place start elements part

@@ -2,7 +2,7 @@
 use Rattle.std.proofs.Common.{◌≡◌, ℕ, inl, inr, List, [], ◌++◌, drop, get_or, sym, ◌∙◌, ap, arith, append-nil}
 use Rattle.std.specs.Int.{w32, w64, to_le_bytes}
 use Rattle.zk_laws.proofs.Codes.{word32_code, word64_code, element_code, frame_code}
-use Rattle.zk_laws.proofs.FrameCodes.{hello_code, elements_code, sums_code}
+use Rattle.zk_laws.proofs.FrameCodes.{hello_code, asks_code, replies_code, elements_code, sums_code}
 use Rattle.zk_model.specs.Field.{IsElement}
 use Rattle.zk_model.specs.Bytes.{element_bytes}
 use Rattle.zk_model.specs.Transcript.{Grant, grant_frame}
@@ -48,6 +48,12 @@ none_begins_another expect.Grant one other (inr a) (inr b) begun =
     let same = facing one other (model.refuse a.0) (model.refuse b.0) begun.0 a.1 b.1 begun.1 in
     let codes : a.0 ≡ b.0 = ap (λ l. get_or l 5 0) same in
     a.1 ∙ ap model.refuse codes ∙ sym b.1
+none_begins_another (expect.Ask height trees left) one other a b begun =
+    let same = facing one other (model.asks a.0) (model.asks b.0) begun.0 a.1 b.1 begun.1 in
+    a.1 ∙ ap model.asks (asks_code height trees a.0 b.0 [] begun.0 (a.2.counted, a.2.each) (b.2.counted, b.2.each) same).0 ∙ sym b.1
+none_begins_another (expect.Reply height trees left) one other a b begun =
+    let same = facing one other (model.replies a.0) (model.replies b.0) begun.0 a.1 b.1 begun.1 in
+    a.1 ∙ ap model.replies (replies_code height trees a.0 b.0 [] begun.0 (a.2.counted, a.2.each) (b.2.counted, b.2.each) same).0 ∙ sym b.1
 none_begins_another (expect.Corrections count) one other a b begun =
     let same = facing one other (model.corrections a.0) (model.corrections b.0) begun.0 a.1 b.1 begun.1 in
     a.1 ∙ ap model.corrections (elements_code kind.Corrections count a.0 b.0 [] begun.0 (a.2.counted, a.2.ranged) (b.2.counted, b.2.ranged) same).0 ∙ sym b.1

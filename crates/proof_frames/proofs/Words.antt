@@ -8,20 +8,24 @@ use Rattle.std.proofs.lemmas.List.Elements.{All-append, All-cons, All-nil, All-g
 use Rattle.zk_laws.proofs.Octets.{word_octets}
 use Rattle.zk_model.specs.Field.{IsElement}
 use Rattle.zk_model.specs.Bytes.{AreBytes, element_bytes}
-use Rattle.zk_model.specs.Transcript.{Hello, Grant, IsHello, frame_bytes, kind_number}
+use Rattle.zk_model.specs.Transcript.{Hello, Grant, TreeAsk, TreeReply, IsHello, frame_bytes, kind_number}
 use Rattle.zk_model.specs.Frames as model
-use Rattle.zk_model.specs.Frames.{Frame, Allows, IsWhole, FitsGrant, FitsVerdict, FitsRefusal, AreElements, AreSums, frame_spelling}
+use Rattle.zk_model.specs.Frames.{Frame, Allows, IsWhole, FitsGrant, FitsVerdict, FitsRefusal, AreAsks, AreReplies, AreElements, AreSums, frame_spelling}
 use Rattle.zk_model.specs.declared.Expect.{Expect}
 use Rattle.zk_model.specs.declared.Expect.TheVariants as expect
 use Rattle.zk_model.specs.declared.FrameKind.{FrameKind}
 use Rattle.zk_model.specs.declared.FrameKind.TheVariants as kind
+use Rattle.proof_frames.specs.declared.shape.Level.{Level}
+use Rattle.proof_frames.specs.declared.shape.Level.TheVariants as level
 use Rattle.proof_frames.specs.declared.shape.Payload.{Payload}
 use Rattle.proof_frames.specs.declared.shape.Payload.TheVariants as payload
 use Rattle.proof_frames.specs.declared.shape.Shape.{Shape}
-use Rattle.proof_frames.specs.Frames.{flattened, sums_payload, hello_in, grant_in, grant_or_refusal_in, verdict_in}
-use Rattle.proof_frames.specs.Shapes.{shape_of, header}
+use Rattle.proof_frames.specs.Frames.{ask_bytes, reply_bytes, flattened, sums_payload, hello_in, grant_in, grant_or_refusal_in, verdict_in}
+use Rattle.proof_frames.specs.Shapes.{FitsTrees, level_width, level_most, shape_of, header}
 use Rattle.proof_frames.proofs.FrameLemmas.{length-elements}
 use Rattle.proof_frames.proofs.Sums.{flattened_bytes, length-flattened, flattened_elements, paired, flattened_paired, paired_elements}
+use Rattle.proof_frames.proofs.TreeLemmas.{length-trees}
+use Rattle.proof_frames.proofs.TreeFrames.{asks_fit, trees_ask, replies_fit, trees_reply}
 use Rattle.proof_frames.proofs.Octets.{IsByte, half_octets, back_32, back_64, below_32, below_64}
 
 -- ---- words
@@ -43,6 +47,7 @@ pub record FitsElements (count : ℕ) (bytes : List ℕ) : Type 0 where
 abbrev pub FitsPayload : Payload → List ℕ → Type 0
 FitsPayload (payload.Bytes count least most) bytes = FitsBytes count least most bytes
 FitsPayload (payload.Elements count) bytes = FitsElements count bytes
+FitsPayload (payload.Trees trees height level) bytes = FitsTrees trees (level_width level height) (level_most level) bytes
 
 -- the bytes of a frame of a shape
 pub record IsWord (shape : Shape) (word : List ℕ) : Type 0 where
@@ -129,6 +134,15 @@ sums_word sections both are =
     subst (λ (bytes : List ℕ). IsWord (record { kind = kind.Sums; payload = payload.Elements (2 * sections) }) (frame_bytes kind.Sums bytes)) (flattened_bytes both)
     (several kind.Sums (2 * sections) (flattened both) (flat_elements sections both are))
 
+-- a frame of trees is a word
+forest : (frame : FrameKind) (trees height : ℕ) (level : Level) (bytes : List ℕ) → FitsTrees trees (level_width level height) (level_most level) bytes
+    → IsWord (record { kind = frame; payload = payload.Trees trees height level }) (frame_bytes frame bytes)
+forest frame trees height level bytes fits = record {
+  payload = bytes;
+  fits = fits;
+  spelled = headed frame bytes (trees * (level_width level height + 8)) (length-trees trees (level_width level height) (level_most level) bytes fits);
+}
+
 -- the bytes of a frame that a place allows are a word
 pub allowed_word : (place : Expect) (frame : Frame) → Allows place frame → IsWordAt place (frame_spelling frame)
 allowed_word expect.Hello frame is =
@@ -137,6 +151,12 @@ allowed_word expect.Grant frame (inl is) =
     subst (λ f. IsWordAt expect.Grant (frame_spelling f)) (sym is.1) (plain kind.Grant 16 0 255 _ (grant_fits is.0))
 allowed_word expect.Grant frame (inr is) =
     subst (λ f. IsWordAt expect.Grant (frame_spelling f)) (sym is.1) (plain kind.Refuse 1 1 4 _ (refusal_fits is.0 is.2))
+allowed_word (expect.Ask height trees left) frame is =
+    subst (λ f. IsWordAt (expect.Ask height trees left) (frame_spelling f)) (sym is.1)
+    (forest kind.ExtendAsk trees height level.Bit (flat_map ask_bytes is.0) (asks_fit height trees is.0 is.2))
+allowed_word (expect.Reply height trees left) frame is =
+    subst (λ f. IsWordAt (expect.Reply height trees left) (frame_spelling f)) (sym is.1)
+    (forest kind.ExtendReply trees height level.Messages (flat_map reply_bytes is.0) (replies_fit height trees is.0 is.2))
 allowed_word (expect.Corrections count) frame is =
     subst (λ f. IsWordAt (expect.Corrections count) (frame_spelling f)) (sym is.1) (several kind.Corrections count is.0 is.2)
 allowed_word expect.Challenge frame is =
@@ -299,6 +319,27 @@ verdict_word word is = subst (λ (l : List ℕ). IsWhole expect.Verdict l (verdi
       spelled = sym (headed kind.Verdict p 5 fits.counted) ∙ ap (frame_bytes kind.Verdict) (verdict_whole p fits.counted fits.ranged);
     }
 
+-- the frames of asks and of replies
+pub asks_whole : (height trees left : ℕ) (bytes : List ℕ) (said : List TreeAsk) → AreAsks height trees said → flat_map ask_bytes said ≡ bytes
+    → IsWhole (expect.Ask height trees left) (header (shape_of (expect.Ask height trees left) 0) ++ bytes) (model.asks said)
+asks_whole height trees left bytes said are same =
+    let sized : length (flat_map ask_bytes said) ≡ trees * (height + 8) = length-trees trees height 1 (flat_map ask_bytes said) (asks_fit height trees said are) in
+    record {
+      allowed = (said, refl, are);
+      spelled = ap (λ l. header (shape_of (expect.Ask height trees left) 0) ++ l) (sym same) ∙ sym (headed kind.ExtendAsk (flat_map ask_bytes said) (trees * (height + 8)) sized);
+    }
+
+pub replies_whole : (height trees left : ℕ) (bytes : List ℕ) (said : List TreeReply) → AreReplies height trees said → flat_map reply_bytes said ≡ bytes
+    → IsWhole (expect.Reply height trees left) (header (shape_of (expect.Reply height trees left) 0) ++ bytes) (model.replies said)
+replies_whole height trees left bytes said are same =
+    let sized : length (flat_map reply_bytes said) ≡ trees * (32 * height + 8) =
+    length-trees trees (32 * height) 255 (flat_map reply_bytes said) (replies_fit height trees said are) in
+    record {
+      allowed = (said, refl, are);
+      spelled = ap (λ l. header (shape_of (expect.Reply height trees left) 0) ++ l) (sym same)
+          ∙ sym (headed kind.ExtendReply (flat_map reply_bytes said) (trees * (32 * height + 8)) sized);
+    }
+
 -- the bytes of so many elements in a frame
 elements_spelled : (frame : FrameKind) (count : ℕ) (elements : List ℕ) → AreElements count elements
     → (kind_number frame ∷ to_le_bytes w32 (8 * count)) ++ flat_map element_bytes elements ≡ frame_bytes frame (flat_map element_bytes elements)
@@ -346,6 +387,18 @@ spelled_elements word {frame} {count} is = is.spelled ∙ ap (λ l. header (reco
 pub word_whole : (place : Expect) (word : List ℕ) → IsWordAt place word → (frame : Frame) × IsWhole place word frame
 word_whole expect.Hello word is = (model.hello (hello_in word), hello_word word is)
 word_whole expect.Grant word is = (grant_or_refusal_in word, grant_word word is)
+word_whole (expect.Ask height trees left) word is =
+    let asks = trees_ask height trees is.payload is.fits in (
+      model.asks asks.said,
+      subst (λ (l : List ℕ). IsWhole (expect.Ask height trees left) l (model.asks asks.said)) (sym is.spelled)
+          (asks_whole height trees left is.payload asks.said asks.are asks.spelled),
+    )
+word_whole (expect.Reply height trees left) word is =
+    let replies = trees_reply height trees is.payload is.fits in (
+      model.replies replies.said,
+      subst (λ (l : List ℕ). IsWhole (expect.Reply height trees left) l (model.replies replies.said)) (sym is.spelled)
+          (replies_whole height trees left is.payload replies.said replies.are replies.spelled),
+    )
 word_whole (expect.Corrections count) word is = (
   model.corrections is.fits.elements,
   subst (λ (l : List ℕ). IsWhole (expect.Corrections count) l (model.corrections is.fits.elements)) (sym (spelled_elements word is)) (corrections_whole count is.fits.elements is.fits.are),

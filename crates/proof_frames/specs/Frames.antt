@@ -1,11 +1,12 @@
 -- Frames of the program, and what they say.
-use Rattle.std.specs.Prelude.{ℕ, ◌+◌, ◌^◌, ◌≤◌, if◌then◌else◌, nat_eq, List, [], ◌∷◌, ◌++◌, flat_map, length, take, drop, get_or, All}
+use Rattle.std.specs.Prelude.{ℕ, ◌+◌, ◌^◌, ◌≤◌, if◌then◌else◌, nat_eq, List, [], ◌∷◌, ◌++◌, map, flat_map, length, take, drop, get_or, All}
 use Rattle.std.specs.Int.{w32, w64, from_le_bytes}
-use Rattle.zk_model.specs.Bytes.{element_bytes}
+use Rattle.zk_model.specs.Bits.{from_bit}
+use Rattle.zk_model.specs.Bytes.{LeftRight, element_bytes}
 use Rattle.zk_model.specs.Field.{IsElement}
 use Rattle.zk_model.specs.Frames as model
 use Rattle.zk_model.specs.Frames.{frame_spelling}
-use Rattle.zk_model.specs.Transcript.{Hello, Grant}
+use Rattle.zk_model.specs.Transcript.{Hello, Grant, TreeAsk, TreeReply}
 use Rattle.zk_model.specs.declared.FrameKind.{FrameKind}
 use Rattle.zk_model.specs.declared.FrameKind.TheVariants as kind
 use Rattle.proof_frames.specs.declared.frame.Frame.{Frame}
@@ -15,6 +16,8 @@ use Rattle.proof_frames.specs.declared.frame.Frame.TheVariants as frame
 abbrev pub said : Frame → model.Frame
 said (frame.Hello hello) = model.hello hello
 said (frame.Grant grant) = model.grant grant
+said (frame.ExtendAsk asks) = model.asks asks.items
+said (frame.ExtendReply replies) = model.replies replies.items
 said (frame.Corrections elements) = model.corrections elements.items
 said (frame.Challenge element) = model.challenge element
 said (frame.Sums both) = model.sums both.items
@@ -26,6 +29,8 @@ said (frame.Refuse code) = model.refuse code
 abbrev pub kind_of : model.Frame → FrameKind
 kind_of (model.hello said) = kind.Hello
 kind_of (model.grant given) = kind.Grant
+kind_of (model.asks said) = kind.ExtendAsk
+kind_of (model.replies said) = kind.ExtendReply
 kind_of (model.corrections elements) = kind.Corrections
 kind_of (model.challenge element) = kind.Challenge
 kind_of (model.sums both) = kind.Sums
@@ -41,12 +46,26 @@ IsShort frame = length (frame_spelling frame) ≤ 2 ^ 24 + 5
 abbrev pub IsRanged : model.Frame → Type 0
 IsRanged (model.hello greeting) = Unit {0}
 IsRanged (model.grant given) = Unit {0}
+IsRanged (model.asks said) = All (λ ask. IsElement ask.base_correction) said
+IsRanged (model.replies said) = All (λ reply. IsElement reply.leaf_offset) said
 IsRanged (model.corrections elements) = All IsElement elements
 IsRanged (model.challenge element) = IsElement element
 IsRanged (model.sums both) = All (λ q. IsElement q.0 × IsElement q.1) both
 IsRanged (model.openings macs) = All IsElement macs
 IsRanged (model.verdict code number) = Unit {0}
 IsRanged (model.refuse code) = Unit {0}
+
+-- the bytes of what is asked for a tree
+abbrev pub ask_bytes : TreeAsk → List ℕ
+ask_bytes ask = map from_bit ask.flips ++ element_bytes ask.base_correction
+
+-- both messages of a level
+abbrev pub message_bytes : LeftRight → List ℕ
+message_bytes both = both.left ++ both.right
+
+-- the bytes of what is replied for a tree
+abbrev pub reply_bytes : TreeReply → List ℕ
+reply_bytes reply = flat_map message_bytes reply.messages ++ element_bytes reply.leaf_offset
 
 -- the bytes of sums, section by section
 abbrev pub sums_payload : List (ℕ × ℕ) → List ℕ

@@ -1,6 +1,8 @@
 -- What a decoder keeps, and what holds of it.
-use Rattle.std.specs.Prelude.{◌≡◌, ℕ, ◌+◌, ◌*◌, ◌^◌, ◌<◌, ◌≤◌, Bool, true, false, Option, Some, None, List, [], ◌∷◌, ◌++◌, length, take, vec_capacity}
-use Rattle.zk_model.specs.Frames.{CanGoOn}
+use Rattle.std.specs.Prelude.{◌≡◌, ℕ, ◌+◌, ◌-◌, ◌*◌, ◌^◌, ◌<◌, ◌≤◌, Bool, true, false, Option, Some, None, List, [], ◌∷◌, ◌++◌, length, take, drop, vec_capacity}
+use Rattle.std.specs.Int.{w64, from_le_bytes}
+use Rattle.zk_model.specs.Field.{IsElement}
+use Rattle.zk_model.specs.Frames.{CanGoOn, frame_length}
 use Rattle.zk_model.specs.declared.Expect.{Expect}
 use Rattle.zk_model.specs.declared.Expect.TheVariants as expect
 use Rattle.proof_frames.specs.Readings.{IsShortPlace}
@@ -12,6 +14,8 @@ use Rattle.proof_frames.specs.declared.held.Held.{Held}
 abbrev pub elements_at : Expect → ℕ
 elements_at expect.Hello = 0
 elements_at expect.Grant = 0
+elements_at (expect.Ask height trees left) = 0
+elements_at (expect.Reply height trees left) = 0
 elements_at (expect.Corrections count) = count
 elements_at expect.Challenge = 1
 elements_at (expect.Sums sections) = 2 * sections
@@ -22,15 +26,36 @@ elements_at expect.Verdict = 0
 abbrev pub pairs_at : Expect → ℕ
 pairs_at expect.Hello = 0
 pairs_at expect.Grant = 0
+pairs_at (expect.Ask height trees left) = 0
+pairs_at (expect.Reply height trees left) = 0
 pairs_at (expect.Corrections count) = 0
 pairs_at expect.Challenge = 0
 pairs_at (expect.Sums sections) = sections
 pairs_at (expect.Openings count) = 0
 pairs_at expect.Verdict = 0
 
+-- how many bytes of trees are held as they came at a place, with the header
+abbrev pub raw_at : Expect → ℕ
+raw_at expect.Hello = 0
+raw_at expect.Grant = 0
+raw_at (expect.Ask height trees left) = frame_length (expect.Ask height trees left) []
+raw_at (expect.Reply height trees left) = frame_length (expect.Reply height trees left) []
+raw_at (expect.Corrections count) = 0
+raw_at expect.Challenge = 0
+raw_at (expect.Sums sections) = 0
+raw_at (expect.Openings count) = 0
+raw_at expect.Verdict = 0
+
 -- the bytes that are held
 abbrev pub bytes_of : Held → List ℕ
 bytes_of held = spelled held.start.items held.elements.items held.part.items
+
+-- a byte may stand at a place of a tree, behind other bytes: for a level it is no more than the most, and at the end of
+-- an element that is below the prime
+abbrev pub MayFollow : List ℕ → ℕ → ℕ → ℕ → ℕ → Type 0
+MayFollow bytes at width most byte =
+    (at < width → byte ≤ most)
+    × (width + 7 ≤ at → IsElement (from_le_bytes w64 (drop (length bytes - 7) bytes ++ byte ∷ [])))
 
 -- nothing is held
 pub record IsEmpty (held : Held) : Type 0 where
@@ -41,6 +66,7 @@ pub record IsEmpty (held : Held) : Type 0 where
 -- there is room for a whole frame at the place
 pub record HasRoom (place : Expect) (held : Held) : Type 0 where
   pub start : 102 ≤ vec_capacity held.start
+  pub raw : raw_at place ≤ vec_capacity held.start
   pub elements : elements_at place ≤ vec_capacity held.elements
   pub part : 8 ≤ vec_capacity held.part
 

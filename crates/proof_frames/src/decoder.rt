@@ -3,6 +3,7 @@ ghost use Rattle.std.specs.Prelude.{◌≡◌, ◌⊎◌, ◌+◌, ◌^◌, ◌<
 
 use crate::frame::Frame;
 use crate::held::Held;
+use crate::rooms::TreeRooms;
 use crate::whole::whole_frame;
 use mersenne_field::Fe;
 use std::alloc::{AllocError, Global};
@@ -28,12 +29,14 @@ pub struct Decoder {
     taken: usize,
     held: Held,
     pairs: Vec<(Fe, Fe)>,
+    trees: TreeRooms,
 }
 
 impl Model for Decoder {
     ghost use Rattle.std.specs.Prelude.{◌≡◌, [], take, vec_capacity};
     ghost use Rattle.proof_frames.specs.Readings as readings;
     ghost use Rattle.proof_frames.specs.Holding.{bytes_of, IsSound};
+    ghost use Rattle.proof_frames.specs.Rooms.{HasRoomsFor};
 
     ghost Value = { readings.Reading };
 
@@ -45,7 +48,7 @@ impl Model for Decoder {
     } };
 
     ghost invariant = { λ d. IsSound d.expected d.received d.bad d.taken d.held
-        (vec_capacity d.pairs) × (d.pairs.items ≡ []) };
+        (vec_capacity d.pairs) × (d.pairs.items ≡ []) × HasRoomsFor d.expected d.trees };
 }
 
 impl Decoder {
@@ -64,6 +67,7 @@ impl Decoder {
             taken: 0,
             held: Held::new(alloc),
             pairs: Vec::new(alloc),
+            trees: TreeRooms::new(alloc),
         }
     }
 
@@ -93,6 +97,7 @@ impl Decoder {
         };
         self.pairs.reserve(sections)?;
         self.held.reserve(place)?;
+        self.trees = TreeRooms::at(self.alloc, place)?;
         self.expected = Some(place);
         Ok(())
     }
@@ -116,9 +121,9 @@ impl Decoder {
     ///
     /// # Errors
     ///
-    /// Where one of those bytes is the first after which no frame that is expected can follow: another kind, another length,
-    /// the last byte of an element that is the prime or more, a code out of its range. From then on every piece is answered
-    /// by the same.
+    /// Where one of those bytes is the first after which no frame that is expected can follow: another kind, another
+    /// length, the last byte of an element that is the prime or more, a bit other than 0 and 1, a code out of its range.
+    /// From then on every piece is answered by the same.
     pub fn feed(&mut self, piece: &[u8]) -> Result<usize, BadFrame>
         ensures takes { IfOk result (λ count. Takes self.old piece.now count self.new) }
         ensures bad { IfErr result (λ bad. Refuses self.old piece.now bad self.new) }
@@ -162,7 +167,13 @@ impl Decoder {
         if self.taken < self.held.frame_length(place) {
             return None;
         }
-        let frame = whole_frame(self.alloc, place, &mut self.held, &mut self.pairs);
+        let frame = whole_frame(
+            self.alloc,
+            place,
+            &mut self.held,
+            &mut self.pairs,
+            &mut self.trees,
+        );
         self.received += self.taken as u64;
         self.expected = None;
         self.taken = 0;

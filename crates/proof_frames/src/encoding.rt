@@ -1,15 +1,18 @@
 // Frames as bytes.
-ghost use Rattle.std.specs.Prelude.{◌≡◌, ◌*◌, ◌^◌, ◌≤◌, ◌++◌, ◌∷◌, length, flat_map, All, IfOk, OnOk};
+ghost use Rattle.std.specs.Prelude.{◌≡◌, ◌*◌, ◌^◌, ◌≤◌, ◌++◌, ◌∷◌, length, map, flat_map, All, IfOk, OnOk};
 ghost use Rattle.std.specs.Int.{w32, to_le_bytes};
+ghost use Rattle.zk_model.specs.Bits.{from_bit};
 ghost use Rattle.zk_model.specs.Bytes.{element_bytes};
 ghost use Rattle.zk_model.specs.Field.{IsElement};
 ghost use Rattle.zk_model.specs.Frames.{frame_spelling};
-ghost use Rattle.zk_model.specs.Transcript.{kind_number, frame_bytes, hello_frame, grant_frame, sums_frame, verdict_frame, refuse_frame};
-ghost use Rattle.proof_frames.specs.Frames.{said, sums_payload, IsShort, IsRanged};
+ghost use Rattle.zk_model.specs.Transcript.{kind_number, frame_bytes, hello_frame, grant_frame, ask_frame, reply_frame, sums_frame, verdict_frame, refuse_frame};
+ghost use Rattle.proof_frames.specs.Frames.{said, ask_bytes, message_bytes, reply_bytes, sums_payload, IsShort, IsRanged};
 
 use crate::frame::{Frame, Grant, Hello, number_of};
 use mersenne_field::Fe;
+use pad_transfer::Masked;
 use std::alloc::{AllocError, Global};
+use tree_messages::{TreeAsk, TreeReply};
 use zk_model::FrameKind;
 
 /// A frame of this kind whose payload will have so many bytes, without the payload.
@@ -46,6 +49,62 @@ fn push_sums(bytes: &mut Vec<u8>, sums: &[(Fe, Fe)]) -> Result<(), AllocError>
     Ok(())
 }
 
+/// Appends bits, a byte each.
+fn push_flips(bytes: &mut Vec<u8>, flips: &[bool]) -> Result<(), AllocError>
+    ensures { OnOk result (bytes.new.items ≡ bytes.old.items ++ map from_bit flips.now) }
+{
+    for flip in flips {
+        bytes.push(u8::from(*flip))?;
+    }
+    Ok(())
+}
+
+/// Appends messages, 32 bytes for both of a level.
+fn push_messages(bytes: &mut Vec<u8>, messages: &[Masked]) -> Result<(), AllocError>
+    ensures { OnOk result (bytes.new.items ≡ bytes.old.items ++ flat_map message_bytes messages.now) }
+{
+    for both in messages {
+        bytes.extend_from_slice(&both.left)?;
+        bytes.extend_from_slice(&both.right)?;
+    }
+    Ok(())
+}
+
+/// Appends asks, tree by tree.
+fn push_asks(bytes: &mut Vec<u8>, asks: &[TreeAsk]) -> Result<(), AllocError>
+    ensures bytes { OnOk result (bytes.new.items ≡ bytes.old.items ++ flat_map ask_bytes asks.now) }
+    ensures range { OnOk result (All (λ ask. IsElement ask.base_correction) asks.now) }
+{
+    for ask in asks {
+        push_flips(bytes, &ask.flips)?;
+        bytes.extend_from_slice(&ask.base_correction.to_le())?;
+    }
+    Ok(())
+}
+
+/// Appends replies, tree by tree.
+fn push_replies(bytes: &mut Vec<u8>, replies: &[TreeReply]) -> Result<(), AllocError>
+    ensures bytes { OnOk result (bytes.new.items
+        ≡ bytes.old.items ++ flat_map reply_bytes replies.now) }
+    ensures range { OnOk result (All (λ reply. IsElement reply.leaf_offset) replies.now) }
+{
+    for reply in replies {
+        push_messages(bytes, &reply.messages)?;
+        bytes.extend_from_slice(&reply.leaf_offset.to_le())?;
+    }
+    Ok(())
+}
+
+/// A frame of this kind and payload.
+fn framed(alloc: Global, kind: FrameKind, payload: &[u8]) -> Result<Vec<u8>, AllocError>
+    requires { length payload.now ≤ 2 ^ 24 }
+    ensures { IfOk result (λ bytes. bytes.items ≡ frame_bytes kind payload.now) }
+{
+    let mut bytes = begin(alloc, kind, payload.len())?;
+    bytes.extend_from_slice(payload)?;
+    Ok(bytes)
+}
+
 /// The prover's greeting, as it is sent: a payload of 97 bytes.
 ///
 /// # Errors
@@ -75,6 +134,38 @@ pub fn encode_grant(alloc: Global, grant: &Grant) -> Result<Vec<u8>, AllocError>
     bytes.extend_from_slice(&grant.count.to_le_bytes())?;
     bytes.extend_from_slice(&grant.section.to_le_bytes())?;
     Ok(bytes)
+}
+
+/// What the prover asks for the trees of a unit, as it is sent: for each tree a byte for each flip, and 8 bytes for the
+/// correction.
+///
+/// # Errors
+///
+/// Only where memory runs out.
+pub fn encode_asks(alloc: Global, asks: &[TreeAsk]) -> Result<Vec<u8>, AllocError>
+    requires { length (flat_map ask_bytes asks.now) ≤ 2 ^ 24 }
+    ensures bytes { IfOk result (λ bytes. bytes.items ≡ ask_frame asks.now) }
+    ensures range { OnOk result (All (λ ask. IsElement ask.base_correction) asks.now) }
+{
+    let mut payload = Vec::new(alloc);
+    push_asks(&mut payload, asks)?;
+    framed(alloc, FrameKind::ExtendAsk, &payload)
+}
+
+/// What the verifier replies for the trees of a unit, as it is sent: for each tree 32 bytes for the messages of each level,
+/// and 8 bytes for the offset.
+///
+/// # Errors
+///
+/// Only where memory runs out.
+pub fn encode_replies(alloc: Global, replies: &[TreeReply]) -> Result<Vec<u8>, AllocError>
+    requires { length (flat_map reply_bytes replies.now) ≤ 2 ^ 24 }
+    ensures bytes { IfOk result (λ bytes. bytes.items ≡ reply_frame replies.now) }
+    ensures range { OnOk result (All (λ reply. IsElement reply.leaf_offset) replies.now) }
+{
+    let mut payload = Vec::new(alloc);
+    push_replies(&mut payload, replies)?;
+    framed(alloc, FrameKind::ExtendReply, &payload)
 }
 
 /// A frame of elements, as it is sent: corrections, a challenge or openings, 8 bytes for each element.
@@ -148,6 +239,8 @@ pub fn encode(alloc: Global, frame: &Frame) -> Result<Vec<u8>, AllocError>
     let bytes = match frame {
         Frame::Hello(hello) => encode_hello(alloc, hello)?,
         Frame::Grant(grant) => encode_grant(alloc, grant)?,
+        Frame::ExtendAsk(asks) => encode_asks(alloc, asks)?,
+        Frame::ExtendReply(replies) => encode_replies(alloc, replies)?,
         Frame::Corrections(elements) => encode_elements(alloc, FrameKind::Corrections, elements)?,
         Frame::Challenge(element) => encode_elements(alloc, FrameKind::Challenge, &[*element])?,
         Frame::Sums(sums) => encode_sums(alloc, sums)?,

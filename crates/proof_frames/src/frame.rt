@@ -4,6 +4,7 @@ ghost use Rattle.zk_model.specs.Transcript.{kind_number};
 
 use mersenne_field::Fe;
 use std::marker::Model;
+use tree_messages::{TreeAsk, TreeReply};
 use zk_model::FrameKind;
 
 /// The prover's greeting: the id of the dealt files, the digests (SHA-256 of FIPS 180-4) of the circuit's text and of the
@@ -61,6 +62,10 @@ pub enum Frame {
     Hello(Hello),
     /// The verifier grants units.
     Grant(Grant),
+    /// What the prover asks for each tree of a unit.
+    ExtendAsk(Vec<TreeAsk>),
+    /// What the verifier replies for each tree of a unit.
+    ExtendReply(Vec<TreeReply>),
     /// A correction for each given value.
     Corrections(Vec<Fe>),
     /// The challenge of the checks.
@@ -86,6 +91,8 @@ impl Frame {
         match self {
             Frame::Hello(_) => FrameKind::Hello,
             Frame::Grant(_) => FrameKind::Grant,
+            Frame::ExtendAsk(_) => FrameKind::ExtendAsk,
+            Frame::ExtendReply(_) => FrameKind::ExtendReply,
             Frame::Corrections(_) => FrameKind::Corrections,
             Frame::Challenge(_) => FrameKind::Challenge,
             Frame::Sums(_) => FrameKind::Sums,

@@ -1,17 +1,20 @@
 // The bytes of the frame that is under way.
-ghost use Rattle.std.specs.Prelude.{◌≡◌, ◌+◌, ◌*◌, ◌<◌, ◌≤◌, ◌++◌, [], ◌∷◌, length, flat_map, get_or, All, IfSome, IfNone, OnOk, ◌≢◌, vec_len, vec_capacity};
+ghost use Rattle.std.specs.Prelude.{◌≡◌, ◌↔◌, ◌+◌, ◌-◌, ◌*◌, ◌^◌, ◌<◌, ◌≤◌, ◌++◌, [], ◌∷◌, length, drop, flat_map, get_or, All, IsTrue, IfSome, IfNone, OnOk, ◌≢◌, vec_len, vec_capacity};
+ghost use Rattle.std.specs.Int.{w64, from_le_bytes};
 ghost use Rattle.zk_model.specs.Bytes.{element_bytes};
 ghost use Rattle.zk_model.specs.Field.{IsElement};
 ghost use Rattle.zk_model.specs.Frames as model;
+ghost use Rattle.proof_frames.specs.Readings.{IsShortPlace};
+ghost use Rattle.proof_frames.specs.Holding.{MayFollow, elements_at, raw_at};
 
-use crate::shape::{Payload, Shape};
+use crate::shape::{Level, Payload, Shape};
 use mersenne_field::Fe;
 use std::alloc::{AllocError, Global};
 use std::mem;
 use zk_model::{Expect, FrameKind};
 
-/// The bytes that are taken: the header, and the payload if it has no elements, as they came; whole elements as elements; and
-/// the bytes of an element that is not whole.
+/// The bytes that are taken: the header, and the payload if it has trees or no elements, as they came; whole elements as
+/// elements; and the bytes of an element that is not whole.
 #[derive(Debug, Drop)]
 pub(crate) struct Held {
     pub(crate) start: Vec<u8>,
@@ -64,9 +67,59 @@ fn completed(part: &[u8], last: u8) -> Option<[u8; 8]>
     Some([*b0, *b1, *b2, *b3, *b4, *b5, *b6, last])
 }
 
+/// Whether the last 7 bytes and one more spell an element.
+fn ends_element(bytes: &[u8], last: u8) -> bool
+    requires { 7 ≤ length bytes.now }
+    ensures { IsTrue result ↔ IsElement (from_le_bytes w64
+        (drop (length bytes.now - 7) bytes.now ++ last ∷ [])) }
+{
+    match completed(&bytes[bytes.len() - 7..], last) {
+        Some(word) => Fe::from_le(&word).is_some(),
+        None => false,
+    }
+}
+
+/// Whether a byte may stand at a place of a tree, behind other bytes: for a level one that is no more than the most, and at
+/// the end of an element one that leaves it below the prime.
+fn may_follow(bytes: &[u8], at: usize, width: usize, most: u8, byte: u8) -> bool
+    requires small { width + 7 ≤ 2 ^ 25 }
+    requires behind { at ≤ length bytes.now }
+    ensures { IsTrue result ↔ MayFollow bytes.now at width most byte }
+{
+    if at < width {
+        byte <= most
+    } else {
+        at < width + 7 || ends_element(bytes, byte)
+    }
+}
+
+/// How many elements a place allows.
+fn elements_room(place: Expect) -> usize
+    requires { IsShortPlace place }
+    ensures { result ≡ elements_at place }
+{
+    match place {
+        Expect::Corrections { count } | Expect::Openings { count } => count,
+        Expect::Challenge => 1,
+        Expect::Sums { sections } => 2 * sections,
+        _ => 0,
+    }
+}
+
+/// How many bytes of trees a place allows, with the header.
+fn raw_room(place: Expect) -> usize
+    requires { IsShortPlace place }
+    ensures { result ≡ raw_at place }
+{
+    match place {
+        Expect::Ask { .. } | Expect::Reply { .. } => Shape::at(place, 0).length(),
+        _ => 0,
+    }
+}
+
 impl Held {
     ghost use Rattle.proof_frames.specs.Readings.{IsShortPlace};
-    ghost use Rattle.proof_frames.specs.Shapes.{shape_of};
+    ghost use Rattle.proof_frames.specs.Shapes.{shape_of, level_width};
     ghost use Rattle.proof_frames.specs.declared.shape.Payload.TheVariants as payload;
     ghost use Rattle.proof_frames.specs.Holding.{bytes_of, IsEmpty, HasRoom, Holds, Steps, Runs, elements_at};
 
@@ -177,6 +230,32 @@ impl Held {
         true
     }
 
+    /// Takes a byte of a payload of trees, unless it is too large for its level, or the last of an element that is the prime
+    /// or more.
+    fn take_tree_byte(
+        &mut self,
+        place: Expect,
+        trees: usize,
+        height: usize,
+        level: Level,
+        byte: u8,
+    ) -> bool
+        requires holds { Holds place self.old }
+        requires headed { 5 ≤ vec_len self.old.start }
+        requires shape { (shape_of place (get_or self.old.start.items 0 0)).payload
+            ≡ payload.Trees trees height level }
+        requires within { vec_len self.old.start < 5 + trees * (level_width level height + 8) }
+        ensures { Steps place self.old byte result self.new }
+    {
+        let width = level.width(height);
+        let at = (self.start.len() - 5) % (width + 8);
+        if !may_follow(&self.start, at, width, level.most(), byte) {
+            return false;
+        }
+        self.start.push_reserved(byte);
+        true
+    }
+
     /// Takes a byte of the frame, if some frame at the place goes on with it.
     fn take_byte(&mut self, place: Expect, byte: u8) -> bool
         requires holds { Holds place self.old }
@@ -192,6 +271,11 @@ impl Held {
                 self.take_plain_byte(place, count, least, most, byte)
             }
             Payload::Elements { count } => self.take_element_byte(place, count, byte),
+            Payload::Trees {
+                trees,
+                height,
+                level,
+            } => self.take_tree_byte(place, trees, height, level, byte),
         }
     }
 
@@ -208,7 +292,7 @@ impl Held {
             return piece;
         }
         match self.shape(place).payload {
-            Payload::Bytes { .. } => piece,
+            Payload::Bytes { .. } | Payload::Trees { .. } => piece,
             Payload::Elements { .. } => take_elements(&mut self.elements, piece),
         }
     }
@@ -238,15 +322,9 @@ impl Held {
         ensures empty { IsEmpty self.new }
         ensures holds { OnOk result (Holds place self.new) }
     {
-        let count = match place {
-            Expect::Hello | Expect::Grant | Expect::Verdict => 0,
-            Expect::Challenge => 1,
-            Expect::Corrections { count } | Expect::Openings { count } => count,
-            Expect::Sums { sections } => 2 * sections,
-        };
-        self.start.reserve(102)?;
+        self.start.reserve(raw_room(place).max(102))?;
         self.part.reserve(8)?;
-        self.elements.reserve(count)?;
+        self.elements.reserve(elements_room(place))?;
         Ok(())
     }
 

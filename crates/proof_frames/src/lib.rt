@@ -9,12 +9,15 @@ mod encoding;
 mod frame;
 mod held;
 pub mod laws;
+mod rooms;
 mod shape;
+mod trees;
 mod whole;
 
 pub use decoder::{BadFrame, Decoder};
 pub use encoding::{
-    encode, encode_elements, encode_grant, encode_hello, encode_sums, encode_verdict,
+    encode, encode_asks, encode_elements, encode_grant, encode_hello, encode_replies, encode_sums,
+    encode_verdict,
 };
 pub use frame::{Frame, Grant, Hello};
 pub use zk_model::{Expect, FrameKind};

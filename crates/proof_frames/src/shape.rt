@@ -1,17 +1,39 @@
 // The shapes of the frames that a place allows.
-ghost use Rattle.std.specs.Prelude.{◌≡◌, ◌+◌, ◌^◌, ◌≤◌};
+ghost use Rattle.std.specs.Prelude.{◌≡◌, ◌+◌, ◌*◌, ◌^◌, ◌≤◌};
 ghost use Rattle.proof_frames.specs.Readings.{IsShortPlace};
+ghost use Rattle.proof_frames.specs.Shapes.{level_width};
 
 use crate::frame::number_of;
 use zk_model::{Expect, FrameKind};
+
+/// What stands for each level of a tree.
+#[derive(Clone, Copy, Debug, PartialEq, Eq)]
+pub(crate) enum Level {
+    /// A byte of 0 or 1.
+    Bit,
+    /// Two messages of 16 bytes.
+    Messages,
+}
 
 /// What stands behind a frame's header.
 #[derive(Clone, Copy, Debug, PartialEq, Eq)]
 pub(crate) enum Payload {
     /// So many bytes, of which the first is in a range.
-    Bytes { count: usize, least: u8, most: u8 },
+    Bytes {
+        count: usize,
+        least: u8,
+        most: u8,
+    },
     /// So many elements.
-    Elements { count: usize },
+    Elements {
+        count: usize,
+    },
+    /// For each of so many trees of this height the bytes of its levels, and an element.
+    Trees {
+        trees: usize,
+        height: usize,
+        level: Level,
+    },
 }
 
 /// The kind of a frame, and what stands behind its header.
@@ -19,6 +41,42 @@ pub(crate) enum Payload {
 pub(crate) struct Shape {
     pub(crate) kind: FrameKind,
     pub(crate) payload: Payload,
+}
+
+impl Level {
+    ghost use Rattle.proof_frames.specs.Shapes.{level_width, level_most};
+
+    /// How many bytes stand for all levels of a tree of this height.
+    pub(crate) fn width(self, height: usize) -> usize
+        requires { level_width self height ≤ 2 ^ 24 }
+        ensures { result ≡ level_width self height }
+    {
+        match self {
+            Level::Bit => height,
+            Level::Messages => 32 * height,
+        }
+    }
+
+    /// The most that one of those bytes may be.
+    pub(crate) fn most(self) -> u8
+        ensures { result ≡ level_most self }
+    {
+        match self {
+            Level::Bit => 1,
+            Level::Messages => 255,
+        }
+    }
+}
+
+/// How many bytes stand for so many trees of this height.
+fn trees_length(trees: usize, height: usize, level: Level) -> usize
+    requires { trees * (level_width level height + 8) ≤ 2 ^ 24 }
+    ensures { result ≡ trees * (level_width level height + 8) }
+{
+    if trees == 0 {
+        return 0;
+    }
+    trees * (level.width(height) + 8)
 }
 
 impl Payload {
@@ -32,6 +90,11 @@ impl Payload {
         match self {
             Payload::Bytes { count, .. } => count,
             Payload::Elements { count } => 8 * count,
+            Payload::Trees {
+                trees,
+                height,
+                level,
+            } => trees_length(trees, height, level),
         }
     }
 }
@@ -58,6 +121,19 @@ impl Shape {
         }
     }
 
+    fn of_trees(kind: FrameKind, trees: usize, height: usize, level: Level) -> Self
+        ensures { result ≡ record { kind = kind; payload = payload.Trees trees height level } }
+    {
+        Shape {
+            kind,
+            payload: Payload::Trees {
+                trees,
+                height,
+                level,
+            },
+        }
+    }
+
     /// The shape of the frame at a place, of which the first byte is known.
     pub(crate) fn at(place: Expect, first: u8) -> Self
         requires { IsShortPlace place }
@@ -67,6 +143,12 @@ impl Shape {
             Expect::Hello => Shape::of_bytes(FrameKind::Hello, 97, 0, 255),
             Expect::Grant if first == 10 => Shape::of_bytes(FrameKind::Refuse, 1, 1, 4),
             Expect::Grant => Shape::of_bytes(FrameKind::Grant, 16, 0, 255),
+            Expect::Ask { height, trees, .. } => {
+                Shape::of_trees(FrameKind::ExtendAsk, trees, height, Level::Bit)
+            }
+            Expect::Reply { height, trees, .. } => {
+                Shape::of_trees(FrameKind::ExtendReply, trees, height, Level::Messages)
+            }
             Expect::Corrections { count } => Shape::of_elements(FrameKind::Corrections, count),
             Expect::Challenge => Shape::of_elements(FrameKind::Challenge, 1),
             Expect::Sums { sections } => Shape::of_elements(FrameKind::Sums, 2 * sections),

@@ -4,9 +4,12 @@ ghost use Rattle.std.specs.Int.{w32, w64, to_le_bytes, from_le_bytes};
 ghost use Rattle.zk_model.specs.Frames as model;
 ghost use Rattle.proof_frames.specs.Frames.{said, flattened, hello_in, grant_in, grant_or_refusal_in, verdict_in};
 ghost use Rattle.proof_frames.specs.Holding.{bytes_of, IsEmpty, Holds, pairs_at};
+ghost use Rattle.proof_frames.specs.Rooms.{HasTreeRooms};
 
 use crate::frame::{Frame, Grant, Hello};
 use crate::held::Held;
+use crate::rooms::TreeRooms;
+use crate::trees::{asks_of, replies_of};
 use mersenne_field::Fe;
 use std::alloc::Global;
 use std::mem;
@@ -108,17 +111,30 @@ fn pairs_of(alloc: Global, elements: &[Fe], pairs: &mut Vec<(Fe, Fe)>) -> Vec<(F
 }
 
 /// The frame that is held whole. Its elements are handed out.
-fn frame_of(alloc: Global, place: Expect, held: &mut Held, pairs: &mut Vec<(Fe, Fe)>) -> Frame
+fn frame_of(
+    alloc: Global,
+    place: Expect,
+    held: &mut Held,
+    pairs: &mut Vec<(Fe, Fe)>,
+    trees: &mut TreeRooms,
+) -> Frame
     requires holds { Holds place held.old }
     requires whole { length (bytes_of held.old) ≡ model.frame_length place (bytes_of held.old) }
     requires empty { pairs.old.items ≡ [] }
     requires room { pairs_at place ≤ vec_capacity pairs.old }
+    requires trees { HasTreeRooms place trees.old }
     ensures frame { model.IsWhole place (bytes_of held.old) (said result) }
     ensures pairs { pairs.new.items ≡ [] }
 {
     match place {
         Expect::Hello => Frame::Hello(hello_of(&held.start)),
         Expect::Grant => grant_or_refusal_of(&held.start),
+        Expect::Ask { height, .. } => {
+            Frame::ExtendAsk(asks_of(alloc, &held.start[5..], height, trees))
+        }
+        Expect::Reply { height, .. } => {
+            Frame::ExtendReply(replies_of(alloc, &held.start[5..], height, trees))
+        }
         Expect::Corrections { .. } => Frame::Corrections(held.give_elements(alloc)),
         Expect::Challenge => Frame::Challenge(held.elements[0]),
         Expect::Sums { .. } => Frame::Sums(pairs_of(alloc, &held.elements, pairs)),
@@ -133,16 +149,18 @@ pub(crate) fn whole_frame(
     place: Expect,
     held: &mut Held,
     pairs: &mut Vec<(Fe, Fe)>,
+    trees: &mut TreeRooms,
 ) -> Frame
     requires holds { Holds place held.old }
     requires whole { length (bytes_of held.old) ≡ model.frame_length place (bytes_of held.old) }
     requires empty { pairs.old.items ≡ [] }
     requires room { pairs_at place ≤ vec_capacity pairs.old }
+    requires trees { HasTreeRooms place trees.old }
     ensures frame { model.IsWhole place (bytes_of held.old) (said result) }
     ensures held { IsEmpty held.new }
     ensures pairs { pairs.new.items ≡ [] }
 {
-    let frame = frame_of(alloc, place, held, pairs);
+    let frame = frame_of(alloc, place, held, pairs, trees);
     held.clear();
     frame
 }

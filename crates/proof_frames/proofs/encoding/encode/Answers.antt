@@ -7,8 +7,8 @@ use Rattle.proof_frames.proofs.encoding.encode.Goals as goal
 
 pub encode_elements-requires : goal.encode_elements-requires
 encode_elements-requires c =
-    short_elements (said c.args.frame.now) kind.Corrections c.in-Corrections.elements.items c.deref.result.now c.requires
-    (ap (λ f. frame_spelling (said f)) c.in-Corrections.is) c.deref.ensures.value
+    short_elements (said c.args.frame.now) kind.Corrections c.in-Corrections.elements.items c.deref-in-Corrections.result.now c.requires
+    (ap (λ f. frame_spelling (said f)) c.in-Corrections.is) c.deref-in-Corrections.ensures.value
 
 pub encode_elements-requires-in-Openings : goal.encode_elements-requires-in-Openings
 encode_elements-requires-in-Openings c =

@@ -1,5 +1,10 @@
-use Rattle.std.proofs.Common.{ap}
-use Rattle.proof_frames.proofs.Finished.{hello_finished, grant_finished, corrections_finished, sums_finished, openings_finished, verdict_finished}
+use Rattle.std.proofs.Common.{◌≡◌, ℕ, ◌-◌, ◌*◌, length, take, drop, sym, ap, ◌∙◌, arith, length-drop, subst}
+use Rattle.std.specs.Prelude.{vec_len}
+use Rattle.std.proofs.lemmas.List.{take_all}
+use Rattle.zk_model.specs.declared.Expect.{Expect}
+use Rattle.proof_frames.specs.Rooms.{HasTreeRooms, HasAskRooms, HasReplyRooms}
+use Rattle.proof_frames.specs.Shapes.{FitsTrees}
+use Rattle.proof_frames.proofs.Finished.{hello_finished, grant_finished, ask_trees, reply_trees, corrections_finished, sums_finished, openings_finished, verdict_finished}
 use Rattle.proof_frames.proofs.whole.frame_of.Goals as goal
 
 pub returns-in-Hello-clause-frame : goal.returns-in-Hello-clause-frame
@@ -37,3 +42,30 @@ returns-in-Verdict-clause-frame c =
     let held = c.args.held.now in
     verdict_finished c.args.place held.start.items held.elements.items held.part.items c.deref-in-Verdict.result.now _ c.in-Verdict.is c.deref-in-Verdict.ensures.value
     c.verdict_of.ensures c.requires.holds.begun c.requires.whole
+
+pub asks_of-requires-clause-payload : goal.asks_of-requires-clause-payload
+asks_of-requires-clause-payload c =
+    let held = c.args.held.now in
+    let given = c.deref-in-Ask.result.now in
+    let rooms : HasAskRooms c.in-Ask.height c.in-Ask.trees c.args.trees.now = subst (λ (p : Expect). HasTreeRooms p c.args.trees.now) c.in-Ask.is c.requires.trees in
+    let count : vec_len c.args.trees.now.flips ≡ c.in-Ask.trees = omega (arith, rooms.counted, c.args.trees.now.flips.ok.0) in
+    let bytes : take (length given - 5) (drop 5 given) ≡ drop 5 held.start.items =
+    take_all (length given - 5) (drop 5 given) (omega (arith, length-drop 5 given)) ∙ ap (drop 5) c.deref-in-Ask.ensures.value in
+    let fits = ask_trees c.args.place held.start.items held.elements.items held.part.items c.in-Ask.height c.in-Ask.trees c.in-Ask.units_left c.in-Ask.is
+    c.requires.holds.begun c.requires.whole in
+    subst (λ (n : ℕ). FitsTrees n c.in-Ask.height 1 (take (length given - 5) (drop 5 given))) (sym count)
+    (subst (FitsTrees c.in-Ask.trees c.in-Ask.height 1) (sym bytes) fits.1)
+
+pub replies_of-requires-clause-payload : goal.replies_of-requires-clause-payload
+replies_of-requires-clause-payload c =
+    let held = c.args.held.now in
+    let given = c.deref-in-Reply.result.now in
+    let rooms : HasReplyRooms c.in-Reply.height c.in-Reply.trees c.args.trees.now =
+    subst (λ (p : Expect). HasTreeRooms p c.args.trees.now) c.in-Reply.is c.requires.trees in
+    let count : vec_len c.args.trees.now.messages ≡ c.in-Reply.trees = omega (arith, rooms.counted, c.args.trees.now.messages.ok.0) in
+    let bytes : take (length given - 5) (drop 5 given) ≡ drop 5 held.start.items =
+    take_all (length given - 5) (drop 5 given) (omega (arith, length-drop 5 given)) ∙ ap (drop 5) c.deref-in-Reply.ensures.value in
+    let fits = reply_trees c.args.place held.start.items held.elements.items held.part.items c.in-Reply.height c.in-Reply.trees c.in-Reply.units_left c.in-Reply.is
+    c.requires.holds.begun c.requires.whole in
+    subst (λ (n : ℕ). FitsTrees n (32 * c.in-Reply.height) 255 (take (length given - 5) (drop 5 given))) (sym count)
+    (subst (FitsTrees c.in-Reply.trees (32 * c.in-Reply.height) 255) (sym bytes) fits.1)

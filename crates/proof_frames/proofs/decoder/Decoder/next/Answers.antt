@@ -4,7 +4,7 @@ use Rattle.proof_frames.specs.Frames.{said}
 use Rattle.proof_frames.specs.Readings.{Gives}
 use Rattle.proof_frames.specs.Holding.{bytes_of}
 use Rattle.proof_frames.specs.declared.decoder.BadFrame.{BadFrame}
-use Rattle.proof_frames.proofs.Decoding.{none_is, reading, received_fits, under_way, holding_within, gives_told}
+use Rattle.proof_frames.proofs.Decoding.{none_is, reading, received_fits, under_way, holding_within, not_whole, gives_told}
 use Rattle.proof_frames.proofs.decoder.Decoder.next.Goals as goal
 
 pub returns-clause-gives : goal.returns-clause-gives
@@ -29,3 +29,10 @@ overflow_add-self c =
     let d = c.self.inside in
     let fits : d.received + d.taken < 2 ^ 64 = received_fits d.expected d.received d.bad d.taken d.held (vec_capacity d.pairs) c.self.invariant.0 (omega arith) in
     omega (arith, fits)
+
+pub returns-then-self-frame_length-clause-not_whole : goal.returns-then-self-frame_length-clause-not_whole
+returns-then-self-frame_length-clause-not_whole c =
+    let d = c.self.inside in
+    let fine : d.bad ≡ None = none_is d.bad (sym c.is_some.ensures ∙ c.if-is_some.false) in
+    not_whole d.expected d.bad c.in-Some.place d.received d.taken (vec_capacity d.pairs) d.held c.args.self.now c.in-Some.is fine c.self.invariant.0 c.self.view_is
+    (rw (sym c.frame_length.ensures) c.if-self-frame_length.true)

@@ -40,7 +40,7 @@ returns c =
       record {
         short = c.requires.holds.short;
         begun = rw c.clear.ensures.items begun;
-        room = record { start = c.requires.holds.room.start; elements = omega arith; part = omega arith };
+        room = record { start = c.requires.holds.room.start; raw = c.requires.holds.room.raw; elements = omega arith; part = omega arith };
       },
       (λ i. spelled old.start.items (c.push_reserved-2.ensures.items i) (c.clear.ensures.items i))
           ∙ element_more old.start.items old.elements.items old.part.items c.args.byte element word_is,

@@ -31,7 +31,7 @@ returns c =
       record {
         short = c.requires.holds.short;
         begun = more;
-        room = record { start = omega arith; elements = c.requires.holds.room.elements; part = c.requires.holds.room.part };
+        room = record { start = omega arith; raw = omega arith; elements = c.requires.holds.room.elements; part = c.requires.holds.room.part };
       },
       ap (λ (l : List ℕ). spelled l old.elements.items old.part.items) c.push_reserved.ensures.items
           ∙ start_more start old.elements.items old.part.items c.args.byte empty.0 empty.1,

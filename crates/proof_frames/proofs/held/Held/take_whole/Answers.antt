@@ -29,5 +29,5 @@ returns-in-Elements-clause-holds c =
       begun = elements_step c.args.place old.start.items old.elements.items old.part.items c.take_elements.new.elements.items old.part.items c.in-Elements.count c.requires.holds.begun
           left.0 shape c.take_elements.ensures.ranged partial c.requires.holds.begun.part_bytes
           (omega (arith, left.1, c.take_elements.ensures.count, old.elements.ok.0, c.take_elements.new.elements.ok.0));
-      room = record { start = c.requires.holds.room.start; elements = omega arith; part = c.requires.holds.room.part };
+      room = record { start = c.requires.holds.room.start; raw = c.requires.holds.room.raw; elements = omega arith; part = c.requires.holds.room.part };
     }
