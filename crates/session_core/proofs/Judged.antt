@@ -1,19 +1,19 @@
 -- What the checks say of what the verifier took is what they say of the whole session.
-use Rattle.std.proofs.Common.{◌≡◌, ℕ, List, drop, take, length, sym, ◌∙◌, ap, subst}
+use Rattle.std.proofs.Common.{◌≡◌, ℕ, List, drop, take, refl, ◌∙◌, subst}
 use Rattle.zk_model.specs.Program.{Program, section_count}
 use Rattle.zk_model.specs.Mac.{corrected_keys}
-use Rattle.zk_model.specs.Files.{span_dealt_keys}
+use Rattle.zk_model.specs.Correlations.{span_keys}
+use Rattle.zk_model.specs.Transcript.{Round}
 use Rattle.zk_model.specs.Check.{ProductCheck, OpeningCheck, WireKeys, AreKeysFor}
 use Rattle.zk_model.specs.View.{IsVerdictOf, span_of, session_keys, session_products, session_openings}
 use Rattle.zk_model.specs.ServedVerifier.{challenge_coin}
 use Rattle.wire_auth.specs.Sides.{VerifierSide}
 use Rattle.mult_check.specs.Checks.{product_check, opening_check}
 use Rattle.session_core.specs.Ends.{masks_in}
-use Rattle.session_core.specs.Jobs.{VerifierJob, IsVerifierJob, granted_from}
-use Rattle.session_core.specs.Judgements.{HasSides, IsJudgement, direct_transcript, verdict_in}
+use Rattle.session_core.specs.Jobs.{VerifierJob, granted_from}
+use Rattle.session_core.specs.Judgements.{HasSides, IsJudgement, session_transcript, verdict_in}
 use Rattle.session_core.specs.declared.judgement.Judgement.{Judgement}
 use Rattle.session_core.specs.declared.judgement.Judgement.TheVariants.{Accepted, RejectedSum, RejectedOpening}
-use Rattle.session_core.proofs.DirectViews.{keys_spanned}
 use Rattle.session_core.proofs.Masks.{verdict_of_few, left_of_few}
 
 -- the sides are the same where there are more masks
@@ -27,53 +27,49 @@ sides_of_few check openings masks (RejectedSum section left right) few is sides 
 sides_of_few check openings masks (RejectedOpening output left right) few is sides = sides
 
 -- the check of products over the dealt keys of a grant's units, and as many masks as there are sections
-abbrev pub few_products : VerifierJob → ℕ → List ℕ → List (ℕ × ℕ) → List ℕ → WireKeys → ProductCheck
-few_products job start corrections sums openings keys =
-    record (session_products job.task.file job.task.statement (direct_transcript job start corrections sums openings (verdict_in Accepted)) keys) {
-      masks = masks_in job.task.statement.program job.section_length (span_dealt_keys job.task.file (span_of (granted_from job start)));
+abbrev pub few_products : VerifierJob → ℕ → List Round → List ℕ → List (ℕ × ℕ) → List ℕ → WireKeys → ProductCheck
+few_products job start rounds corrections sums openings keys =
+    record (session_products job.task.file job.task.statement (session_transcript job start rounds corrections sums openings (verdict_in Accepted)) keys) {
+      masks = masks_in job.task.statement.program job.section_length (span_keys job.task.file (span_of (granted_from job start)));
     }
 
-pub judged_whole : (job : VerifierJob) (start : ℕ) (corrections : List ℕ) (sums : List (ℕ × ℕ)) (openings : List ℕ) (keys : WireKeys) (judgement : Judgement)
-    → IsVerifierJob job
-    → keys.given ≡ corrected_keys job.task.file.key (span_dealt_keys job.task.file (span_of (granted_from job start))) corrections
+pub judged_whole : (job : VerifierJob) (start : ℕ) (rounds : List Round) (corrections : List ℕ) (sums : List (ℕ × ℕ)) (openings : List ℕ) (keys : WireKeys) (judgement : Judgement)
+    → keys.given ≡ corrected_keys job.task.file.key (span_keys job.task.file (span_of (granted_from job start))) corrections
     → AreKeysFor job.task.file.key job.task.statement.program job.task.statement.public keys
-    → IsVerdictOf (few_products job start corrections sums openings keys)
-    (session_openings job.task.file job.task.statement (direct_transcript job start corrections sums openings (verdict_in judgement)) keys) (verdict_in judgement)
-    → HasSides (few_products job start corrections sums openings keys)
-    (session_openings job.task.file job.task.statement (direct_transcript job start corrections sums openings (verdict_in judgement)) keys) judgement
-    → IsJudgement job.task (direct_transcript job start corrections sums openings (verdict_in judgement)) judgement
-judged_whole job start corrections sums openings keys judgement is given carried judged sides =
-    let spanned = keys_spanned job.task.file (span_of (granted_from job start)) is.direct in
+    → IsVerdictOf (few_products job start rounds corrections sums openings keys)
+    (session_openings job.task.file job.task.statement (session_transcript job start rounds corrections sums openings (verdict_in judgement)) keys) (verdict_in judgement)
+    → HasSides (few_products job start rounds corrections sums openings keys)
+    (session_openings job.task.file job.task.statement (session_transcript job start rounds corrections sums openings (verdict_in judgement)) keys) judgement
+    → IsJudgement job.task (session_transcript job start rounds corrections sums openings (verdict_in judgement)) judgement
+judged_whole job start rounds corrections sums openings keys judgement given carried judged sides =
     let program : Program = job.task.statement.program in
-    let few = ap (λ all. take (section_count program job.section_length) (drop program.givens all)) (sym spanned) in
-    let products = few_products job start corrections sums openings keys in
-    let t = direct_transcript job start corrections sums openings (verdict_in judgement) in
+    let products = few_products job start rounds corrections sums openings keys in
+    let t = session_transcript job start rounds corrections sums openings (verdict_in judgement) in
     let opened = session_openings job.task.file job.task.statement t keys in
     let masks = drop program.givens (session_keys job.task.file t.commitment) in
     record {
       keys = keys;
       carried = record {
-        given = given ∙ ap (λ all. corrected_keys job.task.file.key all corrections) (sym spanned);
+        given = given;
         carried = carried;
       };
-      judged = verdict_of_few products opened masks (verdict_in judgement) few judged;
-      sides = sides_of_few products opened masks judgement few judged sides;
+      judged = verdict_of_few products opened masks (verdict_in judgement) refl judged;
+      sides = sides_of_few products opened masks judgement refl judged sides;
     }
 
 -- the same from the checks as they were made
-pub judged_taken : (job : VerifierJob) (start : ℕ) (corrections : List ℕ) (sums : List (ℕ × ℕ)) (openings : List ℕ) (side : VerifierSide)
+pub judged_taken : (job : VerifierJob) (start : ℕ) (rounds : List Round) (corrections : List ℕ) (sums : List (ℕ × ℕ)) (openings : List ℕ) (side : VerifierSide)
     (section challenge key : ℕ) (masks claims : List ℕ) (judgement : Judgement)
-    → IsVerifierJob job
     → side.program ≡ job.task.statement.program → section ≡ job.section_length → challenge ≡ challenge_coin job.task.file start
-    → key ≡ job.task.file.key → masks ≡ masks_in job.task.statement.program job.section_length (span_dealt_keys job.task.file (span_of (granted_from job start)))
+    → key ≡ job.task.file.key → masks ≡ masks_in job.task.statement.program job.section_length (span_keys job.task.file (span_of (granted_from job start)))
     → claims ≡ job.task.statement.claims
-    → side.keys.given ≡ corrected_keys job.task.file.key (span_dealt_keys job.task.file (span_of (granted_from job start))) corrections
+    → side.keys.given ≡ corrected_keys job.task.file.key (span_keys job.task.file (span_of (granted_from job start))) corrections
     → AreKeysFor job.task.file.key job.task.statement.program job.task.statement.public side.keys
     → IsVerdictOf (product_check side section challenge masks key sums) (opening_check side key openings claims) (verdict_in judgement)
     → HasSides (product_check side section challenge masks key sums) (opening_check side key openings claims) judgement
-    → IsJudgement job.task (direct_transcript job start corrections sums openings (verdict_in judgement)) judgement
-judged_taken job start corrections sums openings side section challenge key masks claims judgement is program sections coin one masked claimed given carried judged sides =
-    judged_whole job start corrections sums openings side.keys judgement is given carried
+    → IsJudgement job.task (session_transcript job start rounds corrections sums openings (verdict_in judgement)) judgement
+judged_taken job start rounds corrections sums openings side section challenge key masks claims judgement program sections coin one masked claimed given carried judged sides =
+    judged_whole job start rounds corrections sums openings side.keys judgement given carried
     (subst (λ (q : ProductCheck × OpeningCheck). IsVerdictOf q.0 q.1 (verdict_in judgement)) same judged)
     (subst (λ (q : ProductCheck × OpeningCheck). HasSides q.0 q.1 judgement) same sides)
   where
@@ -85,6 +81,6 @@ judged_taken job start corrections sums openings side section challenge key mask
 
     same : checks section challenge key masks claims side.program
         ≡ checks job.section_length (challenge_coin job.task.file start) job.task.file.key
-        (masks_in job.task.statement.program job.section_length (span_dealt_keys job.task.file (span_of (granted_from job start))))
+        (masks_in job.task.statement.program job.section_length (span_keys job.task.file (span_of (granted_from job start))))
         job.task.statement.claims job.task.statement.program
     same i = checks (sections i) (coin i) (one i) (masked i) (claimed i) (program i)

@@ -1,7 +1,10 @@
-pub mod DirectViews
+pub mod Enough
 pub mod Held
 pub mod Judged
 pub mod Masks
 pub mod Opening
 pub mod Rehearsed
+pub mod Rounds
 pub mod Spelled
+pub mod DirectViews
+pub mod HeldRounds

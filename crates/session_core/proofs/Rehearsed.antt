@@ -13,6 +13,8 @@ use Rattle.zk_model.specs.Transcript.{Grant, Transcript, IsGrant, bytes_from, ve
 use Rattle.zk_model.specs.HonestProver.{IsWitness}
 use Rattle.zk_model.specs.ServedVerifier.{VerifierTask, IsServed}
 use Rattle.zk_model.specs.BothEnds.{IsHonestSession}
+use Rattle.zk_model.specs.declared.Kind.{Kind}
+use Rattle.zk_model.specs.declared.Kind.TheVariants.{Direct, Extended}
 use Rattle.zk_model.specs.declared.Side.{Side}
 use Rattle.zk_model.specs.declared.Side.TheVariants.{Verifier}
 use Rattle.zk_model.specs.declared.Verdict.{Verdict}
@@ -26,7 +28,7 @@ use Rattle.zk_laws.proofs.Satisfied.{inputs_are, outputs_are}
 use Rattle.session_core.proofs.Spelled.{before_verdict, ends_with_verdict}
 use Rattle.session_core.specs.Ends.{whole_grant}
 use Rattle.session_core.specs.Holding.{IsSessionOf}
-use Rattle.session_core.specs.Rehearsals.{direct_params, direct_units, AreRehearsedFiles, EndsWithVerdict, rehearsed_prover, rehearsed_verifier, rehearsed_ends}
+use Rattle.session_core.specs.Rehearsals.{rehearsed_params, rehearsal_units, AreRehearsedFiles, EndsWithVerdict, rehearsed_prover, rehearsed_verifier, rehearsed_ends}
 
 -- ---- the statement
 
@@ -62,10 +64,17 @@ products_count circuit =
 
 -- ---- the grant
 
+-- the files have so many units
+pub total_is : (kind : Kind) (units : ℕ) → (rehearsed_params kind units).total ≡ units
+total_is Direct units = refl
+total_is Extended units = refl
+
 -- all units are granted
-pub granted_all : (circuit : Circuit) (section units : ℕ) → 1 ≤ section → section ≤ 2 ^ 20 → units ≡ direct_units circuit section → units ≤ 4096
-    → IsGrant (direct_params units) (circuit_program 0 circuit) (whole_grant units section)
-granted_all circuit section units some most counted few =
+pub granted_all : (circuit : Circuit) (kind : Kind) (section units : ℕ) → 1 ≤ section → section ≤ 2 ^ 20 → units ≡ rehearsal_units circuit kind section
+    → units ≤ 4096 → IsGrant (rehearsed_params kind units) (circuit_program 0 circuit) (whole_grant units section)
+granted_all circuit Direct section units some most counted few =
+    record { section_some = some; section_most = most; count = counted; count_most = few; within = omega arith }
+granted_all circuit Extended section units some most counted few =
     record { section_some = some; section_most = most; count = counted; count_most = few; within = omega arith }
 
 -- ---- the witness
@@ -94,27 +103,27 @@ claims_are circuit bits formed whole =
 -- ---- the session
 
 -- a rehearsal's session is that of an honest prover, and is accepted
-pub record IsAcceptedSession (circuit : Circuit) (inputs outputs : List Bool) (section units : ℕ) (seed : List ℕ) (verdict : Verdict) (log : List (Side × ℕ)) : Type 0 where
+pub record IsAcceptedSession (circuit : Circuit) (inputs outputs : List Bool) (kind : Kind) (section units : ℕ) (seed : List ℕ) (verdict : Verdict) (log : List (Side × ℕ)) : Type 0 where
   pub transcript : Transcript
-  pub session : IsHonestSession (rehearsed_prover circuit inputs outputs units seed) (rehearsed_verifier circuit outputs units seed)
+  pub session : IsHonestSession (rehearsed_prover circuit inputs outputs kind units seed) (rehearsed_verifier circuit outputs kind units seed)
       (whole_grant units section) transcript verdict log
   pub accepted : verdict ≡ Accepted
 
-pub accepted_session : (circuit : Circuit) (inputs outputs bits : List Bool) (section units : ℕ) (seed : List ℕ) (verdict : Verdict) (log : List (Side × ℕ))
+pub accepted_session : (circuit : Circuit) (inputs outputs bits : List Bool) (kind : Kind) (section units : ℕ) (seed : List ℕ) (verdict : Verdict) (log : List (Side × ℕ))
     → BitsSolve → HonestSessionIsAccepted → IsWellFormed circuit → AreWireBits circuit inputs bits → outputs ≡ drop (output_wire circuit 0) bits
-    → AreRehearsedFiles units seed
-    → IsSessionOf (rehearsed_ends circuit bits units seed) (whole_grant units section) verdict log
-    → IsAcceptedSession circuit inputs outputs section units seed verdict log
-accepted_session circuit inputs outputs bits section units seed verdict log solve law formed met claimed files held =
+    → AreRehearsedFiles kind units seed
+    → IsSessionOf (rehearsed_ends circuit bits kind units seed) (whole_grant units section) verdict log
+    → IsAcceptedSession circuit inputs outputs kind section units seed verdict log
+accepted_session circuit inputs outputs bits kind section units seed verdict log solve law formed met claimed files held =
     let last : List Bool = drop (output_wire circuit 0) bits in
     let honest = held.honest (map from_bit inputs) (map from_bit bits) (witness_is circuit (replicate 32 0) inputs last bits solve formed met) in
     let claims : opened_values (circuit_program 0 circuit) honest.honest.wires ≡ map from_bit last =
     ap (opened_values (circuit_program 0 circuit)) honest.wires_are ∙ claims_are circuit bits formed met.whole in
-    let both = law (rehearsed_prover circuit inputs last units seed) (rehearsed_verifier circuit last units seed) held.t verdict log
+    let both = law (rehearsed_prover circuit inputs last kind units seed) (rehearsed_verifier circuit last kind units seed) held.t verdict log
     (record { statement = refl; prover_file = files.prover; verifier_file = files.verifier; dealt = files.dealt }) honest.honest claims held.served in
-    subst (λ (claim : List Bool). IsAcceptedSession circuit inputs claim section units seed verdict log) (sym claimed) (record {
+    subst (λ (claim : List Bool). IsAcceptedSession circuit inputs claim kind section units seed verdict log) (sym claimed) (record {
       transcript = held.t;
-      session = subst (λ (grant : Grant). IsHonestSession (rehearsed_prover circuit inputs last units seed) (rehearsed_verifier circuit last units seed) grant held.t verdict log)
+      session = subst (λ (grant : Grant). IsHonestSession (rehearsed_prover circuit inputs last kind units seed) (rehearsed_verifier circuit last kind units seed) grant held.t verdict log)
           held.granted both.1;
       accepted = both.0;
     })

@@ -1,47 +1,41 @@
--- The log that the frames of a session without rounds make, one behind another.
+-- The log that the frames of a session make, one behind another.
 use Rattle.std.proofs.Common.{◌≡◌, ℕ, List, [], ◌∷◌, ◌++◌, ap, sym, ◌∙◌, append_assoc, append-nil}
 use mathlib.Core.List.{map-append}
 use Rattle.std.proofs.lemmas.Grind.{flat_map-append}
-use Rattle.zk_model.specs.Transcript.{Round, Transcript, bytes_from, turn_bytes, setup_turns, spelling, hello_frame, grant_frame, corrections_frame, challenge_frame, sums_frame, openings_frame, verdict_frame}
+use Rattle.zk_model.specs.Transcript.{Transcript, bytes_from, turn_bytes, setup_turns, spelling, corrections_frame, challenge_frame, sums_frame, openings_frame, verdict_frame}
 use Rattle.zk_model.specs.declared.Side.{Side}
 use Rattle.zk_model.specs.declared.Side.TheVariants.{Prover, Verifier}
 
--- seven lists in a row, as three turns
-in_turns : {X : Type 0} (a b c d e f g : List X)
-    → a ++ b ++ c ++ d ++ e ++ f ++ g ≡ (a ++ b) ++ ((c ++ d) ++ ((e ++ f ++ g) ++ []))
-in_turns a b c d e f g =
-    ap (λ l. l ++ e ++ f ++ g) (append_assoc (a ++ b) c d)
-    ∙ ap (λ l. l ++ g) (append_assoc (a ++ b ++ (c ++ d)) e f)
-    ∙ append_assoc (a ++ b ++ (c ++ d)) (e ++ f) g
-    ∙ append_assoc (a ++ b) (c ++ d) (e ++ f ++ g)
-    ∙ ap (λ l. (a ++ b) ++ ((c ++ d) ++ l)) (sym (append-nil (e ++ f ++ g)))
+-- six lists in a row, as three parts
+in_turns : {X : Type 0} (s c d e f g : List X)
+    → s ++ c ++ d ++ e ++ f ++ g ≡ s ++ ((c ++ d) ++ ((e ++ f ++ g) ++ []))
+in_turns s c d e f g =
+    ap (λ l. l ++ e ++ f ++ g) (append_assoc s c d)
+    ∙ ap (λ l. l ++ g) (append_assoc (s ++ (c ++ d)) e f)
+    ∙ append_assoc (s ++ (c ++ d)) (e ++ f) g
+    ∙ append_assoc s (c ++ d) (e ++ f ++ g)
+    ∙ ap (λ l. s ++ ((c ++ d) ++ l)) (sym (append-nil (e ++ f ++ g)))
 
--- a log to which all frames of a session without rounds are noted, one behind another, is what the transcript spells
-pub spelled : (t : Transcript) (l0 l1 l2 l3 l4 l5 l6 l7 : List (Side × ℕ)) → t.commitment.setup.rounds ≡ [] → l0 ≡ []
-    → l1 ≡ l0 ++ bytes_from Prover (hello_frame t.commitment.setup.hello)
-    → l2 ≡ l1 ++ bytes_from Verifier (grant_frame t.commitment.setup.grant)
+-- a log to which all frames behind the setup are noted, one behind another, is what the transcript spells
+pub spelled : (t : Transcript) (l2 l3 l4 l5 l6 l7 : List (Side × ℕ)) → l2 ≡ turn_bytes (setup_turns t.commitment.setup)
     → l3 ≡ l2 ++ bytes_from Prover (corrections_frame t.commitment.corrections)
     → l4 ≡ l3 ++ bytes_from Verifier (challenge_frame t.challenge)
     → l5 ≡ l4 ++ bytes_from Prover (sums_frame t.sums)
     → l6 ≡ l5 ++ bytes_from Prover (openings_frame t.openings)
     → l7 ≡ l6 ++ bytes_from Verifier (verdict_frame t.code t.number)
     → l7 ≡ spelling t
-spelled t l0 l1 l2 l3 l4 l5 l6 l7 no_rounds e0 e1 e2 e3 e4 e5 e6 e7 =
+spelled t l2 l3 l4 l5 l6 l7 e2 e3 e4 e5 e6 e7 =
     e7 ∙ ap (λ l. l ++ g)
-    (e6 ∙ ap (λ l. l ++ f) (e5 ∙ ap (λ l. l ++ e) (e4 ∙ ap (λ l. l ++ d) (e3 ∙ ap (λ l. l ++ c)
-    (e2 ∙ ap (λ l. l ++ b) (e1 ∙ ap (λ l. l ++ a) e0))))))
-    ∙ in_turns a b c d e f g
-    ∙ ap (λ l. (a ++ b) ++ ((c ++ d) ++ ((l ++ g) ++ []))) (sym (map-append (λ byte. (Prover, byte)) (sums_frame t.sums) (openings_frame t.openings)))
-    ∙ ap (λ rounds. spelling (with_rounds rounds)) (sym no_rounds)
+    (e6 ∙ ap (λ l. l ++ f) (e5 ∙ ap (λ l. l ++ e) (e4 ∙ ap (λ l. l ++ d) (e3 ∙ ap (λ l. l ++ c) e2))))
+    ∙ in_turns (turn_bytes (setup_turns t.commitment.setup)) c d e f g
+    ∙ ap (λ l. turn_bytes (setup_turns t.commitment.setup) ++ ((c ++ d) ++ ((l ++ g) ++ [])))
+    (sym (map-append (λ byte. (Prover, byte)) (sums_frame t.sums) (openings_frame t.openings)))
+    ∙ sym (flat_map-append turn_of (setup_turns t.commitment.setup)
+    ((corrections_frame t.commitment.corrections, challenge_frame t.challenge)
+    ∷ (sums_frame t.sums ++ openings_frame t.openings, verdict_frame t.code t.number) ∷ []))
   where
-    with_rounds : List Round → Transcript
-    with_rounds rounds = record t { commitment = record t.commitment { setup = record t.commitment.setup { rounds = rounds } } }
-
-    a : List (Side × ℕ)
-    a = bytes_from Prover (hello_frame t.commitment.setup.hello)
-
-    b : List (Side × ℕ)
-    b = bytes_from Verifier (grant_frame t.commitment.setup.grant)
+    turn_of : List ℕ × List ℕ → List (Side × ℕ)
+    turn_of turn = bytes_from Prover turn.0 ++ bytes_from Verifier turn.1
 
     c : List (Side × ℕ)
     c = bytes_from Prover (corrections_frame t.commitment.corrections)

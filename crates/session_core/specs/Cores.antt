@@ -1,18 +1,22 @@
 -- What both ends of a session wait for, and what they answer.
-use Rattle.std.specs.Prelude.{◌≡◌, ◌≢◌, ◌+◌, ◌≤◌, ℕ, List, [], ◌∷◌, length, drop, Option, Some, None}
-use Rattle.zk_model.specs.Mac.{macs_of}
+use Rattle.std.specs.Prelude.{◌≡◌, ◌≢◌, ◌⊎◌, ◌+◌, ◌-◌, ◌<◌, ◌≤◌, ℕ, List, [], ◌∷◌, ◌++◌, map, length, drop, All, Option, Some, None}
+use Rattle.zk_model.specs.Mac.{Pair, macs_of}
 use Rattle.zk_model.specs.Program.{section_count}
-use Rattle.zk_model.specs.Files.{span_pairs}
+use Rattle.zk_model.specs.Files.{ProverFile, prover_unit, span_pairs}
 use Rattle.zk_model.specs.Check.{WirePairs, all_sums, opened_pairs}
-use Rattle.zk_model.specs.Transcript.{Hello, Grant, IsGrant, wanted_hello}
-use Rattle.zk_model.specs.Frames.{Frame, hello, grant, corrections, challenge, sums, openings, verdict, refuse}
+use Rattle.zk_model.specs.Transcript.{Hello, Grant, TreeAsk, TreeReply, IsGrant, wanted_hello}
+use Rattle.zk_model.specs.Correlations.{IsExtension}
+use Rattle.zk_model.specs.Frames.{Frame, hello, grant, asks, replies, corrections, challenge, sums, openings, verdict, refuse, AreAsks}
 use Rattle.zk_model.specs.View.{span_of, verdict_code, verdict_number}
-use Rattle.zk_model.specs.ServedVerifier.{challenge_coin}
+use Rattle.zk_model.specs.HonestProver.{honest_asks, round_asks}
+use Rattle.zk_model.specs.ServedVerifier.{challenge_coin, round_replies}
 use Rattle.zk_model.specs.declared.Expect.{Expect}
 use Rattle.zk_model.specs.declared.Expect.TheVariants as expect
+use Rattle.zk_model.specs.declared.Kind.{Kind}
+use Rattle.zk_model.specs.declared.Kind.TheVariants.{Direct, Extended}
 use Rattle.session_core.specs.Ends.{IsFixed}
-use Rattle.session_core.specs.Jobs.{VerifierJob, ProverJob, Suits, units_of_job}
-use Rattle.session_core.specs.Judgements.{verdict_in, IsJudgement, direct_transcript}
+use Rattle.session_core.specs.Jobs.{VerifierJob, ProverJob, Suits, units_of_job, granted_from}
+use Rattle.session_core.specs.Judgements.{verdict_in, Finds}
 use Rattle.session_core.specs.declared.fault.HelloDiffers.{HelloDiffers}
 use Rattle.session_core.specs.declared.fault.HelloDiffers.TheVariants.{Id, Circuit, Outputs, Version}
 use Rattle.session_core.specs.declared.fault.SessionFault.{SessionFault}
@@ -22,10 +26,12 @@ use Rattle.session_core.specs.declared.judgement.Judgement.{Judgement}
 -- ---- the verifier
 
 -- What a verifier waits for: the hello; nothing, while its own grant is due; then, with the first unit of its grant and what
--- it has taken since, the corrections, the sums, and the openings; nothing more, once it has judged or found a fault.
+-- it has taken since, the asks of the next unit, the corrections, the sums, and the openings; nothing more, once it has judged or
+-- found a fault.
 pub data VerifierPlace : Type 0 where
   awaits_hello : VerifierPlace
   owes_grant : VerifierPlace
+  awaits_asks : ℕ → List (List TreeAsk) → VerifierPlace
   awaits_corrections : ℕ → VerifierPlace
   awaits_sums : ℕ → List ℕ → VerifierPlace
   awaits_openings : ℕ → List ℕ → List (ℕ × ℕ) → VerifierPlace
@@ -37,10 +43,18 @@ pub record VerifierState : Type 0 where
   pub job : VerifierJob
   pub place : VerifierPlace
 
+-- asks of fewer units than the grant has, an ask for each tree
+pub record AreAsksSoFar (job : VerifierJob) (asked : List (List TreeAsk)) : Type 0 where
+  pub extended : job.task.file.params.kind ≡ Extended
+  pub more : length asked < units_of_job job
+  pub each : All (AreAsks job.task.file.params.height job.task.file.params.trees) asked
+
 -- the grant lies in the file, and what was taken since is as much as the statement wants
 abbrev pub IsVerifierPlace : VerifierJob → VerifierPlace → Type 0
 IsVerifierPlace job awaits_hello = Unit {0}
 IsVerifierPlace job owes_grant = Unit {0}
+IsVerifierPlace job (awaits_asks start asked) =
+    (start + units_of_job job ≤ job.task.file.params.total) × AreAsksSoFar job asked
 IsVerifierPlace job (awaits_corrections start) = start + units_of_job job ≤ job.task.file.params.total
 IsVerifierPlace job (awaits_sums start d) =
     (start + units_of_job job ≤ job.task.file.params.total) × (length d ≡ job.task.statement.program.givens)
@@ -55,6 +69,7 @@ IsVerifierPlace job has_refused = Unit {0}
 abbrev pub judgement_at : VerifierPlace → Option Judgement
 judgement_at awaits_hello = None
 judgement_at owes_grant = None
+judgement_at (awaits_asks start asked) = None
 judgement_at (awaits_corrections start) = None
 judgement_at (awaits_sums start d) = None
 judgement_at (awaits_openings start d both) = None
@@ -65,6 +80,8 @@ judgement_at has_refused = None
 abbrev pub verifier_expects : VerifierJob → VerifierPlace → Option Expect
 verifier_expects job awaits_hello = Some expect.Hello
 verifier_expects job owes_grant = None
+verifier_expects job (awaits_asks start asked) =
+    Some (expect.Ask job.task.file.params.height job.task.file.params.trees (units_of_job job - length asked))
 verifier_expects job (awaits_corrections start) = Some (expect.Corrections job.task.statement.program.givens)
 verifier_expects job (awaits_sums start d) =
     Some (expect.Sums (section_count job.task.statement.program job.section_length))
@@ -73,12 +90,30 @@ verifier_expects job (awaits_openings start d both) =
 verifier_expects job (has_judged start judgement) = None
 verifier_expects job has_refused = None
 
--- The wanted hello leaves its grant due. Corrections are answered by the coin of the first unit, sums by nothing, and
--- openings by what it finds of the whole session.
+-- what it waits for behind its grant: in kind extended the asks of the units
+abbrev pub behind_grant : VerifierJob → ℕ → VerifierPlace
+behind_grant job start = by_kind job.task.file.params.kind
+  where
+    by_kind : Kind → VerifierPlace
+    by_kind Direct = awaits_corrections start
+    by_kind Extended = awaits_asks start []
+
+-- asks of so many units are answered by nothing, as long as others are to come, and then by the replies to all of them
+abbrev pub AnswersAsks : VerifierJob → ℕ → List (List TreeAsk) → List Frame → VerifierPlace → Type 0
+AnswersAsks job start asked answer now =
+    ((length asked < units_of_job job) × (answer ≡ []) × (now ≡ awaits_asks start asked))
+    ⊎ ((length asked ≡ units_of_job job)
+    × (answer ≡ map replies (round_replies job.task.file (granted_from job start) asked))
+    × (now ≡ awaits_corrections start))
+
+-- The wanted hello leaves its grant due. The asks of the last unit are answered by all replies, corrections by the coin of the
+-- first unit, sums by nothing, and openings by what it finds of the whole session.
 abbrev pub VerifierAnswers : VerifierJob → VerifierPlace → Frame → List Frame → VerifierPlace → Type 0
 VerifierAnswers job awaits_hello frame answer now =
     (frame ≡ hello (wanted_hello job.task.file.id job.task.statement)) × (answer ≡ []) × (now ≡ owes_grant)
 VerifierAnswers job owes_grant frame answer now = ⊥
+VerifierAnswers job (awaits_asks start asked) frame answer now = (trees : List TreeAsk)
+    × (frame ≡ asks trees) × AnswersAsks job start (asked ++ trees ∷ []) answer now
 VerifierAnswers job (awaits_corrections start) frame answer now = (d : List ℕ)
     × (frame ≡ corrections d)
     × (answer ≡ challenge (challenge_coin job.task.file start) ∷ [])
@@ -87,7 +122,7 @@ VerifierAnswers job (awaits_sums start d) frame answer now = (both : List (ℕ �
     × (frame ≡ sums both) × (answer ≡ []) × (now ≡ awaits_openings start d both)
 VerifierAnswers job (awaits_openings start d both) frame answer now = (macs : List ℕ) × (judgement : Judgement)
     × (frame ≡ openings macs)
-    × IsJudgement job.task (direct_transcript job start d both macs (verdict_in judgement)) judgement
+    × Finds job start d both macs judgement
     × (answer ≡ verdict (verdict_code (verdict_in judgement)) (verdict_number (verdict_in judgement)) ∷ [])
     × (now ≡ has_judged start judgement)
 VerifierAnswers job (has_judged start judgement) frame answer now = ⊥
@@ -116,10 +151,12 @@ VerifierRefuses job place frame NoMemory = Unit {0}
 
 -- ---- the prover
 
--- What a prover waits for: a grant; with that and the pairs of all wires, the challenge; the verdict; nothing more.
+-- What a prover waits for: a grant; with that, the number of units whose replies have come and the pairs that these make, the
+-- replies of the next unit; with the pairs of all correlations and of all wires, the challenge; the verdict; nothing more.
 pub data ProverPlace : Type 0 where
   awaits_grant : ProverPlace
-  awaits_challenge : Grant → WirePairs → ProverPlace
+  awaits_replies : Grant → ℕ → List Pair → ProverPlace
+  awaits_challenge : Grant → List Pair → WirePairs → ProverPlace
   awaits_verdict : ProverPlace
   has_ended : ProverPlace
 
@@ -129,26 +166,58 @@ pub record ProverState : Type 0 where
   pub place : ProverPlace
 
 -- the frame that it expects
-abbrev pub prover_expects : ProverPlace → Option Expect
-prover_expects awaits_grant = Some expect.Grant
-prover_expects (awaits_challenge given wires) = Some expect.Challenge
-prover_expects awaits_verdict = Some expect.Verdict
-prover_expects has_ended = None
+abbrev pub prover_expects : ProverJob → ProverPlace → Option Expect
+prover_expects job awaits_grant = Some expect.Grant
+prover_expects job (awaits_replies given done pairs) =
+    Some (expect.Reply job.file.params.height job.file.params.trees (given.count - done))
+prover_expects job (awaits_challenge given pairs wires) = Some expect.Challenge
+prover_expects job awaits_verdict = Some expect.Verdict
+prover_expects job has_ended = None
 
--- A grant is answered by the corrections that make the pairs of its units those of the given values, which fixes all wires;
--- the challenge by the sums of all sections and the MACs of the opened wires, and a verdict by nothing.
+-- pairs of all correlations are answered by the corrections that make them those of the given values, which fixes all wires
+abbrev pub Commits : ProverJob → Grant → List Pair → List Frame → ProverPlace → Type 0
+Commits job given pairs answer now = (d : List ℕ) × (wires : WirePairs)
+    × IsFixed job.statement job.given pairs d wires
+    × (answer ≡ corrections d ∷ [])
+    × (now ≡ awaits_challenge given pairs wires)
+
+-- the dealt pairs of a grant's units are those of kind direct, and in kind extended the prover asks for the trees of all units
+abbrev pub AnswersGrant : ProverJob → Grant → List Frame → ProverPlace → Type 0
+AnswersGrant job given answer now = by_kind job.file.params.kind
+  where
+    by_kind : Kind → Type 0
+    by_kind Direct = Commits job given (span_pairs job.file (span_of given)) answer now
+    by_kind Extended =
+        (answer ≡ map asks (round_asks job.file given)) × (now ≡ awaits_replies given 0 [])
+
+-- the pairs that the round of a unit makes, with what an honest prover asked and these replies
+abbrev pub AreRoundPairs : ProverFile → ℕ → List TreeReply → List Pair → Type 0
+AreRoundPairs file unit trees pairs =
+    IsExtension file.params file.code_seed (prover_unit file unit)
+    (record { asks = honest_asks file unit; replies = trees }) pairs
+
+-- pairs of so many units are answered by nothing, as long as replies of others are to come
+abbrev pub GoesOn : ProverJob → Grant → ℕ → List Pair → List Frame → ProverPlace → Type 0
+GoesOn job given done pairs answer now =
+    ((done < given.count) × (answer ≡ []) × (now ≡ awaits_replies given done pairs))
+    ⊎ ((done ≡ given.count) × Commits job given pairs answer now)
+
+-- A grant is answered by the corrections or the asks, the replies of the last unit by the corrections, the challenge by the sums
+-- of all sections and the MACs of the opened wires, and a verdict by nothing.
 abbrev pub ProverAnswers : ProverJob → ProverPlace → Frame → List Frame → ProverPlace → Type 0
-ProverAnswers job awaits_grant frame answer now = (given : Grant) × (d : List ℕ) × (wires : WirePairs)
+ProverAnswers job awaits_grant frame answer now = (given : Grant)
     × (frame ≡ grant given)
     × IsGrant job.file.params job.statement.program given
-    × IsFixed job.statement job.given (span_pairs job.file (span_of given)) d wires
-    × (answer ≡ corrections d ∷ [])
-    × (now ≡ awaits_challenge given wires)
-ProverAnswers job (awaits_challenge given wires) frame answer now = (element : ℕ)
+    × AnswersGrant job given answer now
+ProverAnswers job (awaits_replies given done pairs) frame answer now = (trees : List TreeReply) × (more : List Pair)
+    × (frame ≡ replies trees)
+    × AreRoundPairs job.file (given.start + done) trees more
+    × GoesOn job given (done + 1) (pairs ++ more) answer now
+ProverAnswers job (awaits_challenge given pairs wires) frame answer now = (element : ℕ)
     × (frame ≡ challenge element)
     × (answer
     ≡ sums (all_sums job.statement.program given.section_length element wires
-    (drop job.statement.program.givens (span_pairs job.file (span_of given))))
+    (drop job.statement.program.givens pairs))
     ∷ openings (macs_of (opened_pairs job.statement.program wires)) ∷ [])
     × (now ≡ awaits_verdict)
 ProverAnswers job awaits_verdict frame answer now = (code : ℕ) × (number : ℕ)

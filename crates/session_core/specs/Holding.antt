@@ -1,15 +1,18 @@
 -- A session of both ends.
-use Rattle.std.specs.Prelude.{◌≡◌, ℕ, List}
+use Rattle.std.specs.Prelude.{◌≡◌, ℕ, List, ◌++◌, All}
+use Rattle.zk_model.specs.Mac.{Pair}
 use Rattle.zk_model.specs.Statement.{Statement}
 use Rattle.zk_model.specs.Files.{ProverFile, VerifierFile}
-use Rattle.zk_model.specs.Transcript.{Grant, Transcript}
-use Rattle.zk_model.specs.HonestProver.{IsWitness, IsHonest}
+use Rattle.zk_model.specs.Correlations.{IsProverView}
+use Rattle.zk_model.specs.Transcript.{Hello, Grant, Round, Transcript, turn_bytes}
+use Rattle.zk_model.specs.HonestProver.{IsWitness, IsHonest, round_asks}
 use Rattle.zk_model.specs.ServedVerifier.{IsServed}
+use Rattle.session_core.specs.Rounds.{round_turns, AreServedRounds}
 use Rattle.session_core.specs.Jobs.{ProverJob, VerifierJob}
 use Rattle.zk_model.specs.declared.Side.{Side}
 use Rattle.zk_model.specs.declared.Verdict.{Verdict}
 
--- what both ends have: a statement, the prover's given values, and files of kind direct that are dealt together
+-- what both ends have: a statement, the prover's given values, and files that are dealt together
 pub record Ends : Type 0 where
   pub statement : Statement
   pub given : List ℕ
@@ -24,6 +27,19 @@ ends_of prover verifier = record {
   prover = prover.file;
   verifier = verifier.task.file;
 }
+
+-- The rounds of a session under a grant in which an honest prover asks and the verifier replies, and the pairs that the prover sees
+-- then.
+pub record AreRoundsHeld (prover : ProverFile) (verifier : VerifierFile) (grant : Grant) (pairs : List Pair) (rounds : List Round) : Type 0 where
+  pub served : AreServedRounds verifier grant rounds
+  pub asks : All (λ round. round.asks ≡ round_asks prover grant) rounds
+  pub seen : (hello : Hello) → IsProverView prover (record { hello = hello; grant = grant; rounds = rounds }) pairs
+
+-- such rounds are noted in a log
+pub record HoldsRounds (prover : ProverFile) (verifier : VerifierFile) (grant : Grant) (pairs : List Pair) (old new : List (Side × ℕ)) : Type 0 where
+  pub rounds : List Round
+  pub held : AreRoundsHeld prover verifier grant pairs rounds
+  pub noted : new ≡ old ++ turn_bytes (round_turns rounds)
 
 -- the prover is honest with these values of the wires
 pub record IsHonestWith (ends : Ends) (inputs wires : List ℕ) (t : Transcript) : Type 0 where

@@ -5,7 +5,6 @@ use Rattle.zk_model.specs.Statement.{Statement}
 use Rattle.zk_model.specs.Files.{ProverFile, VerifierFile}
 use Rattle.zk_model.specs.Transcript.{Grant, units_for}
 use Rattle.zk_model.specs.ServedVerifier.{VerifierTask}
-use Rattle.zk_model.specs.declared.Kind.TheVariants.{Direct}
 use Rattle.zk_model.specs.declared.Params.{Params}
 use Rattle.session_core.specs.declared.verifier_job.TooManyUnits.{TooManyUnits}
 
@@ -18,9 +17,8 @@ pub record VerifierJob : Type 0 where
 abbrev pub units_of_job : VerifierJob → ℕ
 units_of_job job = units_for job.task.file.params (correlations_needed job.task.statement.program job.section_length)
 
--- a file of kind direct, a length of sections within its limits, and few units
+-- a length of sections within its limits, and few units
 pub record IsVerifierJob (job : VerifierJob) : Type 0 where
-  pub direct : job.task.file.params.kind ≡ Direct
   pub section_some : 1 ≤ job.section_length
   pub section_most : job.section_length ≤ 2 ^ 20
   pub units_most : units_of_job job ≤ 4096
@@ -44,9 +42,8 @@ verifier_of statement file section_length =
 abbrev pub prover_of : Statement → List ℕ → ProverFile → ProverJob
 prover_of statement given file = record { statement = statement; file = file; given = given }
 
--- a file of kind direct, and as many given values as the program has
+-- as many given values as the program has
 pub record IsProverJob (job : ProverJob) : Type 0 where
-  pub direct : job.file.params.kind ≡ Direct
   pub counted : length job.given ≡ job.statement.program.givens
 
 -- What a prover tests of a grant: a length of sections within its limits, as many units as the program then needs, and few.

@@ -12,7 +12,8 @@ use Rattle.zk_model.specs.View.{verdict_code, verdict_number}
 use Rattle.zk_model.specs.HonestProver.{ProverTask}
 use Rattle.zk_model.specs.ServedVerifier.{VerifierTask}
 use Rattle.zk_model.specs.BothEnds.{IsHonestSession}
-use Rattle.zk_model.specs.declared.Kind.TheVariants.{Direct}
+use Rattle.zk_model.specs.declared.Kind.{Kind}
+use Rattle.zk_model.specs.declared.Kind.TheVariants.{Direct, Extended}
 use Rattle.zk_model.specs.declared.Params.{Params}
 use Rattle.zk_model.specs.declared.Side.{Side}
 use Rattle.zk_model.specs.declared.Side.TheVariants.{Verifier}
@@ -26,31 +27,33 @@ use Rattle.session_core.specs.declared.rehearsal.Rehearsal.{Rehearsal}
 use Rattle.session_core.specs.declared.rehearsal.RehearseFault.{RehearseFault}
 use Rattle.session_core.specs.declared.rehearsal.RehearseFault.TheVariants.{WrongLength, TooLarge, NoMemory}
 
--- kind direct, and this many units
-abbrev pub direct_params : ℕ → Params
-direct_params total = record { kind = Direct; height = 0; trees = 0; base = 0; total = total }
+-- what the files of a rehearsal are dealt for: this many units of kind direct, or of kind extended with 8 trees of height 10 and
+-- 64 base correlations for the code
+abbrev pub rehearsed_params : Kind → ℕ → Params
+rehearsed_params Direct total = record { kind = Direct; height = 0; trees = 0; base = 0; total = total }
+rehearsed_params Extended total = record { kind = Extended; height = 10; trees = 8; base = 64; total = total }
 
 -- the correlations of a session with sections of this many products
 abbrev pub rehearsal_need : Circuit → ℕ → ℕ
 rehearsal_need circuit section = correlations_needed (circuit_program 0 circuit) section
 
--- the units of kind direct that give them; how many a file has in all does not matter
-abbrev pub direct_units : Circuit → ℕ → ℕ
-direct_units circuit section = units_for (direct_params 0) (rehearsal_need circuit section)
+-- the units of this kind that give them; how many a file has in all does not matter
+abbrev pub rehearsal_units : Circuit → Kind → ℕ → ℕ
+rehearsal_units circuit kind section = units_for (rehearsed_params kind 0) (rehearsal_need circuit section)
 
--- what the prover has: the file of the seed for so many units, the circuit with 32 zero bytes for its digest, the outputs
+-- what the prover has: the file of the seed for so many units of a kind, the circuit with 32 zero bytes for its digest, the outputs
 -- that it claims, and its input bits
-abbrev pub rehearsed_prover : Circuit → List Bool → List Bool → ℕ → List ℕ → ProverTask
-rehearsed_prover circuit inputs outputs units seed = record {
-  file = dealt_prover (direct_params units) seed;
+abbrev pub rehearsed_prover : Circuit → List Bool → List Bool → Kind → ℕ → List ℕ → ProverTask
+rehearsed_prover circuit inputs outputs kind units seed = record {
+  file = dealt_prover (rehearsed_params kind units) seed;
   statement = circuit_statement circuit (replicate 32 0) outputs;
   inputs = map from_bit inputs;
 }
 
 -- and what the verifier has
-abbrev pub rehearsed_verifier : Circuit → List Bool → ℕ → List ℕ → VerifierTask
-rehearsed_verifier circuit outputs units seed = record {
-  file = dealt_verifier (direct_params units) seed;
+abbrev pub rehearsed_verifier : Circuit → List Bool → Kind → ℕ → List ℕ → VerifierTask
+rehearsed_verifier circuit outputs kind units seed = record {
+  file = dealt_verifier (rehearsed_params kind units) seed;
   statement = circuit_statement circuit (replicate 32 0) outputs;
 }
 
@@ -61,18 +64,18 @@ pub record EndsWithVerdict (verdict : Verdict) (log : List (Side × ℕ)) : Type
 
 -- The outputs are the only ones that the circuit gives at these bits, the numbers are those of a session of these sections,
 -- and the log is that of an honest prover and a verifier with the files that the seed gives, who accepts.
-pub record IsRehearsalOf (circuit : Circuit) (bits : List Bool) (section : ℕ) (seed : List ℕ) (r : Rehearsal) : Type 0 where
+pub record IsRehearsalOf (circuit : Circuit) (bits : List Bool) (kind : Kind) (section : ℕ) (seed : List ℕ) (r : Rehearsal) : Type 0 where
   pub satisfied : Satisfies circuit bits r.outputs
   pub only : (others : List Bool) → Satisfies circuit bits others → others ≡ r.outputs
   pub products : r.products ≡ length (circuit_products 0 circuit)
   pub sections : r.sections ≡ section_count (circuit_program 0 circuit) section
   pub need : r.need ≡ rehearsal_need circuit section
-  pub units : r.units ≡ direct_units circuit section
+  pub units : r.units ≡ rehearsal_units circuit kind section
   pub units_most : r.units ≤ 4096
   pub transcript : Transcript
   pub session : IsHonestSession
-      (rehearsed_prover circuit bits r.outputs r.units seed)
-      (rehearsed_verifier circuit r.outputs r.units seed)
+      (rehearsed_prover circuit bits r.outputs kind r.units seed)
+      (rehearsed_verifier circuit r.outputs kind r.units seed)
       (whole_grant r.units section)
       transcript r.verdict r.log
   pub ends : EndsWithVerdict r.verdict r.log
@@ -85,17 +88,17 @@ pub record IsWrongLength (circuit : Circuit) (bits : List Bool) (need got : ℕ)
   pub differ : need ≢ got
 
 -- the bits are as many as the inputs, and the session takes too many units
-pub record IsTooLarge (circuit : Circuit) (bits : List Bool) (section need units : ℕ) : Type 0 where
+pub record IsTooLarge (circuit : Circuit) (bits : List Bool) (kind : Kind) (section need units : ℕ) : Type 0 where
   pub inputs : length bits ≡ circuit.inputs
   pub needed : need ≡ rehearsal_need circuit section
-  pub counted : units ≡ direct_units circuit section
+  pub counted : units ≡ rehearsal_units circuit kind section
   pub many : 4096 < units
 
 -- why there is no rehearsal
-abbrev pub RehearseCause : Circuit → List Bool → ℕ → RehearseFault → Type 0
-RehearseCause circuit bits section (WrongLength need got) = IsWrongLength circuit bits need got
-RehearseCause circuit bits section (TooLarge need units) = IsTooLarge circuit bits section need units
-RehearseCause circuit bits section NoMemory = Unit {0}
+abbrev pub RehearseCause : Circuit → List Bool → Kind → ℕ → RehearseFault → Type 0
+RehearseCause circuit bits kind section (WrongLength need got) = IsWrongLength circuit bits need got
+RehearseCause circuit bits kind section (TooLarge need units) = IsTooLarge circuit bits kind section need units
+RehearseCause circuit bits kind section NoMemory = Unit {0}
 
 -- what a fault of the evaluation makes
 abbrev pub eval_fault : EvalFault → RehearseFault
@@ -103,16 +106,16 @@ eval_fault (eval.WrongLength need got) = WrongLength need got
 eval_fault eval.NoMemory = NoMemory
 
 -- what both ends of a rehearsal have, where these are the bits of all wires
-abbrev pub rehearsed_ends : Circuit → List Bool → ℕ → List ℕ → Ends
-rehearsed_ends circuit bits units seed = record {
+abbrev pub rehearsed_ends : Circuit → List Bool → Kind → ℕ → List ℕ → Ends
+rehearsed_ends circuit bits kind units seed = record {
   statement = circuit_statement circuit (replicate 32 0) (drop (output_wire circuit 0) bits);
   given = products_of_bits 0 circuit bits;
-  prover = dealt_prover (direct_params units) seed;
-  verifier = dealt_verifier (direct_params units) seed;
+  prover = dealt_prover (rehearsed_params kind units) seed;
+  verifier = dealt_verifier (rehearsed_params kind units) seed;
 }
 
 -- the two files that the seed gives are files as they are read, and dealt together
-pub record AreRehearsedFiles (units : ℕ) (seed : List ℕ) : Type 0 where
-  pub prover : IsProverFile (dealt_prover (direct_params units) seed)
-  pub verifier : IsVerifierFile (dealt_verifier (direct_params units) seed)
-  pub dealt : AreDealt (dealt_prover (direct_params units) seed) (dealt_verifier (direct_params units) seed)
+pub record AreRehearsedFiles (kind : Kind) (units : ℕ) (seed : List ℕ) : Type 0 where
+  pub prover : IsProverFile (dealt_prover (rehearsed_params kind units) seed)
+  pub verifier : IsVerifierFile (dealt_verifier (rehearsed_params kind units) seed)
+  pub dealt : AreDealt (dealt_prover (rehearsed_params kind units) seed) (dealt_verifier (rehearsed_params kind units) seed)

@@ -4,6 +4,8 @@
 
 mod bits;
 mod circuit_claim;
+mod correlations;
+mod extending;
 mod fault;
 mod judgement;
 mod noting;

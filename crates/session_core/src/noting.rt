@@ -1,16 +1,18 @@
 // Frames of a session, noted in its log as they are spelled.
-ghost use Rattle.std.specs.Prelude.{◌≡◌, ◌*◌, ◌^◌, ◌<◌, ◌≤◌, ◌++◌, length, flat_map, All, OnOk};
+ghost use Rattle.std.specs.Prelude.{◌≡◌, ◌*◌, ◌^◌, ◌<◌, ◌≤◌, ◌++◌, length, map, flat_map, All, OnOk};
 ghost use Rattle.zk_model.specs.Field.{IsElement};
 ghost use Rattle.zk_model.specs.Bytes.{element_bytes};
 ghost use Rattle.zk_model.specs.Transcript.{frame_bytes, bytes_from, hello_frame, grant_frame, sums_frame, verdict_frame};
+ghost use Rattle.proof_frames.specs.Frames.{said, IsShort};
+ghost use Rattle.zk_model.specs.Frames.{frame_spelling};
 ghost use Rattle.zk_model.specs.View.{verdict_code, verdict_number};
 ghost use Rattle.zk_model.specs.declared.Side.TheVariants.{Prover, Verifier};
 
 use frame_link::Log;
 use mersenne_field::Fe;
 use proof_frames::{
-    FrameKind, Grant, Hello, encode_elements, encode_grant, encode_hello, encode_sums,
-    encode_verdict,
+    Frame, FrameKind, Grant, Hello, encode, encode_elements, encode_grant, encode_hello,
+    encode_sums, encode_verdict,
 };
 use std::alloc::{AllocError, Global};
 use zk_model::{Side, Verdict};
@@ -30,6 +32,24 @@ pub(crate) fn note_grant(alloc: Global, log: &mut Log, grant: Grant) -> Result<(
 {
     let bytes = encode_grant(alloc, &grant)?;
     log.push(Side::Verifier, &bytes)?;
+    Ok(())
+}
+
+/// Frames of one side, as they are spelled.
+pub(crate) fn note_frames(
+    alloc: Global,
+    log: &mut Log,
+    side: Side,
+    frames: &[Frame],
+) -> Result<(), AllocError>
+    requires { All IsShort (map said frames.now) }
+    ensures { OnOk result (log.new ≡ log.old ++ bytes_from side
+        (flat_map frame_spelling (map said frames.now))) }
+{
+    for frame in frames {
+        let bytes = encode(alloc, frame)?;
+        log.push(side, &bytes)?;
+    }
     Ok(())
 }
 

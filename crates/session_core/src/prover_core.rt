@@ -1,34 +1,53 @@
 // The prover's end of a session, frame by frame.
-ghost use Rattle.std.specs.Prelude.{◌≡◌, [], ◌∷◌, map, IfOk, IfErr, OnErr, IsSomeAnd};
+ghost use Rattle.std.specs.Prelude.{◌≡◌, ◌*◌, ◌≤◌, ℕ, [], ◌∷◌, length, map, IfOk, IfErr, OnErr, IfSome, IsSomeAnd};
+ghost use Rattle.zk_model.specs.Files.{correlations_per_unit};
 ghost use Rattle.zk_model.specs.Frames.{Allows};
 ghost use Rattle.zk_model.specs.Frames as model;
-ghost use Rattle.zk_model.specs.Transcript.{wanted_hello};
+ghost use Rattle.zk_model.specs.Transcript.{IsGrant, wanted_hello};
 ghost use Rattle.zk_model.specs.declared.Expect.TheVariants as expect;
+ghost use Rattle.zk_model.specs.declared.Kind.TheVariants.{Extended};
 ghost use Rattle.proof_frames.specs.Frames.{said};
-ghost use Rattle.session_core.specs.Fixing.{IsFixedUnder};
-ghost use Rattle.session_core.specs.Cores.{ProverAnswers, ProverRefuses, StaysWithin, awaits_grant, awaits_challenge, awaits_verdict, has_ended, prover_expects};
+ghost use Rattle.proof_frames.specs.Readings.{IsShortPlace};
+ghost use Rattle.vole_extend.specs.Rounds.{unit_code};
+ghost use Rattle.session_core.specs.Fixing.{held_in, IsFixedUnder, IsGrowing};
+ghost use Rattle.session_core.specs.Cores.{AnswersGrant, Commits, GoesOn, ProverAnswers, ProverRefuses, StaysWithin, awaits_grant, awaits_replies, awaits_challenge, awaits_verdict, has_ended, prover_expects};
 ghost use Rattle.session_core.specs.declared.fault.SessionFault.TheVariants.{NoMemory};
 
+use crate::correlations::Correlations;
+use crate::extending::{ask_units, finish_unit};
 use crate::fault::SessionFault;
 use crate::prover_job::{Fixed, ProverJob};
 use crate::verifier_core::one_frame;
+use dealer_files::{Kind, Params};
+use linear_code::Columns;
+use mersenne_field::Pair;
 use proof_frames::{Frame, Grant};
 use std::alloc::{AllocFailed, Global};
 use std::marker::Model;
 use std::mem;
+use vole_extend::columns_of;
 use zk_model::Expect;
 
-/// What the prover waits for, with the grant and all that it has fixed.
+/// What the prover waits for, with the grant, the pairs of so many units that replies have made, or all that it has fixed.
 #[derive(Debug, Drop)]
 pub(crate) enum Place<'a> {
     Grant,
-    Challenge { grant: Grant, fixed: Fixed<'a> },
+    Replies {
+        grant: Grant,
+        done: u32,
+        pairs: Vec<Pair>,
+        columns: Columns,
+    },
+    Challenge {
+        grant: Grant,
+        fixed: Fixed<'a>,
+    },
     Verdict,
     Ended,
 }
 
 /// A prover in a session (Weng, Yang, Katz and Wang, Wolverine, IEEE S&P 2021; Yang, Sarkar, Weng and Wang, QuickSilver, ACM
-/// CCS 2021). It has greeted, and expects a grant, the challenge, and the verdict.
+/// CCS 2021). It has greeted, and expects a grant, in kind extended the replies for each unit, the challenge, and the verdict.
 #[derive(Debug, Drop)]
 pub struct ProverCore<'a> {
     job: &'a ProverJob<'a>,
@@ -67,7 +86,7 @@ fn opened<'a>(
     requires held { IsFixedUnder job.now grant fixed.now }
     requires expected { Allows expect.Challenge (said frame) }
     ensures answered { IfOk result (λ answer. ProverAnswers job.now
-        (awaits_challenge grant fixed.now.wires.pairs)
+        (awaits_challenge grant (held_in fixed.now.pairs) fixed.now.wires.pairs)
         (said frame) (map said answer.items) awaits_verdict) }
     ensures memory { IfErr result (λ fault. fault ≡ NoMemory) }
 {
@@ -94,10 +113,17 @@ impl<'a> ProverCore<'a> {
 
     /// The frame that it expects: none exactly where it has ended.
     pub fn expects(&self) -> Option<Expect>
-        ensures { result ≡ prover_expects self.now.place }
+        ensures place { result ≡ prover_expects self.now.job self.now.place }
+        ensures short { IfSome result IsShortPlace }
     {
+        let Params { height, trees, .. } = self.job.file().params();
         match &self.place {
             Place::Grant => Some(Expect::Grant),
+            Place::Replies { grant, done, .. } => Some(Expect::Reply {
+                height: usize::from(height),
+                trees: trees as usize,
+                units_left: (grant.count - *done) as usize,
+            }),
             Place::Challenge { .. } => Some(Expect::Challenge),
             Place::Verdict => Some(Expect::Verdict),
             Place::Ended => None,
@@ -111,7 +137,7 @@ impl<'a> ProverCore<'a> {
     /// `BadGrant` where a grant does not suit, `PeerRefused` where a refusal comes in its place, `NoMemory`. It then has
     /// ended.
     pub fn step(&mut self, alloc: Global, frame: Frame) -> Result<Vec<Frame>, SessionFault>
-        requires expected { IsSomeAnd (prover_expects self.old.place)
+        requires expected { IsSomeAnd (prover_expects self.old.job self.old.place)
             (λ place. Allows place (said frame)) }
         requires within { StaysWithin self.old.job (said frame) }
         ensures answered { IfOk result (λ answer. ProverAnswers self.old.job self.old.place
@@ -122,16 +148,18 @@ impl<'a> ProverCore<'a> {
     {
         match mem::replace(&mut self.place, Place::Ended) {
             Place::Grant => self.take_grant(alloc, frame),
-            Place::Challenge { grant, fixed } => {
-                let answer = opened(alloc, self.job, grant, &fixed, frame)?;
-                self.place = Place::Verdict;
-                Ok(answer)
-            }
+            Place::Replies {
+                grant,
+                done,
+                pairs,
+                columns,
+            } => self.take_replies(alloc, grant, done, pairs, columns, frame),
+            Place::Challenge { grant, fixed } => self.take_challenge(alloc, grant, fixed, frame),
             Place::Verdict | Place::Ended => Ok(Vec::new(alloc)),
         }
     }
 
-    /// Takes a grant, and answers by the corrections.
+    /// Takes a grant, and answers by the corrections, or in kind extended by the asks for all units.
     fn take_grant(&mut self, alloc: Global, frame: Frame) -> Result<Vec<Frame>, SessionFault>
         requires expected { Allows expect.Grant (said frame) }
         requires within { StaysWithin self.old.job (said frame) }
@@ -146,16 +174,151 @@ impl<'a> ProverCore<'a> {
                 if !self.job.suits(grant) {
                     return Err(SessionFault::BadGrant);
                 }
-                let committed = self.job.commit(alloc, grant)?;
-                let answer = one_frame(alloc, Frame::Corrections(committed.corrections))?;
-                self.place = Place::Challenge {
-                    grant,
-                    fixed: committed.fixed,
-                };
-                Ok(answer)
+                Ok(self.answer_grant(alloc, grant)?)
             }
             Frame::Refuse { code } => Err(SessionFault::PeerRefused { code }),
             _ => Ok(Vec::new(alloc)),
         }
+    }
+
+    /// Answers a grant that suits.
+    fn answer_grant(&mut self, alloc: Global, grant: Grant) -> Result<Vec<Frame>, SessionFault>
+        requires granted { IsGrant self.old.job.file.params self.old.job.statement.program grant }
+        ensures answered { IfOk result (λ answer.
+            AnswersGrant self.old.job grant (map said answer.items) self.new.place) }
+        ensures memory { IfErr result (λ fault. fault ≡ NoMemory) }
+        ensures over { OnErr result (self.new.place ≡ self.old.place) }
+        ensures job { self.new.job ≡ self.old.job }
+    {
+        let file = self.job.file();
+        let params = file.params();
+        match params.kind {
+            Kind::Direct => {
+                let pairs = Correlations::Dealt(self.job.dealt_pairs(grant));
+                self.commit(alloc, grant, pairs)
+            }
+            Kind::Extended => {
+                let answer = ask_units(alloc, file, grant)?;
+                let columns = columns_of(alloc, &params, &file.code_seed())?;
+                self.place = Place::Replies {
+                    grant,
+                    done: 0,
+                    pairs: Vec::new(alloc),
+                    columns,
+                };
+                Ok(answer)
+            }
+        }
+    }
+
+    /// Takes the replies for a unit; behind those for the last it answers by the corrections.
+    fn take_replies(
+        &mut self,
+        alloc: Global,
+        grant: Grant,
+        done: u32,
+        pairs: Vec<Pair>,
+        columns: Columns,
+        frame: Frame,
+    ) -> Result<Vec<Frame>, SessionFault>
+        requires growing { IsGrowing self.old.job grant done pairs.items columns }
+        requires expected { (left : ℕ) × Allows (expect.Reply self.old.job.file.params.height
+            self.old.job.file.params.trees left) (said frame) }
+        ensures answered { IfOk result (λ answer. ProverAnswers self.old.job
+            (awaits_replies grant done pairs.items)
+            (said frame) (map said answer.items) self.new.place) }
+        ensures memory { IfErr result (λ fault. fault ≡ NoMemory) }
+        ensures over { OnErr result (self.new.place ≡ self.old.place) }
+        ensures job { self.new.job ≡ self.old.job }
+    {
+        let Frame::ExtendReply(trees) = frame else {
+            return Ok(Vec::new(alloc));
+        };
+        let file = self.job.file();
+        let _total = file.total();
+        let unit = grant.start + u64::from(done);
+        let more = finish_unit(alloc, file, &columns, unit, &trees)?;
+        let mut pairs = pairs;
+        pairs.extend_from_slice(&more)?;
+        self.go_on(alloc, grant, done + 1, pairs, columns)
+    }
+
+    /// Goes on with the pairs of so many units: as long as others are wanting, it waits for their replies.
+    fn go_on(
+        &mut self,
+        alloc: Global,
+        grant: Grant,
+        done: u32,
+        pairs: Vec<Pair>,
+        columns: Columns,
+    ) -> Result<Vec<Frame>, SessionFault>
+        requires extended { self.old.job.file.params.kind ≡ Extended }
+        requires granted { IsGrant self.old.job.file.params self.old.job.statement.program grant }
+        requires few { done ≤ grant.count }
+        requires count { length pairs.items ≡ done * correlations_per_unit self.old.job.file.params }
+        requires code { columns ≡ unit_code self.old.job.file.params self.old.job.file.code_seed }
+        ensures answered { IfOk result (λ answer.
+            GoesOn self.old.job grant done pairs.items (map said answer.items) self.new.place) }
+        ensures memory { IfErr result (λ fault. fault ≡ NoMemory) }
+        ensures over { OnErr result (self.new.place ≡ self.old.place) }
+        ensures job { self.new.job ≡ self.old.job }
+    {
+        if done == grant.count {
+            return self.commit(alloc, grant, Correlations::Made(pairs));
+        }
+        self.place = Place::Replies {
+            grant,
+            done,
+            pairs,
+            columns,
+        };
+        Ok(Vec::new(alloc))
+    }
+
+    /// Takes the challenge, and answers by the sums and the openings.
+    fn take_challenge(
+        &mut self,
+        alloc: Global,
+        grant: Grant,
+        fixed: Fixed<'a>,
+        frame: Frame,
+    ) -> Result<Vec<Frame>, SessionFault>
+        requires held { IsFixedUnder self.old.job grant fixed }
+        requires expected { Allows expect.Challenge (said frame) }
+        ensures answered { IfOk result (λ answer. ProverAnswers self.old.job
+            (awaits_challenge grant (held_in fixed.entry.pairs) fixed.entry.wires.pairs)
+            (said frame) (map said answer.items) self.new.place) }
+        ensures memory { IfErr result (λ fault. fault ≡ NoMemory) }
+        ensures over { OnErr result (self.new.place ≡ self.old.place) }
+        ensures job { self.new.job ≡ self.old.job }
+    {
+        let answer = opened(alloc, self.job, grant, &fixed, frame)?;
+        self.place = Place::Verdict;
+        Ok(answer)
+    }
+
+    /// Answers by the corrections of these pairs of all correlations.
+    fn commit(
+        &mut self,
+        alloc: Global,
+        grant: Grant,
+        pairs: Correlations<'a, Pair>,
+    ) -> Result<Vec<Frame>, SessionFault>
+        requires granted { IsGrant self.old.job.file.params self.old.job.statement.program grant }
+        requires count { length (held_in pairs) ≡ grant.count * correlations_per_unit self.old.job.file.params }
+        ensures answered { IfOk result (λ answer.
+            Commits self.old.job grant (held_in pairs.entry) (map said answer.items) self.new.place) }
+        ensures memory { IfErr result (λ fault. fault ≡ NoMemory) }
+        ensures over { OnErr result (self.new.place ≡ self.old.place) }
+        ensures job { self.new.job ≡ self.old.job }
+    {
+        let _params = self.job.file().params();
+        let committed = self.job.commit(alloc, grant, pairs)?;
+        let answer = one_frame(alloc, Frame::Corrections(committed.corrections))?;
+        self.place = Place::Challenge {
+            grant,
+            fixed: committed.fixed,
+        };
+        Ok(answer)
     }
 }

@@ -1,17 +1,19 @@
 // What a prover is to do, and how it answers a grant and a challenge.
-ghost use Rattle.std.specs.Prelude.{◌≡◌, true, false, ◌+◌, ◌≤◌, ◌^◌, length, take, drop, IfOk};
+ghost use Rattle.std.specs.Prelude.{◌≡◌, true, false, ◌+◌, ◌*◌, ◌≤◌, ◌^◌, length, take, drop, IfOk};
 ghost use Rattle.zk_model.specs.Mac.{macs_of};
 ghost use Rattle.zk_model.specs.Program.{section_count};
-ghost use Rattle.zk_model.specs.Files.{span_pairs};
+ghost use Rattle.zk_model.specs.Files.{correlations_per_unit, span_pairs};
 ghost use Rattle.zk_model.specs.Check.{all_sums, opened_pairs};
 ghost use Rattle.zk_model.specs.Transcript.{IsGrant, wanted_hello};
 ghost use Rattle.zk_model.specs.View.{span_of};
+ghost use Rattle.zk_model.specs.declared.Kind.TheVariants.{Direct};
 ghost use Rattle.session_core.specs.Ends.{IsFixed, masks_in};
 ghost use Rattle.session_core.specs.Jobs.{IsProverJob, Suits};
-ghost use Rattle.session_core.specs.Fixing.{IsFixedUnder};
+ghost use Rattle.session_core.specs.Fixing.{held_in, AreEnough, IsFixedUnder};
 
+use crate::correlations::Correlations;
 use crate::statement::Statement;
-use crate::verifier_job::{MOST_UNITS, direct_units_for};
+use crate::verifier_job::{MOST_UNITS, units_for};
 use dealer_files::{ProverFile, Span};
 use mersenne_field::{Fe, Pair};
 use mult_check::prover_sums;
@@ -23,7 +25,7 @@ use wire_auth::ProverWires;
 /// The most products of a section.
 const MOST_SECTION: u32 = 1 << 20;
 
-/// What a prover is to do: its statement and its file of kind direct, and the given values that it proves with.
+/// What a prover is to do: its statement and its file, and the given values that it proves with.
 #[derive(Debug, Drop)]
 pub struct ProverJob<'a> {
     statement: &'a Statement<'a>,
@@ -34,7 +36,6 @@ pub struct ProverJob<'a> {
 impl<'a> Model for ProverJob<'a> {
     ghost use Rattle.session_core.specs.Jobs as jobs;
     ghost use Rattle.session_core.specs.Jobs.{IsProverJob, Suits};
-    ghost use Rattle.session_core.specs.Fixing.{IsFixedUnder};
 
     ghost Value = { jobs.ProverJob };
 
@@ -47,14 +48,15 @@ impl<'a> Model for ProverJob<'a> {
     }) };
 }
 
-/// What a prover has fixed by its corrections: all wires, and the masks of the sections.
+/// What a prover has fixed by its corrections: the pairs of all wires, and those of all correlations, of which the last are the
+/// masks of the sections.
 #[derive(Debug, Drop)]
 pub(crate) struct Fixed<'a> {
     pub(crate) wires: ProverWires<'a>,
-    pub(crate) masks: &'a [Pair],
+    pub(crate) pairs: Correlations<'a, Pair>,
 }
 
-/// What a prover answers a grant by: its corrections, and what they fix.
+/// What a prover answers by once it has all its pairs: its corrections, and what they fix.
 #[derive(Debug, Drop)]
 pub(crate) struct Committed<'a> {
     pub(crate) fixed: Fixed<'a>,
@@ -104,7 +106,7 @@ fn opened_macs(alloc: Global, wires: &ProverWires<'_>) -> Result<Vec<Fe>, AllocE
 }
 
 impl<'a> ProverJob<'a> {
-    /// A job over a file of kind direct, with as many given values as the program has.
+    /// A job with as many given values as the program has.
     pub fn new(statement: &'a Statement<'a>, file: &'a ProverFile, given: &'a [Fe]) -> Self
         requires { IsProverJob (record { statement = statement.now; file = file.now; given = given.now }) }
         ensures { result ≡ record { statement = statement.now; file = file.now; given = given.now } }
@@ -150,26 +152,41 @@ impl<'a> ProverJob<'a> {
         }
         let need = self.statement.program().need(u64::from(grant.section));
         let count = u64::from(grant.count);
-        count == direct_units_for(need) && count <= MOST_UNITS
+        count == units_for(&self.file.params(), need) && count <= MOST_UNITS
     }
 
-    /// A grant is answered by corrections of the pairs of its units.
-    pub(crate) fn commit(&self, alloc: Global, grant: Grant) -> Result<Committed<'a>, AllocError>
+    /// The pairs that are dealt in the units of a grant: those of its session in kind direct.
+    pub(crate) fn dealt_pairs(&self, grant: Grant) -> &'a [Pair]
+        requires direct { self.now.file.params.kind ≡ Direct }
         requires granted { IsGrant self.now.file.params self.now.statement.program grant }
+        ensures pairs { result.now ≡ span_pairs self.now.file (span_of grant) }
+        ensures count { length result.now ≡ grant.count * correlations_per_unit self.now.file.params }
+    {
+        let _total = self.file.total();
+        self.file.pairs(units_of(grant))
+    }
+
+    /// The pairs of a session's correlations are answered by the corrections that make them those of the given values.
+    pub(crate) fn commit(
+        &self,
+        alloc: Global,
+        grant: Grant,
+        pairs: Correlations<'a, Pair>,
+    ) -> Result<Committed<'a>, AllocError>
+        requires some { 1 ≤ grant.section_length }
+        requires enough { AreEnough self.now grant.section_length (held_in pairs) }
         ensures fixed { IfOk result (λ c. IsFixed self.now.statement self.now.given
-            (span_pairs self.now.file (span_of grant)) c.corrections.items c.fixed.wires.pairs) }
+            (held_in pairs.entry) c.corrections.items c.fixed.wires.pairs) }
+        ensures same { IfOk result (λ c. held_in c.fixed.pairs ≡ held_in pairs.entry) }
         ensures held { IfOk result (λ c. IsFixedUnder self.now grant c.fixed) }
         ensures one_each { IfOk result (λ c. length c.corrections.items
             ≡ self.now.statement.program.givens) }
     {
         let program = self.statement.program();
-        let _total = self.file.total();
-        let pairs = self.file.pairs(units_of(grant));
-        let sections = program.sections(u64::from(grant.section)) as usize;
-        let masks = masks_of(pairs, program.givens(), sections);
         let public = self.statement.public();
-        let (wires, corrections) = ProverWires::run(alloc, program, public, self.given, pairs)?;
-        let fixed = Fixed { wires, masks };
+        let dealt = pairs.as_slice();
+        let (wires, corrections) = ProverWires::run(alloc, program, public, self.given, dealt)?;
+        let fixed = Fixed { wires, pairs };
         Ok(Committed { fixed, corrections })
     }
 
@@ -184,7 +201,7 @@ impl<'a> ProverJob<'a> {
         requires held { IsFixedUnder self.now grant fixed.now }
         ensures sums { IfOk result (λ o. o.sums.items
             ≡ all_sums self.now.statement.program grant.section_length challenge fixed.now.wires.pairs
-            (drop self.now.statement.program.givens (span_pairs self.now.file (span_of grant)))) }
+            (drop self.now.statement.program.givens (held_in fixed.now.pairs))) }
         ensures openings { IfOk result (λ o. o.openings.items
             ≡ macs_of (opened_pairs self.now.statement.program fixed.now.wires.pairs)) }
         ensures sum_count { IfOk result (λ o. length o.sums.items
@@ -194,7 +211,10 @@ impl<'a> ProverJob<'a> {
         ensures few { IfOk result (λ o. length o.openings.items ≤ 2 ^ 20) }
     {
         let section = u64::from(grant.section);
-        let sums = prover_sums(alloc, &fixed.wires, section, challenge, fixed.masks)?;
+        let program = self.statement.program();
+        let sections = program.sections(section) as usize;
+        let masks = masks_of(fixed.pairs.as_slice(), program.givens(), sections);
+        let sums = prover_sums(alloc, &fixed.wires, section, challenge, masks)?;
         let openings = opened_macs(alloc, &fixed.wires)?;
         Ok(Opened { sums, openings })
     }

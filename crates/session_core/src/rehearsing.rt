@@ -1,4 +1,4 @@
-// A rehearsal: files of kind direct from a seed, and a session of both ends over them.
+// A rehearsal: files from a seed, and a session of both ends over them.
 ghost use Rattle.std.specs.Prelude.{◌≡◌, ◌≤◌, ◌^◌, length, map, drop, List, Bool, IfOk, IfErr};
 ghost use Rattle.zk_model.specs.Circuit.{AreWireBits, output_wire};
 ghost use Rattle.zk_model.specs.Boolean.{circuit_program};
@@ -6,13 +6,13 @@ ghost use Rattle.zk_model.specs.Transcript.{units_for};
 ghost use Rattle.bristol_reader.specs.Circuits.{IsCircuit};
 ghost use Rattle.session_core.specs.Ends.{whole_grant};
 ghost use Rattle.session_core.specs.Holding.{IsSessionOf};
-ghost use Rattle.session_core.specs.Rehearsals.{IsRehearsalOf, RehearseCause, AreRehearsedFiles, direct_params, direct_units, rehearsed_ends};
+ghost use Rattle.session_core.specs.Rehearsals.{IsRehearsalOf, RehearseCause, AreRehearsedFiles, rehearsed_params, rehearsal_units, rehearsed_ends};
 
 use crate::bits::Bits;
 use crate::rehearsal::{Rehearsal, RehearseFault};
 use crate::session::{Session, hold};
 use crate::statement::{Statement, elements_of, outputs_digest};
-use crate::verifier_job::{MOST_UNITS, direct_units_for};
+use crate::verifier_job::{MOST_UNITS, units_for};
 use bool_eval::eval_wires;
 use bristol_reader::Circuit;
 use dealer_files::{Kind, Params, deal};
@@ -31,12 +31,31 @@ fn output_bits<'a>(circuit: &Circuit, bits: &'a [bool]) -> &'a [bool]
     outputs
 }
 
+/// What the files of a rehearsal are dealt for: this many units, in kind extended with 8 trees of height 10 and 64 base
+/// correlations for the code.
+fn rehearsed_params(kind: Kind, total: u64) -> Params
+    ensures { result ≡ rehearsed_params kind total }
+{
+    let (height, trees, base) = match kind {
+        Kind::Direct => (0, 0, 0),
+        Kind::Extended => (10, 8, 64),
+    };
+    Params {
+        kind,
+        height,
+        trees,
+        base,
+        total,
+    }
+}
+
 /// A session over this many units, which are dealt from the seed: the prover has the bits of all wires, and claims the last.
 fn hold_dealt(
     alloc: Global,
     circuit: &Circuit,
     program: &FieldProgram,
     bits: &[bool],
+    kind: Kind,
     section: u32,
     units: u64,
     seed: &[u8; 32],
@@ -45,12 +64,12 @@ fn hold_dealt(
     requires most { section ≤ 2 ^ 20 }
     requires translated { program.now ≡ circuit_program 0 circuit.now }
     requires wires { length bits.now ≡ circuit.now.wires }
-    requires units { units ≡ direct_units circuit.now section }
+    requires units { units ≡ rehearsal_units circuit.now kind section }
     requires units_some { 1 ≤ units }
     requires units_most { units ≤ 4096 }
-    ensures held { IfOk result (λ s. IsSessionOf (rehearsed_ends circuit.now bits.now units seed.now)
+    ensures held { IfOk result (λ s. IsSessionOf (rehearsed_ends circuit.now bits.now kind units seed.now)
         (whole_grant units section) s.verdict s.log) }
-    ensures files { IfOk result (λ _. AreRehearsedFiles units seed.now) }
+    ensures files { IfOk result (λ _. AreRehearsedFiles kind units seed.now) }
     ensures rules { IsCircuit circuit.now }
 {
     circuit_is_statement();
@@ -60,13 +79,7 @@ fn hold_dealt(
     let claims = elements_of(alloc, outputs)?;
     let statement = Statement::new(program, &[], &claims, 1, [0; 32], digest);
     let given = bit_products(alloc, program, bits)?;
-    let params = Params {
-        kind: Kind::Direct,
-        height: 0,
-        trees: 0,
-        base: 0,
-        total: units,
-    };
+    let params = rehearsed_params(kind, units);
     let (prover, verifier) = deal(alloc, &params, seed)?;
     let session = hold(alloc, &statement, &given, &prover, &verifier, section)?;
     Ok(session)
@@ -78,6 +91,7 @@ fn rehearse_wires(
     circuit: &Circuit,
     program: &FieldProgram,
     bits: &[bool],
+    kind: Kind,
     section: u32,
     units: u64,
     seed: &[u8; 32],
@@ -86,17 +100,17 @@ fn rehearse_wires(
     requires most { section ≤ 2 ^ 20 }
     requires translated { program.now ≡ circuit_program 0 circuit.now }
     requires wires { length bits.now ≡ circuit.now.wires }
-    requires units { units ≡ direct_units circuit.now section }
+    requires units { units ≡ rehearsal_units circuit.now kind section }
     requires units_some { 1 ≤ units }
     requires units_most { units ≤ 4096 }
     ensures { IfOk result (λ r. (inputs : List Bool) → AreWireBits circuit.now inputs bits.now
-        → IsRehearsalOf circuit.now inputs section seed.now r) }
+        → IsRehearsalOf circuit.now inputs kind section seed.now r) }
 {
     bits_solve();
     one_outcome();
     honest_session_is_accepted();
     let outputs = output_bits(circuit, bits);
-    let session = hold_dealt(alloc, circuit, program, bits, section, units, seed)?;
+    let session = hold_dealt(alloc, circuit, program, bits, kind, section, units, seed)?;
     let claimed = Bits::copied(alloc, outputs)?;
     let g = u64::from(section);
     Ok(Rehearsal {
@@ -110,28 +124,29 @@ fn rehearse_wires(
     })
 }
 
-/// Rehearses a session in which the prover claims what the circuit gives at these bits: the seed's files of kind
-/// direct, as many units as the session takes, and both ends over a log. The bits must be as many as the circuit's
+/// Rehearses a session in which the prover claims what the circuit gives at these bits: the seed's files of this kind, as many
+/// units as the session takes, and both ends over a log. The bits must be as many as the circuit's
 /// inputs (else [`RehearseFault::WrongLength`]), and the units 4,096 at most (else [`RehearseFault::TooLarge`]).
 pub fn rehearse(
     alloc: Global,
     circuit: &Circuit,
     bits: &[bool],
+    kind: Kind,
     section: u32,
     seed: &[u8; 32],
 ) -> Result<Rehearsal, RehearseFault>
     requires some { 1 ≤ section }
     requires most { section ≤ 2 ^ 20 }
-    ensures done { IfOk result (IsRehearsalOf circuit.now bits.now section seed.now) }
-    ensures cause { IfErr result (RehearseCause circuit.now bits.now section) }
+    ensures done { IfOk result (IsRehearsalOf circuit.now bits.now kind section seed.now) }
+    ensures cause { IfErr result (RehearseCause circuit.now bits.now kind section) }
 {
     let wires = eval_wires(alloc, circuit, bits)?;
     let program = translate(alloc, circuit)?;
     let need = program.need(u64::from(section));
-    let units = direct_units_for(need);
+    let units = units_for(&rehearsed_params(kind, 1), need);
     if units > MOST_UNITS {
         return Err(RehearseFault::TooLarge { need, units });
     }
-    let rehearsal = rehearse_wires(alloc, circuit, &program, &wires, section, units, seed)?;
+    let rehearsal = rehearse_wires(alloc, circuit, &program, &wires, kind, section, units, seed)?;
     Ok(rehearsal)
 }

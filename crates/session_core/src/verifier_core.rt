@@ -1,6 +1,6 @@
 // The verifier's end of a session, frame by frame.
-ghost use Rattle.std.specs.Prelude.{◌≡◌, ◌+◌, ◌≤◌, [], ◌∷◌, length, map, IfOk, IfErr, OnErr, IfSome, IfNone, IsSomeAnd};
-ghost use Rattle.zk_model.specs.Frames.{Allows};
+ghost use Rattle.std.specs.Prelude.{◌≡◌, ◌+◌, ◌≤◌, ℕ, [], ◌∷◌, length, map, All, IfOk, IfErr, OnErr, IfSome, IfNone, IsSomeAnd};
+ghost use Rattle.zk_model.specs.Frames.{Allows, AreAsks};
 ghost use Rattle.zk_model.specs.View.{verdict_code, verdict_number};
 ghost use Rattle.zk_model.specs.Frames as model;
 ghost use Rattle.proof_frames.specs.Frames.{said};
@@ -9,12 +9,18 @@ ghost use Rattle.session_core.specs.Jobs.{units_of_job, granted_from};
 ghost use Rattle.session_core.specs.Judgements.{verdict_in};
 ghost use Rattle.session_core.specs.declared.fault.SessionFault.TheVariants.{NoMemory};
 ghost use Rattle.zk_model.specs.declared.Expect.TheVariants as expect;
+ghost use Rattle.zk_model.specs.declared.Kind.TheVariants.{Extended};
 ghost use Rattle.zk_model.specs.Program.{section_count};
-ghost use Rattle.session_core.specs.Cores.{VerifierAnswers, VerifierRefuses, IsVerifierPlace, awaits_hello, owes_grant, awaits_corrections, awaits_sums, awaits_openings, has_refused, verifier_expects, judgement_at, DiffersFirst};
+ghost use Rattle.session_core.specs.Extending.{asks_of};
+ghost use Rattle.session_core.specs.Fixing.{held_in, HoldsKeys};
+ghost use Rattle.session_core.specs.Cores.{AnswersAsks, VerifierAnswers, VerifierRefuses, IsVerifierPlace, awaits_hello, owes_grant, behind_grant, awaits_asks, awaits_corrections, awaits_sums, awaits_openings, has_refused, verifier_expects, judgement_at, DiffersFirst};
 
+use crate::correlations::Correlations;
+use crate::extending::reply_units;
 use crate::fault::{HelloDiffers, SessionFault};
 use crate::judgement::Judgement;
 use crate::verifier_job::VerifierJob;
+use dealer_files::{Kind, Params};
 use mersenne_field::Fe;
 use proof_frames::{Frame, Hello};
 use std::alloc::{AllocFailed, Global};
@@ -22,20 +28,27 @@ use std::marker::Model;
 use std::mem;
 use zk_model::{Expect, Span, Verdict};
 
-/// What the verifier waits for, with the first unit of its grant and what it has taken since.
+/// What the verifier waits for, with the first unit of its grant, what it has taken since, and its keys once they are fixed.
 #[derive(Debug, Drop)]
-pub(crate) enum Place {
+pub(crate) enum Place<'a> {
     Hello,
     Grant,
+    Asks {
+        start: u64,
+        asked: Vec<Frame>,
+    },
     Corrections {
         start: u64,
+        keys: Correlations<'a, Fe>,
     },
     Sums {
         start: u64,
+        keys: Correlations<'a, Fe>,
         corrections: Vec<Fe>,
     },
     Openings {
         start: u64,
+        keys: Correlations<'a, Fe>,
         corrections: Vec<Fe>,
         sums: Vec<(Fe, Fe)>,
     },
@@ -47,22 +60,24 @@ pub(crate) enum Place {
 }
 
 /// A verifier in a session (Weng, Yang, Katz and Wang, Wolverine, IEEE S&P 2021; Yang, Sarkar, Weng and Wang, QuickSilver, ACM
-/// CCS 2021). It expects the hello, then owes a grant, and expects corrections, sums and openings; then it has judged.
+/// CCS 2021). It expects the hello, then owes a grant, and expects in kind extended the asks for each unit, then corrections, sums
+/// and openings; then it has judged.
 #[derive(Debug, Drop)]
 pub struct VerifierCore<'a> {
     job: &'a VerifierJob<'a>,
-    place: Place,
+    place: Place<'a>,
 }
 
 impl<'a> Model for VerifierCore<'a> {
     ghost use Rattle.session_core.specs.Cores as cores;
-    ghost use Rattle.session_core.specs.Places.{place_value};
+    ghost use Rattle.session_core.specs.Places.{place_value, HoldsKeysAt};
 
     ghost Value = { cores.VerifierState };
 
     ghost view = { λ c. record { job = c.job.now; place = place_value c.place } };
 
-    ghost invariant = { λ c. cores.IsVerifierPlace c.job.now (place_value c.place) };
+    ghost invariant = { λ c. cores.IsVerifierPlace c.job.now (place_value c.place)
+        × HoldsKeysAt c.job.now c.place };
 }
 
 /// The first field of a hello that is not the wanted one.
@@ -141,8 +156,15 @@ impl<'a> VerifierCore<'a> {
         ensures short { IfSome result IsShortPlace }
     {
         let program = self.job.statement().program();
+        let _products = program.products();
+        let Params { height, trees, .. } = self.job.file().params();
         match &self.place {
             Place::Hello => Some(Expect::Hello),
+            Place::Asks { asked, .. } => Some(Expect::Ask {
+                height: usize::from(height),
+                trees: trees as usize,
+                units_left: self.job.units() as usize - asked.len(),
+            }),
             Place::Corrections { .. } => Some(Expect::Corrections {
                 count: program.givens(),
             }),
@@ -168,15 +190,25 @@ impl<'a> VerifierCore<'a> {
     }
 
     /// Its grant, where it is due: of a span of its units that lies in its file.
-    pub fn grant(&mut self, span: Span) -> Frame
+    pub fn grant(&mut self, alloc: Global, span: Span) -> Frame
         requires due { self.old.place ≡ owes_grant }
         requires units { span.end ≡ span.start + units_of_job self.old.job }
         requires within { span.end ≤ self.old.job.task.file.params.total }
         ensures frame { said result ≡ model.grant (granted_from self.old.job span.start) }
-        ensures place { self.new ≡ record self.old { place = awaits_corrections span.start } }
+        ensures place { self.new ≡ record self.old { place = behind_grant self.old.job span.start } }
     {
-        let grant = self.job.grant(span.start);
-        self.place = Place::Corrections { start: span.start };
+        let start = span.start;
+        let grant = self.job.grant(start);
+        self.place = match self.job.file().params().kind {
+            Kind::Direct => Place::Corrections {
+                start,
+                keys: Correlations::Dealt(self.job.dealt_keys(start)),
+            },
+            Kind::Extended => Place::Asks {
+                start,
+                asked: Vec::new(alloc),
+            },
+        };
         Frame::Grant(grant)
     }
 
@@ -197,13 +229,19 @@ impl<'a> VerifierCore<'a> {
     {
         match mem::replace(&mut self.place, Place::Refused) {
             Place::Hello => self.meet(alloc, frame),
-            Place::Corrections { start } => self.take_corrections(alloc, start, frame),
-            Place::Sums { start, corrections } => self.take_sums(alloc, start, corrections, frame),
+            Place::Asks { start, asked } => self.take_asks(alloc, start, asked, frame),
+            Place::Corrections { start, keys } => self.take_corrections(alloc, start, keys, frame),
+            Place::Sums {
+                start,
+                keys,
+                corrections,
+            } => self.take_sums(alloc, start, keys, corrections, frame),
             Place::Openings {
                 start,
+                keys,
                 corrections,
                 sums,
-            } => self.take_openings(alloc, start, corrections, sums, frame),
+            } => self.take_openings(alloc, start, keys, corrections, sums, frame),
             Place::Grant | Place::Judged { .. } | Place::Refused => Ok(Vec::new(alloc)),
         }
     }
@@ -227,14 +265,67 @@ impl<'a> VerifierCore<'a> {
         Ok(Vec::new(alloc))
     }
 
+    /// Takes the asks for a unit; behind those for the last it answers by the replies to all.
+    fn take_asks(
+        &mut self,
+        alloc: Global,
+        start: u64,
+        asked: Vec<Frame>,
+        frame: Frame,
+    ) -> Result<Vec<Frame>, SessionFault>
+        requires held { IsVerifierPlace self.old.job (awaits_asks start (asks_of asked.items)) }
+        requires expected { (left : ℕ) × Allows (expect.Ask self.old.job.task.file.params.height
+            self.old.job.task.file.params.trees left) (said frame) }
+        ensures answered { IfOk result (λ answer. VerifierAnswers self.old.job
+            (awaits_asks start (asks_of asked.items))
+            (said frame) (map said answer.items) self.new.place) }
+        ensures memory { IfErr result (λ fault. fault ≡ NoMemory) }
+        ensures over { OnErr result (self.new.place ≡ self.old.place) }
+        ensures job { self.new.job ≡ self.old.job }
+    {
+        let mut asked = asked;
+        asked.push(frame)?;
+        self.answer_asks(alloc, start, asked)
+    }
+
+    /// Answers the asks for so many units: as long as others are wanting, it waits for these.
+    fn answer_asks(
+        &mut self,
+        alloc: Global,
+        start: u64,
+        asked: Vec<Frame>,
+    ) -> Result<Vec<Frame>, SessionFault>
+        requires extended { self.old.job.task.file.params.kind ≡ Extended }
+        requires within { start + units_of_job self.old.job ≤ self.old.job.task.file.params.total }
+        requires few { length asked.items ≤ units_of_job self.old.job }
+        requires each { All (AreAsks self.old.job.task.file.params.height
+            self.old.job.task.file.params.trees) (asks_of asked.items) }
+        ensures answered { IfOk result (λ answer. AnswersAsks self.old.job start
+            (asks_of asked.items) (map said answer.items) self.new.place) }
+        ensures memory { IfErr result (λ fault. fault ≡ NoMemory) }
+        ensures over { OnErr result (self.new.place ≡ self.old.place) }
+        ensures job { self.new.job ≡ self.old.job }
+    {
+        if asked.len() < self.job.units() as usize {
+            self.place = Place::Asks { start, asked };
+            return Ok(Vec::new(alloc));
+        }
+        let replied = reply_units(alloc, self.job.file(), self.job.grant(start), &asked)?;
+        let keys = Correlations::Made(replied.keys);
+        self.place = Place::Corrections { start, keys };
+        Ok(replied.replies)
+    }
+
     /// Takes corrections, and answers by the challenge.
     fn take_corrections(
         &mut self,
         alloc: Global,
         start: u64,
+        keys: Correlations<'a, Fe>,
         frame: Frame,
     ) -> Result<Vec<Frame>, SessionFault>
         requires within { start + units_of_job self.old.job ≤ self.old.job.task.file.params.total }
+        requires keys { HoldsKeys self.old.job start (held_in keys) }
         requires expected { Allows (expect.Corrections self.old.job.task.statement.program.givens)
             (said frame) }
         ensures answered { IfOk result (λ answer. VerifierAnswers self.old.job (awaits_corrections start)
@@ -246,7 +337,11 @@ impl<'a> VerifierCore<'a> {
         let _total = self.job.file().total();
         let challenge = one_frame(alloc, Frame::Challenge(self.job.challenge(start)))?;
         if let Frame::Corrections(corrections) = frame {
-            self.place = Place::Sums { start, corrections };
+            self.place = Place::Sums {
+                start,
+                keys,
+                corrections,
+            };
         }
         Ok(challenge)
     }
@@ -256,10 +351,12 @@ impl<'a> VerifierCore<'a> {
         &mut self,
         alloc: Global,
         start: u64,
+        keys: Correlations<'a, Fe>,
         corrections: Vec<Fe>,
         frame: Frame,
     ) -> Result<Vec<Frame>, SessionFault>
         requires held { IsVerifierPlace self.old.job (awaits_sums start corrections.items) }
+        requires keys { HoldsKeys self.old.job start (held_in keys) }
         requires expected { Allows (expect.Sums (section_count self.old.job.task.statement.program
             self.old.job.section_length)) (said frame) }
         ensures answered { IfOk result (λ answer. VerifierAnswers self.old.job
@@ -272,6 +369,7 @@ impl<'a> VerifierCore<'a> {
         if let Frame::Sums(sums) = frame {
             self.place = Place::Openings {
                 start,
+                keys,
                 corrections,
                 sums,
             };
@@ -284,11 +382,13 @@ impl<'a> VerifierCore<'a> {
         &mut self,
         alloc: Global,
         start: u64,
+        keys: Correlations<'a, Fe>,
         corrections: Vec<Fe>,
         sums: Vec<(Fe, Fe)>,
         frame: Frame,
     ) -> Result<Vec<Frame>, SessionFault>
         requires held { IsVerifierPlace self.old.job (awaits_openings start corrections.items sums.items) }
+        requires keys { HoldsKeys self.old.job start (held_in keys) }
         requires expected { Allows (expect.Openings (length self.old.job.task.statement.program.opened))
             (said frame) }
         ensures answered { IfOk result (λ answer. VerifierAnswers self.old.job
@@ -301,9 +401,10 @@ impl<'a> VerifierCore<'a> {
         let Frame::Openings(openings) = frame else {
             return Ok(Vec::new(alloc));
         };
+        let keys = keys.as_slice();
         let judgement = self
             .job
-            .judge(alloc, start, &corrections, &sums, &openings)?;
+            .judge(alloc, start, keys, &corrections, &sums, &openings)?;
         let verdict = one_frame(alloc, verdict_frame(&judgement))?;
         self.place = Place::Judged { start, judgement };
         Ok(verdict)

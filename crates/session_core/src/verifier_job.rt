@@ -1,17 +1,20 @@
 // What a verifier is to do, and how it judges a session.
-ghost use Rattle.std.specs.Prelude.{◌≡◌, ◌+◌, ◌≤◌, ◌^◌, max, length, IfOk, IfErr};
+ghost use Rattle.std.specs.Prelude.{◌≡◌, ◌+◌, ◌*◌, ◌≤◌, ◌^◌, length, IfOk, IfErr};
+ghost use Rattle.zk_model.specs.Files.{AreParams, correlations_per_unit};
 ghost use Rattle.zk_model.specs.Program.{section_count, part_count};
+ghost use Rattle.zk_model.specs.Transcript as transcript;
 ghost use Rattle.zk_model.specs.ServedVerifier.{challenge_coin};
 ghost use Rattle.zk_model.specs.View.{IsVerdictOf};
 ghost use Rattle.zk_model.specs.declared.Kind.TheVariants.{Direct};
 ghost use Rattle.mult_check.specs.Checks.{product_check, opening_check};
 ghost use Rattle.session_core.specs.Jobs.{IsVerifierJob, IsTooLarge, units_of_job, granted_from, verifier_of};
-ghost use Rattle.session_core.specs.Judgements.{HasSides, IsJudgement, direct_transcript, verdict_in};
+ghost use Rattle.session_core.specs.Fixing.{HoldsKeys};
+ghost use Rattle.session_core.specs.Judgements.{HasSides, Finds, verdict_in};
 
 use crate::judgement::Judgement;
 use crate::prover_job::{masks_of, units_of};
 use crate::statement::Statement;
-use dealer_files::VerifierFile;
+use dealer_files::{Kind, Params, VerifierFile};
 use mersenne_field::Fe;
 use mult_check::{check, check_openings};
 use proof_frames::Grant;
@@ -22,11 +25,32 @@ use wire_auth::VerifierWires;
 /// The most units of a session.
 pub const MOST_UNITS: u64 = 4096;
 
-/// The units of kind direct that give this many correlations: at least one.
-pub(crate) fn direct_units_for(need: u64) -> u64
-    ensures { result ≡ max 1 (part_count need 64) }
+/// How many correlations a unit gives to a session.
+fn correlations_per_unit(params: &Params) -> u64
+    requires { AreParams params.now }
+    ensures count { result ≡ correlations_per_unit params.now }
+    ensures some { 1 ≤ result }
 {
-    need.div_ceil(64).max(1)
+    match params.kind {
+        Kind::Direct => 64,
+        Kind::Extended => u64::from(params.trees) << u32::from(params.height),
+    }
+}
+
+/// The least number of parts of a size that hold so many.
+fn parts(count: u64, size: u64) -> u64
+    requires { 1 ≤ size }
+    ensures { result ≡ part_count count size }
+{
+    count.div_ceil(size)
+}
+
+/// The units that give this many correlations: at least one.
+pub(crate) fn units_for(params: &Params, need: u64) -> u64
+    requires { AreParams params.now }
+    ensures { result ≡ transcript.units_for params.now need }
+{
+    parts(need, correlations_per_unit(params)).max(1)
 }
 
 /// A session needs so many correlations, and units of them above 4,096.
@@ -36,8 +60,8 @@ pub struct TooManyUnits {
     pub units: u64,
 }
 
-/// What a verifier is to do: its statement and its file of kind direct, and how many products its sections have, which are 1
-/// to 2^20. The session takes at most 4,096 units.
+/// What a verifier is to do: its statement and its file, and how many products its sections have, which are 1 to 2^20. The session
+/// takes at most 4,096 units.
 #[derive(Debug, Drop)]
 pub struct VerifierJob<'a> {
     statement: &'a Statement<'a>,
@@ -101,14 +125,12 @@ fn judgement_of(
 }
 
 impl<'a> VerifierJob<'a> {
-    /// A job over a file of kind direct, with sections of 1 to 2^20 products, where its session takes at most 4,096 units; or what
-    /// the session would take.
+    /// A job with sections of 1 to 2^20 products, where its session takes at most 4,096 units; or what the session would take.
     pub fn fit(
         statement: &'a Statement<'a>,
         file: &'a VerifierFile,
         section: u32,
     ) -> Result<Self, TooManyUnits>
-        requires direct { file.now.params.kind ≡ Direct }
         requires some { 1 ≤ section }
         requires most { section ≤ 2 ^ 20 }
         ensures fits { IfOk result (λ job. job ≡ verifier_of statement.now file.now section) }
@@ -116,14 +138,14 @@ impl<'a> VerifierJob<'a> {
         ensures many { IfErr result (IsTooLarge (verifier_of statement.now file.now section)) }
     {
         let need = statement.program().need(u64::from(section));
-        let units = direct_units_for(need);
+        let units = units_for(&file.params(), need);
         if units > MOST_UNITS {
             return Err(TooManyUnits { need, units });
         }
         Ok(VerifierJob::new(statement, file, section))
     }
 
-    /// A job over a file of kind direct, with sections of 1 to 2^20 products and at most 4,096 units.
+    /// A job with sections of 1 to 2^20 products and at most 4,096 units.
     pub fn new(statement: &'a Statement<'a>, file: &'a VerifierFile, section: u32) -> Self
         requires { IsVerifierJob (record {
           task = record { file = file.now; statement = statement.now };
@@ -171,7 +193,7 @@ impl<'a> VerifierJob<'a> {
         ensures job { IsVerifierJob self.now }
     {
         let need = self.statement.program().need(u64::from(self.section));
-        direct_units_for(need) as u32
+        units_for(&self.file.params(), need) as u32
     }
 
     /// The grant of its units from this one on.
@@ -193,31 +215,41 @@ impl<'a> VerifierJob<'a> {
         self.file.challenge(start)
     }
 
-    /// What it finds of the session whose first unit this is, in which these corrections, sums and openings came: the first
-    /// section whose sums do not meet its keys, else the first opened wire whose MAC does not open to the claim, else that
-    /// all is well.
+    /// The keys that are dealt in the units of its grant from this one on: those of its session in kind direct.
+    pub(crate) fn dealt_keys(&self, start: u64) -> &'a [Fe]
+        requires direct { self.now.task.file.params.kind ≡ Direct }
+        requires within { start + units_of_job self.now ≤ self.now.task.file.params.total }
+        ensures { HoldsKeys self.now start result.now }
+    {
+        let _total = self.file.total();
+        self.file.keys(units_of(self.grant(start)))
+    }
+
+    /// What it finds of the session whose first unit this is and whose keys these are, in which these corrections, sums and openings
+    /// came: the first section whose sums do not meet its keys, else the first opened wire whose MAC does not open to the claim, else
+    /// that all is well.
     pub(crate) fn judge(
         &self,
         alloc: Global,
         start: u64,
+        keys: &[Fe],
         corrections: &[Fe],
         sums: &[(Fe, Fe)],
         openings: &[Fe],
     ) -> Result<Judgement, AllocError>
         requires within { start + units_of_job self.now ≤ self.now.task.file.params.total }
+        requires keys { HoldsKeys self.now start keys.now }
         requires corrections { length corrections.now ≡ self.now.task.statement.program.givens }
         requires sums { length sums.now
             ≡ section_count self.now.task.statement.program self.now.section_length }
         requires openings { length openings.now ≡ length self.now.task.statement.program.opened }
-        ensures { IfOk result (λ judgement. IsJudgement self.now.task
-            (direct_transcript self.now start corrections.now sums.now openings.now (verdict_in judgement))
-            judgement) }
+        ensures { IfOk result (λ judgement.
+            Finds self.now start corrections.now sums.now openings.now judgement) }
     {
         let program = self.statement.program();
         let section = u64::from(self.section);
         let key = self.file.key();
         let _total = self.file.total();
-        let keys = self.file.keys(units_of(self.grant(start)));
         let sections = program.sections(section) as usize;
         let masks = masks_of(keys, program.givens(), sections);
         let public = self.statement.public();

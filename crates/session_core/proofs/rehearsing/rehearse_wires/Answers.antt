@@ -10,7 +10,7 @@ returns c inputs met =
     let bits = c.args.bits.now in
     let formed = c.in_ok-session.ensures.rules.well_formed in
     let last : c.in_ok-claimed.claimed ≡ drop (output_wire circuit 0) bits = c.in_ok-claimed.ensures ∙ c.output_bits-outputs.ensures in
-    let accepted = accepted_session circuit inputs c.in_ok-claimed.claimed bits c.args.section c.args.units c.args.seed.now
+    let accepted = accepted_session circuit inputs c.in_ok-claimed.claimed bits c.args.kind c.args.section c.args.units c.args.seed.now
     c.in_ok-session.session.verdict c.in_ok-session.session.log c.bits_solve.ensures c.honest_session_is_accepted.ensures formed met last
     c.in_ok-session.ensures.files c.in_ok-session.ensures.held in
     record {

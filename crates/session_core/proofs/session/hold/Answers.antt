@@ -1,4 +1,4 @@
-use Rattle.std.proofs.Common.{◌∙◌, ◌≤◌, ap, sym, subst, arith}
+use Rattle.std.proofs.Common.{◌≤◌, ap, sym, subst, arith}
 use Rattle.zk_model.specs.declared.Params.{Params}
 use Rattle.session_core.specs.Ends.{whole_grant}
 use Rattle.session_core.specs.Jobs.{ProverJob, VerifierJob, granted_from, units_of_job}
@@ -11,7 +11,6 @@ new-verifier-requires c =
     let units = units_of_pair c.args.prover_file.now.params c.args.verifier_file.now.params c.args.statement.now.program c.args.prover_file.now.params.total c.args.section
     c.requires.dealt.params c.requires.granted in
     record {
-      direct = ap (λ (p : Params). p.kind) (sym c.requires.dealt.params) ∙ c.requires.direct;
       section_some = c.requires.granted.section_some;
       section_most = c.requires.granted.section_most;
       units_most = omega (arith, units, c.requires.granted.count_most);

@@ -1,0 +1,146 @@
+-- Lists that grow unit by unit, and what the prover sees of a round of all units.
+use Rattle.std.proofs.Common.{◌≡◌, ℕ, zero, suc, ◌+◌, ◌*◌, ◌<◌, ◌≤◌, List, [], ◌∷◌, ◌++◌, map, flat_map, drop, length, get_or, refl, sym, ◌∙◌, ap, subst, arith, append-nil, length-append, ◌⊎◌, inl, inr}
+use Rattle.std.specs.Prelude.{slice_index_or, All}
+use Rattle.std.specs.List.{range_with_len, enumerate_from}
+use Rattle.std.proofs.lemmas.List.{length-map, get_or-map, map-append, get_or_append_left, get_or-append-add}
+use Rattle.std.proofs.lemmas.List.Concat.{flat_map-append}
+use Rattle.std.proofs.lemmas.List.FromFn.{fill_by_all, map-range_with_len_more, length-enumerate_from, get_or-enumerate_from, get_or-map-range_with_len}
+use Rattle.zk_model.specs.Mac.{Pair}
+use Rattle.zk_model.specs.Files.{ProverFile, prover_unit}
+use Rattle.zk_model.specs.Transcript.{Hello, Grant, TreeAsk, TreeReply, Setup}
+use Rattle.zk_model.specs.Correlations.{IsExtension, IsProverView}
+use Rattle.zk_model.specs.HonestProver.{honest_asks, round_asks}
+use Rattle.zk_laws.proofs.Ranges.{range-append}
+use Rattle.zk_model.specs.Frames as model
+use Rattle.proof_frames.specs.Frames.{said}
+use Rattle.proof_frames.specs.declared.frame.Frame.{Frame}
+use Rattle.session_core.specs.Extending.{asks_in, replies_in, asks_of, replies_of}
+use Rattle.session_core.specs.Fixing.{AreFirstPairs}
+
+-- ---- lists that grow
+
+-- one item more than those of the first numbers
+pub one_more : {A B : Type 0} (read : A → B) (make : ℕ → B) (start n j : ℕ) (items now : List A) (item : A)
+    → start + n ≡ j → map read items ≡ map make (range_with_len start n) → now ≡ items ++ item ∷ [] → read item ≡ make j
+    → map read now ≡ map make (range_with_len start (n + 1))
+one_more read make start n j items now item at far pushed is =
+    ap (map read) pushed ∙ map-append read items (item ∷ []) ∙ (λ i. far i ++ is i ∷ []) ∙ sym (map-range_with_len_more make start n j at)
+
+-- one part more
+pub one_part_more : {B : Type 0} (make : ℕ → List B) (start n j : ℕ) (items now part : List B)
+    → start + n ≡ j → items ≡ flat_map make (range_with_len start n) → now ≡ items ++ part → part ≡ make j
+    → now ≡ flat_map make (range_with_len start (n + 1))
+one_part_more make start n j items now part at far pushed is =
+    pushed
+    ∙ (λ i. far i ++ (is ∙ ap make (sym at) ∙ sym (append-nil (make (start + n)))) i)
+    ∙ sym (flat_map-append make (range_with_len start n) ((start + n) ∷ []))
+    ∙ ap (flat_map make) (sym (range-append start n 1))
+
+le_or : (a b : ℕ) → (a ≤ b) ⊎ (b < a)
+le_or zero b = inl (omega arith)
+le_or (suc a) zero = inr (omega arith)
+le_or (suc a) (suc b) = either (le_or a b)
+  where
+    either : (a ≤ b) ⊎ (b < a) → (suc a ≤ suc b) ⊎ (suc b < suc a)
+    either (inl most) = inl (omega (arith, most))
+    either (inr less) = inr (omega (arith, less))
+
+-- what holds of each part by its number holds of one part more
+pub each_more : {B : Type 0} (P : ℕ → List B → Type 0) (parts : List (List B)) (part : List B) (n : ℕ) → length parts ≡ n
+    → ((k : ℕ) → k < n → P k (get_or parts k [])) → P n part
+    → (k : ℕ) → k < n + 1 → P k (get_or (parts ++ part ∷ []) k [])
+each_more P parts part n sized far now k below = by_place (le_or n k)
+  where
+    last : get_or (parts ++ part ∷ []) n [] ≡ part
+    last = ap (λ m. get_or (parts ++ part ∷ []) m []) (omega (arith, sized)) ∙ get_or-append-add parts (part ∷ []) 0 []
+
+    by_place : (n ≤ k) ⊎ (k < n) → P k (get_or (parts ++ part ∷ []) k [])
+    by_place (inl end) =
+        let at : n ≡ k = omega (arith, end, below) in
+        subst (λ m. P m (get_or (parts ++ part ∷ []) m [])) at (subst (P n) (sym last) now)
+    by_place (inr before) = subst (P k) (sym (get_or_append_left parts (part ∷ []) [] k (omega (arith, sized, before)))) (far k before)
+
+-- items by their numbers, in two ways
+pub numbered : {A B : Type 0} (f : ℕ → A → B) (a : ℕ) (items : List A) (none : A) (other : B)
+    → map (λ entry. f entry.0 entry.1) (enumerate_from a items)
+    ≡ map (λ i. f (a + i) (get_or items i none)) (range_with_len 0 (length items))
+numbered f a items none other =
+    fill_by_all (λ i. f (a + i) (get_or items i none)) _ (length items) other
+    (length-map (enumerate_from a items) (λ entry. f entry.0 entry.1) ∙ length-enumerate_from a items)
+    (λ i below.
+    get_or-map (λ entry. f entry.0 entry.1) (enumerate_from a items) i (0, none) other (omega (arith, below, length-enumerate_from a items))
+    ∙ ap (λ (entry : ℕ × _). f entry.0 entry.1) (get_or-enumerate_from a items i (0, none) below))
+
+-- ---- frames and the trees that they speak of
+
+pub asks_are : (frames : List Frame) (asks : List (List TreeAsk)) → map said frames ≡ map model.asks asks → asks_of frames ≡ asks
+asks_are [] [] is = refl
+asks_are [] (one ∷ more) is = absurd (omega (arith, ap length is))
+asks_are (frame ∷ frames) [] is = absurd (omega (arith, ap length is))
+asks_are (frame ∷ frames) (one ∷ more) is =
+    λ i. ap asks_in (ap (λ l. get_or l 0 (model.refuse 0)) is) i ∷ asks_are frames more (ap (drop 1) is) i
+
+pub replies_are : (frames : List Frame) (replies : List (List TreeReply)) → map said frames ≡ map model.replies replies → replies_of frames ≡ replies
+replies_are [] [] is = refl
+replies_are [] (one ∷ more) is = absurd (omega (arith, ap length is))
+replies_are (frame ∷ frames) [] is = absurd (omega (arith, ap length is))
+replies_are (frame ∷ frames) (one ∷ more) is =
+    λ i. ap replies_in (ap (λ l. get_or l 0 (model.refuse 0)) is) i ∷ replies_are frames more (ap (drop 1) is) i
+
+-- the asks of frame i
+pub asks_at : (P : List TreeAsk → Type 0) (frames : List Frame) (i : ℕ) (frame : Frame) (trees : List TreeAsk) → All P (asks_of frames) → i < length frames
+    → frame ≡ get_or frames i frame → trees ≡ asks_in (said frame) → (trees ≡ get_or (asks_of frames) i []) × P trees
+asks_at P frames i frame trees all below at is =
+    let there : trees ≡ get_or (asks_of frames) i [] = is ∙ ap (λ f. asks_in (said f)) at ∙ sym (get_or-map (λ f. asks_in (said f)) frames i frame [] below) in
+    (there, subst P (sym there) (all i [] (omega (arith, below, length-map frames (λ f. asks_in (said f))))))
+
+-- the replies of frame i
+pub replies_at : (P : List TreeReply → Type 0) (frames : List Frame) (i : ℕ) (frame : Frame) (trees : List TreeReply) → All P (replies_of frames) → i < length frames
+    → frame ≡ get_or frames i frame → trees ≡ replies_in (said frame) → (trees ≡ get_or (replies_of frames) i []) × P trees
+replies_at P frames i frame trees all below at is =
+    let there : trees ≡ get_or (replies_of frames) i [] = is ∙ ap (λ f. replies_in (said f)) at ∙ sym (get_or-map (λ f. replies_in (said f)) frames i frame [] below) in
+    (there, subst P (sym there) (all i [] (omega (arith, below, length-map frames (λ f. replies_in (said f))))))
+
+-- ---- what the prover sees
+
+-- a session's setup with one round of honest asks and these replies
+abbrev pub one_round : ProverFile → Hello → Grant → List (List TreeReply) → Setup
+one_round file hello grant replies =
+    record { hello = hello; grant = grant; rounds = record { asks = round_asks file grant; replies = replies } ∷ [] }
+
+-- the pairs of all units are those that the prover sees
+pub whole_view : (file : ProverFile) (hello : Hello) (grant : Grant) (replies : List (List TreeReply)) (pairs : List Pair)
+    → length replies ≡ grant.count → AreFirstPairs file grant replies pairs → IsProverView file (one_round file hello grant replies) pairs
+whole_view file hello grant replies pairs counted first = record {
+  units = first.units;
+  count = first.one_each ∙ counted;
+  each = λ i below. subst (λ (asks : List TreeAsk). IsExtension file.params file.code_seed (prover_unit file (grant.start + i))
+      (record { asks = asks; replies = slice_index_or replies i [] }) (slice_index_or first.units i []))
+      (sym (get_or-map-range_with_len (honest_asks file) grant.start grant.count i (grant.start + i) [] below refl))
+      (first.each i (omega (arith, below, counted)));
+  joined = first.joined;
+}
+
+-- ---- lists made in two steps
+
+pub map_twice : {A B C : Type 0} (g : B → C) (f : A → B) (items : List A) → map (λ item. g (f item)) items ≡ map g (map f items)
+map_twice g f [] = refl
+map_twice g f (item ∷ items) = ap (λ l. g (f item) ∷ l) (map_twice g f items)
+
+-- ---- units that grow
+
+-- one unit's pairs more
+pub units_more : {A : Type 0} (P : ℕ → A → List Pair → Type 0) (trees : List A) (none : A) (units : List (List Pair)) (n size : ℕ) (pairs now more : List Pair)
+    → length units ≡ n → ((k : ℕ) → k < n → P k (get_or trees k none) (get_or units k []))
+    → pairs ≡ flat_map (λ unit. unit) units → length pairs ≡ n * size
+    → P n (get_or trees n none) more → now ≡ pairs ++ more → length more ≡ size
+    → (units_now : List (List Pair)) × (length units_now ≡ n + 1)
+    × ((k : ℕ) → k < n + 1 → P k (get_or trees k none) (get_or units_now k []))
+    × (now ≡ flat_map (λ unit. unit) units_now) × (length now ≡ (n + 1) * size)
+units_more P trees none units n size pairs now more sized far joined counted is pushed long = (
+  units ++ more ∷ [],
+  length-append units (more ∷ []) ∙ ap (λ m. m + 1) sized,
+  each_more (λ k unit. P k (get_or trees k none) unit) units more n sized far is,
+  pushed ∙ (λ i. joined i ++ sym (append-nil more) i) ∙ sym (flat_map-append (λ unit. unit) units (more ∷ [])),
+  omega (arith, ap length pushed, length-append pairs more, counted, long),
+)

@@ -1,0 +1,40 @@
+-- The frames of a round, and the trees that they speak of.
+use Rattle.std.specs.Prelude.{List, [], map}
+use Rattle.zk_model.specs.Transcript.{TreeAsk, TreeReply}
+use Rattle.zk_model.specs.Frames as model
+use Rattle.proof_frames.specs.Frames.{said}
+use Rattle.proof_frames.specs.declared.frame.Frame.{Frame}
+
+-- the asks of a frame, none where it has none
+abbrev pub asks_in : model.Frame → List TreeAsk
+asks_in (model.hello greeting) = []
+asks_in (model.grant given) = []
+asks_in (model.asks trees) = trees
+asks_in (model.replies trees) = []
+asks_in (model.corrections elements) = []
+asks_in (model.challenge element) = []
+asks_in (model.sums both) = []
+asks_in (model.openings macs) = []
+asks_in (model.verdict code number) = []
+asks_in (model.refuse code) = []
+
+-- the same of replies
+abbrev pub replies_in : model.Frame → List TreeReply
+replies_in (model.hello greeting) = []
+replies_in (model.grant given) = []
+replies_in (model.asks trees) = []
+replies_in (model.replies trees) = trees
+replies_in (model.corrections elements) = []
+replies_in (model.challenge element) = []
+replies_in (model.sums both) = []
+replies_in (model.openings macs) = []
+replies_in (model.verdict code number) = []
+replies_in (model.refuse code) = []
+
+-- the asks of frames, unit by unit
+abbrev pub asks_of : List Frame → List (List TreeAsk)
+asks_of frames = map (λ frame. asks_in (said frame)) frames
+
+-- the replies of frames, unit by unit
+abbrev pub replies_of : List Frame → List (List TreeReply)
+replies_of frames = map (λ frame. replies_in (said frame)) frames
