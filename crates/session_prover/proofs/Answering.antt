@@ -1,35 +1,35 @@
 -- What a prover's answers make of a session, and where they stop.
-use Rattle.std.proofs.Common.{◌≡◌, inl, inr, ℕ, List, [], ◌∷◌, ◌++◌, flat_map, length, Some, None, refl, ap, sym, ◌∙◌, subst, append_assoc, append-nil, arith}
-use Rattle.zk_model.specs.Transcript.{Grant, IsGrant, bytes_from, sent_by, corrections_frame, challenge_frame, sums_frame, openings_frame}
-use Rattle.zk_model.specs.Frames.{Frame, grant, corrections, challenge, sums, openings, refuse, frame_spelling}
-use Rattle.zk_model.specs.HonestProver.{IsWitness, AreHonestBytes}
-use Rattle.zk_model.specs.Peers.{IsFromHonestProver}
+use Rattle.std.proofs.Common.{◌≡◌, ◌⊎◌, inl, inr, ℕ, ◌+◌, ◌-◌, ◌<◌, ◌≤◌, List, [], ◌∷◌, ◌++◌, map, flat_map, length, Some, refl, ap, sym, ◌∙◌, subst, append_assoc, append-nil, length-append, arith}
+use Rattle.std.specs.Prelude.{All}
+use Rattle.std.proofs.lemmas.Bool.{cases_lt}
+use Rattle.std.proofs.lemmas.List.Elements.{All-nil, All-push}
+use Rattle.zk_model.specs.Mac.{Pair}
+use Rattle.zk_model.specs.Check.{WirePairs}
+use Rattle.zk_model.specs.Files.{span_pairs}
+use Rattle.zk_model.specs.Correlations.{IsProverView}
+use Rattle.zk_model.specs.Transcript.{Grant, TreeAsk, TreeReply, Round, IsGrant, bytes_from, sent_by, ask_frame, reply_frame, corrections_frame, sums_frame, openings_frame}
+use Rattle.zk_model.specs.Frames.{Frame, grant, asks, replies, corrections, challenge, sums, openings, refuse, AreReplies, frame_spelling}
+use Rattle.zk_model.specs.HonestProver.{IsWitness, AreHonestBytes, round_asks}
+use Rattle.zk_model.specs.View.{span_of}
 use Rattle.zk_model.specs.declared.Expect.{Expect}
 use Rattle.zk_model.specs.declared.Expect.TheVariants as expect
+use Rattle.zk_model.specs.declared.Kind.{Kind}
+use Rattle.zk_model.specs.declared.Kind.TheVariants.{Direct, Extended}
 use Rattle.zk_model.specs.declared.Side.{Side}
 use Rattle.zk_model.specs.declared.Side.TheVariants.{Prover, Verifier}
-use Rattle.zk_port.specs.Counts.{Rose}
-use Rattle.zk_port.specs.Logs.{appended, put_before}
-use Rattle.frame_link.specs.Lines.{LineState, Sends, IsUnfinished}
-use Rattle.frame_link.specs.Lines as lines
-use Rattle.frame_link.specs.declared.fault.LineFault.{LineFault}
-use Rattle.frame_link.specs.declared.fault.LineFault.TheVariants as fault
-use Rattle.proof_frames.specs.Readings.{Reading}
-use Rattle.session_core.specs.Jobs.{ProverJob, Suits}
-use Rattle.session_core.specs.Cores.{ProverPlace, awaits_grant, awaits_challenge, awaits_verdict, has_ended, prover_expects, ProverAnswers, ProverRefuses}
-use Rattle.session_core.specs.declared.fault.SessionFault.{SessionFault}
-use Rattle.session_core.specs.declared.fault.SessionFault.TheVariants as session
-use Rattle.session_prover.specs.declared.note.ProverOutcome.TheVariants.{NoMemory}
-use Rattle.session_prover.specs.Outcomes.{line_outcome, session_outcome}
-use Rattle.session_prover.specs.Stages.{Claim, ClaimedFor, Course, IsLogAt, IsLogTaken, GoesWell, IsLineAt, IsLineTaken, granted_log, challenged_log, sums_for, openings_for}
-use Rattle.session_prover.specs.Notes.{task_of, IsGrantRead, IsAskedRight, SendsOnceClaimed, IsOutcome, CountsOutcome, SendsHonestly, IsLogged, Ends}
-use Rattle.session_prover.specs.Notes as notes
-use Rattle.session_prover.specs.Turns.{IsSound, Follows, SendStops}
-use Rattle.session_prover.proofs.Sides.{bytes_more, prover_says, verifier_hears, appended_more}
-use Rattle.session_prover.proofs.Honest.{fixed_exists}
+use Rattle.frame_link.specs.Lines.{IsUnfinished}
+use Rattle.session_core.specs.Jobs.{ProverJob}
+use Rattle.session_core.specs.Ends.{IsFixed}
+use Rattle.session_core.specs.Cores.{ProverPlace, awaits_grant, awaits_replies, awaits_challenge, awaits_verdict, has_ended, prover_expects, Commits, AnswersGrant, AreRoundPairs, GoesOn, ProverAnswers}
+use Rattle.session_prover.specs.Stages.{Claim, ClaimedFor, AreAskedRounds, AreSomeReplies, IsLogAt, IsLogTaken, setup_for, all_asks, granted_log, asked_log, replied_log, rounds_log, challenged_log, sums_for, openings_for}
+use Rattle.session_prover.specs.Notes.{task_of}
+use Rattle.session_prover.specs.Turns.{IsSound}
+use Rattle.session_prover.proofs.Sides.{bytes_more, prover_says, verifier_hears}
+use Rattle.session_core.proofs.DirectViews.{pairs_seen}
+use Rattle.session_core.proofs.Rounds.{whole_view}
+use Rattle.session_prover.proofs.Rounds.{first_none, first_more, unit_pairs, asked_none, asked_round}
+use Rattle.session_prover.proofs.Honest.{fixed_by}
 use Rattle.session_prover.proofs.Waiting.{has_answered}
-use Rattle.session_prover.proofs.Ending.{suits_is, read_is}
-use Rattle.session_prover.proofs.Sending.{stops_before}
 
 -- ---- frames that differ
 
@@ -67,61 +67,233 @@ IsChallengeFrame frame = ⊥
 pub no_refusal_is_challenge : (code element : ℕ) → refuse code ≡ challenge element → ⊥
 no_refusal_is_challenge code element is = subst IsChallengeFrame (sym is) tt
 
+trees_or : List TreeReply → Frame → List TreeReply
+trees_or other (replies said) = said
+trees_or other frame = other
+
+pub same_trees : (one other : List TreeReply) → replies one ≡ replies other → one ≡ other
+unfolding trees_or
+same_trees one other is = ap (trees_or one) is
+
+pub no_replies_is_grant : (trees : List TreeReply) (given : Grant) → replies trees ≡ grant given → ⊥
+no_replies_is_grant trees given is = subst IsGrantFrame (sym is) tt
+
+abbrev IsRefusal : Frame → Type 0
+IsRefusal (refuse code) = Unit {0}
+IsRefusal frame = ⊥
+
+pub no_refusal_is_replies : (code : ℕ) (trees : List TreeReply) → refuse code ≡ replies trees → ⊥
+no_refusal_is_replies code trees is = subst IsRefusal is tt
+
+-- ---- the answer to a grant, by the kind
+
+-- a job over a file of another kind
+abbrev of_kind : ProverJob → Kind → ProverJob
+of_kind job kind = record job { file = record job.file { params = record job.file.params { kind = kind } } }
+
+-- corrections of the dealt pairs in kind direct, and the asks of all units in kind extended
+abbrev pub IsGrantAnswer : ProverJob → Grant → List Frame → ProverPlace → Type 0
+IsGrantAnswer job given answer now =
+    ((job.file.params.kind ≡ Direct) × Commits job given (span_pairs job.file (span_of given)) answer now)
+    ⊎ ((job.file.params.kind ≡ Extended) × (answer ≡ map asks (round_asks job.file given)) × (now ≡ awaits_replies given 0 []))
+
+by_kind : (job : ProverJob) (kind : Kind) (given : Grant) (answer : List Frame) (now : ProverPlace) → AnswersGrant (of_kind job kind) given answer now
+    → IsGrantAnswer (of_kind job kind) given answer now
+by_kind job Direct given answer now answers = inl (refl, answers)
+by_kind job Extended given answer now answers = inr (refl, answers.0, answers.1)
+
+pub grant_answer : (job : ProverJob) (given : Grant) (answer : List Frame) (now : ProverPlace) → AnswersGrant job given answer now
+    → IsGrantAnswer job given answer now
+grant_answer job given answer now answers = by_kind job job.file.params.kind given answer now answers
+
+-- corrections and the pairs of all wires that pairs fix
+record CanCommit (job : ProverJob) (given : Grant) (pairs : List Pair) : Type 0 where
+  d : List ℕ
+  wires : WirePairs
+  fixed : IsFixed job.statement job.given pairs d wires
+
+answer_of_kind : (job : ProverJob) (kind : Kind) (given : Grant)
+    → (kind ≡ Direct → CanCommit (of_kind job kind) given (span_pairs (of_kind job kind).file (span_of given)))
+    → (answer : List Frame) × (now : ProverPlace) × AnswersGrant (of_kind job kind) given answer now
+answer_of_kind job Direct given can =
+    let c = can refl in
+    (corrections c.d ∷ [], awaits_challenge given (span_pairs (of_kind job Direct).file (span_of given)) c.wires, (c.d, c.wires, c.fixed, refl, refl))
+answer_of_kind job Extended given can =
+    (map asks (round_asks (of_kind job Extended).file given), awaits_replies given 0 [], (refl, refl))
+
+commits_to : (job : ProverJob) (given : Grant) (rounds : List Round) (pairs : List Pair) → IsSound job → IsGrant job.file.params job.statement.program given
+    → AreAskedRounds job given rounds → IsProverView job.file (setup_for job given rounds) pairs → CanCommit job given pairs
+commits_to job given rounds pairs sound granted asked seen =
+    let found = fixed_by job given rounds pairs sound granted asked seen in
+    record { d = found.0; wires = found.1; fixed = found.2.fixed }
+
 -- ---- the answer
 
+-- a prover that is where it waits, behind its corrections
+commits_at : (job : ProverJob) (claim : Claim) (given : Grant) (rounds : List Round) (pairs : List Pair) (answer : List Frame) (now : ProverPlace) (log : List (Side × ℕ))
+    → ClaimedFor claim given → IsGrant job.file.params job.statement.program given → AreAskedRounds job given rounds
+    → IsProverView job.file (setup_for job given rounds) pairs → log ≡ rounds_log job given rounds → Commits job given pairs answer now
+    → IsLogAt job claim now (log ++ bytes_from Prover (flat_map frame_spelling answer))
+commits_at job claim given rounds pairs answer now log claimed granted asked seen at (d, wires, fixed, said, next) =
+    subst (λ p. IsLogAt job claim p (log ++ bytes_from Prover (flat_map frame_spelling answer))) (sym next) (
+      rounds,
+      d,
+      claimed,
+      record { granted = granted; asked = asked; seen = seen; fixed = fixed },
+      (λ i. at i ++ bytes_from Prover (flat_map frame_spelling (said i)))
+          ∙ ap (λ l. rounds_log job given rounds ++ bytes_from Prover l) (append-nil (corrections_frame d)),
+    )
+
+-- behind its asks
+pub spelled_asks : (trees : List (List TreeAsk)) → flat_map frame_spelling (map asks trees) ≡ flat_map ask_frame trees
+spelled_asks [] = refl
+spelled_asks (first ∷ trees) = ap (λ l. ask_frame first ++ l) (spelled_asks trees)
+
+asks_at : (job : ProverJob) (claim : Claim) (given : Grant) (answer : List Frame) (now : ProverPlace) (log : List (Side × ℕ))
+    → ClaimedFor claim given → IsGrant job.file.params job.statement.program given → job.file.params.kind ≡ Extended
+    → log ≡ granted_log job given → answer ≡ map asks (round_asks job.file given) → now ≡ awaits_replies given 0 []
+    → IsLogAt job claim now (log ++ bytes_from Prover (flat_map frame_spelling answer))
+asks_at job claim given answer now log claimed granted extended at said next =
+    subst (λ p. IsLogAt job claim p (log ++ bytes_from Prover (flat_map frame_spelling answer))) (sym next) (
+      [],
+      claimed,
+      record {
+        granted = granted;
+        extended = extended;
+        more = (let count = granted.count in omega (arith, count));
+        count = refl;
+        each = All-nil (AreReplies job.file.params.height job.file.params.trees);
+        made = first_none job.file given;
+      },
+      (λ i. at i ++ bytes_from Prover (flat_map frame_spelling (said i)))
+          ∙ ap (λ l. granted_log job given ++ bytes_from Prover l) (spelled_asks (round_asks job.file given))
+          ∙ sym (append-nil (asked_log job given)),
+    )
+
+-- the replies that came, one unit more
+pub replied_more : (job : ProverJob) (given : Grant) (done : ℕ) (pairs : List Pair) (came : List (List TreeReply)) (trees : List TreeReply) → AreSomeReplies job given done pairs came
+    → AreReplies job.file.params.height job.file.params.trees trees
+    → (length (came ++ trees ∷ []) ≡ done + 1) × All (AreReplies job.file.params.height job.file.params.trees) (came ++ trees ∷ [])
+replied_more job given done pairs came trees some are = (
+  (let whole = length-append came (trees ∷ []) in let count = some.count in omega (arith, whole, count)),
+  All-push (AreReplies job.file.params.height job.file.params.trees) came trees some.each are,
+)
+
+-- a whole round
+abbrev pub round_with : ProverJob → Grant → List (List TreeReply) → List Round
+round_with job given came = record { asks = round_asks job.file given; replies = came } ∷ []
+
+pub whole_log : (job : ProverJob) (given : Grant) (came : List (List TreeReply)) → replied_log job given came ≡ rounds_log job given (round_with job given came)
+whole_log job given came =
+    append_assoc (granted_log job given) (bytes_from Prover (all_asks job given)) (bytes_from Verifier (flat_map reply_frame came))
+    ∙ ap (λ l. granted_log job given ++ l) (sym (append-nil (bytes_from Prover (all_asks job given) ++ bytes_from Verifier (flat_map reply_frame came))))
+
+-- behind the replies of one unit more
+replies_at : (job : ProverJob) (claim : Claim) (given : Grant) (done : ℕ) (pairs more : List Pair) (came : List (List TreeReply)) (trees : List TreeReply) (answer : List Frame) (now : ProverPlace) (log : List (Side × ℕ))
+    → IsSound job → ClaimedFor claim given → AreSomeReplies job given done pairs came → AreReplies job.file.params.height job.file.params.trees trees
+    → log ≡ replied_log job given (came ++ trees ∷ []) → AreRoundPairs job.file (given.start + done) trees more
+    → GoesOn job given (done + 1) (pairs ++ more) answer now
+    → IsLogAt job claim now (log ++ bytes_from Prover (flat_map frame_spelling answer))
+replies_at job claim given done pairs more came trees answer now log sound claimed some are at one (inl (less, said, next)) =
+    subst (λ p. IsLogAt job claim p (log ++ bytes_from Prover (flat_map frame_spelling answer))) (sym next) (
+      came ++ trees ∷ [],
+      claimed,
+      record {
+        granted = some.granted;
+        extended = some.extended;
+        more = less;
+        count = (replied_more job given done pairs came trees some are).0;
+        each = (replied_more job given done pairs came trees some are).1;
+        made = first_more job.file given came trees pairs more done some.count some.made one;
+      },
+      (λ i. at i ++ bytes_from Prover (flat_map frame_spelling (said i))) ∙ append-nil (replied_log job given (came ++ trees ∷ [])),
+    )
+replies_at job claim given done pairs more came trees answer now log sound claimed some are at one (inr (all, commits)) =
+    let replied = replied_more job given done pairs came trees some are in
+    commits_at job claim given (round_with job given (came ++ trees ∷ [])) (pairs ++ more) answer now log claimed some.granted
+    (asked_round job given (came ++ trees ∷ []) sound.file some.granted some.extended (replied.0 ∙ all) replied.1)
+    (whole_view job.file (setup_for job given []).hello given (came ++ trees ∷ []) (pairs ++ more) (replied.0 ∙ all)
+    (first_more job.file given came trees pairs more done some.count some.made one))
+    (at ∙ whole_log job given (came ++ trees ∷ [])) commits
+
 -- a prover that is where it waits, behind its answer
-pub answered : (job : ProverJob) (claim : Claim) (place : ProverPlace) (frame : Frame) (answer : List Frame) (now : ProverPlace) (log : List (Side × ℕ))
+pub answered : (job : ProverJob) (claim : Claim) (place : ProverPlace) (frame : Frame) (answer : List Frame) (now : ProverPlace) (log : List (Side × ℕ)) → IsSound job
     → IsLogTaken job claim place frame log → ProverAnswers job place frame answer now
     → IsLogAt job claim now (log ++ bytes_from Prover (flat_map frame_spelling answer))
-answered job claim awaits_grant frame answer now log (given, is, claimed, granted, at) (other, d, wires, is_too, fits, fixed, said, next) =
-    subst (λ p. IsLogAt job claim p (log ++ bytes_from Prover (flat_map frame_spelling answer))) (sym next) (
-      d,
-      subst (ClaimedFor claim) same claimed,
-      record { granted = fits; fixed = fixed },
-      (λ i. at i ++ bytes_from Prover (flat_map frame_spelling (said i))) ∙ (λ i. granted_log job (same i) ++ bytes_from Prover (append-nil (corrections_frame d) i)),
-    )
+answered job claim awaits_grant frame answer now log sound (given, is, claimed, granted, at) (other, is_too, fits, answers) =
+    of_kind_of (grant_answer job given answer now (subst (λ g. AnswersGrant job g answer now) (sym same) answers))
   where
     same : given ≡ other
     same = same_grant given other (sym is ∙ is_too)
-answered job claim (awaits_challenge given wires) frame answer now log (element, d, is, ranged, claimed, fixes, at) (other, is_too, said, next) =
+
+    of_kind_of : IsGrantAnswer job given answer now → IsLogAt job claim now (log ++ bytes_from Prover (flat_map frame_spelling answer))
+    of_kind_of (inl (direct, commits)) =
+        commits_at job claim given [] (span_pairs job.file (span_of given)) answer now log claimed granted (asked_none job given direct)
+        (pairs_seen job.file (setup_for job given [])) (at ∙ sym (append-nil (granted_log job given))) commits
+    of_kind_of (inr (extended, said, next)) = asks_at job claim given answer now log claimed granted extended at said next
+answered job claim (awaits_replies given done pairs) frame answer now log sound (trees, came, is, are, claimed, some, at) (other, more, is_too, one, goes) =
+    replies_at job claim given done pairs more came trees answer now log sound claimed some are at
+    (subst (λ t. AreRoundPairs job.file (given.start + done) t more) (sym (same_trees trees other (sym is ∙ is_too))) one) goes
+answered job claim (awaits_challenge given pairs wires) frame answer now log sound (element, rounds, d, is, ranged, claimed, fixes, at) (other, is_too, said, next) =
     subst (λ p. IsLogAt job claim p (log ++ bytes_from Prover (flat_map frame_spelling answer))) (sym next) (record {
       given = given;
       claimed = claimed;
+      rounds = rounds;
+      pairs = pairs;
       d = d;
       wires = wires;
       fixes = fixes;
       element = element;
       is = ranged;
       logged = (λ i. at i ++ bytes_from Prover (flat_map frame_spelling (said i)))
-          ∙ ap (λ n. challenged_log job given d element ++ bytes_from Prover (sums_frame (sums_for job given wires n) ++ (openings_frame (openings_for job wires) ++ []))) (sym same)
-          ∙ ap (λ l. challenged_log job given d element ++ bytes_from Prover (u ++ l)) (append-nil o)
-          ∙ ap (λ l. challenged_log job given d element ++ l) (bytes_more Prover u o)
-          ∙ sym (append_assoc (challenged_log job given d element) (bytes_from Prover u) (bytes_from Prover o));
+          ∙ ap (λ n. challenged_log job given rounds d element ++ bytes_from Prover (sums_frame (sums_for job given pairs wires n) ++ (openings_frame (openings_for job wires) ++ []))) (sym same)
+          ∙ ap (λ l. challenged_log job given rounds d element ++ bytes_from Prover (u ++ l)) (append-nil o)
+          ∙ ap (λ l. challenged_log job given rounds d element ++ l) (bytes_more Prover u o)
+          ∙ sym (append_assoc (challenged_log job given rounds d element) (bytes_from Prover u) (bytes_from Prover o));
     })
   where
     same : element ≡ other
     same = same_element element other (sym is ∙ is_too)
 
     u : List ℕ
-    u = sums_frame (sums_for job given wires element)
+    u = sums_frame (sums_for job given pairs wires element)
 
     o : List ℕ
     o = openings_frame (openings_for job wires)
-answered job claim awaits_verdict frame answer now log taken answers = absurd taken
-answered job claim has_ended frame answer now log taken answers = absurd taken
+answered job claim awaits_verdict frame answer now log sound taken answers = absurd taken
+answered job claim has_ended frame answer now log sound taken answers = absurd taken
 
 -- where a prover waits behind its answer it expects a frame
-record IsNext (now : ProverPlace) : Type 0 where
+record IsNext (job : ProverJob) (now : ProverPlace) : Type 0 where
   awaited : Expect
-  expected : prover_expects now ≡ Some awaited
+  expected : prover_expects job now ≡ Some awaited
   none_yet : IsUnfinished awaited []
 
+-- a frame of replies has some bytes
+next_reply : (job : ProverJob) (given : Grant) (done : ℕ) (pairs : List Pair) (now : ProverPlace) → now ≡ awaits_replies given done pairs → IsNext job now
+next_reply job given done pairs now next = record {
+  awaited = expect.Reply job.file.params.height job.file.params.trees (given.count - done);
+  expected = ap (prover_expects job) next;
+  none_yet = inl (omega arith);
+}
+
+next_challenge : (job : ProverJob) (given : Grant) (pairs : List Pair) (answer : List Frame) (now : ProverPlace) → Commits job given pairs answer now → IsNext job now
+next_challenge job given pairs answer now (d, wires, fixed, said, next) =
+    record { awaited = expect.Challenge; expected = ap (prover_expects job) next; none_yet = inl (omega arith) }
+
 next_of : (job : ProverJob) (claim : Claim) (place : ProverPlace) (frame : Frame) (answer : List Frame) (now : ProverPlace) (log : List (Side × ℕ))
-    → IsLogTaken job claim place frame log → ProverAnswers job place frame answer now → IsNext now
-next_of job claim awaits_grant frame answer now log taken (other, d, wires, is_too, fits, fixed, said, next) =
-    record { awaited = expect.Challenge; expected = ap prover_expects next; none_yet = inl (omega arith) }
-next_of job claim (awaits_challenge given wires) frame answer now log taken (other, is_too, said, next) =
-    record { awaited = expect.Verdict; expected = ap prover_expects next; none_yet = inl (omega arith) }
+    → IsLogTaken job claim place frame log → ProverAnswers job place frame answer now → IsNext job now
+next_of job claim awaits_grant frame answer now log taken (other, is_too, fits, answers) = of_answer (grant_answer job other answer now answers)
+  where
+    of_answer : IsGrantAnswer job other answer now → IsNext job now
+    of_answer (inl (direct, commits)) = next_challenge job other (span_pairs job.file (span_of other)) answer now commits
+    of_answer (inr (extended, said, next)) = next_reply job other 0 [] now next
+next_of job claim (awaits_replies given done pairs) frame answer now log taken (other, more, is_too, one, inl (less, said, next)) =
+    next_reply job given (done + 1) (pairs ++ more) now next
+next_of job claim (awaits_replies given done pairs) frame answer now log taken (other, more, is_too, one, inr (all, commits)) =
+    next_challenge job given (pairs ++ more) answer now commits
+next_of job claim (awaits_challenge given pairs wires) frame answer now log taken (other, is_too, said, next) =
+    record { awaited = expect.Verdict; expected = ap (prover_expects job) next; none_yet = inl (omega arith) }
 next_of job claim awaits_verdict frame answer now log taken answers = absurd taken
 next_of job claim has_ended frame answer now log taken answers = absurd taken
 
@@ -129,21 +301,39 @@ next_of job claim has_ended frame answer now log taken answers = absurd taken
 pub answer_exists : (job : ProverJob) (claim : Claim) (place : ProverPlace) (frame : Frame) (log : List (Side × ℕ)) → IsSound job
     → IsLogTaken job claim place frame log → (answer : List Frame) × (now : ProverPlace) × ProverAnswers job place frame answer now
 answer_exists job claim awaits_grant frame log sound (given, is, claimed, granted, at) =
-    let found = fixed_exists job given sound granted in
-    (corrections found.0 ∷ [], awaits_challenge given found.1, (given, found.0, found.1, is, granted, found.2.fixed, refl, refl))
-answer_exists job claim (awaits_challenge given wires) frame log sound (element, d, is, ranged, claimed, fixes, at) =
-    (sums (sums_for job given wires element) ∷ openings (openings_for job wires) ∷ [], awaits_verdict, (element, is, refl, refl))
+    let found = answer_of_kind job job.file.params.kind given (λ direct. commits_to job given [] (span_pairs job.file (span_of given)) sound granted
+    (asked_none job given direct) (pairs_seen job.file (setup_for job given []))) in
+    (found.0, found.1, (given, is, granted, found.2))
+answer_exists job claim (awaits_replies given done pairs) frame log sound (trees, came, is, are, claimed, some, at) = by_count (cases_lt (done + 1) given.count)
+  where
+    found : (more : List Pair) × AreRoundPairs job.file (given.start + done) trees more
+    found = unit_pairs job.file (given.start + done) trees sound.file some.extended
+        (let within = some.granted.within in let less = some.more in omega (arith, within, less)) are
+
+    by_count : (done + 1 < given.count) ⊎ (given.count ≤ done + 1)
+        → (answer : List Frame) × (now : ProverPlace) × ProverAnswers job (awaits_replies given done pairs) frame answer now
+    by_count (inl less) = ([], awaits_replies given (done + 1) (pairs ++ found.0), (trees, found.0, is, found.1, inl (less, refl, refl)))
+    by_count (inr few) =
+        let all : done + 1 ≡ given.count = (let less = some.more in omega (arith, few, less)) in
+        let replied = replied_more job given done pairs came trees some are in
+        let c = commits_to job given (round_with job given (came ++ trees ∷ [])) (pairs ++ found.0) sound some.granted
+        (asked_round job given (came ++ trees ∷ []) sound.file some.granted some.extended (replied.0 ∙ all) replied.1)
+        (whole_view job.file (setup_for job given []).hello given (came ++ trees ∷ []) (pairs ++ found.0) (replied.0 ∙ all)
+        (first_more job.file given came trees pairs found.0 done some.count some.made found.1)) in
+        (corrections c.d ∷ [], awaits_challenge given (pairs ++ found.0) c.wires, (trees, found.0, is, found.1, inr (all, (c.d, c.wires, c.fixed, refl, refl))))
+answer_exists job claim (awaits_challenge given pairs wires) frame log sound (element, rounds, d, is, ranged, claimed, fixes, at) =
+    (sums (sums_for job given pairs wires element) ∷ openings (openings_for job wires) ∷ [], awaits_verdict, (element, is, refl, refl))
 answer_exists job claim awaits_verdict frame log sound taken = absurd taken
 answer_exists job claim has_ended frame log sound taken = absurd taken
 
 -- the answer is what an honest prover sends next
-answer_is_honest : (job : ProverJob) (claim : Claim) (place : ProverPlace) (frame : Frame) (answer : List Frame) (now : ProverPlace) (log : List (Side × ℕ)) (inputs values : List ℕ)
+pub answer_is_honest : (job : ProverJob) (claim : Claim) (place : ProverPlace) (frame : Frame) (answer : List Frame) (now : ProverPlace) (log : List (Side × ℕ)) (inputs values : List ℕ)
     → IsSound job → IsLogTaken job claim place frame log → ProverAnswers job place frame answer now → IsWitness job.statement inputs values job.given
     → AreHonestBytes (task_of job inputs) (sent_by Verifier log) (sent_by Prover log ++ flat_map frame_spelling answer)
 answer_is_honest job claim place frame answer now log inputs values sound taken answers witness =
     subst (λ (q : List ℕ × List ℕ). AreHonestBytes (task_of job inputs) q.0 q.1)
     (λ i. ((ap (sent_by Verifier) (append-nil (log ++ said)) ∙ verifier_hears log bytes) i, (ap (sent_by Prover) (append-nil (log ++ said)) ∙ prover_says log bytes) i))
-    (has_answered job claim now next.awaited (log ++ said) [] inputs values sound (answered job claim place frame answer now log taken answers) next.expected
+    (has_answered job claim now next.awaited (log ++ said) [] inputs values sound (answered job claim place frame answer now log sound taken answers) next.expected
     (omega arith) next.none_yet witness)
   where
     bytes : List ℕ
@@ -152,206 +342,5 @@ answer_is_honest job claim place frame answer now log inputs values sound taken 
     said : List (Side × ℕ)
     said = bytes_from Prover bytes
 
-    next : IsNext now
+    next : IsNext job now
     next = next_of job claim place frame answer now log taken answers
-
--- ---- where sending stops
-
--- What is to be sent behind a log: what an honest prover sends next; each beginning of it may be sent.
-pub record IsDue (job : ProverJob) (claim : Claim) (log : List (Side × ℕ)) (bytes : List ℕ) : Type 0 where
-  pub honest : (inputs wires : List ℕ) → IsWitness job.statement inputs wires job.given
-      → AreHonestBytes (task_of job inputs) (sent_by Verifier log) (sent_by Prover log ++ bytes)
-  pub asked : (more : List (Side × ℕ)) → IsAskedRight job claim (log ++ more)
-  pub claimed : (more rest : List ℕ) → bytes ≡ more ++ rest → SendsOnceClaimed job claim (log ++ bytes_from Prover more)
-
-counts_send : (f : LineFault) (old new : LineState) → lines.IsSendCause old new f → (first : ℕ) → old.faults ≡ first → lines.CountsFault f old new
-    → CountsOutcome (line_outcome f) first new.faults
-counts_send (fault.PeerEnded at) old new cause first same count = absurd cause
-counts_send (fault.BadFrame at) old new cause first same count = absurd cause
-counts_send fault.Link old new cause first same count =
-    let later = count.later in record { later = omega (arith, same, later); unfailed = λ no. absurd no }
-counts_send fault.NoMemory old new cause first same count =
-    let later = count.later in record { later = omega (arith, same, later); unfailed = λ no. count.unfailed tt ∙ same }
-
-pub stops_sending_at : (job : ProverJob) (course : Course) (bytes : List ℕ) (f : LineFault) (old new : LineState)
-    → GoesWell course.first old → IsDue job course.claim old.log bytes → SendStops bytes f old new
-    → Ends job course (line_outcome f) new
-stops_sending_at job course bytes f old new well due stops = record {
-  outcome_is = caused f stops.cause;
-  asked = subst (λ l. IsAskedRight job course.claim l) (sym logged) (due.asked (bytes_from Prover stops.done));
-  honest = sent f stops.cause;
-  claimed = subst (λ l. SendsOnceClaimed job course.claim l) (sym logged)
-      (due.claimed stops.done (stops.part ++ stops.begun.0) (stops.begun.1 ∙ append_assoc stops.done stops.part stops.begun.0));
-  logged = record {
-    part = stops.part;
-    told = stops.told ∙ (λ i. appended (bytes_from (well.side i) (stops.done ++ stops.part)) (well.told i))
-        ∙ appended_more old.log (bytes_from Prover (stops.done ++ stops.part)) course.first.told ∙ ap (λ l. appended l course.first.told) (sym passed);
-    none = none f stops.cause;
-    honest = λ inputs wires witness. subst (λ l. IsFromHonestProver (task_of job inputs) l) (sym passed)
-        (from_due inputs wires witness (stops.done ++ stops.part) stops.begun.0 stops.begun.1);
-    claimed = subst (λ l. SendsOnceClaimed job course.claim l) (sym passed) (due.claimed (stops.done ++ stops.part) stops.begun.0 stops.begun.1);
-  };
-  came = well.came ∙ (λ i. put_before (sym heard i) (sym stops.others.to_come i));
-  receives = (let same = stops.others.receives in let before = well.receives in let count = ap length heard in omega (arith, same, before, count));
-  count = counts_send f old new stops.cause course.first.faults well.faults stops.count;
-  is_open = stops.others.is_open ∙ well.is_open;
-}
-  where
-    logged : new.log ≡ old.log ++ bytes_from Prover stops.done
-    logged = stops.logged ∙ ap (λ side. old.log ++ bytes_from side stops.done) well.side
-
-    passed : new.log ++ bytes_from Prover stops.part ≡ old.log ++ bytes_from Prover (stops.done ++ stops.part)
-    passed = ap (λ l. l ++ bytes_from Prover stops.part) logged ∙ append_assoc old.log (bytes_from Prover stops.done) (bytes_from Prover stops.part)
-        ∙ ap (λ l. old.log ++ l) (sym (bytes_more Prover stops.done stops.part))
-
-    heard : sent_by Verifier new.log ≡ sent_by Verifier old.log
-    heard = ap (sent_by Verifier) logged ∙ verifier_hears old.log stops.done
-
-    from_due : (inputs wires : List ℕ) → IsWitness job.statement inputs wires job.given → (more rest : List ℕ) → bytes ≡ more ++ rest
-        → IsFromHonestProver (task_of job inputs) (old.log ++ bytes_from Prover more)
-    from_due inputs wires witness more rest is = (
-      sent_by Prover old.log ++ bytes,
-      subst (λ l. AreHonestBytes (task_of job inputs) l (sent_by Prover old.log ++ bytes)) (sym (verifier_hears old.log more)) (due.honest inputs wires witness),
-      (rest, ap (λ l. sent_by Prover old.log ++ l) is ∙ sym (append_assoc (sent_by Prover old.log) more rest) ∙ ap (λ l. l ++ rest) (sym (prover_says old.log more))),
-    )
-
-    from_done : (inputs wires : List ℕ) → IsWitness job.statement inputs wires job.given → IsFromHonestProver (task_of job inputs) new.log
-    from_done inputs wires witness = subst (λ l. IsFromHonestProver (task_of job inputs) l) (sym logged)
-        (from_due inputs wires witness stops.done (stops.part ++ stops.begun.0) (stops.begun.1 ∙ append_assoc stops.done stops.part stops.begun.0))
-
-    caused : (f : LineFault) → lines.IsSendCause old new f → IsOutcome job course.claim new.log
-        (record { ended = new.ended; to_come = new.to_come; before = course.first.faults; after = new.faults }) (line_outcome f)
-    caused (fault.PeerEnded at) cause = absurd cause
-    caused (fault.BadFrame at) cause = absurd cause
-    caused fault.Link cause = subst (λ n. Rose n new.faults) well.faults cause
-    caused fault.NoMemory cause = tt
-
-    sent : (f : LineFault) → lines.IsSendCause old new f → SendsHonestly job new.log (line_outcome f)
-    sent (fault.PeerEnded at) cause = absurd cause
-    sent (fault.BadFrame at) cause = absurd cause
-    sent fault.Link cause = from_done
-    sent fault.NoMemory cause = from_done
-
-    none : (f : LineFault) → lines.IsSendCause old new f → notes.IsNoFault (line_outcome f) → stops.part ≡ []
-    none (fault.PeerEnded at) cause fine = absurd cause
-    none (fault.BadFrame at) cause fine = absurd cause
-    none fault.Link cause fine = absurd fine
-    none fault.NoMemory cause fine = absurd fine
-
--- ---- answers over a line
-
--- the grant that an answer stands on
-record IsUnder (job : ProverJob) (claim : Claim) (log : List (Side × ℕ)) : Type 0 where
-  given : Grant
-  claimed : ClaimedFor claim given
-  granted : IsGrant job.file.params job.statement.program given
-  more : List (Side × ℕ)
-  logged : log ≡ granted_log job given ++ more
-
-under : (job : ProverJob) (claim : Claim) (place : ProverPlace) (frame : Frame) (log : List (Side × ℕ)) → IsLogTaken job claim place frame log
-    → IsUnder job claim log
-under job claim awaits_grant frame log (given, is, claimed, granted, at) =
-    record { given = given; claimed = claimed; granted = granted; more = []; logged = at ∙ sym (append-nil (granted_log job given)) }
-under job claim (awaits_challenge given wires) frame log (element, d, is, ranged, claimed, fixes, at) = record {
-  given = given;
-  claimed = claimed;
-  granted = fixes.granted;
-  more = bytes_from Prover (corrections_frame d) ++ bytes_from Verifier (challenge_frame element);
-  logged = at ∙ append_assoc (granted_log job given) (bytes_from Prover (corrections_frame d)) (bytes_from Verifier (challenge_frame element));
-}
-under job claim awaits_verdict frame log taken = absurd taken
-under job claim has_ended frame log taken = absurd taken
-
--- an answer is due
-answer_due : (job : ProverJob) (claim : Claim) (place : ProverPlace) (frame : Frame) (answer : List Frame) (now : ProverPlace) (log : List (Side × ℕ))
-    → IsSound job → IsLogTaken job claim place frame log → ProverAnswers job place frame answer now
-    → IsDue job claim log (flat_map frame_spelling answer)
-answer_due job claim place frame answer now log sound taken answers = record {
-  honest = λ inputs wires witness. answer_is_honest job claim place frame answer now log inputs wires sound taken answers witness;
-  asked = λ more. inr (u.given, read more, inl u.claimed);
-  claimed = λ more rest is. inr (u.given, read (bytes_from Prover more), u.claimed);
-}
-  where
-    u : IsUnder job claim log
-    u = under job claim place frame log taken
-
-    read : (more : List (Side × ℕ)) → IsGrantRead job (log ++ more) u.given
-    read more = read_is job u.given (log ++ more) (u.more ++ more) u.granted
-        (ap (λ l. l ++ more) u.logged ∙ append_assoc (granted_log job u.given) u.more more)
-
--- an answer is sent
-pub goes_on : (job : ProverJob) (course : Course) (place : ProverPlace) (frame : Frame) (answer : List Frame) (now : ProverPlace) (old new : LineState)
-    → IsLineTaken job course place frame old → ProverAnswers job place frame answer now → Sends (flat_map frame_spelling answer) old new
-    → IsLineAt job course now new
-goes_on job course place frame answer now old new taken answers sends = record {
-  log = subst (λ l. IsLogAt job course.claim now l) (sym logged) (answered job course.claim place frame answer now old.log taken.log answers);
-  well = record {
-    received = sends.others.reading ∙ taken.well.received ∙ ap idle (ap length (sym heard));
-    told = sends.told ∙ (λ i. appended (bytes_from (taken.well.side i) bytes) (taken.well.told i))
-        ∙ appended_more old.log (bytes_from Prover bytes) course.first.told ∙ ap (λ l. appended l course.first.told) (sym logged);
-    came = taken.well.came ∙ (λ i. put_before (sym heard i) (sym sends.others.to_come i));
-    side = sends.others.side ∙ taken.well.side;
-    is_open = sends.others.is_open ∙ taken.well.is_open;
-    receives = (let same = sends.others.receives in let before = taken.well.receives in let count = ap length heard in omega (arith, same, before, count));
-    faults = sends.unfailed ∙ taken.well.faults;
-  };
-}
-  where
-    bytes : List ℕ
-    bytes = flat_map frame_spelling answer
-
-    logged : new.log ≡ old.log ++ bytes_from Prover bytes
-    logged = sends.logged ∙ ap (λ side. old.log ++ bytes_from side bytes) taken.well.side
-
-    heard : sent_by Verifier new.log ≡ sent_by Verifier old.log
-    heard = ap (sent_by Verifier) logged ∙ verifier_hears old.log bytes
-
-    idle : ℕ → Reading
-    idle n = record { received = n; expected = None; taken = []; bad = None }
-
--- where a prover waits then
-pub follows : (job : ProverJob) (place : ProverPlace) (frame : Frame) (answer : List Frame) (now : ProverPlace) → ProverAnswers job place frame answer now
-    → Follows place now
-follows job awaits_grant frame answer now (given, d, wires, is, fits, fixed, said, next) = (given, wires, next)
-follows job (awaits_challenge given wires) frame answer now (element, is, said, next) = next
-follows job awaits_verdict frame answer now (code, number, is, said, next) = next
-follows job has_ended frame answer now answers = absurd answers
-
--- an answer is not sent
-pub stops_answering : (job : ProverJob) (course : Course) (place : ProverPlace) (frame : Frame) (answer : List Frame) (now : ProverPlace) (f : LineFault) (old new : LineState)
-    → IsSound job → IsLineTaken job course place frame old → ProverAnswers job place frame answer now
-    → SendStops (flat_map frame_spelling answer) f old new → Ends job course (line_outcome f) new
-stops_answering job course place frame answer now f old new sound taken answers stops =
-    stops_sending_at job course (flat_map frame_spelling answer) f old new taken.well
-    (answer_due job course.claim place frame answer now old.log sound taken.log answers) stops
-
--- no answer is found
-pub stops_unanswered : (job : ProverJob) (course : Course) (place : ProverPlace) (frame : Frame) (line : LineState)
-    → IsSound job → IsLineTaken job course place frame line → Ends job course NoMemory line
-stops_unanswered job course place frame line sound taken =
-    let found = answer_exists job course.claim place frame line.log sound taken.log in
-    stops_answering job course place frame found.0 found.1 fault.NoMemory line line sound taken found.2 (stops_before (flat_map frame_spelling found.0) line)
-
--- the prover refuses to answer: only for want of memory
-pub refuses_nothing : (job : ProverJob) (course : Course) (place : ProverPlace) (frame : Frame) (f : SessionFault) (line : LineState)
-    → IsSound job → IsLineTaken job course place frame line → ProverRefuses job place frame f → Ends job course (session_outcome f) line
-refuses_nothing job course place frame (session.BadHello differs) line sound taken refused = absurd refused
-refuses_nothing job course place frame session.BadGrant line sound taken (given, there, is, unsuited) =
-    absurd (elsewhere place frame taken.log is unsuited)
-  where
-    elsewhere : (place : ProverPlace) (frame : Frame) → IsLogTaken job course.claim place frame line.log → frame ≡ grant given
-        → (Suits job.file.params job.statement.program given → ⊥) → ⊥
-    elsewhere awaits_grant frame (other, is_too, claimed, granted, at) is unsuited =
-        unsuited (suits_is job.file.params job.statement.program given
-        (subst (λ (g : Grant). IsGrant job.file.params job.statement.program g) (same_grant other given (sym is_too ∙ is)) granted))
-    elsewhere (awaits_challenge other wires) frame (element, d, is_too, ranged, claimed, fixes, at) is unsuited = no_challenge_is_grant element given (sym is_too ∙ is)
-    elsewhere awaits_verdict frame taken is unsuited = taken
-    elsewhere has_ended frame taken is unsuited = taken
-refuses_nothing job course place frame (session.PeerRefused code) line sound taken (there, is) = absurd (elsewhere place frame taken.log is)
-  where
-    elsewhere : (place : ProverPlace) (frame : Frame) → IsLogTaken job course.claim place frame line.log → frame ≡ refuse code → ⊥
-    elsewhere awaits_grant frame (given, is_too, claimed, granted, at) is = no_refusal_is_grant code given (sym is ∙ is_too)
-    elsewhere (awaits_challenge other wires) frame (element, d, is_too, ranged, claimed, fixes, at) is = no_refusal_is_challenge code element (sym is ∙ is_too)
-    elsewhere awaits_verdict frame taken is = taken
-    elsewhere has_ended frame taken is = taken
-refuses_nothing job course place frame session.NoMemory line sound taken refused = stops_unanswered job course place frame line sound taken

@@ -1,14 +1,12 @@
 -- Why a session ends where it does.
-use Rattle.std.proofs.Common.{◌≡◌, ◌⊎◌, inl, inr, ℕ, ◌+◌, ◌≤◌, List, [], ◌++◌, length, true, Option, Some, None, refl, ap, sym, ◌∙◌, subst, append_assoc, append-nil, length-append, arith}
-use Rattle.zk_model.specs.Transcript.{Grant, IsGrant, bytes_from, sent_by, corrections_frame, challenge_frame, sums_frame, openings_frame}
+use Rattle.std.proofs.Common.{◌≡◌, ◌⊎◌, inl, inr, ℕ, ◌+◌, ◌≤◌, List, [], ◌++◌, flat_map, length, true, Option, Some, None, refl, ap, sym, ◌∙◌, subst, append_assoc, append-nil, length-append, arith}
+use Rattle.zk_model.specs.Transcript.{Grant, bytes_from, turn_bytes, sent_by, reply_frame, corrections_frame, challenge_frame, sums_frame, openings_frame}
 use Rattle.zk_model.specs.Frames.{Frame}
 use Rattle.zk_model.specs.HonestProver.{IsWitness}
 use Rattle.zk_model.specs.Peers.{IsFromHonestProver, HasEndedHonestly}
 use Rattle.zk_model.specs.declared.Expect.{Expect}
-use Rattle.zk_model.specs.declared.Params.{Params}
 use Rattle.zk_model.specs.declared.Side.{Side}
 use Rattle.zk_model.specs.declared.Side.TheVariants.{Prover, Verifier}
-use Rattle.zk_model.specs.Program.{Program}
 use Rattle.zk_port.specs.Counts.{Rose}
 use Rattle.zk_port.specs.Logs.{appended, put_before, peer_of}
 use Rattle.frame_link.specs.Lines.{LineState, Came, Arrives, Fails, longest, IsUnfinished}
@@ -16,27 +14,19 @@ use Rattle.frame_link.specs.Lines as lines
 use Rattle.frame_link.specs.declared.fault.LineFault.{LineFault}
 use Rattle.frame_link.specs.declared.fault.LineFault.TheVariants as fault
 use Rattle.proof_frames.specs.Readings.{Reading}
-use Rattle.session_core.specs.Jobs.{ProverJob, Suits}
-use Rattle.session_core.specs.Cores.{ProverPlace, awaits_grant, awaits_challenge, awaits_verdict, has_ended, prover_expects}
+use Rattle.session_core.specs.Jobs.{ProverJob}
+use Rattle.session_core.specs.Rounds.{round_turns}
+use Rattle.session_core.specs.Cores.{ProverPlace, awaits_grant, awaits_replies, awaits_challenge, awaits_verdict, has_ended, prover_expects}
 use Rattle.session_prover.specs.declared.note.ProverOutcome.{ProverOutcome}
 use Rattle.session_prover.specs.Outcomes.{line_outcome}
-use Rattle.session_prover.specs.Stages.{Claim, ClaimedFor, Course, IsLogAt, GoesWell, IsLineAt, greeted_log, granted_log, sums_for, openings_for}
-use Rattle.session_prover.specs.Notes.{task_of, IsGrantRead, IsAskedRight, SendsOnceClaimed, IsOutcome, CountsOutcome, SendsHonestly, IsLogged, Ends}
+use Rattle.session_prover.specs.Stages.{Claim, ClaimedFor, Course, IsLogAt, GoesWell, IsLineAt, greeted_log, granted_log, all_asks, sums_for, openings_for}
+use Rattle.session_prover.specs.Notes.{task_of, IsGrantRead, IsAskedRight, SendsOnceClaimed, IsRelated, IsOutcome, CountsOutcome, SendsHonestly, IsLogged, Ends}
 use Rattle.session_prover.specs.Turns.{IsSound, Comes}
 use Rattle.session_prover.proofs.Sides.{prover_hears, verifier_says, appended_more, before_more}
+use Rattle.session_prover.proofs.Related.{read_is, related_at}
 use Rattle.session_prover.proofs.Waiting.{greeted_sent, has_answered, from_ended}
 
 -- ---- the claim
-
--- a grant that fits suits
-pub suits_is : (params : Params) (program : Program) (given : Grant) → IsGrant params program given → Suits params program given
-suits_is params program given is =
-    record { section_some = is.section_some; section_most = is.section_most; count = is.count; count_most = is.count_most }
-
--- a log that goes on behind a grant
-pub read_is : (job : ProverJob) (given : Grant) (log more : List (Side × ℕ)) → IsGrant job.file.params job.statement.program given
-    → log ≡ granted_log job given ++ more → IsGrantRead job log given
-read_is job given log more granted is = record { suits = suits_is job.file.params job.statement.program given granted; begun = (more, is) }
 
 -- the grant of a place that was claimed was read
 record IsClaimRead (job : ProverJob) (claim : Claim) (log : List (Side × ℕ)) : Type 0 where
@@ -47,22 +37,33 @@ record IsClaimRead (job : ProverJob) (claim : Claim) (log : List (Side × ℕ)) 
 read_at : (job : ProverJob) (claim : Claim) (place : ProverPlace) (before more : List (Side × ℕ)) → IsLogAt job claim place before
     → (claim.answer ≡ None) × (before ≡ greeted_log job) ⊎ IsClaimRead job claim (before ++ more)
 read_at job claim awaits_grant before more at = inl at
-read_at job claim (awaits_challenge given wires) before more (d, claimed, fixes, at) = inr (record {
+read_at job claim (awaits_replies given done pairs) before more (came, claimed, some, at) = inr (record {
   given = given;
-  read = read_is job given (before ++ more) (bytes_from Prover (corrections_frame d) ++ more) fixes.granted
-      (ap (λ l. l ++ more) at ∙ append_assoc (granted_log job given) (bytes_from Prover (corrections_frame d)) more);
+  read = read_is job given (before ++ more) (bytes_from Prover (all_asks job given) ++ (bytes_from Verifier (flat_map reply_frame came) ++ more)) some.granted
+      (ap (λ l. l ++ more) at ∙ append_assoc (granted_log job given ++ bytes_from Prover (all_asks job given)) (bytes_from Verifier (flat_map reply_frame came)) more
+      ∙ append_assoc (granted_log job given) (bytes_from Prover (all_asks job given)) (bytes_from Verifier (flat_map reply_frame came) ++ more));
+  claimed = claimed;
+})
+read_at job claim (awaits_challenge given pairs wires) before more (rounds, d, claimed, fixes, at) = inr (record {
+  given = given;
+  read = read_is job given (before ++ more) (turn_bytes (round_turns rounds) ++ (bytes_from Prover (corrections_frame d) ++ more)) fixes.granted
+      (ap (λ l. l ++ more) at ∙ append_assoc (granted_log job given ++ turn_bytes (round_turns rounds)) (bytes_from Prover (corrections_frame d)) more
+      ∙ append_assoc (granted_log job given) (turn_bytes (round_turns rounds)) (bytes_from Prover (corrections_frame d) ++ more));
   claimed = claimed;
 })
 read_at job claim awaits_verdict before more opened = inr (record {
   given = opened.given;
-  read = read_is job opened.given (before ++ more) (c ++ (b ++ (s ++ (o ++ more)))) opened.fixes.granted
-      (ap (λ l. l ++ more) opened.logged ∙ append_assoc (g ++ c ++ b ++ s) o more ∙ append_assoc (g ++ c ++ b) s (o ++ more)
-      ∙ append_assoc (g ++ c) b (s ++ (o ++ more)) ∙ append_assoc g c (b ++ (s ++ (o ++ more))));
+  read = read_is job opened.given (before ++ more) (r ++ (c ++ (b ++ (s ++ (o ++ more))))) opened.fixes.granted
+      (ap (λ l. l ++ more) opened.logged ∙ append_assoc (g ++ r ++ c ++ b ++ s) o more ∙ append_assoc (g ++ r ++ c ++ b) s (o ++ more)
+      ∙ append_assoc (g ++ r ++ c) b (s ++ (o ++ more)) ∙ append_assoc (g ++ r) c (b ++ (s ++ (o ++ more))) ∙ append_assoc g r (c ++ (b ++ (s ++ (o ++ more)))));
   claimed = opened.claimed;
 })
   where
     g : List (Side × ℕ)
     g = granted_log job opened.given
+
+    r : List (Side × ℕ)
+    r = turn_bytes (round_turns opened.rounds)
 
     c : List (Side × ℕ)
     c = bytes_from Prover (corrections_frame opened.d)
@@ -71,7 +72,7 @@ read_at job claim awaits_verdict before more opened = inr (record {
     b = bytes_from Verifier (challenge_frame opened.element)
 
     s : List (Side × ℕ)
-    s = bytes_from Prover (sums_frame (sums_for job opened.given opened.wires opened.element))
+    s = bytes_from Prover (sums_frame (sums_for job opened.given opened.pairs opened.wires opened.element))
 
     o : List (Side × ℕ)
     o = bytes_from Prover (openings_frame (openings_for job opened.wires))
@@ -189,13 +190,14 @@ sent_line fault.NoMemory job log ended inputs wires witness = from_ended job inp
 
 -- none has come
 pub stops_taking : (job : ProverJob) (course : Course) (place : ProverPlace) (awaited : Expect) (f : LineFault) (old new : LineState)
-    → IsSound job → IsLineAt job course place old → prover_expects place ≡ Some awaited → Fails awaited f old new
+    → IsSound job → IsLineAt job course place old → prover_expects job place ≡ Some awaited → Fails awaited f old new
     → Ends job course (line_outcome f) new
 stops_taking job course place awaited f old new sound at expected fails = record {
   outcome_is = by_fault f fails.broken;
   asked = subst (λ l. IsAskedRight job course.claim l) (sym well.logged) (asked_at job course.claim place old.log (bytes_from Verifier fails.bytes) at.log);
   honest = sent_line f job new.log ended;
   claimed = claimed;
+  related = subst (IsRelated job) (sym well.logged) (related_at job course.claim place old.log fails.bytes sound at.log);
   logged = logged_whole job course.claim (line_outcome f) new.log course.first.told new.told well.told
       (λ inputs wires witness. from_ended job inputs new.log (ended inputs wires witness)) claimed;
   came = well.came;

@@ -1,9 +1,10 @@
 -- A greeting, and what comes in the grant's place.
-use Rattle.std.proofs.Common.{◌≡◌, inl, inr, ℕ, ◌+◌, ◌≤◌, List, [], ◌++◌, length, Bool, true, false, nat_lt, Some, None, Result, Ok, Err, IfErr, refl, ap, sym, ◌∙◌, subst, append-nil, arith}
+use Rattle.std.proofs.Common.{◌≡◌, inl, inr, ℕ, ◌+◌, ◌≤◌, List, [], ◌++◌, flat_map, length, Bool, true, false, nat_lt, Some, None, Result, Ok, Err, IfErr, refl, ap, sym, ◌∙◌, subst, append_assoc, append-nil, arith}
 use Rattle.std.proofs.lemmas.Bool.{ltb-true, ltb-false}
 use Rattle.std.specs.Prelude.{IfOk}
 use Rattle.zk_model.specs.declared.Span.{Span}
-use Rattle.zk_model.specs.Transcript.{Grant, IsGrant, bytes_from, sent_by, grant_frame, corrections_frame, refuse_frame}
+use Rattle.zk_model.specs.Transcript.{Grant, IsGrant, bytes_from, sent_by, grant_frame, refuse_frame}
+use Rattle.zk_model.specs.View.{span_of}
 use Rattle.zk_model.specs.Frames.{Frame, grant, refuse, Allows, FitsGrant, FitsRefusal, frame_spelling}
 use Rattle.zk_model.specs.HonestProver.{ProverTask, IsWitness, AreHonestBytes}
 use Rattle.zk_model.specs.Peers.{IsFromHonestProver, HasEndedHonestly}
@@ -20,16 +21,17 @@ use Rattle.session_core.specs.Cores.{ProverPlace, awaits_grant}
 use Rattle.session_prover.specs.declared.note.ProverOutcome.{ProverOutcome}
 use Rattle.session_prover.specs.declared.note.ProverOutcome.TheVariants as outcome
 use Rattle.session_prover.specs.Outcomes.{line_outcome, claim_outcome}
-use Rattle.session_prover.specs.Stages.{Claim, ClaimedFor, RefusedFor, Course, GoesWell, IsLineAt, IsLineTaken, greeting, greeted_log, granted_log}
-use Rattle.session_prover.specs.Notes.{task_of, IsOutcome, SendsHonestly, Ends}
+use Rattle.session_prover.specs.Stages.{Claim, ClaimedFor, RefusedFor, Course, IsLogTaken, GoesWell, IsLineAt, IsLineTaken, greeting, greeted_log, granted_log}
+use Rattle.session_prover.specs.Notes.{task_of, IsRelated, IsOutcome, SendsHonestly, Ends}
 use Rattle.session_prover.specs.Turns.{IsSound, SendStops, IsFresh, Comes, IsGrantTaken, IsNoGrant}
 use Rattle.session_prover.proofs.Sides.{own_bytes, appended_none, before_none, verifier_says, prover_hears}
-use Rattle.session_prover.proofs.Heard.{Hears}
-use Rattle.session_prover.proofs.Unheard.{one_grant, no_challenge}
-use Rattle.session_prover.proofs.Honest.{greets, corrects, fixed_exists}
+use Rattle.session_prover.proofs.Heard.{Hears, honest_bytes}
+use Rattle.session_prover.proofs.Unheard.{one_grant}
 use Rattle.session_prover.proofs.Waiting.{greeted_sent, greeted_heard, granted_sent, granted_heard, from_ended}
-use Rattle.session_prover.proofs.Ending.{suits_is, logged_whole}
-use Rattle.session_prover.proofs.Answering.{IsDue, stops_sending_at, same_grant, no_refusal_is_grant}
+use Rattle.session_prover.proofs.Ending.{logged_whole}
+use Rattle.session_prover.proofs.Related.{suits_is, related_greeting, related_part}
+use Rattle.session_prover.proofs.Answering.{same_grant, no_refusal_is_grant, answer_exists, answer_is_honest}
+use Rattle.session_prover.proofs.Stopping.{IsDue, stops_sending_at}
 
 -- ---- the greeting
 
@@ -48,6 +50,11 @@ fresh_well line fresh = record {
     idle : ℕ → Reading
     idle n = record { received = n; expected = None; taken = []; bad = None }
 
+-- an honest prover sends nothing but the greeting, where no grant that fits was heard
+greets : (job : ProverJob) (inputs received : List ℕ) → (Hears (task_of job inputs) received 0 → ⊥)
+    → AreHonestBytes (task_of job inputs) received (greeting job)
+greets job inputs received unheard = honest_bytes (task_of job inputs) received (greeting job) 0 refl unheard
+
 -- nothing was heard
 no_bytes : (task : ProverTask) → Hears task [] 0 → ⊥
 no_bytes task heard = let whole = ap length heard.begun in absurd (omega (arith, whole))
@@ -55,7 +62,7 @@ no_bytes task heard = let whole = ap length heard.begun in absurd (omega (arith,
 -- the greeting is due
 greeting_due : (job : ProverJob) (claim : Claim) → IsSound job → claim.answer ≡ None → IsDue job claim [] (greeting job)
 greeting_due job claim sound unasked = record {
-  honest = λ inputs wires witness. greets job inputs [] sound (no_bytes (task_of job inputs));
+  honest = λ inputs wires witness. greets job inputs [] (no_bytes (task_of job inputs));
   asked = λ more. inl unasked;
   claimed = λ more rest is. inl (rest, is ∙ ap (λ l. l ++ rest) (sym (own_bytes Prover more)));
 }
@@ -91,6 +98,8 @@ pub stops_greeting : (job : ProverJob) (course : Course) (f : LineFault) (old ne
 stops_greeting job course f old new sound first unasked fresh stops =
     stops_sending_at job course (greeting job) f old new (subst (λ (s : LineState). GoesWell s old) (sym first) (fresh_well old fresh))
     (subst (λ l. IsDue job course.claim l (greeting job)) (sym fresh.log) (greeting_due job course.claim sound unasked)) stops
+    (subst (λ l. IsRelated job (l ++ bytes_from Prover stops.done)) (sym fresh.log)
+    (related_part job stops.done (stops.part ++ stops.begun.0) (stops.begun.1 ∙ append_assoc stops.done stops.part stops.begun.0)))
 
 -- ---- what comes
 
@@ -112,6 +121,7 @@ ends_greeted job course result new well unasked sent ended honest is = record {
   asked = inl unasked;
   honest = honest;
   claimed = inl ([], sym (append-nil (sent_by Prover new.log) ∙ sent));
+  related = related_greeting job new.log sent;
   logged = logged_whole job course.claim result new.log course.first.told new.told well.told
       (λ inputs wires witness. from_ended job inputs new.log (ended inputs wires witness))
       (inl ([], sym (append-nil (sent_by Prover new.log) ∙ sent)));
@@ -159,7 +169,7 @@ ends_ungranted job course frame outcome.BadGrant new sound come allowed (given, 
     ended inputs wires witness =
         subst (λ (q : List ℕ × List ℕ). AreHonestBytes (task_of job inputs) q.0 q.1)
         (λ i. (sym (ap (sent_by Verifier) taken.log ∙ granted_heard job given) i, sym sent i))
-        (greets job inputs (grant_frame given) sound
+        (greets job inputs (grant_frame given)
         (λ heard. unsuited (suits_is job.file.params job.statement.program given
         (one_grant (task_of job inputs) given sound.file.params.total taken.fits heard))))
 ends_ungranted job course frame (outcome.PeerRefused code) new sound come allowed is =
@@ -180,7 +190,7 @@ ends_ungranted job course frame (outcome.PeerRefused code) new sound come allowe
     ended inputs wires witness =
         subst (λ (q : List ℕ × List ℕ). AreHonestBytes (task_of job inputs) q.0 q.1)
         (λ i. (sym (ap (sent_by Verifier) logged ∙ refused_heard job code) i, sym sent i))
-        (greets job inputs (refuse_frame code) sound (λ heard. let whole = ap length heard.begun in absurd (omega (arith, whole))))
+        (greets job inputs (refuse_frame code) (λ heard. let whole = ap length heard.begun in absurd (omega (arith, whole))))
 ends_ungranted job course frame outcome.Accepted new sound come allowed is = absurd is
 ends_ungranted job course frame (outcome.Rejected code number) new sound come allowed is = absurd is
 ends_ungranted job course frame (outcome.PeerEnded at) new sound come allowed is = absurd is
@@ -226,6 +236,7 @@ ends_unclaimed job course given f line sound suits taken refused = record {
   asked = inr (given, record { suits = suits; begun = ([], taken.log ∙ sym (append-nil (granted_log job given))) }, inr (f, refused));
   honest = honest f;
   claimed = inl ([], sym (append-nil (sent_by Prover line.log) ∙ sent));
+  related = related_greeting job line.log sent;
   logged = logged_whole job course.claim (claim_outcome f) line.log course.first.told line.told taken.well.told from
       (inl ([], sym (append-nil (sent_by Prover line.log) ∙ sent)));
   came = taken.well.came;
@@ -248,7 +259,7 @@ ends_unclaimed job course given f line sound suits taken refused = record {
         by_range true past = (
           greeting job,
           subst (λ l. AreHonestBytes (task_of job inputs) l (greeting job)) (sym heard)
-              (greets job inputs (grant_frame given) sound (λ h.
+              (greets job inputs (grant_frame given) (λ h.
               let within = (one_grant (task_of job inputs) given sound.file.params.total taken.fits h).within in
               let over = ltb-true job.file.params.total (given.start + given.count) past in
               absurd (omega (arith, within, over)))),
@@ -256,12 +267,12 @@ ends_unclaimed job course given f line sound suits taken refused = record {
         )
         by_range false within =
             let granted = granted_is job given suits (ltb-false job.file.params.total (given.start + given.count) within) in
-            let found = fixed_exists job given sound granted in (
-              greeting job ++ corrections_frame found.0,
-              subst (λ l. AreHonestBytes (task_of job inputs) l (greeting job ++ corrections_frame found.0)) (append-nil (grant_frame given) ∙ sym heard)
-                  (corrects job given found.0 found.1 inputs wires [] sound found.2 witness
-                  (no_challenge (task_of job inputs) given [] (omega arith) (inl (omega arith)))),
-              (corrections_frame found.0, ap (λ l. l ++ corrections_frame found.0) (sym sent)),
+            let other : Claim = record { asked = Some (given.start, given.count); answer = Some (Ok (span_of given)) } in
+            let taken_by : IsLogTaken job other awaits_grant (grant given) line.log = (given, refl, record { asked = refl; answer = refl }, granted, taken.log) in
+            let found = answer_exists job other awaits_grant (grant given) line.log sound taken_by in (
+              sent_by Prover line.log ++ flat_map frame_spelling found.0,
+              answer_is_honest job other awaits_grant (grant given) found.0 found.1 line.log inputs wires sound taken_by found.2 witness,
+              (flat_map frame_spelling found.0, refl),
             )
 
     caused : (f : ClaimFault) → RefusedFor course.claim given f → IsOutcome job course.claim line.log

@@ -1,49 +1,109 @@
 -- A verdict has come.
-use Rattle.std.proofs.Common.{◌≡◌, ℕ, List, [], ◌++◌, Result, Ok, Err, IfErr, OnOk, refl, ap, sym, ◌∙◌, subst, arith}
+use Rattle.std.proofs.Common.{◌≡◌, ℕ, ◌-◌, List, [], ◌∷◌, ◌++◌, flat_map, Result, Ok, Err, IfErr, OnOk, refl, ap, sym, ◌∙◌, subst, append_assoc, append-nil, arith}
 use Rattle.std.specs.Prelude.{IsSomeAnd}
-use Rattle.zk_model.specs.Transcript.{Grant, bytes_from, sent_by, grant_frame, challenge_frame, verdict_frame}
+use Rattle.std.proofs.lemmas.Grind.{flat_map-append}
+use Rattle.session_laws.proofs.Turns.{answered}
+use Rattle.zk_model.specs.Mac.{Pair}
+use Rattle.zk_model.specs.Transcript.{Grant, TreeReply, Round, bytes_from, turn_bytes, sent_by, spelling, grant_frame, reply_frame, corrections_frame, challenge_frame, sums_frame, openings_frame, verdict_frame}
 use Rattle.zk_model.specs.Frames.{Frame, verdict, Allows, FitsVerdict, frame_spelling}
 use Rattle.zk_model.specs.HonestProver.{IsWitness, AreHonestBytes}
 use Rattle.zk_model.specs.Peers.{HasEndedHonestly}
 use Rattle.zk_model.specs.Check.{WirePairs}
 use Rattle.zk_model.specs.declared.Expect.TheVariants as expect
-use Rattle.zk_model.specs.declared.Side.{Side}
 use Rattle.zk_model.specs.declared.Side.TheVariants.{Prover, Verifier}
 use Rattle.frame_link.specs.Lines.{LineState}
 use Rattle.session_core.specs.Jobs.{ProverJob}
-use Rattle.session_core.specs.Cores.{ProverPlace, awaits_challenge, awaits_verdict, prover_expects}
-use Rattle.session_core.proofs.Spelled.{spelled}
+use Rattle.session_core.specs.Rounds.{round_turns}
+use Rattle.session_core.specs.Cores.{ProverPlace, awaits_grant, awaits_replies, awaits_challenge, awaits_verdict, has_ended, prover_expects}
 use Rattle.session_prover.specs.declared.note.ProverOutcome.{ProverOutcome}
 use Rattle.session_prover.specs.declared.note.ProverOutcome.TheVariants as outcome
-use Rattle.session_prover.specs.Stages.{Course, IsOpenedLog, IsLineTaken, opened_log}
-use Rattle.session_prover.specs.Notes.{task_of, ReadsVerdict, IsAskedRight, SendsOnceClaimed, Ends}
-use Rattle.session_prover.specs.Turns.{IsSound, Comes, IsRejection}
-use Rattle.session_prover.proofs.Sides.{prover_hears, verifier_says}
+use Rattle.session_prover.specs.Stages.{Course, IsOpenedLog, IsLineTaken, granted_log, asked_log, replied_log, opened_log, sums_for, openings_for}
+use Rattle.session_prover.specs.Notes.{task_of, ReadsVerdict, IsAskedRight, SendsOnceClaimed, IsRelated, Ends}
+use Rattle.session_prover.specs.Turns.{IsSound, Expects, IsToAnswer, Comes, IsRejection}
+use Rattle.session_prover.proofs.Sides.{bytes_more, prover_hears, verifier_says}
 use Rattle.session_prover.proofs.Honest.{made, made_is, made_honest, finishes, all_sent}
 use Rattle.session_prover.proofs.Waiting.{opened_sent, opened_heard, from_ended}
+use Rattle.session_prover.proofs.Related.{related_at}
 use Rattle.session_prover.proofs.Ending.{asked_at, once_claimed, logged_whole}
 
--- a challenge has come
-pub challenge_taken : (job : ProverJob) (course : Course) (place : ProverPlace) (frame : Frame) (given : Grant) (wires : WirePairs) (line : LineState)
-    → place ≡ awaits_challenge given wires → Comes job course place frame line → Allows expect.Challenge frame
+-- replies behind replies
+replied_on : (job : ProverJob) (given : Grant) (came : List (List TreeReply)) (trees : List TreeReply)
+    → replied_log job given came ++ bytes_from Verifier (reply_frame trees) ≡ replied_log job given (came ++ trees ∷ [])
+replied_on job given came trees =
+    append_assoc (asked_log job given) (bytes_from Verifier (flat_map reply_frame came)) (bytes_from Verifier (reply_frame trees))
+    ∙ ap (λ l. asked_log job given ++ l)
+    (sym (bytes_more Verifier (flat_map reply_frame came) (reply_frame trees))
+    ∙ ap (λ l. bytes_from Verifier (flat_map reply_frame came ++ l)) (sym (append-nil (reply_frame trees)))
+    ∙ ap (bytes_from Verifier) (sym (flat_map-append reply_frame came (trees ∷ []))))
+
+-- replies or a challenge have come
+pub frame_taken : (job : ProverJob) (course : Course) (place : ProverPlace) (frame : Frame) (line : LineState) → IsToAnswer place
+    → Comes job course place frame line → IsSomeAnd (prover_expects job place) (λ e. Allows e frame)
     → IsLineTaken job course place frame line
-challenge_taken job course place frame given wires line there come (element, is, ranged) =
-    subst (λ p. IsLineTaken job course p frame line) (sym there)
-    (taken (subst (λ p. Comes job course p frame line) there come))
+frame_taken job course awaits_grant frame line answers come allowed = absurd answers
+frame_taken job course (awaits_replies given done pairs) frame line answers come (trees, is, are) = record {
+  log = (
+    trees,
+    come.waited.0,
+    is,
+    are,
+    come.waited.1,
+    come.waited.2,
+    come.logged ∙ (λ i. come.waited.3 i ++ bytes_from Verifier (frame_spelling (is i))) ∙ replied_on job given come.waited.0 trees,
+  );
+  well = come.well;
+}
+frame_taken job course (awaits_challenge given pairs wires) frame line answers come (element, is, ranged) = record {
+  log = (
+    element,
+    come.waited.0,
+    come.waited.1,
+    is,
+    ranged,
+    come.waited.2,
+    come.waited.3,
+    come.logged ∙ (λ i. come.waited.4 i ++ bytes_from Verifier (frame_spelling (is i))),
+  );
+  well = come.well;
+}
+frame_taken job course awaits_verdict frame line answers come allowed = absurd answers
+frame_taken job course has_ended frame line answers come allowed = absurd answers
+
+-- where a frame is to be answered, one is expected
+pub expects_some : (job : ProverJob) (place : ProverPlace) → IsToAnswer place → Expects job place
+expects_some job awaits_grant answers = absurd answers
+expects_some job (awaits_replies given done pairs) answers = (expect.Reply job.file.params.height job.file.params.trees (given.count - done), refl)
+expects_some job (awaits_challenge given pairs wires) answers = (expect.Challenge, refl)
+expects_some job awaits_verdict answers = absurd answers
+expects_some job has_ended answers = absurd answers
+
+-- seven lists in a row, as turns behind the first
+in_turns : {X : Type 0} (g r c b s o v : List X)
+    → g ++ r ++ c ++ b ++ s ++ o ++ v ≡ g ++ (r ++ ((c ++ b) ++ (((s ++ o) ++ v) ++ [])))
+in_turns g r c b s o v =
+    append_assoc (g ++ r ++ c ++ b ++ s) o v ∙ append_assoc (g ++ r ++ c ++ b) s (o ++ v) ∙ append_assoc (g ++ r ++ c) b (s ++ (o ++ v))
+    ∙ append_assoc (g ++ r) c (b ++ (s ++ (o ++ v))) ∙ append_assoc g r (c ++ (b ++ (s ++ (o ++ v))))
+    ∙ ap (λ l. g ++ (r ++ l)) (sym (append_assoc c b (s ++ (o ++ v))))
+    ∙ ap (λ l. g ++ (r ++ ((c ++ b) ++ l))) (sym (append_assoc s o v) ∙ sym (append-nil ((s ++ o) ++ v)))
+
+-- the log of a whole session is what its transcript spells
+spelled : (job : ProverJob) (given : Grant) (rounds : List Round) (pairs : List Pair) (d : List ℕ) (wires : WirePairs) (element code number : ℕ)
+    → opened_log job given rounds pairs d wires element ++ bytes_from Verifier (verdict_frame code number)
+    ≡ spelling (made job given rounds pairs d wires element code number)
+spelled job given rounds pairs d wires element code number =
+    in_turns (granted_log job given) (turn_bytes (round_turns rounds)) (bytes_from Prover (corrections_frame d)) (bytes_from Verifier (challenge_frame element))
+    (bytes_from Prover s) (bytes_from Prover o) (bytes_from Verifier (verdict_frame code number))
+    ∙ ap (λ l. granted_log job given ++ (turn_bytes (round_turns rounds)
+    ++ ((bytes_from Prover (corrections_frame d) ++ bytes_from Verifier (challenge_frame element)) ++ ((l ++ bytes_from Verifier (verdict_frame code number)) ++ []))))
+    (sym (bytes_more Prover s o))
+    ∙ ap (λ l. granted_log job given ++ l) (sym (flat_map-append (λ turn. bytes_from Prover turn.0 ++ bytes_from Verifier turn.1) (round_turns rounds)
+    ((corrections_frame d, challenge_frame element) ∷ (s ++ o, verdict_frame code number) ∷ [])))
   where
-    taken : Comes job course (awaits_challenge given wires) frame line → IsLineTaken job course (awaits_challenge given wires) frame line
-    taken come = record {
-      log = (
-        element,
-        come.waited.0,
-        is,
-        ranged,
-        come.waited.1,
-        come.waited.2,
-        come.logged ∙ (λ i. come.waited.3 i ++ bytes_from Verifier (frame_spelling (is i))),
-      );
-      well = come.well;
-    }
+    s : List ℕ
+    s = sums_frame (sums_for job given pairs wires element)
+
+    o : List ℕ
+    o = openings_frame (openings_for job wires)
 
 -- a verdict that was read
 record IsRead (job : ProverJob) (course : Course) (code number : ℕ) (line : LineState) : Type 0 where
@@ -51,47 +111,46 @@ record IsRead (job : ProverJob) (course : Course) (code number : ℕ) (line : Li
   ended : (inputs wires : List ℕ) → IsWitness job.statement inputs wires job.given → HasEndedHonestly (task_of job inputs) line.log
   asked : IsAskedRight job course.claim line.log
   claimed : SendsOnceClaimed job course.claim line.log
+  related : IsRelated job line.log
 
 is_read : (job : ProverJob) (course : Course) (frame : Frame) (code number : ℕ) (line : LineState) → IsSound job
     → Comes job course awaits_verdict frame line → FitsVerdict code number → frame ≡ verdict code number → IsRead job course code number line
 is_read job course frame code number line sound come fits is = record {
   reads = record {
-    t = made job opened.given opened.d opened.wires opened.element code number;
+    t = made job opened.given opened.rounds opened.pairs opened.d opened.wires opened.element code number;
     in_order = record {
       stated = sound.stated;
       hello = refl;
-      transcript = made_is job opened.given opened.d opened.wires opened.element code number sound opened.fixes opened.is fits.said fits.numbered;
-      bytes = logged ∙ spelled (made job opened.given opened.d opened.wires opened.element code number) [] _ _ _ _ _ _ _ refl refl refl refl refl refl refl refl refl;
+      transcript = made_is job opened.given opened.rounds opened.pairs opened.d opened.wires opened.element code number sound opened.fixes opened.is fits.said fits.numbered;
+      bytes = logged ∙ spelled job opened.given opened.rounds opened.pairs opened.d opened.wires opened.element code number;
     };
-    honest = λ inputs wires witness. made_honest job opened.given opened.d opened.wires opened.element code number inputs wires opened.fixes witness;
+    honest = λ inputs wires witness. made_honest job opened.given opened.rounds opened.pairs opened.d opened.wires opened.element code number inputs wires opened.fixes witness;
     code_is = refl;
     number_is = refl;
   };
   ended = λ inputs wires witness.
       subst (λ (q : List ℕ × List ℕ). AreHonestBytes (task_of job inputs) q.0 q.1) (λ i. (sym heard i, sym sent i))
-      (finishes job opened.given opened.d opened.wires opened.element code number inputs wires sound opened.fixes opened.is fits.said fits.numbered witness);
+      (finishes job opened.given opened.rounds opened.pairs opened.d opened.wires opened.element code number inputs wires sound opened.fixes opened.is fits.said fits.numbered witness);
   asked = subst (λ l. IsAskedRight job course.claim l) (sym come.logged)
       (asked_at job course.claim awaits_verdict come.before (bytes_from Verifier (frame_spelling frame)) opened);
   claimed = subst (λ l. SendsOnceClaimed job course.claim l) (sym come.logged)
       (once_claimed job course.claim awaits_verdict come.before (frame_spelling frame) opened);
+  related = subst (IsRelated job) (sym come.logged) (related_at job course.claim awaits_verdict come.before (frame_spelling frame) sound opened);
 }
   where
     opened : IsOpenedLog job course.claim come.before
     opened = come.waited
 
-    before : List (Side × ℕ)
-    before = opened_log job opened.given opened.d opened.wires opened.element
-
-    logged : line.log ≡ opened_log job opened.given opened.d opened.wires opened.element ++ bytes_from Verifier (verdict_frame code number)
+    logged : line.log ≡ opened_log job opened.given opened.rounds opened.pairs opened.d opened.wires opened.element ++ bytes_from Verifier (verdict_frame code number)
     logged = come.logged ∙ (λ i. opened.logged i ++ bytes_from Verifier (frame_spelling (is i)))
 
-    heard : sent_by Verifier line.log ≡ grant_frame opened.given ++ challenge_frame opened.element ++ verdict_frame code number
-    heard = ap (sent_by Verifier) logged ∙ verifier_says (opened_log job opened.given opened.d opened.wires opened.element) (verdict_frame code number)
-        ∙ ap (λ l. l ++ verdict_frame code number) (opened_heard job opened.given opened.d opened.wires opened.element)
+    heard : sent_by Verifier line.log ≡ ((grant_frame opened.given ++ answered (round_turns opened.rounds)) ++ challenge_frame opened.element) ++ verdict_frame code number
+    heard = ap (sent_by Verifier) logged ∙ verifier_says (opened_log job opened.given opened.rounds opened.pairs opened.d opened.wires opened.element) (verdict_frame code number)
+        ∙ ap (λ l. l ++ verdict_frame code number) (opened_heard job opened.given opened.rounds opened.pairs opened.d opened.wires opened.element)
 
-    sent : sent_by Prover line.log ≡ all_sent job opened.given opened.d opened.wires opened.element
-    sent = ap (sent_by Prover) logged ∙ prover_hears (opened_log job opened.given opened.d opened.wires opened.element) (verdict_frame code number)
-        ∙ opened_sent job opened.given opened.d opened.wires opened.element
+    sent : sent_by Prover line.log ≡ all_sent job opened.given opened.rounds opened.pairs opened.d opened.wires opened.element
+    sent = ap (sent_by Prover) logged ∙ prover_hears (opened_log job opened.given opened.rounds opened.pairs opened.d opened.wires opened.element) (verdict_frame code number)
+        ∙ opened_sent job opened.given opened.rounds opened.pairs opened.d opened.wires opened.element
 
 fits_of : (frame : Frame) (code number : ℕ) → Allows expect.Verdict frame → frame ≡ verdict code number → FitsVerdict code number
 fits_of frame code number (some, other, is_too, fits) is =
@@ -116,6 +175,7 @@ ends_accepted job course frame number line sound come allowed is = record {
   asked = read.asked;
   honest = read.ended;
   claimed = read.claimed;
+  related = read.related;
   logged = logged_whole job course.claim outcome.Accepted line.log course.first.told line.told come.well.told
       (λ inputs wires witness. from_ended job inputs line.log (read.ended inputs wires witness)) read.claimed;
   came = come.well.came;
@@ -135,6 +195,7 @@ ends_rejected job course frame (outcome.Rejected code number) line sound come al
   asked = read.asked;
   honest = read.ended;
   claimed = read.claimed;
+  related = read.related;
   logged = logged_whole job course.claim (outcome.Rejected code number) line.log course.first.told line.told come.well.told
       (λ inputs wires witness. from_ended job inputs line.log (read.ended inputs wires witness)) read.claimed;
   came = come.well.came;
@@ -157,12 +218,6 @@ ends_rejected job course frame (outcome.Full slots) line sound come allowed is =
 ends_rejected job course frame outcome.Device line sound come allowed is = absurd is
 ends_rejected job course frame outcome.Link line sound come allowed is = absurd is
 ends_rejected job course frame outcome.NoMemory line sound come allowed is = absurd is
-
--- what is allowed where a challenge is expected
-pub challenge_allowed : (place : ProverPlace) (frame : Frame) (given : Grant) (wires : WirePairs) → place ≡ awaits_challenge given wires
-    → IsSomeAnd (prover_expects place) (λ e. Allows e frame) → Allows expect.Challenge frame
-challenge_allowed place frame given wires there allowed =
-    subst (λ p. IsSomeAnd (prover_expects p) (λ e. Allows e frame)) there allowed
 
 -- how a session ended, by whether it was accepted
 pub ends_with : (job : ProverJob) (course : Course) (held : Result (Unit {0}) ProverOutcome) (result : ProverOutcome) (line : LineState)

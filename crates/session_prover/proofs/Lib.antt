@@ -1,11 +1,16 @@
 mod Sides
+mod Rounds
 mod Heard
 mod Honest
 mod Unheard
 mod Waiting
+mod Replied
+mod Related
 mod Ending
 mod Sending
 mod Answering
+mod RelatedAnswers
+mod Stopping
 mod Short
 mod Granting
 mod Judging

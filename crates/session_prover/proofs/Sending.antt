@@ -5,6 +5,7 @@ use Rattle.std.proofs.Math.ListN.{get_or-map}
 use Rattle.std.proofs.lemmas.List.{take-map, take-append-drop, length-map}
 use Rattle.zk_model.specs.Transcript.{BeginsWith, bytes_from}
 use Rattle.zk_model.specs.Frames.{frame_spelling}
+use Rattle.zk_model.specs.Frames as model
 use Rattle.zk_port.specs.Counts.{Rose}
 use Rattle.zk_port.specs.Logs.{appended}
 use Rattle.proof_frames.specs.Frames.{said, IsShort}
@@ -12,7 +13,7 @@ use Rattle.proof_frames.specs.declared.frame.Frame.{Frame}
 use Rattle.frame_link.specs.Lines.{LineState, Sends, SendFails, IsSendCause}
 use Rattle.frame_link.specs.declared.fault.LineFault.{LineFault}
 use Rattle.frame_link.specs.declared.fault.LineFault.TheVariants as fault
-use Rattle.session_prover.specs.Turns.{SendStops}
+use Rattle.session_prover.specs.Turns.{SendStops, FramesStop}
 use Rattle.session_prover.proofs.Sides.{bytes_more, appended_more, appended_none}
 
 pub short_at : (frames : List Frame) (i : ℕ) (frame : Frame) → frame ≡ get_or frames i frame → i < length frames → All IsShort (map said frames)
@@ -91,14 +92,28 @@ pub stops_first : (frame : List ℕ) (f : LineFault) (old new : LineState) → S
 stops_first frame f old new fails = stops_sending frame [] frame f old old new (sends_none old) fails (λ part rest is. (rest, is))
 
 -- want of memory before any send
-pub stops_before : (bytes : List ℕ) (line : LineState) → SendStops bytes fault.NoMemory line line
-stops_before bytes line = record {
-  done = [];
-  part = [];
-  begun = (bytes, refl);
-  logged = sym (append-nil line.log);
-  told = appended_none line.told;
-  others = record { side = refl; reading = refl; to_come = refl; ended = refl; is_open = refl; receives = refl };
-  cause = tt;
-  count = record { later = omega arith; unfailed = λ _. refl };
+pub stops_before : (frames : List model.Frame) (line : LineState) → FramesStop frames fault.NoMemory line line
+stops_before frames line = record {
+  stops = record {
+    done = [];
+    part = [];
+    begun = (flat_map frame_spelling frames, refl);
+    logged = sym (append-nil line.log);
+    told = appended_none line.told;
+    others = record { side = refl; reading = refl; to_come = refl; ended = refl; is_open = refl; receives = refl };
+    cause = tt;
+    count = record { later = omega arith; unfailed = λ _. refl };
+  };
+  sent = 0;
+  done_are = refl;
+}
+
+-- frames were sent, and then one is refused
+pub frames_stop : (frames : List Frame) (i : ℕ) (frame : Frame) (f : LineFault) (old mid new : LineState) → frame ≡ get_or frames i frame → i < length frames
+    → Sends (spelled (take i frames)) old mid → SendFails (frame_spelling (said frame)) f mid new → FramesStop (map said frames) f old new
+unfolding stops_sending
+frames_stop frames i frame f old mid new is below sends fails = record {
+  stops = stops_sending (spelled frames) (spelled (take i frames)) (frame_spelling (said frame)) f old mid new sends fails (begins_at frames i frame is below);
+  sent = i;
+  done_are = ap (flat_map frame_spelling) (sym (take-map said i frames));
 }

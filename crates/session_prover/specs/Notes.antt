@@ -1,10 +1,16 @@
 -- What a prover's note says of its session.
 use Rattle.std.specs.Prelude.{◌≡◌, ◌⊎◌, ℕ, ◌+◌, ◌≤◌, ◌<◌, List, [], ◌++◌, length, Bool, true, Option, Some, None, IfSome, Result, Ok, Err}
-use Rattle.zk_model.specs.Transcript.{Grant, Transcript, IsInOrder, BeginsWith, refuse_frame, bytes_from, sent_by}
+use Rattle.zk_model.specs.Mac.{Pair, AreKeysOf}
+use Rattle.zk_model.specs.Files.{VerifierFile, IsVerifierFile, AreDealt}
+use Rattle.zk_model.specs.Correlations.{IsProverView, span_keys}
+use Rattle.zk_model.specs.View.{span_of}
+use Rattle.zk_model.specs.ServedVerifier.{VerifierTask, RepliesAre}
+use Rattle.zk_model.specs.Transcript.{Grant, Round, Transcript, IsInOrder, BeginsWith, refuse_frame, bytes_from, sent_by}
 use Rattle.zk_model.specs.Frames.{CanGoOn, IsFirstBad, FitsGrant, FitsRefusal, frame_length}
-use Rattle.zk_model.specs.HonestProver.{ProverTask, IsWitness, IsHonest}
-use Rattle.zk_model.specs.Peers.{IsFromHonestProver, HasEndedHonestly}
+use Rattle.zk_model.specs.HonestProver.{ProverTask, IsWitness, IsHonest, honest_corrections}
+use Rattle.zk_model.specs.Peers.{IsFromHonestProver, IsFromHonestVerifier, HasEndedHonestly}
 use Rattle.zk_model.specs.declared.Expect.{Expect}
+use Rattle.zk_model.specs.declared.Kind.TheVariants.{Extended}
 use Rattle.zk_model.specs.declared.Side.{Side}
 use Rattle.zk_model.specs.declared.Side.TheVariants.{Prover, Verifier}
 use Rattle.zk_model.specs.declared.Span.{Span}
@@ -15,7 +21,7 @@ use Rattle.claim_store.specs.declared.ClaimFault.TheVariants as refusal
 use Rattle.frame_link.specs.Lines.{LineState, longest}
 use Rattle.session_core.specs.Jobs.{ProverJob, Suits}
 use Rattle.session_core.specs.Cores.{ProverPlace, prover_expects}
-use Rattle.session_prover.specs.Stages.{Claim, ClaimedFor, RefusedFor, Course, greeting, greeted_log, granted_log, IsLogAt}
+use Rattle.session_prover.specs.Stages.{Claim, ClaimedFor, RefusedFor, Course, AreAskedRounds, greeting, all_asks, greeted_log, granted_log, fixed_log, setup_for, IsLogAt}
 use Rattle.session_prover.specs.declared.note.ProverOutcome.{ProverOutcome}
 use Rattle.session_prover.specs.declared.note.ProverOutcome.TheVariants.{Accepted, Rejected, PeerEnded, BadFrame, BadGrant, PeerRefused, Broken, OutOfRange, Overlap, Full, Device, Link, NoMemory}
 
@@ -77,7 +83,7 @@ pub record StopsBehind
   pub before : List (Side × ℕ)
   pub waited : IsLogAt job claim place before
   pub expect : Expect
-  pub expected : prover_expects place ≡ Some expect
+  pub expected : prover_expects job place ≡ Some expect
   pub rest : List ℕ
   pub few : length rest ≤ longest expect
   pub logged : log ≡ before ++ bytes_from Verifier rest
@@ -174,6 +180,36 @@ pub record IsLogged
       → IsFromHonestProver (task_of job inputs) (log ++ bytes_from Prover part)
   pub claimed : SendsOnceClaimed job claim (log ++ bytes_from Prover part)
 
+-- ---- the correlations
+
+-- no correction is sent: nothing past the greeting and, in kind extended, the asks for the units of a grant that was read
+abbrev pub SendsNoCorrections : ProverJob → List (Side × ℕ) → Type 0
+SendsNoCorrections job log = BeginsWith (greeting job) (sent_by Prover log)
+    ⊎ ((given : Grant) × IsGrantRead job log given × (job.file.params.kind ≡ Extended)
+    × BeginsWith (greeting job ++ all_asks job given) (sent_by Prover log))
+
+-- The log begins with a grant, its rounds, and corrections: those of the pairs that the prover sees. Where the replies are
+-- those of a verifier's file that is dealt with the job's, the verifier's keys fit these pairs; and they are where the verifier
+-- is honest.
+pub record SendsCorrections (job : ProverJob) (log : List (Side × ℕ)) : Type 0 where
+  pub given : Grant
+  pub rounds : List Round
+  pub pairs : List Pair
+  pub d : List ℕ
+  pub begun : BeginsWith log (fixed_log job given rounds d)
+  pub asked : AreAskedRounds job given rounds
+  pub seen : IsProverView job.file (setup_for job given rounds) pairs
+  pub corrections : d ≡ honest_corrections job.given pairs
+  pub keys : (verifier : VerifierFile) → IsVerifierFile verifier → AreDealt job.file verifier
+      → RepliesAre verifier (setup_for job given rounds)
+      → AreKeysOf verifier.key pairs (span_keys verifier (span_of given))
+  pub replied : (verifier : VerifierTask) → AreDealt job.file verifier.file → job.statement ≡ verifier.statement
+      → IsFromHonestVerifier verifier log → RepliesAre verifier.file (setup_for job given rounds)
+
+-- the corrections that are sent, if any are, are those of pairs that the keys of a verifier fit whose replies were read
+abbrev pub IsRelated : ProverJob → List (Side × ℕ) → Type 0
+IsRelated job log = SendsNoCorrections job log ⊎ SendsCorrections job log
+
 -- ---- all together
 
 -- a session over a line that ended so
@@ -183,6 +219,7 @@ pub record Ends (job : ProverJob) (course : Course) (outcome : ProverOutcome) (n
   pub asked : IsAskedRight job course.claim now.log
   pub honest : SendsHonestly job now.log outcome
   pub claimed : SendsOnceClaimed job course.claim now.log
+  pub related : IsRelated job now.log
   pub logged : IsLogged job course.claim outcome now.log course.first.told now.told
   pub came : course.first.to_come ≡ put_before (sent_by Verifier now.log) now.to_come
   pub receives : now.receives ≤ course.first.receives + length (sent_by Verifier now.log) + 1

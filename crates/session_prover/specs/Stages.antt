@@ -1,12 +1,15 @@
 -- How far a session is at the prover: which frames are logged where it waits.
-use Rattle.std.specs.Prelude.{◌≡◌, ℕ, ◌+◌, ◌≤◌, List, [], ◌++◌, length, drop, true, Option, Some, None, Result, Ok, Err}
+use Rattle.std.specs.Prelude.{◌≡◌, ℕ, ◌+◌, ◌≤◌, ◌<◌, List, [], ◌∷◌, ◌++◌, flat_map, length, drop, All, true, Option, Some, None, Result, Ok, Err}
 use Rattle.zk_model.specs.Field.{IsElement}
-use Rattle.zk_model.specs.Mac.{macs_of}
+use Rattle.zk_model.specs.Mac.{Pair, macs_of}
 use Rattle.zk_model.specs.Check.{WirePairs, all_sums, opened_pairs}
-use Rattle.zk_model.specs.Files.{span_pairs}
-use Rattle.zk_model.specs.Transcript.{Grant, IsGrant, wanted_hello, hello_frame, grant_frame, corrections_frame, challenge_frame, sums_frame, openings_frame, bytes_from, sent_by}
-use Rattle.zk_model.specs.Frames.{Frame, grant, challenge}
+use Rattle.zk_model.specs.Files.{rounds_of}
+use Rattle.zk_model.specs.Transcript.{Grant, TreeReply, Round, Setup, IsGrant, IsRound, wanted_hello, hello_frame, grant_frame, ask_frame, reply_frame, corrections_frame, challenge_frame, sums_frame, openings_frame, bytes_from, turn_bytes, sent_by}
+use Rattle.zk_model.specs.Correlations.{IsProverView}
+use Rattle.zk_model.specs.Frames.{Frame, grant, replies, challenge, AreReplies}
+use Rattle.zk_model.specs.HonestProver.{round_asks}
 use Rattle.zk_model.specs.View.{span_of}
+use Rattle.zk_model.specs.declared.Kind.TheVariants.{Extended}
 use Rattle.zk_model.specs.declared.Side.{Side}
 use Rattle.zk_model.specs.declared.Side.TheVariants.{Prover, Verifier}
 use Rattle.zk_model.specs.declared.Span.{Span}
@@ -15,7 +18,9 @@ use Rattle.claim_store.specs.declared.ClaimFault.{ClaimFault}
 use Rattle.frame_link.specs.Lines.{LineState}
 use Rattle.session_core.specs.Ends.{IsFixed}
 use Rattle.session_core.specs.Jobs.{ProverJob}
-use Rattle.session_core.specs.Cores.{ProverPlace, awaits_grant, awaits_challenge, awaits_verdict, has_ended}
+use Rattle.session_core.specs.Rounds.{round_turns}
+use Rattle.session_core.specs.Cores.{ProverPlace, awaits_grant, awaits_replies, awaits_challenge, awaits_verdict, has_ended}
+use Rattle.session_core.specs.Fixing.{AreFirstPairs}
 
 -- ---- what was claimed
 
@@ -48,63 +53,120 @@ greeted_log job = bytes_from Prover (greeting job)
 abbrev pub granted_log : ProverJob → Grant → List (Side × ℕ)
 granted_log job given = greeted_log job ++ bytes_from Verifier (grant_frame given)
 
+-- what is asked for all units of a grant, in kind extended
+abbrev pub all_asks : ProverJob → Grant → List ℕ
+all_asks job given = flat_map ask_frame (round_asks job.file given)
+
+-- and answered by the asks
+abbrev pub asked_log : ProverJob → Grant → List (Side × ℕ)
+asked_log job given = granted_log job given ++ bytes_from Prover (all_asks job given)
+
+-- replies to the asks of some units are taken
+abbrev pub replied_log : ProverJob → Grant → List (List TreeReply) → List (Side × ℕ)
+replied_log job given came = asked_log job given ++ bytes_from Verifier (flat_map reply_frame came)
+
+-- all rounds behind a grant are whole: none in kind direct
+abbrev pub rounds_log : ProverJob → Grant → List Round → List (Side × ℕ)
+rounds_log job given rounds = granted_log job given ++ turn_bytes (round_turns rounds)
+
 -- and answered by corrections
-abbrev pub fixed_log : ProverJob → Grant → List ℕ → List (Side × ℕ)
-fixed_log job given d = granted_log job given ++ bytes_from Prover (corrections_frame d)
+abbrev pub fixed_log : ProverJob → Grant → List Round → List ℕ → List (Side × ℕ)
+fixed_log job given rounds d = rounds_log job given rounds ++ bytes_from Prover (corrections_frame d)
 
 -- a challenge is taken
-abbrev pub challenged_log : ProverJob → Grant → List ℕ → ℕ → List (Side × ℕ)
-challenged_log job given d element = fixed_log job given d ++ bytes_from Verifier (challenge_frame element)
+abbrev pub challenged_log : ProverJob → Grant → List Round → List ℕ → ℕ → List (Side × ℕ)
+challenged_log job given rounds d element = fixed_log job given rounds d ++ bytes_from Verifier (challenge_frame element)
 
--- the sums of all sections over the pairs of the wires
-abbrev pub sums_for : ProverJob → Grant → WirePairs → ℕ → List (ℕ × ℕ)
-sums_for job given wires element = all_sums job.statement.program given.section_length element wires
-    (drop job.statement.program.givens (span_pairs job.file (span_of given)))
+-- the sums of all sections over the pairs of the correlations and of the wires
+abbrev pub sums_for : ProverJob → Grant → List Pair → WirePairs → ℕ → List (ℕ × ℕ)
+sums_for job given pairs wires element =
+    all_sums job.statement.program given.section_length element wires (drop job.statement.program.givens pairs)
 
 -- the MACs of the opened wires
 abbrev pub openings_for : ProverJob → WirePairs → List ℕ
 openings_for job wires = macs_of (opened_pairs job.statement.program wires)
 
 -- and the challenge is answered by sums and openings
-abbrev pub opened_log : ProverJob → Grant → List ℕ → WirePairs → ℕ → List (Side × ℕ)
-opened_log job given d wires element =
-    challenged_log job given d element
-    ++ bytes_from Prover (sums_frame (sums_for job given wires element))
+abbrev pub opened_log : ProverJob → Grant → List Round → List Pair → List ℕ → WirePairs → ℕ → List (Side × ℕ)
+opened_log job given rounds pairs d wires element =
+    challenged_log job given rounds d element
+    ++ bytes_from Prover (sums_frame (sums_for job given pairs wires element))
     ++ bytes_from Prover (openings_frame (openings_for job wires))
 
--- a grant that fits, with the corrections and the pairs of all wires that it fixes
-pub record Fixes (job : ProverJob) (given : Grant) (d : List ℕ) (wires : WirePairs) : Type 0 where
+-- the setup of a session with this grant and these rounds
+abbrev pub setup_for : ProverJob → Grant → List Round → Setup
+setup_for job given rounds = record { hello = wanted_hello job.file.id job.statement; grant = given; rounds = rounds }
+
+-- as many rounds as the kind has, in range, with the asks of an honest prover
+pub record AreAskedRounds (job : ProverJob) (given : Grant) (rounds : List Round) : Type 0 where
+  pub count : length rounds ≡ rounds_of job.file.params.kind
+  pub ranged : All (IsRound job.file.params given) rounds
+  pub asks : All (λ round. round.asks ≡ round_asks job.file given) rounds
+
+-- A grant that fits, and its rounds; the pairs that the prover sees of them, and the corrections and the pairs of all wires
+-- that these fix.
+pub record Fixes
+    (job : ProverJob)
+    (given : Grant)
+    (rounds : List Round)
+    (pairs : List Pair)
+    (d : List ℕ)
+    (wires : WirePairs) : Type 0 where
   pub granted : IsGrant job.file.params job.statement.program given
-  pub fixed : IsFixed job.statement job.given (span_pairs job.file (span_of given)) d wires
+  pub asked : AreAskedRounds job given rounds
+  pub seen : IsProverView job.file (setup_for job given rounds) pairs
+  pub fixed : IsFixed job.statement job.given pairs d wires
+
+-- a grant that fits, in kind extended, and replies for the first units of it, but not for all, with the pairs that they make
+pub record AreSomeReplies
+    (job : ProverJob)
+    (given : Grant)
+    (done : ℕ)
+    (pairs : List Pair)
+    (came : List (List TreeReply)) : Type 0 where
+  pub granted : IsGrant job.file.params job.statement.program given
+  pub extended : job.file.params.kind ≡ Extended
+  pub more : done < given.count
+  pub count : length came ≡ done
+  pub each : All (AreReplies job.file.params.height job.file.params.trees) came
+  pub made : AreFirstPairs job.file given came pairs
 
 -- what is logged where a prover waits for the verdict
 pub record IsOpenedLog (job : ProverJob) (claim : Claim) (log : List (Side × ℕ)) : Type 0 where
   pub given : Grant
   pub claimed : ClaimedFor claim given
+  pub rounds : List Round
+  pub pairs : List Pair
   pub d : List ℕ
   pub wires : WirePairs
-  pub fixes : Fixes job given d wires
+  pub fixes : Fixes job given rounds pairs d wires
   pub element : ℕ
   pub is : IsElement element
-  pub logged : log ≡ opened_log job given d wires element
+  pub logged : log ≡ opened_log job given rounds pairs d wires element
 
 -- What is logged where a prover waits: its greeting, and the frames that came, each with its answer. The claimant is asked
 -- once a grant has come, which is answered only where its units are claimed.
 abbrev pub IsLogAt : ProverJob → Claim → ProverPlace → List (Side × ℕ) → Type 0
 IsLogAt job claim awaits_grant log = (claim.answer ≡ None) × (log ≡ greeted_log job)
-IsLogAt job claim (awaits_challenge given wires) log =
-    (d : List ℕ) × ClaimedFor claim given × Fixes job given d wires × (log ≡ fixed_log job given d)
+IsLogAt job claim (awaits_replies given done pairs) log = (came : List (List TreeReply))
+    × ClaimedFor claim given × AreSomeReplies job given done pairs came × (log ≡ replied_log job given came)
+IsLogAt job claim (awaits_challenge given pairs wires) log = (rounds : List Round) × (d : List ℕ)
+    × ClaimedFor claim given × Fixes job given rounds pairs d wires × (log ≡ fixed_log job given rounds d)
 IsLogAt job claim awaits_verdict log = IsOpenedLog job claim log
 IsLogAt job claim has_ended log = ⊥
 
--- What is logged where a frame has come that is to be answered: a grant whose units are claimed, or a challenge.
+-- What is logged where a frame has come that is to be answered: a grant whose units are claimed, replies, or a challenge.
 abbrev pub IsLogTaken : ProverJob → Claim → ProverPlace → Frame → List (Side × ℕ) → Type 0
 IsLogTaken job claim awaits_grant frame log = (given : Grant)
     × (frame ≡ grant given) × ClaimedFor claim given × IsGrant job.file.params job.statement.program given
     × (log ≡ granted_log job given)
-IsLogTaken job claim (awaits_challenge given wires) frame log = (element : ℕ) × (d : List ℕ)
-    × (frame ≡ challenge element) × IsElement element × ClaimedFor claim given × Fixes job given d wires
-    × (log ≡ challenged_log job given d element)
+IsLogTaken job claim (awaits_replies given done pairs) frame log = (trees : List TreeReply) × (came : List (List TreeReply))
+    × (frame ≡ replies trees) × AreReplies job.file.params.height job.file.params.trees trees
+    × ClaimedFor claim given × AreSomeReplies job given done pairs came
+    × (log ≡ replied_log job given (came ++ trees ∷ []))
+IsLogTaken job claim (awaits_challenge given pairs wires) frame log = (element : ℕ) × (rounds : List Round) × (d : List ℕ)
+    × (frame ≡ challenge element) × IsElement element × ClaimedFor claim given × Fixes job given rounds pairs d wires
+    × (log ≡ challenged_log job given rounds d element)
 IsLogTaken job claim awaits_verdict frame log = ⊥
 IsLogTaken job claim has_ended frame log = ⊥
 

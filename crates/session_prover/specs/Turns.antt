@@ -1,6 +1,5 @@
 -- What a prover's calls over a line require and make of it.
-use Rattle.std.specs.Prelude.{◌≡◌, ℕ, ◌^◌, ◌≤◌, List, [], ◌++◌, length, true, Some, None}
-use Rattle.zk_model.specs.Check.{WirePairs}
+use Rattle.std.specs.Prelude.{◌≡◌, ℕ, ◌+◌, ◌-◌, ◌^◌, ◌≤◌, ◌<◌, List, [], ◌++◌, flat_map, take, length, true, Some, None}
 use Rattle.zk_model.specs.Files.{IsProverFile}
 use Rattle.zk_model.specs.Statement.{IsStatement}
 use Rattle.zk_model.specs.Transcript.{Grant, BeginsWith, bytes_from}
@@ -12,28 +11,52 @@ use Rattle.zk_port.specs.Logs.{appended}
 use Rattle.frame_link.specs.Lines.{LineState, OnlySends, IsSendCause, CountsFault}
 use Rattle.frame_link.specs.declared.fault.LineFault.{LineFault}
 use Rattle.session_core.specs.Jobs.{ProverJob, IsProverJob, Suits}
-use Rattle.session_core.specs.Cores.{ProverPlace, awaits_grant, awaits_challenge, awaits_verdict, has_ended, prover_expects}
+use Rattle.session_core.specs.Cores.{ProverPlace, awaits_grant, awaits_replies, awaits_challenge, awaits_verdict, has_ended, prover_expects}
 use Rattle.session_prover.specs.declared.note.ProverOutcome.{ProverOutcome}
 use Rattle.session_prover.specs.declared.note.ProverOutcome.TheVariants.{BadGrant, PeerRefused, Rejected}
 use Rattle.session_prover.specs.Stages.{Course, IsLogAt, granted_log, GoesWell}
 
--- a job over a file and a statement as they are read, which opens few wires
+-- a job over a file and a statement as they are read, whose program has few given values, products and opened wires
 pub record IsSound (job : ProverJob) : Type 0 where
   pub is : IsProverJob job
   pub file : IsProverFile job.file
   pub stated : IsStatement job.statement
-  pub few : length job.statement.program.opened ≤ 2 ^ 20
+  pub givens : job.statement.program.givens ≤ 2 ^ 20
+  pub products : length job.statement.program.products ≤ 2 ^ 20
+  pub opened : length job.statement.program.opened ≤ 2 ^ 20
 
 -- a frame is expected
-abbrev pub Expects : ProverPlace → Type 0
-Expects place = (expect : Expect) × (prover_expects place ≡ Some expect)
+abbrev pub Expects : ProverJob → ProverPlace → Type 0
+Expects job place = (expect : Expect) × (prover_expects job place ≡ Some expect)
+
+-- a grant is answered
+abbrev pub IsBehindGrant : ProverPlace → Type 0
+IsBehindGrant awaits_grant = ⊥
+IsBehindGrant (awaits_replies given done pairs) = Unit {0}
+IsBehindGrant (awaits_challenge given pairs wires) = Unit {0}
+IsBehindGrant awaits_verdict = Unit {0}
+IsBehindGrant has_ended = ⊥
+
+-- a frame is expected that is to be answered: replies or a challenge
+abbrev pub IsToAnswer : ProverPlace → Type 0
+IsToAnswer awaits_grant = ⊥
+IsToAnswer (awaits_replies given done pairs) = Unit {0}
+IsToAnswer (awaits_challenge given pairs wires) = Unit {0}
+IsToAnswer awaits_verdict = ⊥
+IsToAnswer has_ended = ⊥
+
+-- how many frames are answered yet: behind a grant at most the replies of 4,096 units, and the challenge
+abbrev pub answers_left : ProverPlace → ℕ
+answers_left awaits_grant = 4098
+answers_left (awaits_replies given done pairs) = given.count - done + 1
+answers_left (awaits_challenge given pairs wires) = 1
+answers_left awaits_verdict = 0
+answers_left has_ended = 0
 
 -- where a prover waits next, once a frame is answered
-abbrev pub Follows : ProverPlace → ProverPlace → Type 0
-Follows awaits_grant now = (given : Grant) × (wires : WirePairs) × (now ≡ awaits_challenge given wires)
-Follows (awaits_challenge given wires) now = now ≡ awaits_verdict
-Follows awaits_verdict now = now ≡ has_ended
-Follows has_ended now = ⊥
+pub record Follows (place now : ProverPlace) : Type 0 where
+  pub behind : IsBehindGrant now
+  pub fewer : answers_left now < answers_left place
 
 -- bytes were not all sent: a first part of them is logged, the link tells that and a first part of what is left
 pub record SendStops (bytes : List ℕ) (fault : LineFault) (old new : LineState) : Type 0 where
@@ -45,6 +68,12 @@ pub record SendStops (bytes : List ℕ) (fault : LineFault) (old new : LineState
   pub others : OnlySends old new
   pub cause : IsSendCause old new fault
   pub count : CountsFault fault old new
+
+-- frames were not all sent: the first of them are logged
+pub record FramesStop (frames : List Frame) (fault : LineFault) (old new : LineState) : Type 0 where
+  pub stops : SendStops (flat_map frame_spelling frames) fault old new
+  pub sent : ℕ
+  pub done_are : stops.done ≡ flat_map frame_spelling (take sent frames)
 
 -- a line over which nothing has passed yet
 pub record IsFresh (now : LineState) : Type 0 where

@@ -1,5 +1,5 @@
 // The turns of a prover's session over a line.
-ghost use Rattle.std.specs.Prelude.{◌≡◌, ℕ, ◌≤◌, ◌+◌, ◌^◌, Some, None, length, map, flat_map, All, IfOk, IfErr, OnOk, IsTrue, IsSomeAnd};
+ghost use Rattle.std.specs.Prelude.{◌≡◌, ℕ, ◌≤◌, ◌+◌, ◌^◌, Some, None, true, false, length, map, flat_map, All, IfOk, IfErr, OnOk, IsTrue, IsSomeAnd};
 ghost use Rattle.zk_model.specs.Frames.{Allows, frame_spelling};
 ghost use Rattle.zk_model.specs.Frames as model;
 ghost use Rattle.zk_model.specs.declared.Expect.TheVariants as expect;
@@ -10,7 +10,7 @@ ghost use Rattle.session_core.specs.Cores.{awaits_grant, awaits_verdict, prover_
 ghost use Rattle.session_core.specs.Jobs.{Suits};
 ghost use Rattle.session_prover.specs.Stages.{Course, ClaimedFor, IsLineAt, IsLineTaken};
 ghost use Rattle.session_prover.specs.Notes.{Ends};
-ghost use Rattle.session_prover.specs.Turns.{IsSound, Expects, Follows, SendStops, IsFresh, Comes, IsGrantTaken, IsNoGrant, IsRejection};
+ghost use Rattle.session_prover.specs.Turns.{IsSound, Expects, IsBehindGrant, IsToAnswer, Follows, FramesStop, IsFresh, Comes, IsGrantTaken, IsNoGrant, IsRejection};
 ghost use Rattle.session_prover.specs.declared.note.ProverOutcome.TheVariants.{Accepted};
 
 use crate::note::ProverOutcome;
@@ -18,6 +18,7 @@ use frame_link::{Line, LineFault};
 use proof_frames::{Frame, Grant};
 use session_core::{ProverCore, ProverJob};
 use std::alloc::Global;
+use zk_model::Expect;
 use zk_port::Link;
 
 /// Sends frames, one behind another.
@@ -26,7 +27,7 @@ fn send_all<L: Link>(alloc: Global, line: &mut Line<L>, frames: &[Frame]) -> Res
     requires short { All IsShort (map said frames.now) }
     ensures sends { OnOk result (Sends (flat_map frame_spelling (map said frames.now)) line.old line.new) }
     ensures fails { IfErr result (λ fault.
-        SendStops (flat_map frame_spelling (map said frames.now)) fault line.old line.new) }
+        FramesStop (map said frames.now) fault line.old line.new) }
 {
     for frame in frames {
         line.send(alloc, frame)?;
@@ -63,9 +64,9 @@ fn take_frame<L: Link>(
     line: &mut Line<L>,
 ) -> Result<Frame, ProverOutcome>
     requires sound { IsSound core.now.job }
-    requires expecting { Expects core.now.place }
+    requires expecting { Expects core.now.job core.now.place }
     requires at { (course : Course) × IsLineAt core.now.job course core.now.place line.old }
-    ensures allowed { IfOk result (λ frame. IsSomeAnd (prover_expects core.now.place)
+    ensures allowed { IfOk result (λ frame. IsSomeAnd (prover_expects core.now.job core.now.place)
         (λ place. Allows place (said frame))) }
     ensures comes { IfOk result (λ frame. (course : Course)
         → IsLineAt core.now.job course core.now.place line.old
@@ -128,7 +129,7 @@ fn answer<L: Link>(
     frame: Frame,
 ) -> Result<(), ProverOutcome>
     requires sound { IsSound core.old.job }
-    requires expected { IsSomeAnd (prover_expects core.old.place) (λ place. Allows place (said frame)) }
+    requires expected { IsSomeAnd (prover_expects core.old.job core.old.place) (λ place. Allows place (said frame)) }
     requires within { StaysWithin core.old.job (said frame) }
     requires at { (course : Course) × IsLineTaken core.old.job course core.old.place (said frame) line.old }
     ensures follows { OnOk result (Follows core.old.place core.new.place) }
@@ -142,6 +143,64 @@ fn answer<L: Link>(
 {
     let answer = core.step(alloc, frame)?;
     send_all(alloc, line, &answer)?;
+    Ok(())
+}
+
+/// Whether the prover expects a frame that it answers: replies or the challenge.
+fn answers(core: &ProverCore<'_>) -> bool
+    ensures yes { result ≡ true → IsToAnswer core.now.place }
+    ensures no { result ≡ false → IsBehindGrant core.now.place → core.now.place ≡ awaits_verdict }
+{
+    matches!(
+        core.expects(),
+        Some(Expect::Reply { .. } | Expect::Challenge)
+    )
+}
+
+/// Takes the frame that the prover expects, and answers it.
+fn answer_next<L: Link>(
+    alloc: Global,
+    core: &mut ProverCore<'_>,
+    line: &mut Line<L>,
+) -> Result<(), ProverOutcome>
+    requires sound { IsSound core.old.job }
+    requires place { IsToAnswer core.old.place }
+    requires at { (course : Course) × IsLineAt core.old.job course core.old.place line.old }
+    ensures follows { OnOk result (Follows core.old.place core.new.place) }
+    ensures goes_on { OnOk result ((course : Course)
+        → IsLineAt core.old.job course core.old.place line.old
+        → IsLineAt core.old.job course core.new.place line.new) }
+    ensures ends { IfErr result (λ outcome. (course : Course)
+        → IsLineAt core.old.job course core.old.place line.old
+        → Ends core.old.job course outcome line.new) }
+    ensures job { core.new.job ≡ core.old.job }
+{
+    let frame = take_frame(alloc, core, line)?;
+    answer(alloc, core, line, frame)?;
+    Ok(())
+}
+
+/// Answers all that comes before the verdict: in kind extended the replies for each unit, and the challenge.
+fn answer_all<L: Link>(
+    alloc: Global,
+    core: &mut ProverCore<'_>,
+    line: &mut Line<L>,
+) -> Result<(), ProverOutcome>
+    requires sound { IsSound core.old.job }
+    requires place { IsBehindGrant core.old.place }
+    requires at { (course : Course) × IsLineAt core.old.job course core.old.place line.old }
+    ensures verdict { OnOk result (core.new.place ≡ awaits_verdict) }
+    ensures goes_on { OnOk result ((course : Course)
+        → IsLineAt core.old.job course core.old.place line.old
+        → IsLineAt core.old.job course awaits_verdict line.new) }
+    ensures ends { IfErr result (λ outcome. (course : Course)
+        → IsLineAt core.old.job course core.old.place line.old
+        → Ends core.old.job course outcome line.new) }
+    ensures job { core.new.job ≡ core.old.job }
+{
+    'answers: while answers(core) {
+        answer_next(alloc, core, line)?;
+    }
     Ok(())
 }
 
@@ -179,7 +238,7 @@ fn take_verdict<L: Link>(
     Ok(())
 }
 
-/// Answers a grant whose units are claimed, and the challenge, and takes the verdict.
+/// Answers a grant whose units are claimed, and all that comes behind it, and takes the verdict.
 pub(crate) fn answer_grant<L: Link>(
     alloc: Global,
     core: &mut ProverCore<'_>,
@@ -200,8 +259,7 @@ pub(crate) fn answer_grant<L: Link>(
         → Ends core.old.job course outcome line.new) }
 {
     answer(alloc, core, line, Frame::Grant(grant))?;
-    let challenge = take_frame(alloc, core, line)?;
-    answer(alloc, core, line, challenge)?;
+    answer_all(alloc, core, line)?;
     take_verdict(alloc, core, line)?;
     Ok(())
 }

@@ -7,7 +7,7 @@ ghost use Rattle.zk_port.specs.Logs.{put_before};
 ghost use Rattle.proof_frames.specs.Frames.{said};
 ghost use Rattle.session_core.specs.Cores.{awaits_grant};
 ghost use Rattle.session_prover.specs.Stages.{ClaimedFor, RefusedFor};
-ghost use Rattle.session_prover.specs.Notes.{Ends, IsGranted, IsOutcome, SendsHonestly, SendsOnceClaimed, IsLogged, CountsOutcome, granted_of};
+ghost use Rattle.session_prover.specs.Notes.{Ends, IsGranted, IsOutcome, SendsHonestly, SendsOnceClaimed, IsRelated, IsLogged, CountsOutcome, granted_of};
 ghost use Rattle.session_prover.specs.Completing.{Completes};
 ghost use Rattle.session_prover.specs.Turns.{IsSound, IsFresh};
 ghost use Rattle.session_prover.specs.declared.note.ProverOutcome.TheVariants.{Accepted};
@@ -87,7 +87,8 @@ fn outcome_of(held: Result<(), ProverOutcome>) -> ProverOutcome
 
 /// Proves a job's statement to any verifier at the other end of a link (Weng, Yang, Katz and Wang, Wolverine, IEEE S&P 2021;
 /// Yang, Sarkar, Weng and Wang, QuickSilver, ACM CCS 2021). It claims the units that the verifier grants before it sends
-/// anything of them, and uses them for this session alone. The stream is ended, whatever came of it.
+/// anything of them, and uses them for this session alone; in kind extended it then makes many correlations of the few that
+/// each has. The stream is ended, whatever came of it.
 pub fn prove_session<C: Claimant, L: Link>(
     alloc: Global,
     job: &ProverJob<'_>,
@@ -111,6 +112,7 @@ pub fn prove_session<C: Claimant, L: Link>(
     ensures honest { SendsHonestly job.now result.log result.outcome }
     ensures claimed { SendsOnceClaimed job.now
         (record { asked = C.asked claimant.new; answer = C.answer claimant.new }) result.log }
+    ensures related { IsRelated job.now result.log }
     ensures logged { IsLogged job.now
         (record { asked = C.asked claimant.new; answer = C.answer claimant.new }) result.outcome result.log
         (L.log link) (L.log result.link) }

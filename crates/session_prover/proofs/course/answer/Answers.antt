@@ -5,9 +5,9 @@ use Rattle.proof_frames.specs.declared.frame.Frame.{Frame}
 use Rattle.frame_link.specs.Lines.{Sends}
 use Rattle.frame_link.proofs.LineLemmas.{fails_at}
 use Rattle.session_prover.specs.Outcomes.{line_outcome, session_outcome}
-use Rattle.session_prover.specs.Turns.{SendStops}
+use Rattle.session_prover.specs.Turns.{FramesStop}
 use Rattle.session_prover.proofs.Short.{answer_short}
-use Rattle.session_prover.proofs.Answering.{goes_on, stops_answering, refuses_nothing}
+use Rattle.session_prover.proofs.Stopping.{goes_on, follows, stops_answering, refuses_nothing}
 use Rattle.session_prover.proofs.course.answer.Goals as goal
 
 pub returns-in_err-answer-clause-ends : goal.returns-in_err-answer-clause-ends
@@ -30,11 +30,16 @@ returns-in_err-send_all-clause-ends g c =
     fails_at _ c.from_residual-in_err-send_all.result (line_outcome f) c.from_residual-in_err-send_all.ensures.1
     (λ course taken. stops_answering c.args.core.now.job course c.args.core.now.place (said c.args.frame) (map said answer) c.step.new.self.place f c.args.line.now c.send_all.new.line
     c.requires.sound taken c.in_ok-answer.ensures.answered
-    (subst (λ (l : List Frame). SendStops (flat_map frame_spelling (map said l)) f c.args.line.now c.send_all.new.line) c.deref.ensures.value c.in_err-send_all.ensures.fails))
+    (subst (λ (l : List Frame). FramesStop (map said l) f c.args.line.now c.send_all.new.line) c.deref.ensures.value c.in_err-send_all.ensures.fails))
 
 pub returns-clause-goes_on : goal.returns-clause-goes_on
 returns-clause-goes_on g c = λ course taken.
     let answer = c.in_ok-answer.answer.items in
     goes_on c.args.core.now.job course c.args.core.now.place (said c.args.frame) (map said answer) c.step.new.self.place c.args.line.now c.send_all.new.line
-    taken c.in_ok-answer.ensures.answered
+    c.requires.sound taken c.in_ok-answer.ensures.answered
     (subst (λ (l : List Frame). Sends (flat_map frame_spelling (map said l)) c.args.line.now c.send_all.new.line) c.deref.ensures.value c.in_ok-send_all.ensures.sends)
+
+pub returns-clause-follows : goal.returns-clause-follows
+returns-clause-follows g c =
+    follows c.args.core.now.job c.requires.at.0.claim c.args.core.now.place (said c.args.frame) (map said c.in_ok-answer.answer.items) c.step.new.self.place c.args.line.now.log
+    c.requires.at.1.log c.in_ok-answer.ensures.answered

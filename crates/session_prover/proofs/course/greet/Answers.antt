@@ -12,7 +12,7 @@ returns-in_err-send_all-clause-ends g c =
     let f = c.in_err-send_all.field-0.0 in
     fails_at _ c.from_residual.result (line_outcome f) c.from_residual.ensures.1
     (λ course first unasked. stops_greeting c.args.core.now.job course f c.args.line.now c.send_all.new.line c.requires.sound first unasked c.requires.fresh
-    (subst (λ (l : List _). SendStops l f c.args.line.now c.send_all.new.line) (append-nil _ ∙ ap frame_spelling c.requires.greeting) c.in_err-send_all.ensures.fails))
+    (subst (λ (l : List _). SendStops l f c.args.line.now c.send_all.new.line) (append-nil _ ∙ ap frame_spelling c.requires.greeting) c.in_err-send_all.ensures.fails.stops))
 
 pub returns-clause-greeted : goal.returns-clause-greeted
 returns-clause-greeted g c = λ course first unasked.

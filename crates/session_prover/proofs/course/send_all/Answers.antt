@@ -1,8 +1,5 @@
-use Rattle.std.proofs.Common.{map, take, flat_map}
-use Rattle.zk_model.specs.Frames.{frame_spelling}
-use Rattle.proof_frames.specs.Frames.{said}
 use Rattle.frame_link.proofs.LineLemmas.{fails_at}
-use Rattle.session_prover.proofs.Sending.{short_at, begins_at, stops_sending}
+use Rattle.session_prover.proofs.Sending.{short_at, frames_stop}
 use Rattle.session_prover.proofs.course.send_all.Goals as goal
 
 pub send-requires-clause-short : goal.send-requires-clause-short
@@ -12,7 +9,5 @@ send-requires-clause-short g c =
 pub returns-in_err-send-clause-fails : goal.returns-in_err-send-clause-fails
 returns-in_err-send-clause-fails g c =
     fails_at _ c.from_residual.result c.in_err-send.field-0.0 c.from_residual.ensures.1
-    (stops_sending (flat_map frame_spelling (map said c.args.frames.now)) (flat_map frame_spelling (map said (take c.loop-frame.frame-index c.args.frames.now)))
-    (frame_spelling (said c.frame-item.result)) c.in_err-send.field-0.0 c.args.line.now c.loop-frame.line c.send.new.self
-    c.loop-frame.invariant c.in_err-send.ensures.fails
-    (begins_at c.args.frames.now c.loop-frame.frame-index c.frame-item.result c.frame-item.is c.loop-frame-test.true))
+    (frames_stop c.args.frames.now c.loop-frame.frame-index c.frame-item.result c.in_err-send.field-0.0 c.args.line.now c.loop-frame.line c.send.new.self
+    c.frame-item.is c.loop-frame-test.true c.loop-frame.invariant c.in_err-send.ensures.fails)

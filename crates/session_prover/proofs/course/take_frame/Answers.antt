@@ -11,7 +11,7 @@ pub take-requires-clause-fits : goal.take-requires-clause-fits
 take-requires-clause-fits g c =
     let course = c.requires.at.0 in
     let at = c.requires.at.1 in
-    let few = few_heard c.args.core.now.job course.claim c.args.core.now.place c.args.line.now.log at.log in
+    let few = few_heard c.args.core.now.job course.claim c.args.core.now.place c.args.line.now.log c.requires.sound at.log in
     let received = ap (λ (r : Reading). r.received) at.well.received in
     omega (arith, few, received)
 
@@ -19,7 +19,7 @@ pub returns-in_err-frame-clause-ends : goal.returns-in_err-frame-clause-ends
 returns-in_err-frame-clause-ends g c =
     fails_at _ c.from_residual.result (line_outcome c.in_err-frame.field-0.0) c.from_residual.ensures.1
     (λ course at. stops_taking c.args.core.now.job course c.args.core.now.place c.in-Some.place c.in_err-frame.field-0.0 c.args.line.now c.take.new.self
-    c.requires.sound at (sym c.expects.ensures ∙ c.in-Some.is) c.in_err-frame.ensures.fails)
+    c.requires.sound at (sym c.expects.ensures.place ∙ c.in-Some.is) c.in_err-frame.ensures.fails)
 
 pub returns-clause-comes : goal.returns-clause-comes
 returns-clause-comes g c = λ course at.

@@ -13,7 +13,7 @@ use Rattle.session_prover.proofs.Granting.{grant_taken, ends_ungranted}
 use Rattle.session_prover.proofs.course.take_grant.Goals as goal
 
 pub take_frame-requires-clause-expecting : goal.take_frame-requires-clause-expecting
-take_frame-requires-clause-expecting g c = (expect.Grant, ap prover_expects c.requires.place)
+take_frame-requires-clause-expecting g c = (expect.Grant, ap (prover_expects c.args.core.now.job) c.requires.place)
 
 pub returns-in_err-grant-clause-ends : goal.returns-in_err-grant-clause-ends
 returns-in_err-grant-clause-ends g c =
@@ -21,7 +21,7 @@ returns-in_err-grant-clause-ends g c =
     let frame = said c.in_ok-frame.frame in
     let line = c.take_frame.new.line in
     let allowed : Allows expect.Grant frame =
-    subst (λ (o : Option Expect). IsSomeAnd o (λ place. Allows place frame)) (ap prover_expects c.requires.place) c.in_ok-frame.ensures.allowed in
+    subst (λ (o : Option Expect). IsSomeAnd o (λ place. Allows place frame)) (ap (prover_expects c.args.core.now.job) c.requires.place) c.in_ok-frame.ensures.allowed in
     fails_at _ c.from_residual-in_err-grant.result c.in_err-grant.field-0.0 c.from_residual-in_err-grant.ensures.1
     (λ course at. ends_ungranted job course frame c.in_err-grant.field-0.0 line c.requires.sound
     (subst (λ (p : ProverPlace). Comes job course p frame line) c.requires.place
@@ -34,7 +34,7 @@ returns-clause-taken g c = λ course at.
     let frame = said c.in_ok-frame.frame in
     let line = c.take_frame.new.line in
     let allowed : Allows expect.Grant frame =
-    subst (λ (o : Option Expect). IsSomeAnd o (λ place. Allows place frame)) (ap prover_expects c.requires.place) c.in_ok-frame.ensures.allowed in
+    subst (λ (o : Option Expect). IsSomeAnd o (λ place. Allows place frame)) (ap (prover_expects c.args.core.now.job) c.requires.place) c.in_ok-frame.ensures.allowed in
     grant_taken job course frame c.in_ok-grant.grant line
     (subst (λ (p : ProverPlace). Comes job course p frame line) c.requires.place
     (c.in_ok-frame.ensures.comes course (subst (λ (p : ProverPlace). IsLineAt job course p c.args.line.now) (sym c.requires.place) at)))

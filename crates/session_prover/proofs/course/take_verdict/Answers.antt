@@ -12,7 +12,7 @@ use Rattle.session_prover.proofs.Judging.{ends_accepted, ends_rejected}
 use Rattle.session_prover.proofs.course.take_verdict.Goals as goal
 
 pub take_frame-requires-clause-expecting : goal.take_frame-requires-clause-expecting
-take_frame-requires-clause-expecting g c = (expect.Verdict, ap prover_expects c.requires.place)
+take_frame-requires-clause-expecting g c = (expect.Verdict, ap (prover_expects c.args.core.now.job) c.requires.place)
 
 pub returns-in_err-accepted_in-clause-ends : goal.returns-in_err-accepted_in-clause-ends
 returns-in_err-accepted_in-clause-ends g c =
@@ -20,7 +20,7 @@ returns-in_err-accepted_in-clause-ends g c =
     let frame = said c.in_ok-frame.frame in
     let line = c.take_frame.new.line in
     let allowed : Allows expect.Verdict frame =
-    subst (λ (o : Option Expect). IsSomeAnd o (λ place. Allows place frame)) (ap prover_expects c.requires.place) c.in_ok-frame.ensures.allowed in
+    subst (λ (o : Option Expect). IsSomeAnd o (λ place. Allows place frame)) (ap (prover_expects c.args.core.now.job) c.requires.place) c.in_ok-frame.ensures.allowed in
     fails_at _ c.from_residual-in_err-accepted_in.result c.in_err-accepted_in.field-0.0 c.from_residual-in_err-accepted_in.ensures.1
     (λ course at. ends_rejected job course frame c.in_err-accepted_in.field-0.0 line c.requires.sound
     (subst (λ (p : ProverPlace). Comes job course p frame line) c.requires.place
@@ -33,7 +33,7 @@ returns-clause-accepted g c = λ course at.
     let frame = said c.in_ok-frame.frame in
     let line = c.take_frame.new.line in
     let allowed : Allows expect.Verdict frame =
-    subst (λ (o : Option Expect). IsSomeAnd o (λ place. Allows place frame)) (ap prover_expects c.requires.place) c.in_ok-frame.ensures.allowed in
+    subst (λ (o : Option Expect). IsSomeAnd o (λ place. Allows place frame)) (ap (prover_expects c.args.core.now.job) c.requires.place) c.in_ok-frame.ensures.allowed in
     let number = c.in_ok-accepted_in.ensures.accepted in
     ends_accepted job course frame number.0 line c.requires.sound
     (subst (λ (p : ProverPlace). Comes job course p frame line) c.requires.place

@@ -4,7 +4,7 @@ use Rattle.zk_model.specs.declared.Side.{Side}
 use Rattle.zk_model.specs.declared.Side.TheVariants.{Verifier}
 use Rattle.frame_link.specs.Lines.{LineState}
 use Rattle.session_prover.specs.Stages.{Course}
-use Rattle.session_prover.specs.Notes.{Told, IsOutcome, SendsHonestly, SendsOnceClaimed, IsLogged}
+use Rattle.session_prover.specs.Notes.{Told, IsOutcome, SendsHonestly, SendsOnceClaimed, IsRelated, IsLogged}
 use Rattle.zk_model.specs.Files.{IsProverFile}
 use Rattle.zk_model.specs.Program.{Program}
 use Rattle.zk_model.specs.Statement.{Statement, IsStatement}
@@ -46,6 +46,14 @@ returns-clause-claimed g c =
     c.outcome_of-outcome.ensures.accepted c.outcome_of-outcome.ensures.other in
     subst (λ (l : List (Side × ℕ)). SendsOnceClaimed c.args.job.now course.claim l) (sym c.end-link.ensures.log) ends.claimed
 
+pub returns-clause-related : goal.returns-clause-related
+returns-clause-related g c =
+    let course : Course = record { first = c.new-line.result; claim = record { asked = g.C.Claimant.asked c.hold-held.new.claimant; answer = g.C.Claimant.answer c.hold-held.new.claimant } } in
+    let result = c.outcome_of-outcome.result in
+    let ends = ends_with c.args.job.now course c.hold-held.result result c.hold-held.new.line c.hold-held.ensures.accepted c.hold-held.ensures.ends
+    c.outcome_of-outcome.ensures.accepted c.outcome_of-outcome.ensures.other in
+    subst (λ (l : List (Side × ℕ)). IsRelated c.args.job.now l) (sym c.end-link.ensures.log) ends.related
+
 pub returns-clause-logged : goal.returns-clause-logged
 returns-clause-logged g c =
     let course : Course = record { first = c.new-line.result; claim = record { asked = g.C.Claimant.asked c.hold-held.new.claimant; answer = g.C.Claimant.answer c.hold-held.new.claimant } } in
@@ -81,7 +89,9 @@ returns-clause-complete g c =
       is = c.file.ensures.job;
       file = subst IsProverFile c.file.ensures.file c.total-total.ensures.file;
       stated = subst IsStatement c.statement.ensures.statement c.program.ensures.stated;
-      few = subst (λ (p : Program). length p.opened ≤ 2 ^ 20) (c.program.ensures.program ∙ ap (λ (s : Statement). s.program) c.statement.ensures.statement) c.opened-opened.ensures.held.opened;
+      givens = subst (λ (p : Program). p.givens ≤ 2 ^ 20) (c.program.ensures.program ∙ ap (λ (s : Statement). s.program) c.statement.ensures.statement) c.opened-opened.ensures.held.givens;
+      products = subst (λ (p : Program). length p.products ≤ 2 ^ 20) (c.program.ensures.program ∙ ap (λ (s : Statement). s.program) c.statement.ensures.statement) c.opened-opened.ensures.held.products;
+      opened = subst (λ (p : Program). length p.opened ≤ 2 ^ 20) (c.program.ensures.program ∙ ap (λ (s : Statement). s.program) c.statement.ensures.statement) c.opened-opened.ensures.held.opened;
     })
     c.hold-held.ensures.granted
     (subst (λ (q : List (Side × ℕ) × Told). IsOutcome c.args.job.now course.claim q.0 q.1 result)

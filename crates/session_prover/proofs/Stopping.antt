@@ -1,0 +1,258 @@
+-- Where a prover's answers stop.
+use Rattle.std.proofs.Common.{◌≡◌, inl, inr, ℕ, ◌<◌, List, [], ◌∷◌, ◌++◌, flat_map, length, None, ap, sym, ◌∙◌, subst, append_assoc, append-nil, arith}
+use Rattle.zk_model.specs.Transcript.{Grant, IsGrant, bytes_from, turn_bytes, sent_by, reply_frame, corrections_frame, challenge_frame}
+use Rattle.zk_model.specs.Frames.{Frame, grant, refuse, frame_spelling}
+use Rattle.zk_model.specs.HonestProver.{IsWitness, AreHonestBytes}
+use Rattle.zk_model.specs.Peers.{IsFromHonestProver}
+use Rattle.zk_model.specs.declared.Side.{Side}
+use Rattle.zk_model.specs.declared.Side.TheVariants.{Prover, Verifier}
+use Rattle.zk_port.specs.Counts.{Rose}
+use Rattle.zk_port.specs.Logs.{appended, put_before}
+use Rattle.frame_link.specs.Lines.{LineState, Sends, IsUnfinished}
+use Rattle.frame_link.specs.Lines as lines
+use Rattle.frame_link.specs.declared.fault.LineFault.{LineFault}
+use Rattle.frame_link.specs.declared.fault.LineFault.TheVariants as fault
+use Rattle.proof_frames.specs.Readings.{Reading}
+use Rattle.session_core.specs.Jobs.{ProverJob, Suits}
+use Rattle.session_core.specs.Rounds.{round_turns}
+use Rattle.session_core.specs.Cores.{ProverPlace, awaits_grant, awaits_replies, awaits_challenge, awaits_verdict, has_ended, ProverAnswers, ProverRefuses}
+use Rattle.session_core.specs.declared.fault.SessionFault.{SessionFault}
+use Rattle.session_core.specs.declared.fault.SessionFault.TheVariants as session
+use Rattle.session_prover.specs.declared.note.ProverOutcome.TheVariants.{NoMemory}
+use Rattle.session_prover.specs.Outcomes.{line_outcome, session_outcome}
+use Rattle.session_prover.specs.Stages.{Claim, ClaimedFor, Course, IsLogAt, IsLogTaken, GoesWell, IsLineAt, IsLineTaken, all_asks, granted_log}
+use Rattle.session_prover.specs.Notes.{task_of, IsGrantRead, IsAskedRight, SendsOnceClaimed, IsRelated, IsOutcome, CountsOutcome, SendsHonestly, IsLogged, Ends}
+use Rattle.session_prover.specs.Notes as notes
+use Rattle.session_prover.specs.Turns.{IsSound, IsBehindGrant, answers_left, Follows, SendStops, FramesStop}
+use Rattle.session_prover.proofs.Sides.{bytes_more, prover_says, verifier_hears, appended_more}
+use Rattle.session_prover.proofs.Related.{suits_is, read_is}
+use Rattle.session_prover.proofs.RelatedAnswers.{related_answer}
+use Rattle.session_prover.proofs.Answering.{same_grant, no_challenge_is_grant, no_replies_is_grant, no_refusal_is_grant, no_refusal_is_replies, no_refusal_is_challenge, IsGrantAnswer, grant_answer, answered, answer_exists, answer_is_honest}
+use Rattle.session_prover.proofs.Sending.{stops_before}
+
+-- ---- where sending stops
+
+-- What is to be sent behind a log: what an honest prover sends next; each beginning of it may be sent.
+pub record IsDue (job : ProverJob) (claim : Claim) (log : List (Side × ℕ)) (bytes : List ℕ) : Type 0 where
+  pub honest : (inputs wires : List ℕ) → IsWitness job.statement inputs wires job.given
+      → AreHonestBytes (task_of job inputs) (sent_by Verifier log) (sent_by Prover log ++ bytes)
+  pub asked : (more : List (Side × ℕ)) → IsAskedRight job claim (log ++ more)
+  pub claimed : (more rest : List ℕ) → bytes ≡ more ++ rest → SendsOnceClaimed job claim (log ++ bytes_from Prover more)
+
+counts_send : (f : LineFault) (old new : LineState) → lines.IsSendCause old new f → (first : ℕ) → old.faults ≡ first → lines.CountsFault f old new
+    → CountsOutcome (line_outcome f) first new.faults
+counts_send (fault.PeerEnded at) old new cause first same count = absurd cause
+counts_send (fault.BadFrame at) old new cause first same count = absurd cause
+counts_send fault.Link old new cause first same count =
+    let later = count.later in record { later = omega (arith, same, later); unfailed = λ no. absurd no }
+counts_send fault.NoMemory old new cause first same count =
+    let later = count.later in record { later = omega (arith, same, later); unfailed = λ no. count.unfailed tt ∙ same }
+
+pub stops_sending_at : (job : ProverJob) (course : Course) (bytes : List ℕ) (f : LineFault) (old new : LineState)
+    → GoesWell course.first old → IsDue job course.claim old.log bytes → (stops : SendStops bytes f old new)
+    → IsRelated job (old.log ++ bytes_from Prover stops.done)
+    → Ends job course (line_outcome f) new
+stops_sending_at job course bytes f old new well due stops related = record {
+  outcome_is = caused f stops.cause;
+  asked = subst (λ l. IsAskedRight job course.claim l) (sym logged) (due.asked (bytes_from Prover stops.done));
+  honest = sent f stops.cause;
+  claimed = subst (λ l. SendsOnceClaimed job course.claim l) (sym logged)
+      (due.claimed stops.done (stops.part ++ stops.begun.0) (stops.begun.1 ∙ append_assoc stops.done stops.part stops.begun.0));
+  related = subst (IsRelated job) (sym logged) related;
+  logged = record {
+    part = stops.part;
+    told = stops.told ∙ (λ i. appended (bytes_from (well.side i) (stops.done ++ stops.part)) (well.told i))
+        ∙ appended_more old.log (bytes_from Prover (stops.done ++ stops.part)) course.first.told ∙ ap (λ l. appended l course.first.told) (sym passed);
+    none = none f stops.cause;
+    honest = λ inputs wires witness. subst (λ l. IsFromHonestProver (task_of job inputs) l) (sym passed)
+        (from_due inputs wires witness (stops.done ++ stops.part) stops.begun.0 stops.begun.1);
+    claimed = subst (λ l. SendsOnceClaimed job course.claim l) (sym passed) (due.claimed (stops.done ++ stops.part) stops.begun.0 stops.begun.1);
+  };
+  came = well.came ∙ (λ i. put_before (sym heard i) (sym stops.others.to_come i));
+  receives = (let same = stops.others.receives in let before = well.receives in let count = ap length heard in omega (arith, same, before, count));
+  count = counts_send f old new stops.cause course.first.faults well.faults stops.count;
+  is_open = stops.others.is_open ∙ well.is_open;
+}
+  where
+    logged : new.log ≡ old.log ++ bytes_from Prover stops.done
+    logged = stops.logged ∙ ap (λ side. old.log ++ bytes_from side stops.done) well.side
+
+    passed : new.log ++ bytes_from Prover stops.part ≡ old.log ++ bytes_from Prover (stops.done ++ stops.part)
+    passed = ap (λ l. l ++ bytes_from Prover stops.part) logged ∙ append_assoc old.log (bytes_from Prover stops.done) (bytes_from Prover stops.part)
+        ∙ ap (λ l. old.log ++ l) (sym (bytes_more Prover stops.done stops.part))
+
+    heard : sent_by Verifier new.log ≡ sent_by Verifier old.log
+    heard = ap (sent_by Verifier) logged ∙ verifier_hears old.log stops.done
+
+    from_due : (inputs wires : List ℕ) → IsWitness job.statement inputs wires job.given → (more rest : List ℕ) → bytes ≡ more ++ rest
+        → IsFromHonestProver (task_of job inputs) (old.log ++ bytes_from Prover more)
+    from_due inputs wires witness more rest is = (
+      sent_by Prover old.log ++ bytes,
+      subst (λ l. AreHonestBytes (task_of job inputs) l (sent_by Prover old.log ++ bytes)) (sym (verifier_hears old.log more)) (due.honest inputs wires witness),
+      (rest, ap (λ l. sent_by Prover old.log ++ l) is ∙ sym (append_assoc (sent_by Prover old.log) more rest) ∙ ap (λ l. l ++ rest) (sym (prover_says old.log more))),
+    )
+
+    from_done : (inputs wires : List ℕ) → IsWitness job.statement inputs wires job.given → IsFromHonestProver (task_of job inputs) new.log
+    from_done inputs wires witness = subst (λ l. IsFromHonestProver (task_of job inputs) l) (sym logged)
+        (from_due inputs wires witness stops.done (stops.part ++ stops.begun.0) (stops.begun.1 ∙ append_assoc stops.done stops.part stops.begun.0))
+
+    caused : (f : LineFault) → lines.IsSendCause old new f → IsOutcome job course.claim new.log
+        (record { ended = new.ended; to_come = new.to_come; before = course.first.faults; after = new.faults }) (line_outcome f)
+    caused (fault.PeerEnded at) cause = absurd cause
+    caused (fault.BadFrame at) cause = absurd cause
+    caused fault.Link cause = subst (λ n. Rose n new.faults) well.faults cause
+    caused fault.NoMemory cause = tt
+
+    sent : (f : LineFault) → lines.IsSendCause old new f → SendsHonestly job new.log (line_outcome f)
+    sent (fault.PeerEnded at) cause = absurd cause
+    sent (fault.BadFrame at) cause = absurd cause
+    sent fault.Link cause = from_done
+    sent fault.NoMemory cause = from_done
+
+    none : (f : LineFault) → lines.IsSendCause old new f → notes.IsNoFault (line_outcome f) → stops.part ≡ []
+    none (fault.PeerEnded at) cause fine = absurd cause
+    none (fault.BadFrame at) cause fine = absurd cause
+    none fault.Link cause fine = absurd fine
+    none fault.NoMemory cause fine = absurd fine
+
+-- ---- answers over a line
+
+-- the grant that an answer stands on
+record IsUnder (job : ProverJob) (claim : Claim) (log : List (Side × ℕ)) : Type 0 where
+  given : Grant
+  claimed : ClaimedFor claim given
+  granted : IsGrant job.file.params job.statement.program given
+  more : List (Side × ℕ)
+  logged : log ≡ granted_log job given ++ more
+
+under : (job : ProverJob) (claim : Claim) (place : ProverPlace) (frame : Frame) (log : List (Side × ℕ)) → IsLogTaken job claim place frame log
+    → IsUnder job claim log
+under job claim awaits_grant frame log (given, is, claimed, granted, at) =
+    record { given = given; claimed = claimed; granted = granted; more = []; logged = at ∙ sym (append-nil (granted_log job given)) }
+under job claim (awaits_replies given done pairs) frame log (trees, came, is, are, claimed, some, at) = record {
+  given = given;
+  claimed = claimed;
+  granted = some.granted;
+  more = bytes_from Prover (all_asks job given) ++ bytes_from Verifier (flat_map reply_frame (came ++ trees ∷ []));
+  logged = at ∙ append_assoc (granted_log job given) (bytes_from Prover (all_asks job given)) (bytes_from Verifier (flat_map reply_frame (came ++ trees ∷ [])));
+}
+under job claim (awaits_challenge given pairs wires) frame log (element, rounds, d, is, ranged, claimed, fixes, at) = record {
+  given = given;
+  claimed = claimed;
+  granted = fixes.granted;
+  more = turn_bytes (round_turns rounds) ++ (bytes_from Prover (corrections_frame d) ++ bytes_from Verifier (challenge_frame element));
+  logged = at ∙ append_assoc (granted_log job given ++ turn_bytes (round_turns rounds)) (bytes_from Prover (corrections_frame d)) (bytes_from Verifier (challenge_frame element))
+      ∙ append_assoc (granted_log job given) (turn_bytes (round_turns rounds)) (bytes_from Prover (corrections_frame d) ++ bytes_from Verifier (challenge_frame element));
+}
+under job claim awaits_verdict frame log taken = absurd taken
+under job claim has_ended frame log taken = absurd taken
+
+-- an answer is due
+answer_due : (job : ProverJob) (claim : Claim) (place : ProverPlace) (frame : Frame) (answer : List Frame) (now : ProverPlace) (log : List (Side × ℕ))
+    → IsSound job → IsLogTaken job claim place frame log → ProverAnswers job place frame answer now
+    → IsDue job claim log (flat_map frame_spelling answer)
+answer_due job claim place frame answer now log sound taken answers = record {
+  honest = λ inputs wires witness. answer_is_honest job claim place frame answer now log inputs wires sound taken answers witness;
+  asked = λ more. inr (u.given, read more, inl u.claimed);
+  claimed = λ more rest is. inr (u.given, read (bytes_from Prover more), u.claimed);
+}
+  where
+    u : IsUnder job claim log
+    u = under job claim place frame log taken
+
+    read : (more : List (Side × ℕ)) → IsGrantRead job (log ++ more) u.given
+    read more = read_is job u.given (log ++ more) (u.more ++ more) u.granted
+        (ap (λ l. l ++ more) u.logged ∙ append_assoc (granted_log job u.given) u.more more)
+
+-- an answer is sent
+pub goes_on : (job : ProverJob) (course : Course) (place : ProverPlace) (frame : Frame) (answer : List Frame) (now : ProverPlace) (old new : LineState)
+    → IsSound job → IsLineTaken job course place frame old → ProverAnswers job place frame answer now → Sends (flat_map frame_spelling answer) old new
+    → IsLineAt job course now new
+goes_on job course place frame answer now old new sound taken answers sends = record {
+  log = subst (λ l. IsLogAt job course.claim now l) (sym logged) (answered job course.claim place frame answer now old.log sound taken.log answers);
+  well = record {
+    received = sends.others.reading ∙ taken.well.received ∙ ap idle (ap length (sym heard));
+    told = sends.told ∙ (λ i. appended (bytes_from (taken.well.side i) bytes) (taken.well.told i))
+        ∙ appended_more old.log (bytes_from Prover bytes) course.first.told ∙ ap (λ l. appended l course.first.told) (sym logged);
+    came = taken.well.came ∙ (λ i. put_before (sym heard i) (sym sends.others.to_come i));
+    side = sends.others.side ∙ taken.well.side;
+    is_open = sends.others.is_open ∙ taken.well.is_open;
+    receives = (let same = sends.others.receives in let before = taken.well.receives in let count = ap length heard in omega (arith, same, before, count));
+    faults = sends.unfailed ∙ taken.well.faults;
+  };
+}
+  where
+    bytes : List ℕ
+    bytes = flat_map frame_spelling answer
+
+    logged : new.log ≡ old.log ++ bytes_from Prover bytes
+    logged = sends.logged ∙ ap (λ side. old.log ++ bytes_from side bytes) taken.well.side
+
+    heard : sent_by Verifier new.log ≡ sent_by Verifier old.log
+    heard = ap (sent_by Verifier) logged ∙ verifier_hears old.log bytes
+
+    idle : ℕ → Reading
+    idle n = record { received = n; expected = None; taken = []; bad = None }
+
+-- where a prover waits then
+follows_to : (place now later : ProverPlace) → now ≡ later → IsBehindGrant later → answers_left later < answers_left place → Follows place now
+follows_to place now later next behind fewer = subst (λ p. Follows place p) (sym next) (record { behind = behind; fewer = fewer })
+
+pub follows : (job : ProverJob) (claim : Claim) (place : ProverPlace) (frame : Frame) (answer : List Frame) (now : ProverPlace) (log : List (Side × ℕ))
+    → IsLogTaken job claim place frame log → ProverAnswers job place frame answer now → Follows place now
+follows job claim awaits_grant frame answer now log taken (given, is, fits, answers) = of_answer (grant_answer job given answer now answers)
+  where
+    of_answer : IsGrantAnswer job given answer now → Follows awaits_grant now
+    of_answer (inl (direct, (d, wires, fixed, said, next))) = follows_to awaits_grant now _ next tt (omega arith)
+    of_answer (inr (extended, said, next)) = follows_to awaits_grant now _ next tt (let most = fits.count_most in omega (arith, most))
+follows job claim (awaits_replies given done pairs) frame answer now log taken (trees, more, is, one, inl (less, said, next)) =
+    follows_to (awaits_replies given done pairs) now _ next tt (omega (arith, less))
+follows job claim (awaits_replies given done pairs) frame answer now log taken (trees, more, is, one, inr (all, (d, wires, fixed, said, next))) =
+    follows_to (awaits_replies given done pairs) now _ next tt (omega (arith, all))
+follows job claim (awaits_challenge given pairs wires) frame answer now log taken (element, is, said, next) =
+    follows_to (awaits_challenge given pairs wires) now _ next tt (omega arith)
+follows job claim awaits_verdict frame answer now log taken answers = absurd taken
+follows job claim has_ended frame answer now log taken answers = absurd taken
+
+-- an answer is not sent
+pub stops_answering : (job : ProverJob) (course : Course) (place : ProverPlace) (frame : Frame) (answer : List Frame) (now : ProverPlace) (f : LineFault) (old new : LineState)
+    → IsSound job → IsLineTaken job course place frame old → ProverAnswers job place frame answer now
+    → FramesStop answer f old new → Ends job course (line_outcome f) new
+stops_answering job course place frame answer now f old new sound taken answers stop =
+    stops_sending_at job course (flat_map frame_spelling answer) f old new taken.well
+    (answer_due job course.claim place frame answer now old.log sound taken.log answers) stop.stops
+    (subst (λ l. IsRelated job (old.log ++ bytes_from Prover l)) (sym stop.done_are)
+    (related_answer job course.claim place frame answer now old.log stop.sent sound taken.log answers))
+
+-- no answer is found
+pub stops_unanswered : (job : ProverJob) (course : Course) (place : ProverPlace) (frame : Frame) (line : LineState)
+    → IsSound job → IsLineTaken job course place frame line → Ends job course NoMemory line
+stops_unanswered job course place frame line sound taken =
+    let found = answer_exists job course.claim place frame line.log sound taken.log in
+    stops_answering job course place frame found.0 found.1 fault.NoMemory line line sound taken found.2 (stops_before found.0 line)
+
+-- the prover refuses to answer: only for want of memory
+pub refuses_nothing : (job : ProverJob) (course : Course) (place : ProverPlace) (frame : Frame) (f : SessionFault) (line : LineState)
+    → IsSound job → IsLineTaken job course place frame line → ProverRefuses job place frame f → Ends job course (session_outcome f) line
+refuses_nothing job course place frame (session.BadHello differs) line sound taken refused = absurd refused
+refuses_nothing job course place frame session.BadGrant line sound taken (given, there, is, unsuited) =
+    absurd (elsewhere place frame taken.log is unsuited)
+  where
+    elsewhere : (place : ProverPlace) (frame : Frame) → IsLogTaken job course.claim place frame line.log → frame ≡ grant given
+        → (Suits job.file.params job.statement.program given → ⊥) → ⊥
+    elsewhere awaits_grant frame (other, is_too, claimed, granted, at) is unsuited =
+        unsuited (suits_is job.file.params job.statement.program given
+        (subst (λ (g : Grant). IsGrant job.file.params job.statement.program g) (same_grant other given (sym is_too ∙ is)) granted))
+    elsewhere (awaits_replies other done pairs) frame (trees, came, is_too, are, claimed, some, at) is unsuited = no_replies_is_grant trees given (sym is_too ∙ is)
+    elsewhere (awaits_challenge other pairs wires) frame (element, rounds, d, is_too, ranged, claimed, fixes, at) is unsuited = no_challenge_is_grant element given (sym is_too ∙ is)
+    elsewhere awaits_verdict frame taken is unsuited = taken
+    elsewhere has_ended frame taken is unsuited = taken
+refuses_nothing job course place frame (session.PeerRefused code) line sound taken (there, is) = absurd (elsewhere place frame taken.log is)
+  where
+    elsewhere : (place : ProverPlace) (frame : Frame) → IsLogTaken job course.claim place frame line.log → frame ≡ refuse code → ⊥
+    elsewhere awaits_grant frame (given, is_too, claimed, granted, at) is = no_refusal_is_grant code given (sym is ∙ is_too)
+    elsewhere (awaits_replies other done pairs) frame (trees, came, is_too, are, claimed, some, at) is = no_refusal_is_replies code trees (sym is ∙ is_too)
+    elsewhere (awaits_challenge other pairs wires) frame (element, rounds, d, is_too, ranged, claimed, fixes, at) is = no_refusal_is_challenge code element (sym is ∙ is_too)
+    elsewhere awaits_verdict frame taken is = taken
+    elsewhere has_ended frame taken is = taken
+refuses_nothing job course place frame session.NoMemory line sound taken refused = stops_unanswered job course place frame line sound taken
