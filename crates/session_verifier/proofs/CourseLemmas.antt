@@ -16,11 +16,12 @@ use Rattle.zk_port.specs.Counts.{Rose}
 use Rattle.lease_store.specs.declared.LeaseFault.{LeaseFault}
 use Rattle.lease_store.specs.declared.LeaseFault.TheVariants as lease
 use Rattle.session_core.specs.Jobs.{VerifierJob, IsVerifierJob, units_of_job, granted_from}
-use Rattle.session_core.specs.Judgements.{IsJudgement, direct_transcript, verdict_in}
-use Rattle.session_core.specs.Cores.{VerifierPlace, awaits_hello, owes_grant, awaits_corrections, awaits_sums, awaits_openings, has_judged, has_refused}
+use Rattle.session_core.specs.Judgements.{IsJudgement, session_transcript, verdict_in}
+use Rattle.session_core.specs.Cores.{VerifierPlace, awaits_hello, owes_grant, awaits_asks, awaits_corrections, awaits_sums, awaits_openings, has_judged, has_refused}
 use Rattle.session_core.specs.declared.judgement.Judgement.{Judgement}
 use Rattle.session_core.specs.declared.judgement.Judgement.TheVariants as judged
-use Rattle.session_core.proofs.Held.{AreRanged, served_is, few_correlations}
+use Rattle.session_core.proofs.Enough.{parts_within}
+use Rattle.session_core.proofs.Held.{AreRanged, served_is}
 use Rattle.frame_link.specs.Lines.{LineState}
 use Rattle.frame_link.proofs.LineLemmas.{appended_none}
 use Rattle.session_verifier.proofs.StageLemmas.{sent_answered, tells_so}
@@ -36,6 +37,7 @@ pub record IsKnown (job : VerifierJob) : Type 0 where
   pub file : IsVerifierFile job.task.file
   pub is : IsVerifierJob job
   pub opened : length job.task.statement.program.opened ≤ 2 ^ 20
+  pub products : length job.task.statement.program.products ≤ 2 ^ 20
 
 -- ---- which units were leased
 
@@ -126,9 +128,9 @@ number_fits : (job : VerifierJob) (start : ℕ) (t : Transcript) (judgement : Ju
     → IsJudgement job.task t judgement → verdict_number (verdict_in judgement) < 2 ^ 32
 number_fits job start t judged.Accepted known granted same found = omega arith
 number_fits job start t (judged.RejectedSum section left right) known granted same found =
-    let few = few_correlations job.task.file.params job.task.statement.program (granted_from job start) known.is.direct granted in
+    let few = parts_within (length job.task.statement.program.products) job.section_length known.is.section_some in
     let length_is = ap (λ g. section_count job.task.statement.program g.section_length) same in
-    omega (arith, found.judged.below, few, length_is)
+    omega (arith, found.judged.below, few, length_is, known.products)
 number_fits job start t (judged.RejectedOpening output left right) known granted same found =
     omega (arith, found.judged.1.below, known.opened)
 
@@ -141,7 +143,7 @@ pub judged_session : (job : VerifierJob) (span : Span) (granted : Option Span) (
     → IsJudgedLog job span.start judgement log → IsJudgedSession job granted judgement log
 judged_session job span granted judgement log known leased logged =
     let grant = grant_is job span.start known.is logged.within in
-    let t : Transcript = direct_transcript job span.start logged.corrections logged.sums logged.openings (verdict_in judgement) in
+    let t : Transcript = session_transcript job span.start logged.rounds logged.corrections logged.sums logged.openings (verdict_in judgement) in
     let ranged : AreRanged job span.start logged.corrections logged.sums logged.openings (verdict_in judgement) = record {
       corrections = logged.elements;
       challenge = coin_is_element _;
@@ -154,7 +156,8 @@ judged_session job span granted judgement log known leased logged =
       leased = leased;
       t = t;
       grant = refl;
-      served = served_is job span.start logged.corrections logged.sums logged.openings judgement log known.stated known.file known.is grant ranged logged.judged logged.spelled;
+      served = served_is job span.start logged.rounds logged.corrections logged.sums logged.openings judgement log known.stated known.file known.is grant logged.served ranged
+          logged.judged logged.spelled;
       found = logged.judged;
     }
 
@@ -326,6 +329,7 @@ behind_hello start place starts same = subst (StartsAt start) same starts
 abbrev waits_for_hello : VerifierPlace → Type 0
 waits_for_hello awaits_hello = Unit {0}
 waits_for_hello owes_grant = ⊥
+waits_for_hello (awaits_asks start asked) = ⊥
 waits_for_hello (awaits_corrections start) = ⊥
 waits_for_hello (awaits_sums start d) = ⊥
 waits_for_hello (awaits_openings start d both) = ⊥

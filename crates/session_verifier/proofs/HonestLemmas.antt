@@ -1,31 +1,36 @@
 -- A session with an honest peer does not stop: what came from it begins the frame that is expected, and it ends behind it only.
-use Rattle.std.proofs.Common.{◌≡◌, ◌⊎◌, inl, inr, ℕ, zero, suc, ◌+◌, ◌*◌, ◌≤◌, ◌<◌, List, [], ◌++◌, length, take, drop, get_or, Option, Some, None, Result, Ok, Err, refl, ap, sym, ◌∙◌, subst, arith, append-nil, append_assoc, length-append}
-use Rattle.std.proofs.lemmas.List.{take-append-le, take-append-drop, drop_at, nil_from_length}
+use Rattle.std.proofs.Common.{◌≡◌, ◌⊎◌, inl, inr, ℕ, zero, suc, ◌+◌, ◌-◌, ◌*◌, ◌≤◌, ◌<◌, List, [], ◌∷◌, ◌++◌, flat_map, length, take, drop, get_or, slice_index_or, Option, Some, None, Result, Ok, Err, refl, ap, sym, ◌∙◌, subst, arith, append-nil, append_assoc, length-append, length-take-le}
+use Rattle.std.specs.Prelude.{All}
+use Rattle.std.proofs.Math.Nat.{mul-le-mul_right}
+use Rattle.std.proofs.lemmas.List.{take-append-le, take-append-drop, drop_at, length-map}
+use Rattle.std.proofs.lemmas.List.Elements.{All-take}
 use Rattle.zk_model.specs.Program.{section_count}
 use Rattle.zk_model.specs.Statement.{Statement}
 use Rattle.zk_model.specs.Files.{rounds_of}
-use Rattle.zk_model.specs.Transcript.{Hello, Grant, Round, Commitment, Transcript, IsTranscript, BeginsWith, wanted_hello, hello_frame, corrections_frame, sums_frame, openings_frame, refuse_frame, bytes_from, sent_by}
-use Rattle.zk_model.specs.Frames.{Frame, hello, corrections, sums, openings, frame_spelling, frame_length, Allows, AreElements, AreSums, CanGoOn}
+use Rattle.zk_model.specs.Transcript.{Hello, Grant, TreeAsk, Round, Commitment, Transcript, IsRound, IsTranscript, BeginsWith, wanted_hello, hello_frame, ask_frame, corrections_frame, challenge_frame, sums_frame, openings_frame, verdict_frame, refuse_frame, bytes_from, sent_by, setup_turns}
+use Rattle.zk_model.specs.Frames.{Frame, hello, asks, corrections, sums, openings, frame_spelling, frame_length, Allows, AreAsks, AreElements, AreSums, CanGoOn}
 use Rattle.zk_model.specs.HonestProver.{ProverTask, SentAfter, AreHonestBytes}
 use Rattle.zk_model.specs.View.{verdict_code}
-use Rattle.zk_model.specs.declared.Kind.TheVariants.{Direct}
+use Rattle.zk_model.specs.declared.Kind.TheVariants.{Extended}
 use Rattle.zk_model.specs.declared.Expect.{Expect}
 use Rattle.zk_model.specs.declared.Expect.TheVariants as expect
-use Rattle.zk_model.specs.declared.Params.{Params}
 use Rattle.zk_model.specs.declared.Side.{Side}
 use Rattle.zk_model.specs.declared.Side.TheVariants.{Prover, Verifier}
 use Rattle.zk_model.specs.declared.Span.{Span}
 use Rattle.zk_laws.specs.Rehearsing.{AreCounterparts}
+use Rattle.zk_laws.proofs.Codes.{same_front}
 use Rattle.zk_laws.proofs.SentBytes.{sent_by-append, own_bytes, none_of_prover, none_of_verifier}
 use Rattle.session_laws.specs.Peers.{IsServedTurns, IsHonestUpTo, HonestTurn, HonestTurnEnds, HonestWholeIsAccepted, said_in}
+use Rattle.session_laws.specs.Rounds.{RepliesAreInRange}
 use Rattle.session_laws.specs.Serving.{ServedSessionExists}
 use Rattle.proof_frames.specs.Laws.{NoneBeginsAnother}
 use Rattle.frame_link.specs.Lines.{longest}
 use Rattle.zk_port.specs.Counts.{Rose}
 use Rattle.lease_store.specs.declared.LeaseFault.{LeaseFault}
-use Rattle.session_core.specs.Jobs.{VerifierJob, granted_from}
+use Rattle.session_core.specs.Jobs.{VerifierJob, granted_from, units_of_job}
+use Rattle.session_core.specs.Rounds.{round_turns}
 use Rattle.session_core.specs.Judgements.{verdict_in}
-use Rattle.session_core.specs.Cores.{VerifierPlace, awaits_hello, owes_grant, awaits_corrections, awaits_sums, awaits_openings, has_judged, has_refused, verifier_expects, DiffersFirst}
+use Rattle.session_core.specs.Cores.{VerifierPlace, AreAsksSoFar, awaits_hello, owes_grant, awaits_asks, awaits_corrections, awaits_sums, awaits_openings, has_judged, has_refused, verifier_expects, DiffersFirst}
 use Rattle.session_core.specs.declared.judgement.Judgement.{Judgement}
 use Rattle.session_core.specs.declared.fault.HelloDiffers.{HelloDiffers}
 use Rattle.session_core.specs.declared.fault.HelloDiffers.TheVariants.{Id, Circuit, Outputs, Version}
@@ -34,7 +39,8 @@ use Rattle.session_verifier.specs.Stages.{Moment, StopCause, StartsAt, IsStopped
 use Rattle.session_verifier.specs.Notes.{IsPeerEnd, HasHonestPeer, Completes}
 use Rattle.session_verifier.proofs.StageLemmas.{one_expected, hello_in}
 use Rattle.session_verifier.proofs.CourseLemmas.{IsKnown, judged_session}
-use Rattle.session_verifier.proofs.ServedLemmas.{IsCutOf, setup_of, cut_behind, hello_length, length_corrections, length_sums, length_openings, accepted_judgement}
+use Rattle.session_verifier.proofs.RoundLemmas.{ask_length, asks_length}
+use Rattle.session_verifier.proofs.ServedLemmas.{IsCutOf, in_next, in_last, cut_asks, cut_corrections, cut_sums, cut_openings, hello_length, length_corrections, length_sums, length_openings, accepted_judgement}
 use Rattle.session_verifier.specs.declared.note.VerifierOutcome.{VerifierOutcome}
 use Rattle.session_verifier.specs.declared.note.VerifierOutcome.TheVariants.{Accepted, RejectedSum, RejectedOpening, PeerEnded, BadFrame, BadHello, Exhausted, Device, Broken, Link, NoMemory}
 
@@ -240,132 +246,251 @@ unmet_completes job outcome prover first now law known unmet peer rose = by outc
 
 -- ---- behind the grant
 
--- of a file that is not extended there are no rounds
-no_rounds : (params : Params) (rounds : List Round) → length rounds ≡ rounds_of params.kind → params.kind ≡ Direct → rounds ≡ []
-no_rounds params rounds counted direct = nil_from_length rounds (counted ∙ ap rounds_of direct)
-
--- what a session without rounds says in its second turn and its third
-second_said : (u : Transcript) → u.commitment.setup.rounds ≡ [] → said_in u 1 ≡ corrections_frame u.commitment.corrections
-second_said u none =
-    λ i. said_in (record u { commitment = record u.commitment { setup = record u.commitment.setup { rounds = none i } } }) 1
-
-third_said : (u : Transcript) → u.commitment.setup.rounds ≡ [] → said_in u 2 ≡ sums_frame u.sums ++ openings_frame u.openings
-third_said u none =
-    λ i. said_in (record u { commitment = record u.commitment { setup = record u.commitment.setup { rounds = none i } } }) 2
-
--- a session of an honest prover with a job's grant: as many elements, sums and MACs as the statement wants, and no rounds
-record IsTurn (job : VerifierJob) (u : Transcript) : Type 0 where
+-- a session of an honest prover with a job's grant: as many rounds, elements, sums and MACs as its kind and the statement want
+record IsTurn (job : VerifierJob) (start : ℕ) (u : Transcript) : Type 0 where
+  count : length u.commitment.setup.rounds ≡ rounds_of job.task.file.params.kind
+  rounds : All (IsRound job.task.file.params (granted_from job start)) u.commitment.setup.rounds
   elements : AreElements job.task.statement.program.givens u.commitment.corrections
   pairs : AreSums (section_count job.task.statement.program job.section_length) u.sums
   macs : AreElements (length job.task.statement.program.opened) u.openings
-  none : u.commitment.setup.rounds ≡ []
 
-is_turn : (job : VerifierJob) (start : ℕ) (prover : ProverTask) (t : Transcript) (n : ℕ) (u : Transcript) → IsKnown job → AreCounterparts prover job.task
-    → t.commitment.setup.grant ≡ granted_from job start → IsHonestUpTo prover t n u → IsTurn job u
-is_turn job start prover t n u known both grant upto =
+is_turn : (job : VerifierJob) (start : ℕ) (prover : ProverTask) (t : Transcript) (n : ℕ) (u : Transcript) → AreCounterparts prover job.task
+    → t.commitment.setup.grant ≡ granted_from job start → IsHonestUpTo prover t n u → IsTurn job start u
+is_turn job start prover t n u both grant upto =
     let is : IsTranscript job.task.file.params job.task.statement.program u =
     subst (λ (s : Statement). IsTranscript job.task.file.params s.program u) both.statement
     (subst (λ p. IsTranscript p prover.statement.program u) both.dealt.params upto.transcript) in
     record {
+      count = is.commitment.setup.round_count;
+      rounds = subst (λ (g : Grant). All (IsRound job.task.file.params g) u.commitment.setup.rounds) (upto.grant ∙ grant) is.commitment.setup.rounds;
       elements = record { counted = is.commitment.count; ranged = is.commitment.elements };
       pairs = record {
         counted = is.sum_count ∙ ap (λ (g : Grant). section_count job.task.statement.program g.section_length) (upto.grant ∙ grant);
         ranged = is.sums;
       };
       macs = record { counted = is.opening_count; ranged = is.openings };
-      none = no_rounds job.task.file.params u.commitment.setup.rounds is.commitment.setup.round_count known.is.direct;
     }
 
-turns_served : (job : VerifierJob) (start : ℕ) (log : List (Side × ℕ)) → IsKnown job → (cut : IsCutOf job start log)
-    → IsServedTurns job.task cut.session.t cut.cut.whole cut.cut.rest log
-turns_served job start log known cut = record {
+-- how many turns fix its correlations
+setup_long : (job : VerifierJob) (start : ℕ) (u : Transcript) → IsTurn job start u → length (setup_turns u.commitment.setup) ≡ 1 + rounds_of job.task.file.params.kind
+setup_long job start u is =
+    let mapped : length (round_turns u.commitment.setup.rounds) ≡ length u.commitment.setup.rounds = length-map u.commitment.setup.rounds _ in
+    omega (arith, mapped, is.count)
+
+-- what it says in the turn behind them, and in the last one
+second_said : (job : VerifierJob) (start : ℕ) (u : Transcript) → IsTurn job start u
+    → said_in u (1 + rounds_of job.task.file.params.kind) ≡ corrections_frame u.commitment.corrections
+second_said job start u is =
+    ap (λ (turn : List ℕ × List ℕ). turn.0) (in_next (setup_turns u.commitment.setup) (corrections_frame u.commitment.corrections, challenge_frame u.challenge)
+    (sums_frame u.sums ++ openings_frame u.openings, verdict_frame u.code u.number) (1 + rounds_of job.task.file.params.kind) (setup_long job start u is)).2
+
+third_said : (job : VerifierJob) (start : ℕ) (u : Transcript) → IsTurn job start u
+    → said_in u (2 + rounds_of job.task.file.params.kind) ≡ sums_frame u.sums ++ openings_frame u.openings
+third_said job start u is =
+    ap (λ (turn : List ℕ × List ℕ). turn.0) (in_last (setup_turns u.commitment.setup) (corrections_frame u.commitment.corrections, challenge_frame u.challenge)
+    (sums_frame u.sums ++ openings_frame u.openings, verdict_frame u.code u.number) (2 + rounds_of job.task.file.params.kind)
+    (omega (arith, setup_long job start u is))).2
+
+turns_served : (job : VerifierJob) (start whole : ℕ) (rest : List ℕ) (log : List (Side × ℕ)) → IsKnown job → (cut : IsCutOf job start whole rest log)
+    → IsServedTurns job.task cut.session.t whole rest log
+turns_served job start whole rest log known cut = record {
   stated = known.stated;
   transcript = cut.session.served.in_order.transcript;
   hello = cut.session.served.in_order.hello;
   replies = cut.session.served.replies;
-  more = cut.cut.more;
-  bytes = cut.cut.bytes;
+  more = cut.more;
+  bytes = cut.bytes;
 }
 
-grant_of : (job : VerifierJob) (start : ℕ) (log : List (Side × ℕ)) → (cut : IsCutOf job start log) → cut.session.t.commitment.setup.grant ≡ granted_from job start
-grant_of job start log cut = ap (λ (c : Commitment). c.setup.grant) cut.session.commitment
+grant_of : (job : VerifierJob) (start whole : ℕ) (rest : List ℕ) (log : List (Side × ℕ)) → (cut : IsCutOf job start whole rest log)
+    → cut.session.t.commitment.setup.grant ≡ granted_from job start
+grant_of job start whole rest log cut = ap (λ (c : Commitment). c.setup.grant) cut.session.commitment
 
 -- what an honest peer says in a turn that was cut, of which this came
-record IsSaid (job : VerifierJob) (outcome : VerifierOutcome) (whole : ℕ) (rest : List ℕ) : Type 0 where
+record IsSaid (job : VerifierJob) (start : ℕ) (outcome : VerifierOutcome) (whole : ℕ) (rest : List ℕ) : Type 0 where
   u : Transcript
-  is : IsTurn job u
+  is : IsTurn job start u
   begun : BeginsWith (said_in u whole) rest
-  ended : IsPeerEnd outcome → (other : Transcript) × IsTurn job other × (rest ≡ said_in other whole)
+  ended : IsPeerEnd outcome → (other : Transcript) × IsTurn job start other × (rest ≡ said_in other whole)
 
-honest_said : (job : VerifierJob) (start : ℕ) (prover : ProverTask) (outcome : VerifierOutcome) (log : List (Side × ℕ)) → HonestTurn → HonestTurnEnds → IsKnown job
-    → HasHonestPeer job prover outcome log → (cut : IsCutOf job start log) → IsSaid job outcome cut.cut.whole cut.cut.rest
-honest_said job start prover outcome log turn ends known peer cut =
-    let served = turns_served job start log known cut in
+honest_said : (job : VerifierJob) (start whole : ℕ) (rest : List ℕ) (prover : ProverTask) (outcome : VerifierOutcome) (log : List (Side × ℕ)) → HonestTurn → HonestTurnEnds
+    → IsKnown job → HasHonestPeer job prover outcome log → IsCutOf job start whole rest log → IsSaid job start outcome whole rest
+honest_said job start whole rest prover outcome log turn ends known peer cut =
+    let served = turns_served job start whole rest log known cut in
     let t = cut.session.t in
-    let n = cut.cut.whole in
-    let now = turn prover job.task t n cut.cut.rest log peer.counterparts peer.witness served peer.honest in
+    let grant = grant_of job start whole rest log cut in
+    let now = turn prover job.task t whole rest log peer.counterparts peer.witness served peer.honest in
     record {
       u = now.0;
-      is = is_turn job start prover t n now.0 known peer.counterparts (grant_of job start log cut) now.1;
+      is = is_turn job start prover t whole now.0 peer.counterparts grant now.1;
       begun = now.2;
       ended = λ is.
-          let last = ends prover job.task t n cut.cut.rest log peer.counterparts peer.witness served (peer.ended is) in
-          (last.0, is_turn job start prover t n last.0 known peer.counterparts (grant_of job start log cut) last.1, last.2);
+          let last = ends prover job.task t whole rest log peer.counterparts peer.witness served (peer.ended is) in
+          (last.0, is_turn job start prover t whole last.0 peer.counterparts grant last.1, last.2);
     }
 
-length_third : (job : VerifierJob) (u : Transcript) → IsTurn job u
+-- ---- among the asks
+
+-- the asks of a session's round
+record SaysAsks (job : VerifierJob) (u : Transcript) : Type 0 where
+  all : List (List TreeAsk)
+  count : length all ≡ units_of_job job
+  each : All (AreAsks job.task.file.params.height job.task.file.params.trees) all
+  spoken : said_in u 1 ≡ flat_map ask_frame all
+
+asks_of_rounds : (job : VerifierJob) (start : ℕ) (u : Transcript) (rounds : List Round) → u.commitment.setup.rounds ≡ rounds → length rounds ≡ 1
+    → All (IsRound job.task.file.params (granted_from job start)) rounds → SaysAsks job u
+asks_of_rounds job start u [] are one ranged = absurd (omega (arith, one))
+asks_of_rounds job start u (round ∷ rounds) are one ranged =
+    let is = (ranged 0 round (omega arith)).asks in
+    record {
+      all = round.asks;
+      count = is.0;
+      each = λ k d below. let unit = is.1 k d below in record { counted = unit.0; each = unit.1 };
+      spoken = λ i. said_in (record u { commitment = record u.commitment { setup = record u.commitment.setup { rounds = are i } } }) 1;
+    }
+
+asks_said : (job : VerifierJob) (start : ℕ) (u : Transcript) → job.task.file.params.kind ≡ Extended → IsTurn job start u → SaysAsks job u
+asks_said job start u extended is =
+    asks_of_rounds job start u u.commitment.setup.rounds refl (is.count ∙ ap rounds_of extended) is.rounds
+
+-- items before one, the one, and those behind it
+split_at : {A : Type 0} (f : A → List ℕ) (items : List A) (n : ℕ) (d : A) → n < length items
+    → flat_map f items ≡ flat_map f (take n items) ++ (f (slice_index_or items n d) ++ flat_map f (drop (suc n) items))
+split_at f [] n d below = absurd (omega (arith, below))
+split_at f (item ∷ items) zero d below = refl
+split_at f (item ∷ items) (suc n) d below =
+    ap (λ l. f item ++ l) (split_at f items n d (omega (arith, below)))
+    ∙ sym (append_assoc (f item) (flat_map f (take n items)) (f (slice_index_or items n d) ++ flat_map f (drop (suc n) items)))
+
+-- what is left of all items behind some holds one at least
+one_left : (a u per r : ℕ) → a < u → a * per + r ≡ u * per → per ≤ r
+one_left a u per r less same =
+    let most : (a + 1) * per ≤ u * per = mul-le-mul_right {m = a + 1} {n = u} per (omega (arith, less)) in
+    omega (arith, most, same)
+
+-- all asks of a round have one length
+asks_long : (job : VerifierJob) (u : Transcript) (says : SaysAsks job u)
+    → length (said_in u 1) ≡ units_of_job job * (5 + job.task.file.params.trees * (job.task.file.params.height + 8))
+asks_long job u says =
+    ap length says.spoken ∙ asks_length job.task.file.params.height job.task.file.params.trees says.all says.each
+    ∙ ap (λ n. n * (5 + job.task.file.params.trees * (job.task.file.params.height + 8))) says.count
+
+asks_begun : (job : VerifierJob) (start : ℕ) (asked : List (List TreeAsk)) (outcome : VerifierOutcome) (rest : List ℕ) (left : ℕ) → AreAsksSoFar job asked
+    → IsSaid job start outcome 1 (flat_map ask_frame asked ++ rest)
+    → length rest ≤ longest (expect.Ask job.task.file.params.height job.task.file.params.trees left)
+    → IsBegun (expect.Ask job.task.file.params.height job.task.file.params.trees left) outcome rest
+asks_begun job start asked outcome rest left so said few = record {
+  frame = asks trees;
+  allowed = (trees, refl, are);
+  more = flat_map ask_frame (drop (suc n) says.all);
+  begun = (said.begun.0, parted.1);
+  whole = λ ended.
+      let last = said.ended ended in
+      let spoken = asks_said job start last.0 so.extended last.1 in
+      let same : n * per + length rest ≡ units_of_job job * per =
+      ap (λ k. k + length rest) (sym before) ∙ sym (length-append (flat_map ask_frame asked) rest) ∙ ap length last.2 ∙ asks_long job last.0 spoken in
+      subst (λ k. k ≤ length rest) (sym sized) (one_left n (units_of_job job) per (length rest) so.more same);
+  most = subst (λ k. length rest ≤ k) (sym sized) few;
+  sized = sym sized;
+}
+  where
+    n : ℕ
+    n = length asked
+
+    per : ℕ
+    per = 5 + job.task.file.params.trees * (job.task.file.params.height + 8)
+
+    says : SaysAsks job said.u
+    says = asks_said job start said.u so.extended said.is
+
+    below : length asked < length says.all
+    below = omega (arith, so.more, says.count)
+
+    trees : List TreeAsk
+    trees = slice_index_or says.all (length asked) []
+
+    are : AreAsks job.task.file.params.height job.task.file.params.trees (slice_index_or says.all (length asked) [])
+    are = says.each (length asked) [] below
+
+    sized : length (ask_frame (slice_index_or says.all (length asked) [])) ≡ 5 + job.task.file.params.trees * (job.task.file.params.height + 8)
+    sized = ask_length job.task.file.params.height job.task.file.params.trees (slice_index_or says.all (length asked) []) are
+
+    before : length (flat_map ask_frame asked) ≡ length asked * (5 + job.task.file.params.trees * (job.task.file.params.height + 8))
+    before = asks_length job.task.file.params.height job.task.file.params.trees asked so.each
+
+    as_many : length (take (length asked) says.all) ≡ length asked
+    as_many = length-take-le (length asked) says.all (omega (arith, below))
+
+    front : length (flat_map ask_frame (take (length asked) says.all)) ≡ length (flat_map ask_frame asked)
+    front = asks_length job.task.file.params.height job.task.file.params.trees (take (length asked) says.all)
+        (All-take (AreAsks job.task.file.params.height job.task.file.params.trees) (length asked) says.all says.each)
+        ∙ ap (λ k. k * (5 + job.task.file.params.trees * (job.task.file.params.height + 8))) as_many ∙ sym before
+
+    parted : (flat_map ask_frame (take (length asked) says.all) ≡ flat_map ask_frame asked)
+        × (ask_frame (slice_index_or says.all (length asked) []) ++ flat_map ask_frame (drop (suc (length asked)) says.all) ≡ rest ++ said.begun.0)
+    parted = same_front (flat_map ask_frame (take (length asked) says.all)) (flat_map ask_frame asked)
+        (ask_frame (slice_index_or says.all (length asked) []) ++ flat_map ask_frame (drop (suc (length asked)) says.all)) (rest ++ said.begun.0) front
+        (sym (split_at ask_frame says.all (length asked) [] below) ∙ sym says.spoken ∙ said.begun.1 ∙ append_assoc (flat_map ask_frame asked) rest said.begun.0)
+
+-- ---- behind them
+
+length_third : (job : VerifierJob) (start : ℕ) (u : Transcript) → IsTurn job start u
     → (length (sums_frame u.sums) ≡ 5 + 16 * section_count job.task.statement.program job.section_length)
     × (length (openings_frame u.openings) ≡ 5 + 8 * length job.task.statement.program.opened)
-length_third job u is =
+length_third job start u is =
     (length_sums u.sums ∙ ap (λ n. 5 + 16 * n) is.pairs.counted, length_openings u.openings ∙ ap (λ n. 5 + 8 * n) is.macs.counted)
 
-corrections_begun : (job : VerifierJob) (outcome : VerifierOutcome) (rest : List ℕ) → IsSaid job outcome 1 rest
+corrections_begun : (job : VerifierJob) (start : ℕ) (outcome : VerifierOutcome) (rest : List ℕ)
+    → IsSaid job start outcome (1 + rounds_of job.task.file.params.kind) rest
     → length rest ≤ longest (expect.Corrections job.task.statement.program.givens)
     → IsBegun (expect.Corrections job.task.statement.program.givens) outcome rest
-corrections_begun job outcome rest said few =
+corrections_begun job start outcome rest said few =
     let d = said.u.commitment.corrections in
     let sized = length_corrections d ∙ ap (λ n. 5 + 8 * n) said.is.elements.counted in
     record {
       frame = corrections d;
       allowed = (d, refl, said.is.elements);
       more = [];
-      begun = (said.begun.0, append-nil (corrections_frame d) ∙ sym (second_said said.u said.is.none) ∙ said.begun.1);
+      begun = (said.begun.0, append-nil (corrections_frame d) ∙ sym (second_said job start said.u said.is) ∙ said.begun.1);
       whole = λ ended.
           let last = said.ended ended in
-          let same = ap length (last.2 ∙ second_said last.0 last.1.none) ∙ length_corrections last.0.commitment.corrections
+          let same = ap length (last.2 ∙ second_said job start last.0 last.1) ∙ length_corrections last.0.commitment.corrections
           ∙ ap (λ n. 5 + 8 * n) last.1.elements.counted in
           omega (arith, same, sized);
       most = omega (arith, few, sized);
       sized = omega (arith, sized);
     }
 
-sums_begun : (job : VerifierJob) (outcome : VerifierOutcome) (rest : List ℕ) → IsSaid job outcome 2 rest
+sums_begun : (job : VerifierJob) (start : ℕ) (outcome : VerifierOutcome) (rest : List ℕ)
+    → IsSaid job start outcome (2 + rounds_of job.task.file.params.kind) rest
     → length rest ≤ longest (expect.Sums (section_count job.task.statement.program job.section_length))
     → IsBegun (expect.Sums (section_count job.task.statement.program job.section_length)) outcome rest
-sums_begun job outcome rest said few =
+sums_begun job start outcome rest said few =
     let both = said.u.sums in
-    let sized = (length_third job said.u said.is).0 in
+    let sized = (length_third job start said.u said.is).0 in
     record {
       frame = sums both;
       allowed = (both, refl, said.is.pairs);
       more = openings_frame said.u.openings;
-      begun = (said.begun.0, sym (third_said said.u said.is.none) ∙ said.begun.1);
+      begun = (said.begun.0, sym (third_said job start said.u said.is) ∙ said.begun.1);
       whole = λ ended.
           let last = said.ended ended in
-          let same = ap length (last.2 ∙ third_said last.0 last.1.none) ∙ length-append (sums_frame last.0.sums) (openings_frame last.0.openings) in
-          let other = (length_third job last.0 last.1).0 in
+          let same = ap length (last.2 ∙ third_said job start last.0 last.1) ∙ length-append (sums_frame last.0.sums) (openings_frame last.0.openings) in
+          let other = (length_third job start last.0 last.1).0 in
           omega (arith, same, other, sized);
       most = omega (arith, few, sized);
       sized = omega (arith, sized);
     }
 
-openings_begun : (job : VerifierJob) (outcome : VerifierOutcome) (both : List (ℕ × ℕ)) (rest : List ℕ)
-    → AreSums (section_count job.task.statement.program job.section_length) both → IsSaid job outcome 2 (sums_frame both ++ rest)
+openings_begun : (job : VerifierJob) (start : ℕ) (outcome : VerifierOutcome) (both : List (ℕ × ℕ)) (rest : List ℕ)
+    → AreSums (section_count job.task.statement.program job.section_length) both
+    → IsSaid job start outcome (2 + rounds_of job.task.file.params.kind) (sums_frame both ++ rest)
     → length rest ≤ longest (expect.Openings (length job.task.statement.program.opened))
     → IsBegun (expect.Openings (length job.task.statement.program.opened)) outcome rest
-openings_begun job outcome both rest pairs said few =
+openings_begun job start outcome both rest pairs said few =
     let macs = said.u.openings in
-    let third = length_third job said.u said.is in
+    let third = length_third job start said.u said.is in
     let sized = third.1 in
     let n = length (sums_frame both) in
     let before : n ≡ 5 + 16 * section_count job.task.statement.program job.section_length = length_sums both ∙ ap (λ k. 5 + 16 * k) pairs.counted in
@@ -377,14 +502,14 @@ openings_begun job outcome both rest pairs said few =
         said.begun.0,
         append-nil (openings_frame macs)
             ∙ sym (drop_at (sums_frame said.u.sums) (openings_frame macs) n (third.0 ∙ sym before))
-            ∙ ap (drop n) (sym (third_said said.u said.is.none) ∙ said.begun.1 ∙ append_assoc (sums_frame both) rest said.begun.0)
+            ∙ ap (drop n) (sym (third_said job start said.u said.is) ∙ said.begun.1 ∙ append_assoc (sums_frame both) rest said.begun.0)
             ∙ drop_at (sums_frame both) (rest ++ said.begun.0) n refl,
       );
       whole = λ ended.
           let last = said.ended ended in
-          let same = sym (length-append (sums_frame both) rest) ∙ ap length (last.2 ∙ third_said last.0 last.1.none)
+          let same = sym (length-append (sums_frame both) rest) ∙ ap length (last.2 ∙ third_said job start last.0 last.1)
           ∙ length-append (sums_frame last.0.sums) (openings_frame last.0.openings) in
-          let others = length_third job last.0 last.1 in
+          let others = length_third job start last.0 last.1 in
           omega (arith, same, others.0, others.1, before, sized);
       most = omega (arith, few, sized);
       sized = omega (arith, sized);
@@ -396,31 +521,41 @@ late : (job : VerifierJob) (start : ℕ) (place : VerifierPlace) (rest : List �
 late job start place rest first now differs starts cause = subst (StartsAt start) cause.0 starts
 
 behind_completes : (job : VerifierJob) (start : ℕ) (place : VerifierPlace) (prover : ProverTask) (outcome : VerifierOutcome) (first now : Moment)
-    → ServedSessionExists → HonestTurn → HonestTurnEnds → IsKnown job → StartsAt start place → IsStopped job place outcome first now
+    → RepliesAreInRange → ServedSessionExists → HonestTurn → HonestTurnEnds → IsKnown job → StartsAt start place → IsStopped job place outcome first now
     → HasHonestPeer job prover outcome now.log → ¬ Rose first.faults now.faults → IsComplete outcome
-unfolding cut_behind Rattle.session_verifier.proofs.ServedLemmas.cut_at
-behind_completes job start (awaits_corrections begun) prover outcome first now law turn ends known starts stopped peer rose =
+behind_completes job start (awaits_asks begun asked) prover outcome first now ranges law turn ends known starts stopped peer rose =
+    let place = expect.Ask job.task.file.params.height job.task.file.params.trees (units_of_job job - length asked) in
+    goes_on job (awaits_asks begun asked) stopped.rest first now outcome place refl
+    (asks_begun job begun asked outcome stopped.rest (units_of_job job - length asked) stopped.waited.1
+    (honest_said job begun 1 (flat_map ask_frame asked ++ stopped.rest) prover outcome now.log turn ends known peer
+    (cut_asks job begun asked outcome first now ranges law known stopped))
+    (stopped.few place refl))
+    (λ differs is. late job start (awaits_asks begun asked) stopped.rest first now differs starts) rose stopped.cause
+behind_completes job start (awaits_corrections begun) prover outcome first now ranges law turn ends known starts stopped peer rose =
     goes_on job (awaits_corrections begun) stopped.rest first now outcome (expect.Corrections job.task.statement.program.givens) refl
-    (corrections_begun job outcome stopped.rest
-    (honest_said job start prover outcome now.log turn ends known peer (cut_behind job start (awaits_corrections begun) outcome first now law known starts stopped))
+    (corrections_begun job begun outcome stopped.rest
+    (honest_said job begun (1 + rounds_of job.task.file.params.kind) stopped.rest prover outcome now.log turn ends known peer
+    (cut_corrections job begun outcome first now law known stopped))
     (stopped.few (expect.Corrections job.task.statement.program.givens) refl))
     (λ differs is. late job start (awaits_corrections begun) stopped.rest first now differs starts) rose stopped.cause
-behind_completes job start (awaits_sums begun d) prover outcome first now law turn ends known starts stopped peer rose =
+behind_completes job start (awaits_sums begun d) prover outcome first now ranges law turn ends known starts stopped peer rose =
     goes_on job (awaits_sums begun d) stopped.rest first now outcome (expect.Sums (section_count job.task.statement.program job.section_length)) refl
-    (sums_begun job outcome stopped.rest
-    (honest_said job start prover outcome now.log turn ends known peer (cut_behind job start (awaits_sums begun d) outcome first now law known starts stopped))
+    (sums_begun job begun outcome stopped.rest
+    (honest_said job begun (2 + rounds_of job.task.file.params.kind) stopped.rest prover outcome now.log turn ends known peer
+    (cut_sums job begun d outcome first now law known stopped))
     (stopped.few (expect.Sums (section_count job.task.statement.program job.section_length)) refl))
     (λ differs is. late job start (awaits_sums begun d) stopped.rest first now differs starts) rose stopped.cause
-behind_completes job start (awaits_openings begun d both) prover outcome first now law turn ends known starts stopped peer rose =
+behind_completes job start (awaits_openings begun d both) prover outcome first now ranges law turn ends known starts stopped peer rose =
     goes_on job (awaits_openings begun d both) stopped.rest first now outcome (expect.Openings (length job.task.statement.program.opened)) refl
-    (openings_begun job outcome both stopped.rest stopped.waited.2
-    (honest_said job start prover outcome now.log turn ends known peer (cut_behind job start (awaits_openings begun d both) outcome first now law known starts stopped))
+    (openings_begun job begun outcome both stopped.rest stopped.waited.1
+    (honest_said job begun (2 + rounds_of job.task.file.params.kind) (sums_frame both ++ stopped.rest) prover outcome now.log turn ends known peer
+    (cut_openings job begun d both outcome first now law known stopped))
     (stopped.few (expect.Openings (length job.task.statement.program.opened)) refl))
     (λ differs is. late job start (awaits_openings begun d both) stopped.rest first now differs starts) rose stopped.cause
-behind_completes job start awaits_hello prover outcome first now law turn ends known starts stopped peer rose = absurd starts
-behind_completes job start owes_grant prover outcome first now law turn ends known starts stopped peer rose = absurd starts
-behind_completes job start (has_judged begun judgement) prover outcome first now law turn ends known starts stopped peer rose = absurd starts
-behind_completes job start has_refused prover outcome first now law turn ends known starts stopped peer rose = absurd starts
+behind_completes job start awaits_hello prover outcome first now ranges law turn ends known starts stopped peer rose = absurd starts
+behind_completes job start owes_grant prover outcome first now ranges law turn ends known starts stopped peer rose = absurd starts
+behind_completes job start (has_judged begun judgement) prover outcome first now ranges law turn ends known starts stopped peer rose = absurd starts
+behind_completes job start has_refused prover outcome first now ranges law turn ends known starts stopped peer rose = absurd starts
 
 -- where a grant is due no frame is expected
 none_expected : {expect : Expect} → None ≡ Some expect → ⊥
@@ -439,6 +574,7 @@ due_completes job (BadHello differs) rest first now rose cause = absurd (subst i
     is_due : VerifierPlace → Type 0
     is_due awaits_hello = ⊥
     is_due owes_grant = Unit {0}
+    is_due (awaits_asks start asked) = ⊥
     is_due (awaits_corrections start) = ⊥
     is_due (awaits_sums start d) = ⊥
     is_due (awaits_openings start d both) = ⊥
@@ -458,6 +594,7 @@ due_completes job (Broken at) rest first now rose cause = absurd cause
 -- the laws of honest peers
 pub record AreLaws : Type 0 where
   pub another : NoneBeginsAnother
+  pub ranges : RepliesAreInRange
   pub exists : ServedSessionExists
   pub turn : HonestTurn
   pub ends : HonestTurnEnds
@@ -475,7 +612,7 @@ completes job (Some (Ok span)) granted outcome first now laws known course prove
         → IsComplete outcome
     by_course (inl stopped) = due_completes job outcome stopped.rest first now rose stopped.cause
     by_course (inr (inl stops)) =
-        behind_completes job span.start stops.place prover outcome first now laws.exists laws.turn laws.ends known stops.behind stops.stopped peer rose
+        behind_completes job span.start stops.place prover outcome first now laws.ranges laws.exists laws.turn laws.ends known stops.behind stops.stopped peer rose
     by_course (inr (inr found)) =
         let session = judged_session job span (Some span) found.0 now.log known refl found.2.log in
         let accepted = laws.accepted prover job.task session.t (verdict_in found.0) now.log peer.counterparts peer.witness peer.claims session.served peer.honest in

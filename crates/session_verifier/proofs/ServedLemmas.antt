@@ -1,14 +1,14 @@
 -- The log of a session that may have ended early, as one that a verifier serves; and that no cut one is accepted.
-use Rattle.std.proofs.Common.{◌≡◌, ◌⊎◌, inl, inr, ℕ, ◌+◌, ◌*◌, ◌≤◌, ◌<◌, List, [], ◌∷◌, ◌++◌, length, take, replicate, slice_index_or, Option, Some, None, Result, Ok, Err, refl, ap, sym, ◌∙◌, subst, arith, append-nil, append_assoc, length-append}
-use Rattle.std.proofs.lemmas.List.{map-append, get_or-replicate, length-replicate}
-use Rattle.std.proofs.lemmas.List.Elements.{All-nil}
+use Rattle.std.proofs.Common.{◌≡◌, ◌⊎◌, inl, inr, ℕ, ◌+◌, ◌-◌, ◌*◌, ◌≤◌, ◌<◌, List, [], ◌∷◌, ◌++◌, flat_map, length, take, replicate, slice_index_or, Option, Some, None, Result, Ok, Err, refl, ap, sym, ◌∙◌, subst, arith, append-nil, append_assoc, length-append}
+use Rattle.std.proofs.Math.Nat.{mul-le-mul_right}
+use Rattle.std.proofs.lemmas.List.{map-append, get_or-replicate, length-replicate, length-map, take_at, get_or_at}
 use Rattle.zk_model.specs.Field.{IsElement}
 use Rattle.zk_model.specs.Program.{section_count}
 use Rattle.zk_model.specs.Files.{rounds_of}
-use Rattle.zk_model.specs.Transcript.{Setup, Commitment, Transcript, IsSetup, IsRound, BeginsWith, wanted_hello, hello_frame, corrections_frame, sums_frame, openings_frame, verdict_frame, refuse_frame, bytes_from, turn_bytes, sent_by, session_turns, spelling}
+use Rattle.zk_model.specs.Transcript.{TreeAsk, Round, Setup, Commitment, Transcript, IsSetup, BeginsWith, wanted_hello, hello_frame, ask_frame, corrections_frame, sums_frame, openings_frame, verdict_frame, refuse_frame, bytes_from, turn_bytes, sent_by, session_turns, spelling}
 use Rattle.zk_model.specs.Frames.{AreElements}
 use Rattle.zk_model.specs.View.{verdict_code}
-use Rattle.zk_model.specs.ServedVerifier.{IsServed, IsAccepted, IsCutInTurn, ServesWith, challenge_coin, round_replies}
+use Rattle.zk_model.specs.ServedVerifier.{IsServed, IsAccepted, IsCutInTurn, ServesWith, challenge_coin}
 use Rattle.zk_model.specs.declared.Expect.TheVariants as expect
 use Rattle.zk_model.specs.declared.Side.{Side}
 use Rattle.zk_model.specs.declared.Side.TheVariants.{Prover, Verifier}
@@ -16,15 +16,19 @@ use Rattle.zk_model.specs.declared.Span.{Span}
 use Rattle.zk_laws.proofs.SentBytes.{sent_by-append, own_bytes, none_of_prover, sent_by-verifier}
 use Rattle.session_laws.specs.Serving.{ServedSessionExists, HasServedSession}
 use Rattle.session_laws.specs.Cuts.{CutIsNotAccepted, VerdictIsSaid}
+use Rattle.session_laws.specs.Rounds.{RepliesAreInRange}
+use Rattle.session_laws.proofs.Sizes as sizes
 use Rattle.proof_frames.proofs.FrameLemmas.{length-elements, length-sums}
 use Rattle.lease_store.specs.declared.LeaseFault.{LeaseFault}
 use Rattle.session_core.specs.Jobs.{VerifierJob, units_of_job, granted_from}
 use Rattle.session_core.specs.Judgements.{verdict_in}
-use Rattle.session_core.specs.Cores.{VerifierPlace, awaits_hello, owes_grant, awaits_corrections, awaits_sums, awaits_openings, has_judged, has_refused}
+use Rattle.session_core.specs.Rounds.{AreServedRounds, round_turns}
+use Rattle.session_core.specs.Cores.{VerifierPlace, AreAsksSoFar, awaits_hello, owes_grant, awaits_asks, awaits_corrections, awaits_sums, awaits_openings, has_judged, has_refused}
 use Rattle.session_core.specs.declared.judgement.Judgement.{Judgement}
 use Rattle.session_core.specs.declared.judgement.Judgement.TheVariants as judged
 use Rattle.session_verifier.specs.Outcomes.{judgement_outcome}
-use Rattle.session_verifier.specs.Stages.{Moment, first_turn, second_turn, IsLogAt, StartsAt, IsStopped, StopsBehind, IsRefused, RefusesBy, IsWaiting, IsCourse}
+use Rattle.session_verifier.proofs.RoundLemmas.{turns_append, some_rounds, asks_length}
+use Rattle.session_verifier.specs.Stages.{Moment, first_turn, second_turn, StartsAt, IsStopped, StopsBehind, IsRefused, RefusesBy, IsWaiting, IsCourse}
 use Rattle.session_verifier.specs.Notes.{IsUngranted, SendsRightly, AcceptsExactly, refusal_of, IsJudgedSession}
 use Rattle.session_verifier.proofs.CourseLemmas.{IsKnown, grant_is, judged_session}
 use Rattle.session_verifier.specs.declared.note.VerifierOutcome.{VerifierOutcome}
@@ -38,37 +42,42 @@ zeros count = record {
   ranged = λ k d below. subst IsElement (sym (get_or-replicate count k 0 d (omega (arith, below, length-replicate {A = ℕ} count 0)))) (omega arith);
 }
 
-abbrev pub setup_of : VerifierJob → ℕ → Setup
-setup_of job start = record { hello = wanted_hello job.task.file.id job.task.statement; grant = granted_from job start; rounds = [] }
+abbrev pub setup_of : VerifierJob → ℕ → List Round → Setup
+setup_of job start rounds =
+    record { hello = wanted_hello job.task.file.id job.task.statement; grant = granted_from job start; rounds = rounds }
 
-pub setup_is : (job : VerifierJob) (start : ℕ) → IsKnown job → start + units_of_job job ≤ job.task.file.params.total
-    → IsSetup job.task.file.params job.task.statement.program (setup_of job start)
-setup_is job start known within = record {
+pub setup_is : (job : VerifierJob) (start : ℕ) (rounds : List Round) → IsKnown job → start + units_of_job job ≤ job.task.file.params.total
+    → AreServedRounds job.task.file (granted_from job start) rounds
+    → IsSetup job.task.file.params job.task.statement.program (setup_of job start rounds)
+setup_is job start rounds known within served = record {
   hello = record { id = known.file.id; circuit = known.stated.circuit; outputs = known.stated.outputs; version = known.stated.version };
   grant = grant_is job start known.is within;
-  round_count = sym (ap rounds_of known.is.direct);
-  rounds = All-nil (IsRound job.task.file.params (granted_from job start));
+  round_count = served.count;
+  rounds = served.ranged;
 }
 
-pub goes_further : (job : VerifierJob) (start : ℕ) (d : List ℕ) → ServedSessionExists → IsKnown job → start + units_of_job job ≤ job.task.file.params.total
-    → AreElements job.task.statement.program.givens d → HasServedSession job.task (setup_of job start) d
-goes_further job start d law known within elements =
-    law job.task (setup_of job start) d known.file known.stated (setup_is job start known within) refl
-    (All-nil (λ round. round.replies ≡ round_replies job.task.file (granted_from job start) round.asks)) elements
+pub goes_further : (job : VerifierJob) (start : ℕ) (rounds : List Round) (d : List ℕ) → ServedSessionExists → IsKnown job
+    → start + units_of_job job ≤ job.task.file.params.total → AreServedRounds job.task.file (granted_from job start) rounds
+    → AreElements job.task.statement.program.givens d → HasServedSession job.task (setup_of job start rounds) d
+goes_further job start rounds d law known within served elements =
+    law job.task (setup_of job start rounds) d known.file known.stated (setup_is job start rounds known within served) refl served.replies elements
 
 -- its turns
+abbrev pub front_of : VerifierJob → ℕ → List Round → List (List ℕ × List ℕ)
+front_of job start rounds = first_turn job start ∷ round_turns rounds
+
 abbrev pub last_turn : Transcript → List ℕ × List ℕ
 last_turn t = (sums_frame t.sums ++ openings_frame t.openings, verdict_frame t.code t.number)
 
-pub turns_are : (job : VerifierJob) (start : ℕ) (d : List ℕ) (s : HasServedSession job.task (setup_of job start) d)
-    → session_turns s.t ≡ first_turn job start ∷ second_turn job start d ∷ last_turn s.t ∷ []
-turns_are job start d s =
+pub turns_are : (job : VerifierJob) (start : ℕ) (rounds : List Round) (d : List ℕ) (s : HasServedSession job.task (setup_of job start rounds) d)
+    → session_turns s.t ≡ front_of job start rounds ++ second_turn job start d ∷ last_turn s.t ∷ []
+turns_are job start rounds d s =
     let coin : s.t.challenge ≡ challenge_coin job.task.file start = s.served.challenge ∙ ap (λ (c : Commitment). challenge_coin job.task.file c.setup.grant.start) s.commitment in
     λ i. session_turns (record s.t { commitment = s.commitment i; challenge = coin i })
 
-pub serves_with : (job : VerifierJob) (start : ℕ) (d : List ℕ) (log : List (Side × ℕ)) (s : HasServedSession job.task (setup_of job start) d)
+pub serves_with : (job : VerifierJob) (start : ℕ) (rounds : List Round) (d : List ℕ) (log : List (Side × ℕ)) (s : HasServedSession job.task (setup_of job start rounds) d)
     → BeginsWith (spelling s.t) log ⊎ IsCutInTurn s.t log → ServesWith job.task (granted_from job start) log
-serves_with job start d log s bytes = record {
+serves_with job start rounds d log s bytes = record {
   t = s.t;
   verdict = s.verdict;
   served = s.served;
@@ -76,20 +85,56 @@ serves_with job start d log s bytes = record {
   bytes = bytes;
 }
 
--- bytes of a turn in place of it
-unfoldable pub cut_at : (job : VerifierJob) (start : ℕ) (d : List ℕ) (log : List (Side × ℕ)) (s : HasServedSession job.task (setup_of job start) d) (whole : ℕ) (rest : List ℕ)
-    → whole < 3 → length rest ≤ length (slice_index_or (first_turn job start ∷ second_turn job start d ∷ last_turn s.t ∷ []) whole ([], [])).0
-    → log ≡ turn_bytes (take whole (first_turn job start ∷ second_turn job start d ∷ last_turn s.t ∷ [])) ++ bytes_from Prover rest
-    → IsCutInTurn s.t log
-cut_at job start d log s whole rest below most is =
-    let turns = sym (turns_are job start d s) in
-    record {
-      whole = whole;
-      more = subst (λ (l : List (List ℕ × List ℕ)). whole < length l) turns below;
-      rest = rest;
-      most = subst (λ (l : List (List ℕ × List ℕ)). length rest ≤ length (slice_index_or l whole ([], [])).0) turns most;
-      bytes = is ∙ ap (λ (l : List (List ℕ × List ℕ)). turn_bytes (take whole l) ++ bytes_from Prover rest) turns;
-    }
+-- ---- where a session is cut
+
+-- in the turn behind some turns, and in the last one
+pub in_next : (front : List (List ℕ × List ℕ)) (second last : List ℕ × List ℕ) (n : ℕ) → length front ≡ n
+    → (n < length (front ++ second ∷ last ∷ [])) × (take n (front ++ second ∷ last ∷ []) ≡ front)
+    × (slice_index_or (front ++ second ∷ last ∷ []) n ([], []) ≡ second)
+in_next front second last n counted = (
+  omega (arith, counted, length-append front (second ∷ last ∷ [])),
+  take_at front (second ∷ last ∷ []) n counted,
+  get_or_at front second (last ∷ []) ([], []) n counted,
+)
+
+pub in_last : (front : List (List ℕ × List ℕ)) (second last : List ℕ × List ℕ) (n : ℕ) → length front + 1 ≡ n
+    → (n < length (front ++ second ∷ last ∷ [])) × (take n (front ++ second ∷ last ∷ []) ≡ front ++ second ∷ [])
+    × (slice_index_or (front ++ second ∷ last ∷ []) n ([], []) ≡ last)
+in_last front second last n counted =
+    let long : length (front ++ second ∷ []) ≡ n = length-append front (second ∷ []) ∙ counted in
+    let apart : (front ++ second ∷ []) ++ last ∷ [] ≡ front ++ second ∷ last ∷ [] = append_assoc front (second ∷ []) (last ∷ []) in (
+      omega (arith, counted, length-append front (second ∷ last ∷ [])),
+      ap (take n) (sym apart) ∙ take_at (front ++ second ∷ []) (last ∷ []) n long,
+      ap (λ l. slice_index_or l n ([], [])) (sym apart) ∙ get_or_at (front ++ second ∷ []) last [] ([], []) n long,
+    )
+
+-- a stop behind the grant is a cut of a session that goes on: so many turns are whole, and then these bytes came
+pub record IsCutOf (job : VerifierJob) (start whole : ℕ) (rest : List ℕ) (log : List (Side × ℕ)) : Type 0 where
+  pub rounds : List Round
+  pub served : AreServedRounds job.task.file (granted_from job start) rounds
+  pub d : List ℕ
+  pub session : HasServedSession job.task (setup_of job start rounds) d
+  pub more : whole < length (session_turns session.t)
+  pub most : length rest ≤ length (slice_index_or (session_turns session.t) whole ([], [])).0
+  pub bytes : log ≡ turn_bytes (take whole (session_turns session.t)) ++ bytes_from Prover rest
+
+pub cut_in_turn : (job : VerifierJob) (start whole : ℕ) (rest : List ℕ) (log : List (Side × ℕ)) (cut : IsCutOf job start whole rest log) → IsCutInTurn cut.session.t log
+cut_in_turn job start whole rest log cut = record { whole = whole; more = cut.more; rest = rest; most = cut.most; bytes = cut.bytes }
+
+-- by its turns
+cut_at : (job : VerifierJob) (start : ℕ) (rounds : List Round) (d : List ℕ) (log : List (Side × ℕ)) (whole : ℕ) (rest : List ℕ) (turns : List (List ℕ × List ℕ))
+    → AreServedRounds job.task.file (granted_from job start) rounds → (s : HasServedSession job.task (setup_of job start rounds) d) → turns ≡ session_turns s.t
+    → whole < length turns → length rest ≤ length (slice_index_or turns whole ([], [])).0
+    → log ≡ turn_bytes (take whole turns) ++ bytes_from Prover rest → IsCutOf job start whole rest log
+cut_at job start rounds d log whole rest turns served s are below most is = record {
+  rounds = rounds;
+  served = served;
+  d = d;
+  session = s;
+  more = subst (λ (l : List (List ℕ × List ℕ)). whole < length l) are below;
+  most = subst (λ (l : List (List ℕ × List ℕ)). length rest ≤ length (slice_index_or l whole ([], [])).0) are most;
+  bytes = is ∙ ap (λ (l : List (List ℕ × List ℕ)). turn_bytes (take whole l) ++ bytes_from Prover rest) are;
+}
 
 pub length_corrections : (d : List ℕ) → length (corrections_frame d) ≡ 5 + 8 * length d
 length_corrections d = omega (arith, length-elements d)
@@ -101,72 +146,171 @@ pub length_openings : (macs : List ℕ) → length (openings_frame macs) ≡ 5 +
 length_openings macs = omega (arith, length-elements macs)
 
 -- how long the last turn is
-pub last_length : (job : VerifierJob) (start : ℕ) (d : List ℕ) (s : HasServedSession job.task (setup_of job start) d)
+pub last_length : (job : VerifierJob) (start : ℕ) (rounds : List Round) (d : List ℕ) (s : HasServedSession job.task (setup_of job start rounds) d)
     → (length (sums_frame s.t.sums) ≡ 5 + 16 * section_count job.task.statement.program job.section_length)
     × (length (openings_frame s.t.openings) ≡ 5 + 8 * length job.task.statement.program.opened)
-last_length job start d s =
+last_length job start rounds d s =
     let same = ap (λ (c : Commitment). section_count job.task.statement.program c.setup.grant.section_length) s.commitment in (
       length_sums s.t.sums ∙ ap (λ n. 5 + 16 * n) (s.served.in_order.transcript.sum_count ∙ same),
       length_openings s.t.openings ∙ ap (λ n. 5 + 8 * n) s.served.in_order.transcript.opening_count,
     )
 
--- a stop behind the grant is a cut of a session that goes on
-pub record IsCutOf (job : VerifierJob) (start : ℕ) (log : List (Side × ℕ)) : Type 0 where
-  pub d : List ℕ
-  pub session : HasServedSession job.task (setup_of job start) d
-  pub cut : IsCutInTurn session.t log
+-- how many turns are the setup
+front_count : (job : VerifierJob) (start : ℕ) (rounds : List Round) → AreServedRounds job.task.file (granted_from job start) rounds
+    → length (front_of job start rounds) ≡ 1 + rounds_of job.task.file.params.kind
+front_count job start rounds served =
+    let mapped : length (round_turns rounds) ≡ length rounds = length-map rounds _ in
+    omega (arith, mapped, served.count)
 
-unfoldable pub cut_behind : (job : VerifierJob) (start : ℕ) (place : VerifierPlace) (outcome : VerifierOutcome) (first now : Moment) → ServedSessionExists → IsKnown job
-    → StartsAt start place → IsStopped job place outcome first now → IsCutOf job start now.log
-cut_behind job start awaits_hello outcome first now law known starts stopped = absurd starts
-cut_behind job start owes_grant outcome first now law known starts stopped = absurd starts
-cut_behind job start (awaits_corrections begun) outcome first now law known starts stopped =
-    let at = subst (λ b. IsLogAt job (awaits_corrections b) stopped.before) starts stopped.waited in
+-- ---- among the asks
+
+-- fewer items, and a part of one more
+part_fits : (a u per r : ℕ) → a < u → r ≤ per → a * per + r ≤ u * per
+part_fits a u per r less few =
+    let most : (a + 1) * per ≤ u * per = mul-le-mul_right {m = a + 1} {n = u} per (omega (arith, less)) in
+    omega (arith, most, few)
+
+asks_fit : (job : VerifierJob) (start : ℕ) (asked : List (List TreeAsk)) (rest : List ℕ) (round : Round) (rounds : List Round)
+    → AreServedRounds job.task.file (granted_from job start) (round ∷ rounds) → AreAsksSoFar job asked
+    → length rest ≤ 5 + job.task.file.params.trees * (job.task.file.params.height + 8)
+    → length (flat_map ask_frame asked ++ rest) ≤ length (flat_map ask_frame round.asks)
+asks_fit job start asked rest round rounds served so few =
+    let params = job.task.file.params in
+    let per = 5 + params.trees * (params.height + 8) in
+    let whole : length (flat_map ask_frame round.asks) ≡ units_of_job job * per =
+    sizes.asks_length params (granted_from job start) round (served.ranged 0 round (omega arith)) in
+    let part : length (flat_map ask_frame asked ++ rest) ≡ length asked * per + length rest =
+    length-append (flat_map ask_frame asked) rest ∙ ap (λ n. n + length rest) (asks_length params.height params.trees asked so.each) in
+    let fits = part_fits (length asked) (units_of_job job) per (length rest) so.more few in
+    subst (λ n. n ≤ length (flat_map ask_frame round.asks)) (sym part) (subst (λ n. length asked * per + length rest ≤ n) (sym whole) fits)
+
+cut_in_asks : (job : VerifierJob) (start : ℕ) (asked : List (List TreeAsk)) (rest : List ℕ) (log : List (Side × ℕ)) (rounds : List Round) → ServedSessionExists → IsKnown job
+    → start + units_of_job job ≤ job.task.file.params.total → AreAsksSoFar job asked
+    → length rest ≤ 5 + job.task.file.params.trees * (job.task.file.params.height + 8)
+    → log ≡ (turn_bytes (first_turn job start ∷ []) ++ bytes_from Prover (flat_map ask_frame asked)) ++ bytes_from Prover rest
+    → AreServedRounds job.task.file (granted_from job start) rounds
+    → IsCutOf job start 1 (flat_map ask_frame asked ++ rest) log
+cut_in_asks job start asked rest log [] law known within so few is served =
+    let none = served.count in
+    let one = ap rounds_of so.extended in
+    absurd (omega (arith, none, one))
+cut_in_asks job start asked rest log (round ∷ rounds) law known within so few is served =
     let givens = job.task.statement.program.givens in
-    let s = goes_further job start (replicate givens 0) law known at.0 (zeros givens) in
-    record {
-      d = replicate givens 0;
-      session = s;
-      cut = cut_at job start (replicate givens 0) now.log s 1 stopped.rest (omega arith)
-          (omega (arith, stopped.few (expect.Corrections givens) refl, length_corrections (replicate givens 0), length-replicate {A = ℕ} givens 0))
-          (stopped.log ∙ ap (λ l. l ++ bytes_from Prover stopped.rest) at.1);
-    }
-cut_behind job start (awaits_sums begun d) outcome first now law known starts stopped =
-    let at = subst (λ b. IsLogAt job (awaits_sums b d) stopped.before) starts stopped.waited in
-    let s = goes_further job start d law known at.0 at.1 in
-    let last = last_length job start d s in
-    record {
-      d = d;
-      session = s;
-      cut = cut_at job start d now.log s 2 stopped.rest (omega arith)
-          (omega (arith, stopped.few (expect.Sums (section_count job.task.statement.program job.section_length)) refl, last.0, length-append (sums_frame s.t.sums) (openings_frame s.t.openings)))
-          (stopped.log ∙ ap (λ l. l ++ bytes_from Prover stopped.rest) at.2);
-    }
-cut_behind job start (awaits_openings begun d both) outcome first now law known starts stopped =
-    let at = subst (λ b. IsLogAt job (awaits_openings b d both) stopped.before) starts stopped.waited in
-    let s = goes_further job start d law known at.0 at.1 in
-    let last = last_length job start d s in
-    let turns = turn_bytes (first_turn job start ∷ second_turn job start d ∷ []) in
-    record {
-      d = d;
-      session = s;
-      cut = cut_at job start d now.log s 2 (sums_frame both ++ stopped.rest) (omega arith)
-          (omega (
-            arith,
-            stopped.few (expect.Openings (length job.task.statement.program.opened)) refl,
-            last.0,
-            last.1,
-            length_sums both,
-            at.2.counted,
-            length-append (sums_frame s.t.sums) (openings_frame s.t.openings),
-            length-append (sums_frame both) stopped.rest,
-          ))
-          (stopped.log ∙ ap (λ l. l ++ bytes_from Prover stopped.rest) at.3
-          ∙ append_assoc turns (bytes_from Prover (sums_frame both)) (bytes_from Prover stopped.rest)
-          ∙ ap (λ l. turns ++ l) (sym (map-append (λ (byte : ℕ). (Prover, byte)) (sums_frame both) stopped.rest)));
-    }
-cut_behind job start (has_judged begun judgement) outcome first now law known starts stopped = absurd starts
-cut_behind job start has_refused outcome first now law known starts stopped = absurd starts
+    let s = goes_further job start (round ∷ rounds) (replicate givens 0) law known within served (zeros givens) in
+    let front = turn_bytes (first_turn job start ∷ []) in
+    cut_at job start (round ∷ rounds) (replicate givens 0) log 1 (flat_map ask_frame asked ++ rest)
+    (front_of job start (round ∷ rounds) ++ second_turn job start (replicate givens 0) ∷ last_turn s.t ∷ []) served s
+    (sym (turns_are job start (round ∷ rounds) (replicate givens 0) s)) (omega arith)
+    (asks_fit job start asked rest round rounds served so few)
+    (is ∙ append_assoc front (bytes_from Prover (flat_map ask_frame asked)) (bytes_from Prover rest)
+    ∙ ap (λ l. front ++ l) (sym (map-append (λ (byte : ℕ). (Prover, byte)) (flat_map ask_frame asked) rest)))
+
+pub cut_asks : (job : VerifierJob) (start : ℕ) (asked : List (List TreeAsk)) (outcome : VerifierOutcome) (first now : Moment) → RepliesAreInRange → ServedSessionExists
+    → IsKnown job → (stopped : IsStopped job (awaits_asks start asked) outcome first now) → IsCutOf job start 1 (flat_map ask_frame asked ++ stopped.rest) now.log
+cut_asks job start asked outcome first now ranges law known stopped =
+    let at = stopped.waited in
+    let some = some_rounds job start ranges (record { file = known.file; is = known.is }) at.0 in
+    cut_in_asks job start asked stopped.rest now.log some.0 law known at.0 at.1
+    (stopped.few (expect.Ask job.task.file.params.height job.task.file.params.trees (units_of_job job - length asked)) refl)
+    (stopped.log ∙ ap (λ l. l ++ bytes_from Prover stopped.rest) at.2) some.1
+
+-- ---- behind them
+
+pub cut_corrections : (job : VerifierJob) (start : ℕ) (outcome : VerifierOutcome) (first now : Moment) → ServedSessionExists → IsKnown job
+    → (stopped : IsStopped job (awaits_corrections start) outcome first now) → IsCutOf job start (1 + rounds_of job.task.file.params.kind) stopped.rest now.log
+cut_corrections job start outcome first now law known stopped =
+    let at = stopped.waited in
+    let givens = job.task.statement.program.givens in
+    let s = goes_further job start at.rounds (replicate givens 0) law known at.within at.served (zeros givens) in
+    let front = front_of job start at.rounds in
+    let second = second_turn job start (replicate givens 0) in
+    let whole = 1 + rounds_of job.task.file.params.kind in
+    let next = in_next front second (last_turn s.t) whole (front_count job start at.rounds at.served) in
+    let few : length stopped.rest ≤ length second.0 =
+    omega (arith, stopped.few (expect.Corrections givens) refl, length_corrections (replicate givens 0), length-replicate {A = ℕ} givens 0) in
+    cut_at job start at.rounds (replicate givens 0) now.log whole stopped.rest (front ++ second ∷ last_turn s.t ∷ []) at.served s
+    (sym (turns_are job start at.rounds (replicate givens 0) s)) next.0
+    (subst (λ (turn : List ℕ × List ℕ). length stopped.rest ≤ length turn.0) (sym next.2) few)
+    (stopped.log ∙ ap (λ l. l ++ bytes_from Prover stopped.rest) (at.spelled ∙ append-nil (turn_bytes front))
+    ∙ ap (λ l. turn_bytes l ++ bytes_from Prover stopped.rest) (sym next.1))
+
+pub cut_sums : (job : VerifierJob) (start : ℕ) (d : List ℕ) (outcome : VerifierOutcome) (first now : Moment) → ServedSessionExists → IsKnown job
+    → (stopped : IsStopped job (awaits_sums start d) outcome first now) → IsCutOf job start (2 + rounds_of job.task.file.params.kind) stopped.rest now.log
+cut_sums job start d outcome first now law known stopped =
+    let at = stopped.waited.1 in
+    let s = goes_further job start at.rounds d law known at.within at.served stopped.waited.0 in
+    let front = front_of job start at.rounds in
+    let second = second_turn job start d in
+    let whole = 2 + rounds_of job.task.file.params.kind in
+    let next = in_last front second (last_turn s.t) whole (omega (arith, front_count job start at.rounds at.served)) in
+    let long = last_length job start at.rounds d s in
+    let few : length stopped.rest ≤ length (last_turn s.t).0 =
+    omega (
+      arith,
+      stopped.few (expect.Sums (section_count job.task.statement.program job.section_length)) refl,
+      long.0,
+      length-append (sums_frame s.t.sums) (openings_frame s.t.openings),
+    ) in
+    cut_at job start at.rounds d now.log whole stopped.rest (front ++ second ∷ last_turn s.t ∷ []) at.served s
+    (sym (turns_are job start at.rounds d s)) next.0
+    (subst (λ (turn : List ℕ × List ℕ). length stopped.rest ≤ length turn.0) (sym next.2) few)
+    (stopped.log ∙ ap (λ l. l ++ bytes_from Prover stopped.rest) (at.spelled ∙ sym (turns_append front (second ∷ [])))
+    ∙ ap (λ l. turn_bytes l ++ bytes_from Prover stopped.rest) (sym next.1))
+
+-- four lists, put otherwise
+apart : {X : Type 0} (a b s r : List X) → (a ++ (b ++ s)) ++ r ≡ (a ++ b) ++ (s ++ r)
+apart a b s r = ap (λ l. l ++ r) (sym (append_assoc a b s)) ∙ append_assoc (a ++ b) s r
+
+pub cut_openings : (job : VerifierJob) (start : ℕ) (d : List ℕ) (both : List (ℕ × ℕ)) (outcome : VerifierOutcome) (first now : Moment) → ServedSessionExists → IsKnown job
+    → (stopped : IsStopped job (awaits_openings start d both) outcome first now)
+    → IsCutOf job start (2 + rounds_of job.task.file.params.kind) (sums_frame both ++ stopped.rest) now.log
+cut_openings job start d both outcome first now law known stopped =
+    let at = stopped.waited.2 in
+    let s = goes_further job start at.rounds d law known at.within at.served stopped.waited.0 in
+    let front = front_of job start at.rounds in
+    let second = second_turn job start d in
+    let whole = 2 + rounds_of job.task.file.params.kind in
+    let next = in_last front second (last_turn s.t) whole (omega (arith, front_count job start at.rounds at.served)) in
+    let long = last_length job start at.rounds d s in
+    let few : length (sums_frame both ++ stopped.rest) ≤ length (last_turn s.t).0 =
+    omega (
+      arith,
+      stopped.few (expect.Openings (length job.task.statement.program.opened)) refl,
+      long.0,
+      long.1,
+      length_sums both,
+      stopped.waited.1.counted,
+      length-append (sums_frame s.t.sums) (openings_frame s.t.openings),
+      length-append (sums_frame both) stopped.rest,
+    ) in
+    cut_at job start at.rounds d now.log whole (sums_frame both ++ stopped.rest) (front ++ second ∷ last_turn s.t ∷ []) at.served s
+    (sym (turns_are job start at.rounds d s)) next.0
+    (subst (λ (turn : List ℕ × List ℕ). length (sums_frame both ++ stopped.rest) ≤ length turn.0) (sym next.2) few)
+    (stopped.log ∙ ap (λ l. l ++ bytes_from Prover stopped.rest) at.spelled
+    ∙ apart (turn_bytes front) (turn_bytes (second ∷ [])) (bytes_from Prover (sums_frame both)) (bytes_from Prover stopped.rest)
+    ∙ (λ i. sym (turns_append front (second ∷ [])) i ++ sym (map-append (λ (byte : ℕ). (Prover, byte)) (sums_frame both) stopped.rest) i)
+    ∙ ap (λ l. turn_bytes l ++ bytes_from Prover (sums_frame both ++ stopped.rest)) (sym next.1))
+
+-- some turns are whole, and these bytes came of the next
+pub record IsSomeCut (job : VerifierJob) (start : ℕ) (log : List (Side × ℕ)) : Type 0 where
+  pub whole : ℕ
+  pub rest : List ℕ
+  pub cut : IsCutOf job start whole rest log
+
+pub cut_behind : (job : VerifierJob) (start : ℕ) (place : VerifierPlace) (outcome : VerifierOutcome) (first now : Moment) → RepliesAreInRange → ServedSessionExists → IsKnown job
+    → StartsAt start place → IsStopped job place outcome first now → IsSomeCut job start now.log
+cut_behind job start awaits_hello outcome first now ranges law known starts stopped = absurd starts
+cut_behind job start owes_grant outcome first now ranges law known starts stopped = absurd starts
+cut_behind job start (awaits_asks begun asked) outcome first now ranges law known starts stopped = subst (λ b. IsSomeCut job b now.log) starts
+    (record { whole = 1; rest = _; cut = cut_asks job begun asked outcome first now ranges law known stopped })
+cut_behind job start (awaits_corrections begun) outcome first now ranges law known starts stopped = subst (λ b. IsSomeCut job b now.log) starts
+    (record { whole = _; rest = _; cut = cut_corrections job begun outcome first now law known stopped })
+cut_behind job start (awaits_sums begun d) outcome first now ranges law known starts stopped = subst (λ b. IsSomeCut job b now.log) starts
+    (record { whole = _; rest = _; cut = cut_sums job begun d outcome first now law known stopped })
+cut_behind job start (awaits_openings begun d both) outcome first now ranges law known starts stopped = subst (λ b. IsSomeCut job b now.log) starts
+    (record { whole = _; rest = _; cut = cut_openings job begun d both outcome first now law known stopped })
+cut_behind job start (has_judged begun judgement) outcome first now ranges law known starts stopped = absurd starts
+cut_behind job start has_refused outcome first now ranges law known starts stopped = absurd starts
 
 -- ---- what the verifier sends
 
@@ -229,18 +373,20 @@ ungranted outcome mid now rest log most by =
       bytes = is.log ∙ ap (λ l. l ++ bytes_from Verifier is.answer) log;
     }
 
--- what is left of a list behind its first part
-before_grant : (job : VerifierJob) (start : ℕ) (log : List (Side × ℕ)) → ServedSessionExists → IsKnown job → start + units_of_job job ≤ job.task.file.params.total
+-- before the grant
+before_grant : (job : VerifierJob) (start : ℕ) (log : List (Side × ℕ)) → RepliesAreInRange → ServedSessionExists → IsKnown job
+    → start + units_of_job job ≤ job.task.file.params.total
     → log ≡ bytes_from Prover (hello_frame (wanted_hello job.task.file.id job.task.statement)) → ServesWith job.task (granted_from job start) log
-before_grant job start log law known within is =
+before_grant job start log ranges law known within is =
     let givens = job.task.statement.program.givens in
-    let s = goes_further job start (replicate givens 0) law known within (zeros givens) in
+    let some = some_rounds job start ranges (record { file = known.file; is = known.is }) within in
+    let s = goes_further job start some.0 (replicate givens 0) law known within some.1 (zeros givens) in
     let hello = bytes_from Prover (first_turn job start).0 in
     let grant = bytes_from Verifier (first_turn job start).1 in
-    let more = turn_bytes (second_turn job start (replicate givens 0) ∷ last_turn s.t ∷ []) in
-    serves_with job start (replicate givens 0) log s (inl (
+    let more = turn_bytes (round_turns some.0 ++ second_turn job start (replicate givens 0) ∷ last_turn s.t ∷ []) in
+    serves_with job start some.0 (replicate givens 0) log s (inl (
       grant ++ more,
-      ap turn_bytes (turns_are job start (replicate givens 0) s) ∙ append_assoc hello grant more ∙ ap (λ l. l ++ (grant ++ more)) (sym is),
+      ap turn_bytes (turns_are job start some.0 (replicate givens 0) s) ∙ append_assoc hello grant more ∙ ap (λ l. l ++ (grant ++ more)) (sym is),
     ))
 
 serves_judged : (job : VerifierJob) (span : Span) (judgement : Judgement) (log : List (Side × ℕ)) → IsJudgedSession job (Some span) judgement log
@@ -260,17 +406,17 @@ serves_judged job span judgement log session =
     or_span (Some other) = other
 
 pub sends_rightly : (job : VerifierJob) (answer : Option (Result Span LeaseFault)) (granted : Option Span) (outcome : VerifierOutcome) (first now : Moment)
-    → ServedSessionExists → IsKnown job → IsCourse job answer granted outcome first now → SendsRightly job granted outcome now.log
-sends_rightly job None granted outcome first now law known course =
+    → RepliesAreInRange → ServedSessionExists → IsKnown job → IsCourse job answer granted outcome first now → SendsRightly job granted outcome now.log
+sends_rightly job None granted outcome first now ranges law known course =
     let stopped = course.1.stopped in
     subst (λ g. SendsRightly job g outcome now.log) (sym course.0)
     (ungranted outcome course.1.mid now stopped.rest (stopped.log ∙ ap (λ l. l ++ bytes_from Prover stopped.rest) stopped.waited)
     (stopped.few expect.Hello refl) course.1.refused)
-sends_rightly job (Some (Err fault)) granted outcome first now law known course =
+sends_rightly job (Some (Err fault)) granted outcome first now ranges law known course =
     subst (λ g. SendsRightly job g outcome now.log) (sym course.0)
     (ungranted outcome course.1.mid now (hello_frame (wanted_hello job.task.file.id job.task.statement)) course.1.waiting.log
     (omega (arith, hello_length job known)) course.1.refused)
-sends_rightly job (Some (Ok span)) granted outcome first now law known course =
+sends_rightly job (Some (Ok span)) granted outcome first now ranges law known course =
     subst (λ g. SendsRightly job g outcome now.log) (sym course.0) (by_course course.1.course)
   where
     within : span.start + units_of_job job ≤ job.task.file.params.total
@@ -279,11 +425,12 @@ sends_rightly job (Some (Ok span)) granted outcome first now law known course =
     by_course : (IsStopped job owes_grant outcome first now ⊎ StopsBehind job span.start outcome first now
         ⊎ ((other : Judgement) × (outcome ≡ judgement_outcome other) × IsWaiting job (has_judged span.start other) first now))
         → ServesWith job.task (granted_from job span.start) now.log
-    by_course (inl stopped) = before_grant job span.start now.log law known within
+    by_course (inl stopped) = before_grant job span.start now.log ranges law known within
         (stopped.log ∙ (λ i. stopped.waited i ++ bytes_from Prover (stopped.none refl i)) ∙ append-nil (bytes_from Prover (hello_frame (wanted_hello job.task.file.id job.task.statement))))
     by_course (inr (inl stops)) =
-        let cut = cut_behind job span.start stops.place outcome first now law known stops.behind stops.stopped in
-        serves_with job span.start cut.d now.log cut.session (inr cut.cut)
+        let some = cut_behind job span.start stops.place outcome first now ranges law known stops.behind stops.stopped in
+        let cut = some.cut in
+        serves_with job span.start cut.rounds cut.d now.log cut.session (inr (cut_in_turn job span.start some.whole some.rest now.log cut))
     by_course (inr (inr found)) = serves_judged job span found.0 now.log (judged_session job span (Some span) found.0 now.log known refl found.2.log)
 
 -- ---- no cut session is accepted
@@ -331,12 +478,12 @@ accepted_judgement (judged.RejectedSum section left right) code = absurd (omega 
 accepted_judgement (judged.RejectedOpening output left right) code = absurd (omega (arith, code))
 
 pub accepts_exactly : (job : VerifierJob) (answer : Option (Result Span LeaseFault)) (granted : Option Span) (outcome : VerifierOutcome) (first now : Moment)
-    → ServedSessionExists → CutIsNotAccepted → VerdictIsSaid → IsKnown job → IsCourse job answer granted outcome first now → AcceptsExactly job outcome now.log
-accepts_exactly job None granted outcome first now law cut said known course accepted =
-    absurd (ungranted_is_cut job outcome now.log cut known (subst (λ g. SendsRightly job g outcome now.log) course.0 (sends_rightly job None granted outcome first now law known course)) accepted)
-accepts_exactly job (Some (Err fault)) granted outcome first now law cut said known course accepted =
-    absurd (ungranted_is_cut job outcome now.log cut known (subst (λ g. SendsRightly job g outcome now.log) course.0 (sends_rightly job (Some (Err fault)) granted outcome first now law known course)) accepted)
-accepts_exactly job (Some (Ok span)) granted outcome first now law cut said known course accepted = by_course course.1.course
+    → RepliesAreInRange → ServedSessionExists → CutIsNotAccepted → VerdictIsSaid → IsKnown job → IsCourse job answer granted outcome first now → AcceptsExactly job outcome now.log
+accepts_exactly job None granted outcome first now ranges law cut said known course accepted =
+    absurd (ungranted_is_cut job outcome now.log cut known (subst (λ g. SendsRightly job g outcome now.log) course.0 (sends_rightly job None granted outcome first now ranges law known course)) accepted)
+accepts_exactly job (Some (Err fault)) granted outcome first now ranges law cut said known course accepted =
+    absurd (ungranted_is_cut job outcome now.log cut known (subst (λ g. SendsRightly job g outcome now.log) course.0 (sends_rightly job (Some (Err fault)) granted outcome first now ranges law known course)) accepted)
+accepts_exactly job (Some (Ok span)) granted outcome first now ranges law cut said known course accepted = by_course course.1.course
   where
     by_course : (IsStopped job owes_grant outcome first now ⊎ StopsBehind job span.start outcome first now
         ⊎ ((other : Judgement) × (outcome ≡ judgement_outcome other) × IsWaiting job (has_judged span.start other) first now))
@@ -345,8 +492,10 @@ accepts_exactly job (Some (Ok span)) granted outcome first now law cut said know
         (stopped.log ∙ (λ i. stopped.waited i ++ bytes_from Prover (stopped.none refl i)) ∙ append-nil (bytes_from Prover (hello_frame (wanted_hello job.task.file.id job.task.statement))))
         (omega (arith, hello_length job known)) accepted)
     by_course (inr (inl stops)) =
-        let is = cut_behind job span.start stops.place outcome first now law known stops.behind stops.stopped in
-        absurd (cut job.task is.session.t now.log known.file.params is.session.served.in_order.transcript is.cut accepted)
+        let some = cut_behind job span.start stops.place outcome first now ranges law known stops.behind stops.stopped in
+        let is = some.cut in
+        absurd (cut job.task is.session.t now.log known.file.params is.session.served.in_order.transcript
+        (cut_in_turn job span.start some.whole some.rest now.log is) accepted)
     by_course (inr (inr found)) =
         let session = judged_session job span (Some span) found.0 now.log known refl found.2.log in
         let codes = said job.task.file.params job.task.statement.program session.t accepted.t now.log known.file.params

@@ -1,20 +1,23 @@
 -- From where a verifier waits to where it waits next, and to where it stops.
-use Rattle.std.proofs.Common.{◌≡◌, ℕ, ◌+◌, ◌^◌, ◌≤◌, List, [], ◌∷◌, ◌++◌, map, flat_map, length, take, slice_index_or, Result, Ok, Err, OnOk, IfErr, inl, inr, Option, Some, None, refl, ap, sym, ◌∙◌, subst, arith, append_assoc, append-nil, length-append}
+use Rattle.std.proofs.Common.{◌≡◌, ◌⊎◌, ℕ, ◌+◌, ◌-◌, ◌^◌, ◌≤◌, List, [], ◌∷◌, ◌++◌, flat_map, length, take, Result, Ok, Err, OnOk, IfErr, inl, inr, Option, Some, None, refl, ap, sym, ◌∙◌, subst, arith, append_assoc, append-nil, length-append}
+use Rattle.std.specs.Prelude.{All}
+use Rattle.std.specs.List.{AllByRecursion}
 use Rattle.std.proofs.lemmas.List.{map-append}
+use Rattle.std.proofs.lemmas.List.Elements.{All-nil, All-push, All-from_recursion}
 use Rattle.zk_model.specs.Program.{section_count}
-use Rattle.zk_model.specs.Transcript.{Hello, IsHello, wanted_hello, hello_frame, grant_frame, corrections_frame, challenge_frame, sums_frame, openings_frame, verdict_frame, refuse_frame, bytes_from, turn_bytes, sent_by}
-use Rattle.zk_model.specs.Frames.{Frame, hello, grant, corrections, challenge, sums, openings, verdict, refuse, frame_spelling, Allows, AreElements, AreSums, IsWhole}
+use Rattle.zk_model.specs.Transcript.{Hello, TreeAsk, IsHello, wanted_hello, hello_frame, grant_frame, ask_frame, reply_frame, corrections_frame, challenge_frame, sums_frame, openings_frame, verdict_frame, refuse_frame, bytes_from, turn_bytes, sent_by}
+use Rattle.zk_model.specs.Frames.{Frame, hello, grant, asks, replies, corrections, challenge, sums, openings, verdict, refuse, frame_spelling, Allows, AreAsks, AreElements, AreSums, IsWhole}
 use Rattle.zk_model.specs.View.{verdict_code, verdict_number}
-use Rattle.zk_model.specs.ServedVerifier.{challenge_coin}
+use Rattle.zk_model.specs.ServedVerifier.{challenge_coin, round_replies}
 use Rattle.zk_model.specs.declared.Expect.{Expect}
 use Rattle.zk_model.specs.declared.Expect.TheVariants as places
+use Rattle.zk_model.specs.declared.Kind.TheVariants.{Direct, Extended}
 use Rattle.zk_model.specs.declared.Side.{Side}
 use Rattle.zk_model.specs.declared.Side.TheVariants.{Prover, Verifier}
 use Rattle.zk_laws.proofs.SentBytes.{sent_by-append, own_bytes, none_of_verifier}
 use Rattle.zk_port.specs.Logs.{appended, peer_of, AppendsPart}
 use Rattle.zk_port.specs.Counts.{Rose}
-use Rattle.proof_frames.specs.Frames.{said, IsShort}
-use Rattle.proof_frames.specs.declared.frame.Frame as raw
+use Rattle.proof_frames.specs.Frames.{IsShort}
 use Rattle.frame_link.specs.declared.fault.LineFault.{LineFault}
 use Rattle.frame_link.specs.declared.fault.LineFault.TheVariants as fault
 use Rattle.session_core.specs.declared.fault.SessionFault.{SessionFault}
@@ -26,9 +29,12 @@ use Rattle.frame_link.specs.Lines.{LineState, Came, Arrives, Fails, Breaks, Send
 use Rattle.frame_link.proofs.LineLemmas.{frame_most, appended_more, none_is_some}
 use Rattle.session_core.specs.Jobs.{VerifierJob, units_of_job, granted_from}
 use Rattle.session_core.specs.Judgements.{verdict_in}
-use Rattle.session_core.specs.Cores.{VerifierPlace, awaits_hello, owes_grant, awaits_corrections, awaits_sums, awaits_openings, has_judged, has_refused, verifier_expects, VerifierAnswers, VerifierRefuses}
-use Rattle.session_core.specs.declared.judgement.Judgement.{Judgement}
-use Rattle.session_verifier.specs.Stages.{IsLogAt, IsLineAt, IsStopped, IsRefused, IsShortAnswer, StopCause, TellsLog, TellsBy, Follows, IsUsable, IsWaiting, Moment, moment_of, first_turn, second_turn, frames_before}
+use Rattle.session_core.specs.Extending.{asks_in}
+use Rattle.session_core.specs.Rounds.{round_turns}
+use Rattle.session_core.specs.Cores.{VerifierPlace, AnswersAsks, awaits_hello, owes_grant, behind_grant, awaits_asks, awaits_corrections, awaits_sums, awaits_openings, has_judged, has_refused, verifier_expects, VerifierAnswers, VerifierRefuses}
+use Rattle.session_laws.specs.Rounds.{RepliesAreInRange}
+use Rattle.session_verifier.proofs.RoundLemmas.{either_kind, behind_direct, behind_extended, turns_append, one_ask_more, replies_spelled, served_round, served_none, short_replies}
+use Rattle.session_verifier.specs.Stages.{IsHeldJob, IsLogAt, IsLineAt, IsStopped, IsRefused, StopCause, TellsLog, TellsBy, IsUsable, IsWaiting, Moment, moment_of, first_turn, second_turn, frames_before}
 use Rattle.session_verifier.specs.declared.note.VerifierOutcome.{VerifierOutcome}
 use Rattle.session_verifier.specs.declared.note.VerifierOutcome.TheVariants.{Accepted, RejectedSum, RejectedOpening, PeerEnded, BadFrame, BadHello, Exhausted, Device, Broken, Link, NoMemory}
 
@@ -37,6 +43,8 @@ use Rattle.session_verifier.specs.declared.note.VerifierOutcome.TheVariants.{Acc
 abbrev corrections_in : Frame → List ℕ
 corrections_in (hello x) = []
 corrections_in (grant x) = []
+corrections_in (asks x) = []
+corrections_in (replies x) = []
 corrections_in (corrections d) = d
 corrections_in (challenge x) = []
 corrections_in (sums x) = []
@@ -47,6 +55,8 @@ corrections_in (refuse x) = []
 abbrev sums_in : Frame → List (ℕ × ℕ)
 sums_in (hello x) = []
 sums_in (grant x) = []
+sums_in (asks x) = []
+sums_in (replies x) = []
 sums_in (corrections d) = []
 sums_in (challenge x) = []
 sums_in (sums both) = both
@@ -68,13 +78,12 @@ behind_first : {X : Type 0} (a b c : List X) → ((a ++ []) ++ b) ++ c ≡ a ++ 
 behind_first a b c =
     (λ i. (append-nil a i ++ b) ++ c) ∙ append_assoc a b c ∙ ap (λ l. a ++ l) (sym (append-nil (b ++ c)))
 
-behind_second : {X : Type 0} (a b s m v : List X) → ((((a ++ (b ++ [])) ++ s) ++ m) ++ v) ≡ a ++ (b ++ (((s ++ m) ++ v) ++ []))
+behind_second : {X : Type 0} (a b s m v : List X) → ((a ++ ((b ++ []) ++ s)) ++ m) ++ v ≡ a ++ (b ++ (((s ++ m) ++ v) ++ []))
 behind_second a b s m v =
-    (λ i. ((((a ++ append-nil b i) ++ s) ++ m) ++ v))
-    ∙ ap (λ l. l ++ v) (append_assoc (a ++ b) s m)
-    ∙ append_assoc (a ++ b) (s ++ m) v
-    ∙ append_assoc a b ((s ++ m) ++ v)
-    ∙ ap (λ l. a ++ (b ++ l)) (sym (append-nil ((s ++ m) ++ v)))
+    (λ i. ((a ++ (append-nil b i ++ s)) ++ m) ++ v)
+    ∙ ap (λ l. l ++ v) (append_assoc a (b ++ s) m)
+    ∙ append_assoc a ((b ++ s) ++ m) v
+    ∙ ap (λ l. a ++ l) (ap (λ l. l ++ v) (append_assoc b s m) ∙ append_assoc b (s ++ m) v ∙ ap (λ l. b ++ l) (sym (append-nil ((s ++ m) ++ v))))
 
 -- the log behind a frame of the prover's and an answer
 abbrev pub log_behind : List (Side × ℕ) → Frame → List Frame → List (Side × ℕ)
@@ -84,63 +93,119 @@ log_behind log frame answer = (log ++ bytes_from Prover (frame_spelling frame)) 
 one_answer : (frame : Frame) → bytes_from Verifier (flat_map frame_spelling (frame ∷ [])) ≡ bytes_from Verifier (frame_spelling frame)
 one_answer frame = ap (bytes_from Verifier) (append-nil (frame_spelling frame))
 
+-- asks of one unit more, with their answer
+asks_on : (job : VerifierJob) (start : ℕ) (asked : List (List TreeAsk)) (trees : List TreeAsk) (now : VerifierPlace) (log : List (Side × ℕ)) (frame : Frame)
+    (answer : List Frame) → RepliesAreInRange → IsHeldJob job → IsLogAt job (awaits_asks start asked) log
+    → AreAsks job.task.file.params.height job.task.file.params.trees trees → frame ≡ asks trees
+    → AnswersAsks job start (asked ++ trees ∷ []) answer now → IsLogAt job now (log_behind log frame answer)
+asks_on job start asked trees now log frame answer law held at are is (inl more) =
+    let front = turn_bytes (first_turn job start ∷ []) in
+    subst (λ n. IsLogAt job n (log_behind log frame answer)) (sym more.2) (
+      at.0,
+      record {
+        extended = at.1.extended;
+        more = more.0;
+        each = All-push (AreAsks job.task.file.params.height job.task.file.params.trees) asked trees at.1.each are;
+      },
+      (λ i. log_behind (at.2 i) (is i) (more.1 i))
+          ∙ append-nil ((front ++ bytes_from Prover (flat_map ask_frame asked)) ++ bytes_from Prover (ask_frame trees))
+          ∙ one_ask_more front asked trees,
+    )
+asks_on job start asked trees now log frame answer law held at are is (inr all) =
+    let front = turn_bytes (first_turn job start ∷ []) in
+    let all_asked = asked ++ trees ∷ [] in
+    let replied = round_replies job.task.file (granted_from job start) all_asked in
+    subst (λ n. IsLogAt job n (log_behind log frame answer)) (sym all.2) (record {
+      within = at.0;
+      rounds = record { asks = all_asked; replies = replied } ∷ [];
+      served = served_round job start all_asked law held at.0 at.1.extended all.0
+          (All-push (AreAsks job.task.file.params.height job.task.file.params.trees) asked trees at.1.each are);
+      spelled = (λ i. log_behind (at.2 i) (is i) (all.1 i))
+          ∙ (λ i. one_ask_more front asked trees i ++ bytes_from Verifier (replies_spelled replied i))
+          ∙ behind_first (bytes_from Prover (first_turn job start).0 ++ bytes_from Verifier (first_turn job start).1)
+          (bytes_from Prover (flat_map ask_frame all_asked)) (bytes_from Verifier (flat_map reply_frame replied))
+          ∙ sym (append-nil (turn_bytes (first_turn job start ∷ (flat_map ask_frame all_asked, flat_map reply_frame replied) ∷ [])));
+    })
+
 pub logs_on : (job : VerifierJob) (place now : VerifierPlace) (log : List (Side × ℕ)) (expect : Expect) (frame : Frame) (answer : List Frame)
+    → RepliesAreInRange → IsHeldJob job
     → verifier_expects job place ≡ Some expect → Allows expect frame → IsLogAt job place log → VerifierAnswers job place frame answer now
     → IsLogAt job now (log_behind log frame answer)
-logs_on job awaits_hello now log expect frame answer expects allowed at answers =
+logs_on job awaits_hello now log expect frame answer law held expects allowed at answers =
     subst (λ n. IsLogAt job n (log_behind log frame answer)) (sym answers.2)
     ((λ i. log_behind (at i) (answers.0 i) (answers.1 i))
     ∙ append-nil (bytes_from Prover (hello_frame (wanted_hello job.task.file.id job.task.statement))))
-logs_on job owes_grant now log expect frame answer expects allowed at answers = absurd answers
-logs_on job (awaits_corrections start) now log expect frame answer expects allowed at answers =
+logs_on job owes_grant now log expect frame answer law held expects allowed at answers = absurd answers
+logs_on job (awaits_asks start asked) now log expect frame answer law held expects allowed at answers =
+    let given = allowed_at (places.Ask job.task.file.params.height job.task.file.params.trees (units_of_job job - length asked)) expect frame expects allowed in
+    let same : given.0 ≡ answers.0 = ap asks_in (sym given.1 ∙ answers.1) in
+    asks_on job start asked answers.0 now log frame answer law held at
+    (subst (AreAsks job.task.file.params.height job.task.file.params.trees) same given.2) answers.1 answers.2
+logs_on job (awaits_corrections start) now log expect frame answer law held expects allowed at answers =
     let d = answers.0 in
     let given = allowed_at (places.Corrections job.task.statement.program.givens) expect frame expects allowed in
     let same : given.0 ≡ d = ap corrections_in (sym given.1 ∙ answers.1) in
+    let front = turn_bytes (first_turn job start ∷ round_turns at.rounds) in
     subst (λ n. IsLogAt job n (log_behind log frame answer)) (sym answers.3) (
-      at.0,
       subst (AreElements job.task.statement.program.givens) same given.2,
-      (λ i. log_behind (at.1 i) (answers.1 i) (answers.2 i))
-          ∙ ap (λ l. (turn_bytes (first_turn job start ∷ []) ++ bytes_from Prover (corrections_frame d)) ++ l) (one_answer (challenge (challenge_coin job.task.file start)))
-          ∙ behind_first (bytes_from Prover (first_turn job start).0 ++ bytes_from Verifier (first_turn job start).1) (bytes_from Prover (corrections_frame d))
-          (bytes_from Verifier (challenge_frame (challenge_coin job.task.file start))),
+      record {
+        within = at.within;
+        rounds = at.rounds;
+        served = at.served;
+        spelled = (λ i. log_behind (at.spelled i) (answers.1 i) (answers.2 i))
+            ∙ ap (λ l. ((front ++ []) ++ bytes_from Prover (corrections_frame d)) ++ l) (one_answer (challenge (challenge_coin job.task.file start)))
+            ∙ behind_first front (bytes_from Prover (corrections_frame d)) (bytes_from Verifier (challenge_frame (challenge_coin job.task.file start)));
+      },
     )
-logs_on job (awaits_sums start d) now log expect frame answer expects allowed at answers =
+logs_on job (awaits_sums start d) now log expect frame answer law held expects allowed at answers =
     let both = answers.0 in
     let given = allowed_at (places.Sums (section_count job.task.statement.program job.section_length)) expect frame expects allowed in
     let same : given.0 ≡ both = ap sums_in (sym given.1 ∙ answers.1) in
+    let front = turn_bytes (first_turn job start ∷ round_turns at.1.rounds) in
+    let second = turn_bytes (second_turn job start d ∷ []) in
     subst (λ n. IsLogAt job n (log_behind log frame answer)) (sym answers.3) (
       at.0,
-      at.1,
       subst (AreSums (section_count job.task.statement.program job.section_length)) same given.2,
-      (λ i. log_behind (at.2 i) (answers.1 i) (answers.2 i))
-          ∙ append-nil (turn_bytes (first_turn job start ∷ second_turn job start d ∷ []) ++ bytes_from Prover (sums_frame both)),
+      record {
+        within = at.1.within;
+        rounds = at.1.rounds;
+        served = at.1.served;
+        spelled = (λ i. log_behind (at.1.spelled i) (answers.1 i) (answers.2 i))
+            ∙ append-nil ((front ++ second) ++ bytes_from Prover (sums_frame both))
+            ∙ append_assoc front second (bytes_from Prover (sums_frame both));
+      },
     )
-logs_on job (awaits_openings start d both) now log expect frame answer expects allowed at answers =
+logs_on job (awaits_openings start d both) now log expect frame answer law held expects allowed at answers =
     let macs = answers.0 in
     let judgement = answers.1 in
     let given = allowed_at (places.Openings (length job.task.statement.program.opened)) expect frame expects allowed in
     let same : given.0 ≡ macs = ap corrections_in (sym given.1 ∙ answers.2) in
     let code = verdict_code (verdict_in judgement) in
     let number = verdict_number (verdict_in judgement) in
-    let first = bytes_from Prover (first_turn job start).0 ++ bytes_from Verifier (first_turn job start).1 in
+    let front = turn_bytes (first_turn job start ∷ round_turns at.2.rounds) in
     let second = bytes_from Prover (second_turn job start d).0 ++ bytes_from Verifier (second_turn job start d).1 in
+    let last = bytes_from Verifier (verdict_frame code number) in
     subst (λ n. IsLogAt job n (log_behind log frame answer)) (sym answers.5)
     (record {
-      within = at.0;
+      within = at.2.within;
+      rounds = at.2.rounds;
+      served = at.2.served;
       corrections = d;
-      elements = at.1;
+      elements = at.0;
       sums = both;
-      pairs = at.2;
+      pairs = at.1;
       openings = macs;
       macs = subst (AreElements (length job.task.statement.program.opened)) same given.2;
-      judged = answers.3;
-      spelled = (λ i. log_behind (at.3 i) (answers.2 i) (answers.4 i))
-          ∙ ap (λ l. ((turn_bytes (first_turn job start ∷ second_turn job start d ∷ []) ++ bytes_from Prover (sums_frame both)) ++ bytes_from Prover (openings_frame macs)) ++ l) (one_answer (verdict code number))
-          ∙ behind_second first second (bytes_from Prover (sums_frame both)) (bytes_from Prover (openings_frame macs)) (bytes_from Verifier (verdict_frame code number))
-          ∙ ap (λ l. first ++ (second ++ ((l ++ bytes_from Verifier (verdict_frame code number)) ++ []))) (sym (map-append (λ (byte : ℕ). (Prover, byte)) (sums_frame both) (openings_frame macs)));
+      judged = answers.3 at.2.rounds;
+      spelled = (λ i. log_behind (at.2.spelled i) (answers.2 i) (answers.4 i))
+          ∙ ap (λ l. ((front ++ ((second ++ []) ++ bytes_from Prover (sums_frame both))) ++ bytes_from Prover (openings_frame macs)) ++ l) (one_answer (verdict code number))
+          ∙ behind_second front second (bytes_from Prover (sums_frame both)) (bytes_from Prover (openings_frame macs)) last
+          ∙ ap (λ l. front ++ (second ++ ((l ++ last) ++ []))) (sym (map-append (λ (byte : ℕ). (Prover, byte)) (sums_frame both) (openings_frame macs)))
+          ∙ sym (turns_append (first_turn job start ∷ round_turns at.2.rounds)
+          (second_turn job start d ∷ (sums_frame both ++ openings_frame macs, verdict_frame code number) ∷ []));
     })
-logs_on job (has_judged start judgement) now log expect frame answer expects allowed at answers = absurd answers
-logs_on job has_refused now log expect frame answer expects allowed at answers = absurd answers
+logs_on job (has_judged start judgement) now log expect frame answer law held expects allowed at answers = absurd answers
+logs_on job has_refused now log expect frame answer law held expects allowed at answers = absurd answers
 
 -- ---- what the prover sent
 
@@ -160,13 +225,19 @@ sent_more log bytes =
     ∙ length-append (sent_by Prover log) bytes
 
 -- one frame more is logged
+asks_counted : (job : VerifierJob) (start : ℕ) (asked : List (List TreeAsk)) (trees : List TreeAsk) (answer : List Frame) (now : VerifierPlace)
+    → AnswersAsks job start (asked ++ trees ∷ []) answer now → frames_before job (awaits_asks start asked) + 1 ≤ frames_before job now
+asks_counted job start asked trees answer now (inl more) = omega (arith, ap (frames_before job) more.2, length-append asked (trees ∷ []))
+asks_counted job start asked trees answer now (inr all) = omega (arith, ap (frames_before job) all.2, all.0, length-append asked (trees ∷ []))
+
 one_frame_more : (job : VerifierJob) (place now : VerifierPlace) (frame : Frame) (answer : List Frame) → VerifierAnswers job place frame answer now
-    → frames_before now ≡ frames_before place + 1
-one_frame_more job awaits_hello now frame answer answers = ap frames_before answers.2
+    → frames_before job place + 1 ≤ frames_before job now
+one_frame_more job awaits_hello now frame answer answers = omega (arith, ap (frames_before job) answers.2)
 one_frame_more job owes_grant now frame answer answers = absurd answers
-one_frame_more job (awaits_corrections start) now frame answer answers = ap frames_before answers.3
-one_frame_more job (awaits_sums start d) now frame answer answers = ap frames_before answers.3
-one_frame_more job (awaits_openings start d both) now frame answer answers = ap frames_before answers.5
+one_frame_more job (awaits_asks start asked) now frame answer answers = asks_counted job start asked answers.0 answer now answers.2
+one_frame_more job (awaits_corrections start) now frame answer answers = omega (arith, ap (frames_before job) answers.3)
+one_frame_more job (awaits_sums start d) now frame answer answers = omega (arith, ap (frames_before job) answers.3)
+one_frame_more job (awaits_openings start d both) now frame answer answers = omega (arith, ap (frames_before job) answers.5)
 one_frame_more job (has_judged start judgement) now frame answer answers = absurd answers
 one_frame_more job has_refused now frame answer answers = absurd answers
 
@@ -174,6 +245,8 @@ one_frame_more job has_refused now frame answer answers = absurd answers
 longest_short : (place : Expect) → IsShortPlace place → longest place ≤ 2 ^ 24 + 5
 longest_short places.Hello short = omega arith
 longest_short places.Grant short = omega arith
+longest_short (places.Ask height trees left) short = short
+longest_short (places.Reply height trees left) short = short
 longest_short (places.Corrections count) short = short
 longest_short places.Challenge short = short
 longest_short (places.Sums sections) short = short
@@ -188,11 +261,11 @@ frame_short place bytes frame short whole =
 
 -- a line on which a frame came and was answered
 pub goes_on : (job : VerifierJob) (place now : VerifierPlace) (expect : Expect) (frame : Frame) (answer : List Frame) (first old mid new : LineState)
-    → verifier_expects job place ≡ Some expect → IsShortPlace expect
+    → RepliesAreInRange → IsHeldJob job → verifier_expects job place ≡ Some expect → IsShortPlace expect
     → IsLineAt job place first old → Arrives expect frame old mid → VerifierAnswers job place frame answer now
     → Sends (flat_map frame_spelling answer) mid new
     → IsLineAt job now first new
-goes_on job place now expect frame answer first old mid new expects short at came answers sent =
+goes_on job place now expect frame answer first old mid new law held expects short at came answers sent =
     let bytes : came.bytes ≡ frame_spelling frame = came.whole.spelled in
     let mid_log : mid.log ≡ old.log ++ bytes_from Prover came.bytes = came.came.logged ∙ ap (λ s. old.log ++ bytes_from (peer_of s) came.bytes) at.side in
     let new_side : mid.side ≡ Verifier = came.came.side ∙ at.side in
@@ -207,7 +280,7 @@ goes_on job place now expect frame answer first old mid new expects short at cam
     let one = one_frame_more job place now frame answer answers in
     let before = ap (λ (r : Reading). r.received) at.received in
     record {
-      log = subst (IsLogAt job now) (sym (log ∙ ap more bytes)) (logs_on job place now old.log expect frame answer expects came.whole.allowed at.log answers);
+      log = subst (IsLogAt job now) (sym (log ∙ ap more bytes)) (logs_on job place now old.log expect frame answer law held expects came.whole.allowed at.log answers);
       received = sent.others.reading ∙ came.read ∙ (λ i. record { received = (ap (λ n. n + length came.bytes) before ∙ sym counted) i; expected = None; taken = []; bad = None });
       few = omega (arith, counted, few, one, at.few);
       told = sent.told ∙ (λ i. appended (bytes_from (new_side i) (flat_map frame_spelling answer)) (came_told i))
@@ -298,6 +371,8 @@ frame_few job place expect frame old mid expects came other also =
 abbrev pub hello_in : Hello → Frame → Hello
 hello_in other (hello x) = x
 hello_in other (grant x) = other
+hello_in other (asks x) = other
+hello_in other (replies x) = other
 hello_in other (corrections d) = other
 hello_in other (challenge x) = other
 hello_in other (sums x) = other
@@ -386,23 +461,40 @@ stops_unsent job place expect frame answer broke first old mid now expects at ca
       later = omega (arith, at.faults, came.unfailed, fails.count.later);
     }
 
--- an answer is one frame at most, and a short one
-pub short_answers : (job : VerifierJob) (place now : VerifierPlace) (frame : Frame) (answer : List Frame) → VerifierAnswers job place frame answer now
-    → IsShortAnswer answer
-short_answers job awaits_hello now frame answer answers = subst IsShortAnswer (sym answers.1) tt
-short_answers job owes_grant now frame answer answers = absurd answers
-short_answers job (awaits_corrections start) now frame answer answers = subst IsShortAnswer (sym answers.2) (omega arith, refl)
-short_answers job (awaits_sums start c) now frame answer answers = subst IsShortAnswer (sym answers.2) tt
-short_answers job (awaits_openings start c both) now frame answer answers = subst IsShortAnswer (sym answers.4) (omega arith, refl)
-short_answers job (has_judged start judgement) now frame answer answers = absurd answers
-short_answers job has_refused now frame answer answers = absurd answers
+-- one frame that is short
+one_short : (frame : Frame) → IsShort frame → All IsShort (frame ∷ [])
+one_short frame short = let each : AllByRecursion IsShort (frame ∷ []) = (short, tt) in All-from_recursion IsShort (frame ∷ []) each
 
--- an answer that has a frame is that frame
-pub answer_is : (answer : List raw.Frame) (d : raw.Frame) → 1 ≤ length answer → IsShortAnswer (map said answer)
-    → IsShort (said (slice_index_or answer 0 d)) × (flat_map frame_spelling (map said answer) ≡ frame_spelling (said (slice_index_or answer 0 d)))
-answer_is [] d some short = absurd (omega (arith, some))
-answer_is (frame ∷ more) d some short =
-    (short.0, ap (λ l. frame_spelling (said frame) ++ flat_map frame_spelling l) short.1 ∙ append-nil (frame_spelling (said frame)))
+-- an answer has short frames
+pub short_answers : (job : VerifierJob) (place now : VerifierPlace) (log : List (Side × ℕ)) (expect : Expect) (frame : Frame) (answer : List Frame)
+    → RepliesAreInRange → IsHeldJob job → verifier_expects job place ≡ Some expect → Allows expect frame → IsLogAt job place log
+    → VerifierAnswers job place frame answer now → All IsShort answer
+short_answers job awaits_hello now log expect frame answer law held expects allowed at answers = subst (All IsShort) (sym answers.1) (All-nil IsShort)
+short_answers job owes_grant now log expect frame answer law held expects allowed at answers = absurd answers
+short_answers job (awaits_asks start asked) now log expect frame answer law held expects allowed at answers = either answers.2
+  where
+    trees : List TreeAsk
+    trees = answers.0
+
+    are : AreAsks job.task.file.params.height job.task.file.params.trees answers.0
+    are =
+        let given = allowed_at (places.Ask job.task.file.params.height job.task.file.params.trees (units_of_job job - length asked)) expect frame expects allowed in
+        subst (AreAsks job.task.file.params.height job.task.file.params.trees) (ap asks_in (sym given.1 ∙ answers.1)) given.2
+
+    either : AnswersAsks job start (asked ++ trees ∷ []) answer now → All IsShort answer
+    either (inl more) = subst (All IsShort) (sym more.1) (All-nil IsShort)
+    either (inr all) = subst (All IsShort) (sym all.1)
+        (short_replies job start (asked ++ trees ∷ []) law held at.0 at.1.extended all.0
+        (All-push (AreAsks job.task.file.params.height job.task.file.params.trees) asked trees at.1.each are))
+short_answers job (awaits_corrections start) now log expect frame answer law held expects allowed at answers =
+    subst (All IsShort) (sym answers.2) (one_short (challenge (challenge_coin job.task.file start)) (omega arith))
+short_answers job (awaits_sums start c) now log expect frame answer law held expects allowed at answers =
+    subst (All IsShort) (sym answers.2) (All-nil IsShort)
+short_answers job (awaits_openings start c both) now log expect frame answer law held expects allowed at answers =
+    subst (All IsShort) (sym answers.4)
+    (one_short (verdict (verdict_code (verdict_in answers.1)) (verdict_number (verdict_in answers.1))) (omega arith))
+short_answers job (has_judged start judgement) now log expect frame answer law held expects allowed at answers = absurd answers
+short_answers job has_refused now log expect frame answer law held expects allowed at answers = absurd answers
 
 -- the line is still open
 pub usable_after : (expect : Expect) (broke : LineFault) (old now : LineState) → IsUsable old → Fails expect broke old now → IsUsable now
@@ -421,13 +513,36 @@ pub usable_at : (job : VerifierJob) (place : VerifierPlace) (first line : LineSt
 usable_at job place first line at = record { side = at.side; open_still = at.usable }
 
 -- the grant is behind the hello
+behind_hello : {X : Type 0} (a : List X) → a ≡ (a ++ []) ++ []
+behind_hello a = sym (append-nil a) ∙ sym (append-nil (a ++ []))
+
 pub grant_behind : (job : VerifierJob) (start : ℕ) (log : List (Side × ℕ)) → start + units_of_job job ≤ job.task.file.params.total
-    → IsLogAt job owes_grant log → IsLogAt job (awaits_corrections start) (log ++ bytes_from Verifier (grant_frame (granted_from job start)))
-grant_behind job start log within at = (
-  within,
-  ap (λ l. l ++ bytes_from Verifier (grant_frame (granted_from job start))) at
-      ∙ sym (append-nil (bytes_from Prover (first_turn job start).0 ++ bytes_from Verifier (first_turn job start).1)),
-)
+    → IsLogAt job owes_grant log → IsLogAt job (behind_grant job start) (log ++ bytes_from Verifier (grant_frame (granted_from job start)))
+grant_behind job start log within at = by_kind (either_kind job.task.file.params.kind)
+  where
+    now : List (Side × ℕ)
+    now = log ++ bytes_from Verifier (grant_frame (granted_from job start))
+
+    spelled : log ++ bytes_from Verifier (grant_frame (granted_from job start)) ≡ turn_bytes (first_turn job start ∷ []) ++ []
+    spelled = ap (λ l. l ++ bytes_from Verifier (grant_frame (granted_from job start))) at
+        ∙ behind_hello (bytes_from Prover (first_turn job start).0 ++ bytes_from Verifier (first_turn job start).1)
+
+    by_kind : ((job.task.file.params.kind ≡ Direct) ⊎ (job.task.file.params.kind ≡ Extended)) → IsLogAt job (behind_grant job start) now
+    by_kind (inl direct) = subst (λ p. IsLogAt job p now) (sym (behind_direct job start direct))
+        (record { within = within; rounds = []; served = served_none job start direct; spelled = spelled })
+    by_kind (inr extended) = subst (λ p. IsLogAt job p now) (sym (behind_extended job start extended)) (
+      within,
+      record { extended = extended; more = omega arith; each = All-nil (AreAsks job.task.file.params.height job.task.file.params.trees) },
+      spelled,
+    )
+
+-- one frame at least is logged then
+frames_behind : (job : VerifierJob) (start : ℕ) → 1 ≤ frames_before job (behind_grant job start)
+frames_behind job start = by_kind (either_kind job.task.file.params.kind)
+  where
+    by_kind : ((job.task.file.params.kind ≡ Direct) ⊎ (job.task.file.params.kind ≡ Extended)) → 1 ≤ frames_before job (behind_grant job start)
+    by_kind (inl direct) = omega (arith, ap (frames_before job) (behind_direct job start direct))
+    by_kind (inr extended) = omega (arith, ap (frames_before job) (behind_extended job start extended))
 
 pub sent_answered : (log : List (Side × ℕ)) (answer : List ℕ) → sent_by Prover (log ++ bytes_from Verifier answer) ≡ sent_by Prover log
 sent_answered log answer =
@@ -435,15 +550,15 @@ sent_answered log answer =
 
 -- a line on which the grant was sent
 pub granted_on : (job : VerifierJob) (start : ℕ) (first old new : LineState) → start + units_of_job job ≤ job.task.file.params.total
-    → IsLineAt job owes_grant first old → Sends (grant_frame (granted_from job start)) old new → IsLineAt job (awaits_corrections start) first new
+    → IsLineAt job owes_grant first old → Sends (grant_frame (granted_from job start)) old new → IsLineAt job (behind_grant job start) first new
 granted_on job start first old new within at sent =
     let log : new.log ≡ old.log ++ bytes_from Verifier (grant_frame (granted_from job start)) =
     sent.logged ∙ ap (λ s. old.log ++ bytes_from s (grant_frame (granted_from job start))) at.side in
     let counted = ap (λ l. length (sent_by Prover l)) log ∙ ap length (sent_answered old.log (grant_frame (granted_from job start))) in
     record {
-      log = subst (IsLogAt job (awaits_corrections start)) (sym log) (grant_behind job start old.log within at.log);
+      log = subst (IsLogAt job (behind_grant job start)) (sym log) (grant_behind job start old.log within at.log);
       received = sent.others.reading ∙ at.received ∙ (λ i. record { received = sym counted i; expected = None; taken = []; bad = None });
-      few = omega (arith, counted, at.few);
+      few = omega (arith, counted, at.few, frames_behind job start);
       told = sent.told ∙ (λ i. appended (bytes_from (at.side i) (grant_frame (granted_from job start))) (at.told i))
           ∙ appended_more old.log (bytes_from Verifier (grant_frame (granted_from job start))) first.told
           ∙ ap (λ l. appended l first.told) (sym log);
@@ -471,20 +586,6 @@ ungranted_on job bytes broke first old new at fails =
       receives = omega (arith, counted, fails.others.receives, at.receives);
       later = omega (arith, at.faults, fails.count.later);
     }
-
--- the three places behind the grant
-pub sums_follow : (start : ℕ) (place now : VerifierPlace) → place ≡ awaits_corrections start → Follows place now → (d : List ℕ) × (now ≡ awaits_sums start d)
-sums_follow start place now at follows = subst (λ p. Follows p now) at follows
-
-pub openings_follow : (start : ℕ) (place now : VerifierPlace) → (d : List ℕ) × (place ≡ awaits_sums start d) → Follows place now
-    → (d : List ℕ) × (both : List (ℕ × ℕ)) × (now ≡ awaits_openings start d both)
-openings_follow start place now at follows =
-    let next = subst (λ p. Follows p now) at.1 follows in
-    (at.0, next.0, next.1)
-
-pub judgement_follows : (start : ℕ) (place now : VerifierPlace) → (d : List ℕ) × (both : List (ℕ × ℕ)) × (place ≡ awaits_openings start d both) → Follows place now
-    → (judgement : Judgement) × (now ≡ has_judged start judgement)
-judgement_follows start place now at follows = subst (λ p. Follows p now) at.2 follows
 
 -- a refusal was sent, or not
 pub refusal_sent : (code : ℕ) (old new : LineState) → IsUsable old → Sends (refuse_frame code) old new → IsRefused code (moment_of old) (moment_of new)

@@ -1,7 +1,10 @@
 -- What a note of a session says.
 use Rattle.std.specs.Prelude.{◌≡◌, ◌⊎◌, ℕ, ◌+◌, ◌≤◌, List, [], ◌++◌, length, Option, Some, None, Result, Ok, Err}
 use Rattle.zk_model.specs.Files.{ProverFile, IsProverFile, AreDealt}
-use Rattle.zk_model.specs.Transcript.{Transcript, refuse_frame, bytes_from, sent_by, spelling}
+use Rattle.zk_model.specs.Mac.{Pair, AreKeysOf}
+use Rattle.zk_model.specs.Correlations.{IsProverView, span_keys}
+use Rattle.zk_model.specs.View.{span_of}
+use Rattle.zk_model.specs.Transcript.{Setup, Transcript, IsSetup, BeginsWith, refuse_frame, bytes_from, turn_bytes, setup_turns, sent_by, spelling}
 use Rattle.zk_model.specs.ServedVerifier.{IsServed, IsAccepted, ServesWith, challenge_coin}
 use Rattle.zk_model.specs.declared.Side.{Side}
 use Rattle.zk_model.specs.declared.Side.TheVariants.{Prover, Verifier}
@@ -89,6 +92,16 @@ pub record IsUngranted (outcome : VerifierOutcome) (log : List (Side × ℕ)) : 
 abbrev pub SendsRightly : VerifierJob → Option Span → VerifierOutcome → List (Side × ℕ) → Type 0
 SendsRightly job None outcome log = IsUngranted outcome log
 SendsRightly job (Some span) outcome log = ServesWith job.task (granted_from job span.start) log
+
+-- Whatever was asked: for every prover's file that is dealt with the verifier's, and every setup of a session about the statement
+-- with whose turns the log begins, the verifier's keys of the granted units fit the pairs that the prover sees then.
+abbrev pub KeepsKeys : VerifierJob → List (Side × ℕ) → Type 0
+KeepsKeys job log = (prover : ProverFile) (setup : Setup) (pairs : List Pair)
+    → IsProverFile prover → AreDealt prover job.task.file
+    → IsSetup job.task.file.params job.task.statement.program setup
+    → BeginsWith log (turn_bytes (setup_turns setup))
+    → IsProverView prover setup pairs
+    → AreKeysOf job.task.file.key pairs (span_keys job.task.file (span_of setup.grant))
 
 -- why a session ended so: what came, what the one who leases units answered, or the count of the link
 abbrev pub EndsBecause : VerifierJob → Option (Result Span LeaseFault) → VerifierOutcome → Moment → Moment → Type 0

@@ -1,9 +1,9 @@
 -- How far a session is at the verifier: which frames are logged where it waits, and why it stops there.
-use Rattle.std.specs.Prelude.{◌≡◌, ◌⊎◌, ℕ, ◌+◌, ◌*◌, ◌^◌, ◌≤◌, ◌<◌, List, [], ◌∷◌, ◌++◌, length, Bool, true, Option, Some, None, IfSome, Result, Ok, Err}
+use Rattle.std.specs.Prelude.{◌≡◌, ◌⊎◌, ℕ, ◌+◌, ◌*◌, ◌^◌, ◌≤◌, ◌<◌, List, [], ◌∷◌, ◌++◌, flat_map, length, Bool, true, Option, Some, None, IfSome, Result, Ok, Err}
 use Rattle.zk_model.specs.Program.{section_count}
-use Rattle.zk_model.specs.Transcript.{Hello, IsHello, wanted_hello, hello_frame, grant_frame, corrections_frame, challenge_frame, sums_frame, refuse_frame, bytes_from, turn_bytes, sent_by, spelling}
-use Rattle.proof_frames.specs.Frames.{IsShort}
-use Rattle.zk_model.specs.Frames.{Frame, AreElements, AreSums, CanGoOn, IsFirstBad, frame_length}
+use Rattle.zk_model.specs.Files.{IsVerifierFile, rounds_of}
+use Rattle.zk_model.specs.Transcript.{Hello, TreeAsk, Round, IsHello, wanted_hello, hello_frame, grant_frame, ask_frame, corrections_frame, challenge_frame, sums_frame, refuse_frame, bytes_from, turn_bytes, sent_by, spelling}
+use Rattle.zk_model.specs.Frames.{AreElements, AreSums, CanGoOn, IsFirstBad, frame_length}
 use Rattle.zk_model.specs.ServedVerifier.{challenge_coin}
 use Rattle.zk_model.specs.declared.Expect.{Expect}
 use Rattle.zk_model.specs.declared.Side.{Side}
@@ -11,9 +11,10 @@ use Rattle.zk_model.specs.declared.Side.TheVariants.{Prover, Verifier}
 use Rattle.zk_port.specs.Counts.{Rose}
 use Rattle.zk_port.specs.Logs.{appended}
 use Rattle.frame_link.specs.Lines.{LineState, longest}
-use Rattle.session_core.specs.Jobs.{VerifierJob, granted_from, units_of_job}
-use Rattle.session_core.specs.Judgements.{IsJudgement, direct_transcript, verdict_in}
-use Rattle.session_core.specs.Cores.{VerifierPlace, VerifierState, awaits_hello, owes_grant, awaits_corrections, awaits_sums, awaits_openings, has_judged, has_refused, verifier_expects, DiffersFirst}
+use Rattle.session_core.specs.Jobs.{VerifierJob, IsVerifierJob, granted_from, units_of_job}
+use Rattle.session_core.specs.Judgements.{IsJudgement, session_transcript, verdict_in}
+use Rattle.session_core.specs.Rounds.{AreServedRounds, round_turns}
+use Rattle.session_core.specs.Cores.{VerifierPlace, VerifierState, AreAsksSoFar, awaits_hello, owes_grant, awaits_asks, awaits_corrections, awaits_sums, awaits_openings, has_judged, has_refused, verifier_expects, DiffersFirst}
 use Rattle.session_core.specs.declared.judgement.Judgement.{Judgement}
 use Rattle.zk_model.specs.declared.Span.{Span}
 use Rattle.lease_store.specs.declared.LeaseFault.{LeaseFault}
@@ -31,52 +32,70 @@ first_turn job start = (hello_frame (wanted_hello job.task.file.id job.task.stat
 abbrev pub second_turn : VerifierJob → ℕ → List ℕ → List ℕ × List ℕ
 second_turn job start d = (corrections_frame d, challenge_frame (challenge_coin job.task.file start))
 
+-- What every job has: a file that is one, and few units.
+pub record IsHeldJob (job : VerifierJob) : Type 0 where
+  pub file : IsVerifierFile job.task.file
+  pub is : IsVerifierJob job
+
+-- A log from the grant of this unit on in which the correlations are fixed: the first turn, in kind extended the round of all
+-- units with the file's replies, and then these bytes.
+pub record IsFixedLog (job : VerifierJob) (start : ℕ) (more log : List (Side × ℕ)) : Type 0 where
+  pub within : start + units_of_job job ≤ job.task.file.params.total
+  pub rounds : List Round
+  pub served : AreServedRounds job.task.file (granted_from job start) rounds
+  pub spelled : log ≡ turn_bytes (first_turn job start ∷ round_turns rounds) ++ more
+
 -- a whole session with a grant from this unit on that was judged so: what the prover sent is as much as the statement wants, in range
 pub record IsJudgedLog (job : VerifierJob) (start : ℕ) (judgement : Judgement) (log : List (Side × ℕ)) : Type 0 where
   pub within : start + units_of_job job ≤ job.task.file.params.total
+  pub rounds : List Round
+  pub served : AreServedRounds job.task.file (granted_from job start) rounds
   pub corrections : List ℕ
   pub elements : AreElements job.task.statement.program.givens corrections
   pub sums : List (ℕ × ℕ)
   pub pairs : AreSums (section_count job.task.statement.program job.section_length) sums
   pub openings : List ℕ
   pub macs : AreElements (length job.task.statement.program.opened) openings
-  pub judged : IsJudgement job.task (direct_transcript job start corrections sums openings (verdict_in judgement)) judgement
-  pub spelled : log ≡ spelling (direct_transcript job start corrections sums openings (verdict_in judgement))
+  pub judged : IsJudgement job.task
+      (session_transcript job start rounds corrections sums openings (verdict_in judgement)) judgement
+  pub spelled : log ≡ spelling (session_transcript job start rounds corrections sums openings (verdict_in judgement))
 
--- What is logged where a verifier waits: the frames that came, each with its answer.
+-- What is logged where a verifier waits: the frames that came, each turn with its answer; and how many came of the units' asks.
 abbrev pub IsLogAt : VerifierJob → VerifierPlace → List (Side × ℕ) → Type 0
 IsLogAt job awaits_hello log = log ≡ []
 IsLogAt job owes_grant log = log ≡ bytes_from Prover (hello_frame (wanted_hello job.task.file.id job.task.statement))
-IsLogAt job (awaits_corrections start) log =
-    (start + units_of_job job ≤ job.task.file.params.total) × (log ≡ turn_bytes (first_turn job start ∷ []))
+IsLogAt job (awaits_asks start asked) log =
+    (start + units_of_job job ≤ job.task.file.params.total)
+    × AreAsksSoFar job asked
+    × (log ≡ turn_bytes (first_turn job start ∷ []) ++ bytes_from Prover (flat_map ask_frame asked))
+IsLogAt job (awaits_corrections start) log = IsFixedLog job start [] log
 IsLogAt job (awaits_sums start d) log =
-    (start + units_of_job job ≤ job.task.file.params.total)
-    × AreElements job.task.statement.program.givens d
-    × (log ≡ turn_bytes (first_turn job start ∷ second_turn job start d ∷ []))
+    AreElements job.task.statement.program.givens d
+    × IsFixedLog job start (turn_bytes (second_turn job start d ∷ [])) log
 IsLogAt job (awaits_openings start d both) log =
-    (start + units_of_job job ≤ job.task.file.params.total)
-    × AreElements job.task.statement.program.givens d
+    AreElements job.task.statement.program.givens d
     × AreSums (section_count job.task.statement.program job.section_length) both
-    × (log ≡ turn_bytes (first_turn job start ∷ second_turn job start d ∷ []) ++ bytes_from Prover (sums_frame both))
+    × IsFixedLog job start (turn_bytes (second_turn job start d ∷ []) ++ bytes_from Prover (sums_frame both)) log
 IsLogAt job (has_judged start judgement) log = IsJudgedLog job start judgement log
 IsLogAt job has_refused log = ⊥
 
--- how many frames of the prover are logged where a verifier waits
-abbrev pub frames_before : VerifierPlace → ℕ
-frames_before awaits_hello = 0
-frames_before owes_grant = 1
-frames_before (awaits_corrections start) = 1
-frames_before (awaits_sums start d) = 2
-frames_before (awaits_openings start d both) = 3
-frames_before (has_judged start judgement) = 4
-frames_before has_refused = 4
+-- how many frames of the prover are logged where a verifier waits, at most: behind the grant one for each unit whose asks came
+abbrev pub frames_before : VerifierJob → VerifierPlace → ℕ
+frames_before job awaits_hello = 0
+frames_before job owes_grant = 1
+frames_before job (awaits_asks start asked) = 1 + length asked
+frames_before job (awaits_corrections start) = 1 + units_of_job job
+frames_before job (awaits_sums start d) = 2 + units_of_job job
+frames_before job (awaits_openings start d both) = 3 + units_of_job job
+frames_before job (has_judged start judgement) = 4 + units_of_job job
+frames_before job has_refused = 4 + units_of_job job
 
 -- A line where a verifier waits, since a first moment: all that passed is logged, no frame is under way, and there were at most
 -- as many receives as bytes came; nothing failed.
 pub record IsLineAt (job : VerifierJob) (place : VerifierPlace) (first now : LineState) : Type 0 where
   pub log : IsLogAt job place now.log
   pub received : now.reading ≡ record { received = length (sent_by Prover now.log); expected = None; taken = []; bad = None }
-  pub few : length (sent_by Prover now.log) ≤ frames_before place * (2 ^ 24 + 5)
+  pub few : length (sent_by Prover now.log) ≤ frames_before job place * (2 ^ 24 + 5)
   pub told : now.told ≡ appended now.log first.told
   pub side : now.side ≡ Verifier
   pub usable : now.is_open ≡ true
@@ -87,20 +106,32 @@ pub record IsLineAt (job : VerifierJob) (place : VerifierPlace) (first now : Lin
 abbrev pub Expects : VerifierState → Type 0
 Expects state = (expect : Expect) × (verifier_expects state.job state.place ≡ Some expect)
 
--- no frame, or one that is short
-abbrev pub IsShortAnswer : List Frame → Type 0
-IsShortAnswer [] = Unit {0}
-IsShortAnswer (frame ∷ more) = IsShort frame × (more ≡ [])
+-- where a verifier waits once the asks of so many units have come
+abbrev pub BehindAsks : VerifierJob → ℕ → List (List TreeAsk) → VerifierPlace → Type 0
+BehindAsks job start asked now =
+    ((length asked < units_of_job job) × (now ≡ awaits_asks start asked))
+    ⊎ ((length asked ≡ units_of_job job) × (now ≡ awaits_corrections start))
 
 -- where a verifier waits next, once a frame has come and is answered
-abbrev pub Follows : VerifierPlace → VerifierPlace → Type 0
-Follows awaits_hello now = now ≡ owes_grant
-Follows owes_grant now = ⊥
-Follows (awaits_corrections start) now = (d : List ℕ) × (now ≡ awaits_sums start d)
-Follows (awaits_sums start d) now = (both : List (ℕ × ℕ)) × (now ≡ awaits_openings start d both)
-Follows (awaits_openings start d both) now = (judgement : Judgement) × (now ≡ has_judged start judgement)
-Follows (has_judged start judgement) now = ⊥
-Follows has_refused now = ⊥
+abbrev pub Follows : VerifierJob → VerifierPlace → VerifierPlace → Type 0
+Follows job awaits_hello now = now ≡ owes_grant
+Follows job owes_grant now = ⊥
+Follows job (awaits_asks start asked) now = (trees : List TreeAsk) × BehindAsks job start (asked ++ trees ∷ []) now
+Follows job (awaits_corrections start) now = (d : List ℕ) × (now ≡ awaits_sums start d)
+Follows job (awaits_sums start d) now = (both : List (ℕ × ℕ)) × (now ≡ awaits_openings start d both)
+Follows job (awaits_openings start d both) now = (judgement : Judgement) × (now ≡ has_judged start judgement)
+Follows job (has_judged start judgement) now = ⊥
+Follows job has_refused now = ⊥
+
+-- how many frames of asks come behind the grant: in kind extended one for each unit
+abbrev pub asks_due : VerifierJob → ℕ
+asks_due job = rounds_of job.task.file.params.kind * units_of_job job
+
+-- where a verifier waits once so many of these frames have come
+abbrev pub AwaitsBehind : VerifierJob → ℕ → ℕ → VerifierPlace → Type 0
+AwaitsBehind job start came now =
+    ((asked : List (List TreeAsk)) × (length asked ≡ came) × (came < asks_due job) × (now ≡ awaits_asks start asked))
+    ⊎ ((came ≡ asks_due job) × (now ≡ awaits_corrections start))
 
 -- what is logged at a moment, and what the link tells then
 pub record Moment : Type 0 where
@@ -186,6 +217,7 @@ TellsBy NoMemory first now = TellsLog first now
 abbrev pub StartsAt : ℕ → VerifierPlace → Type 0
 StartsAt start awaits_hello = ⊥
 StartsAt start owes_grant = ⊥
+StartsAt start (awaits_asks begun asked) = begun ≡ start
 StartsAt start (awaits_corrections begun) = begun ≡ start
 StartsAt start (awaits_sums begun d) = begun ≡ start
 StartsAt start (awaits_openings begun d both) = begun ≡ start

@@ -1,36 +1,37 @@
 // The turns of a verifier's session over a line.
-ghost use Rattle.std.specs.Prelude.{◌≡◌, ◌≤◌, ◌+◌, map, flat_map, IfOk, IfErr, OnOk, IsTrue};
+ghost use Rattle.std.specs.Prelude.{◌≡◌, ◌≤◌, ◌+◌, map, flat_map, All, IfOk, IfErr, OnOk, IsTrue};
 ghost use Rattle.zk_model.specs.Frames.{frame_spelling};
 ghost use Rattle.session_core.specs.Jobs.{units_of_job};
-ghost use Rattle.proof_frames.specs.Frames.{said};
+ghost use Rattle.proof_frames.specs.Frames.{said, IsShort};
 ghost use Rattle.frame_link.specs.Lines.{LineState, Sends, SendFails};
-ghost use Rattle.session_core.specs.Cores.{owes_grant, awaits_corrections, has_judged};
-ghost use Rattle.session_verifier.specs.Stages.{IsLineAt, IsStopped, IsRefused, IsShortAnswer, IsUsable, StopsBehind, Follows, Expects, moment_of};
+ghost use Rattle.session_core.specs.Cores.{owes_grant, behind_grant, awaits_corrections, has_judged};
+ghost use Rattle.session_verifier.specs.Stages.{IsHeldJob, IsLineAt, IsStopped, IsRefused, IsUsable, StopsBehind, Follows, Expects, asks_due, moment_of};
 
 use crate::note::VerifierOutcome;
 use frame_link::{Line, LineFault};
 use lease_store::Span;
 use proof_frames::Frame;
 use session_core::{Judgement, VerifierCore};
+use session_laws::replies_are_in_range;
 use std::alloc::Global;
 use zk_port::Link;
 
-/// Sends an answer of one frame at most.
+/// Sends an answer, if it has frames.
 fn send_answer<L: Link>(
     alloc: Global,
     line: &mut Line<L>,
     answer: &[Frame],
 ) -> Result<(), LineFault>
     requires open { IsTrue line.old.is_open }
-    requires short { IsShortAnswer (map said answer.now) }
+    requires short { All IsShort (map said answer.now) }
     ensures sends { OnOk result (Sends (flat_map frame_spelling (map said answer.now)) line.old line.new) }
     ensures fails { IfErr result (λ fault.
         SendFails (flat_map frame_spelling (map said answer.now)) fault line.old line.new) }
 {
-    if let [frame, ..] = answer {
-        line.send(alloc, frame)?;
+    if answer.is_empty() {
+        return Ok(());
     }
-    Ok(())
+    line.send_frames(alloc, answer)
 }
 
 /// Takes the frame that the verifier expects, and sends what it answers.
@@ -39,9 +40,10 @@ pub(crate) fn advance<L: Link>(
     core: &mut VerifierCore<'_>,
     line: &mut Line<L>,
 ) -> Result<(), VerifierOutcome>
+    requires job { IsHeldJob core.old.job }
     requires expecting { Expects core.old }
     requires at { (first : LineState) × IsLineAt core.old.job core.old.place first line.old }
-    ensures follows { OnOk result (Follows core.old.place core.new.place) }
+    ensures follows { OnOk result (Follows core.old.job core.old.place core.new.place) }
     ensures goes_on { OnOk result ((first : LineState) → IsLineAt core.old.job core.old.place first line.old
         → IsLineAt core.old.job core.new.place first line.new) }
     ensures stops { IfErr result (λ outcome. (first : LineState)
@@ -54,6 +56,7 @@ pub(crate) fn advance<L: Link>(
         return Err(VerifierOutcome::NoMemory);
     };
     let frame = line.take(alloc, place)?;
+    replies_are_in_range();
     let answer = core.step(alloc, frame)?;
     send_answer(alloc, line, &answer)?;
     Ok(())
@@ -70,15 +73,15 @@ pub(crate) fn give_grant<L: Link>(
     requires units { span.end ≡ span.start + units_of_job core.old.job }
     requires within { span.end ≤ core.old.job.task.file.params.total }
     requires at { (first : LineState) × IsLineAt core.old.job owes_grant first line.old }
-    ensures core { core.new ≡ record core.old { place = awaits_corrections span.start } }
+    ensures core { core.new ≡ record core.old { place = behind_grant core.old.job span.start } }
     ensures goes_on { OnOk result ((first : LineState) → IsLineAt core.old.job owes_grant first line.old
-        → IsLineAt core.old.job (awaits_corrections span.start) first line.new) }
+        → IsLineAt core.old.job (behind_grant core.old.job span.start) first line.new) }
     ensures stops { IfErr result (λ outcome. (first : LineState)
         → IsLineAt core.old.job owes_grant first line.old
         → IsStopped core.old.job owes_grant outcome (moment_of first) (moment_of line.new)) }
     ensures usable { IsUsable line.new }
 {
-    let grant = core.grant(span);
+    let grant = core.grant(alloc, span);
     line.send(alloc, &grant)?;
     Ok(())
 }
@@ -92,13 +95,42 @@ pub(crate) fn refuse<L: Link>(alloc: Global, line: &mut Line<L>, code: u8)
     let _ = line.send(alloc, &Frame::Refuse { code });
 }
 
-/// The turns behind the grant, up to the verdict.
+/// Takes the asks for all units of the grant, a frame for each, which are so many in kind extended and none in kind direct; the
+/// replies go out behind the last of them.
+pub(crate) fn take_asks<L: Link>(
+    alloc: Global,
+    core: &mut VerifierCore<'_>,
+    line: &mut Line<L>,
+    due: u32,
+    _start: u64,
+) -> Result<(), VerifierOutcome>
+    requires job { IsHeldJob core.old.job }
+    requires due { due ≡ asks_due core.old.job }
+    requires granted { core.old.place ≡ behind_grant core.old.job _start }
+    requires at { (first : LineState) × IsLineAt core.old.job core.old.place first line.old }
+    ensures place { OnOk result (core.new.place ≡ awaits_corrections _start) }
+    ensures goes_on { OnOk result ((first : LineState) → IsLineAt core.old.job core.old.place first line.old
+        → IsLineAt core.old.job (awaits_corrections _start) first line.new) }
+    ensures stops { IfErr result (λ outcome. (first : LineState)
+        → IsLineAt core.old.job core.old.place first line.old
+        → StopsBehind core.old.job _start outcome (moment_of first) (moment_of line.new)) }
+    ensures usable { IsUsable line.new }
+    ensures job { core.new.job ≡ core.old.job }
+{
+    for _asked in 0..due {
+        advance(alloc, core, line)?;
+    }
+    Ok(())
+}
+
+/// The turns behind the grant and the asks, up to the verdict.
 pub(crate) fn judge<L: Link>(
     alloc: Global,
     core: &mut VerifierCore<'_>,
     line: &mut Line<L>,
     _start: u64,
 ) -> Result<Judgement, VerifierOutcome>
+    requires job { IsHeldJob core.old.job }
     requires granted { core.old.place ≡ awaits_corrections _start }
     requires at { (first : LineState) × IsLineAt core.old.job core.old.place first line.old }
     ensures judged { IfOk result (λ judgement. (first : LineState)

@@ -2,12 +2,13 @@
 ghost use Rattle.std.specs.Prelude.{◌≡◌, ◌+◌, ◌≤◌, None, Some, IfSome, IfOk, IfErr};
 ghost use Rattle.frame_link.specs.Lines.{LineState};
 ghost use Rattle.session_core.specs.Jobs.{units_of_job};
-ghost use Rattle.session_core.specs.Cores.{awaits_hello, owes_grant, awaits_corrections, has_judged};
-ghost use Rattle.session_verifier.specs.Stages.{IsLineAt, IsStopped, IsUsable, IsCourse, IsGranted, IsUnleased, RefusesBy, StopsBehind, moment_of};
+ghost use Rattle.session_core.specs.Cores.{awaits_hello, owes_grant, behind_grant, awaits_corrections, has_judged};
+ghost use Rattle.session_verifier.specs.Stages.{asks_due, IsHeldJob, IsLineAt, IsStopped, IsUsable, IsCourse, IsGranted, IsUnleased, RefusesBy, StopsBehind, moment_of};
 
-use crate::course::{advance, give_grant, judge, refuse};
+use crate::course::{advance, give_grant, judge, refuse, take_asks};
 use crate::grantor::Grantor;
 use crate::note::VerifierOutcome;
+use dealer_files::Kind;
 use frame_link::Line;
 use lease_store::Span;
 use session_core::{Judgement, VerifierCore, VerifierJob};
@@ -35,13 +36,50 @@ fn turn_away<L: Link>(alloc: Global, line: &mut Line<L>, outcome: &VerifierOutco
     }
 }
 
+/// How many frames of asks come behind the grant: in kind extended one for each unit.
+fn asks_due(job: &VerifierJob<'_>) -> u32
+    ensures { result ≡ asks_due job.now }
+{
+    match job.file().params().kind {
+        Kind::Direct => 0,
+        Kind::Extended => job.units(),
+    }
+}
+
+/// The session behind the grant of units from this one on.
+fn serve_turns<L: Link>(
+    alloc: Global,
+    core: &mut VerifierCore<'_>,
+    line: &mut Line<L>,
+    asks: u32,
+    start: u64,
+) -> Result<Judgement, VerifierOutcome>
+    requires job { IsHeldJob core.old.job }
+    requires asks { asks ≡ asks_due core.old.job }
+    requires granted { core.old.place ≡ behind_grant core.old.job start }
+    requires at { (first : LineState) × IsLineAt core.old.job core.old.place first line.old }
+    ensures judged { IfOk result (λ judgement. (first : LineState)
+        → IsLineAt core.old.job core.old.place first line.old
+        → IsLineAt core.old.job (has_judged start judgement) first line.new) }
+    ensures stops { IfErr result (λ outcome. (first : LineState)
+        → IsLineAt core.old.job core.old.place first line.old
+        → StopsBehind core.old.job start outcome (moment_of first) (moment_of line.new)) }
+    ensures usable { IsUsable line.new }
+{
+    take_asks(alloc, core, line, asks, start)?;
+    judge(alloc, core, line, start)
+}
+
 /// The session once these units are leased: the grant, and the turns behind it.
 fn serve_granted<L: Link>(
     alloc: Global,
     core: &mut VerifierCore<'_>,
     line: &mut Line<L>,
+    asks: u32,
     span: Span,
 ) -> VerifierOutcome
+    requires job { IsHeldJob core.old.job }
+    requires asks { asks ≡ asks_due core.old.job }
     requires due { core.old.place ≡ owes_grant }
     requires units { span.end ≡ span.start + units_of_job core.old.job }
     requires within { span.end ≤ core.old.job.task.file.params.total }
@@ -53,7 +91,7 @@ fn serve_granted<L: Link>(
     if let Err(outcome) = give_grant(alloc, core, line, span) {
         return outcome;
     }
-    match judge(alloc, core, line, span.start) {
+    match serve_turns(alloc, core, line, asks, span.start) {
         Ok(judgement) => VerifierOutcome::from(judgement),
         Err(outcome) => outcome,
     }
@@ -77,6 +115,8 @@ pub(crate) fn serve<L: Link, R: Grantor, G: Gate>(
         (moment_of first) (moment_of line.new) }
     ensures usable { IsUsable line.new }
 {
+    let _total = job.file().total();
+    let asks = asks_due(job);
     let mut core = VerifierCore::new(&*job);
     if let Err(outcome) = advance(alloc, &mut core, line) {
         turn_away(alloc, line, &outcome);
@@ -96,7 +136,7 @@ pub(crate) fn serve<L: Link, R: Grantor, G: Gate>(
         }
         Ok(span) => {
             gate.phase(Phase::Granted { start: span.start });
-            let outcome = serve_granted(alloc, &mut core, line, span);
+            let outcome = serve_granted(alloc, &mut core, line, asks, span);
             gate.phase(Phase::Ended { start: span.start });
             Course {
                 granted: Some(span),

@@ -3,7 +3,7 @@ ghost use Rattle.std.specs.Prelude.{◌≡◌, ◌≤◌, None, Some, [], IfSome
 ghost use Rattle.zk_model.specs.declared.Side.TheVariants.{Verifier};
 ghost use Rattle.session_core.specs.Jobs.{units_of_job};
 ghost use Rattle.session_verifier.specs.Stages.{IsCourse, moment_at};
-ghost use Rattle.session_verifier.specs.Notes.{granted_by, JudgesRightly, AcceptsExactly, IsShown, SendsRightly, EndsBecause, IsTold, ReceivesFew, Completes};
+ghost use Rattle.session_verifier.specs.Notes.{granted_by, JudgesRightly, AcceptsExactly, IsShown, SendsRightly, KeepsKeys, EndsBecause, IsTold, ReceivesFew, Completes};
 ghost use Rattle.session_verifier.specs.declared.note.VerifierOutcome.TheVariants.{Accepted};
 
 use crate::grantor::Grantor;
@@ -14,10 +14,10 @@ use proof_frames::laws::none_begins_another;
 use session_core::VerifierJob;
 use session_laws::{
     cut_is_not_accepted, honest_turn, honest_turn_ends, honest_whole_is_accepted,
-    served_session_exists, verdict_is_said,
+    replies_are_in_range, served_session_exists, verdict_is_said,
 };
 use std::alloc::Global;
-use zk_laws::extraction_holds;
+use zk_laws::{extraction_holds, keys_fit};
 use zk_model::Side;
 use zk_port::{Gate, Link};
 
@@ -52,10 +52,10 @@ fn lead<L: Link, R: Grantor, G: Gate>(
 }
 
 /// Leads a session with a peer that may send anything: meets its hello, leases the units that the session takes, grants them,
-/// challenges, and judges (Weng, Yang, Katz and Wang, Wolverine, IEEE S&P 2021; Yang, Sarkar, Weng and Wang, QuickSilver, ACM CCS
-/// 2021). The gate is told when units are leased and when such a session has ended. Each receive asks for no more bytes than the
-/// frame under way still wants; `end` is the last call of the link. A refusal is sent for a hello that differs and for units that
-/// are not leased; whether that send fails changes nothing.
+/// replies in kind extended to the asks for all of them, challenges, and judges (Weng, Yang, Katz and Wang, Wolverine, IEEE S&P
+/// 2021; Yang, Sarkar, Weng and Wang, QuickSilver, ACM CCS 2021). The gate is told when units are leased and when such a session
+/// has ended. Each receive asks for no more bytes than the frame under way still wants; `end` is the last call of the link. A
+/// refusal is sent for a hello that differs and for units that are not leased; whether that send fails changes nothing.
 pub fn verify_session<L: Link, R: Grantor, G: Gate>(
     alloc: Global,
     job: &VerifierJob<'_>,
@@ -74,6 +74,7 @@ pub fn verify_session<L: Link, R: Grantor, G: Gate>(
     ensures accepted { AcceptsExactly job.now result.outcome result.log }
     ensures shown { result.outcome ≡ Accepted → IsShown job.now result.granted result.log }
     ensures sends { SendsRightly job.now result.granted result.outcome result.log }
+    ensures related { KeepsKeys job.now result.log }
     ensures cause { EndsBecause job.now (R.answer grantor.new) result.outcome
         (moment_at [] (L.log link) (L.to_come link) (L.ended link) (L.receives link) (L.faults link))
         (moment_at result.log (L.log result.link) (L.to_come result.link)
@@ -96,10 +97,12 @@ pub fn verify_session<L: Link, R: Grantor, G: Gate>(
     honest_turn();
     honest_turn_ends();
     honest_whole_is_accepted();
+    replies_are_in_range();
     served_session_exists();
     cut_is_not_accepted();
     verdict_is_said();
     extraction_holds();
+    keys_fit();
     let _opened = job.statement().program().opened();
     let _total = job.file().total();
     let note = lead(alloc, job, grantor, link, gate);

@@ -1,4 +1,4 @@
-use Rattle.std.proofs.Common.{◌≡◌, refl, ap, sym, ◌∙◌, subst}
+use Rattle.std.proofs.Common.{ap, ◌∙◌}
 use Rattle.session_pool.proofs.Leased.{is_lease_of, fresh_moment}
 use Rattle.session_pool.proofs.serving.serve_link.Goals as goal
 
@@ -14,6 +14,7 @@ returns g c = record {
   accepted = c.verify_session.ensures.accepted;
   shown = c.verify_session.ensures.shown;
   sends = c.verify_session.ensures.sends;
+  related = c.verify_session.ensures.related;
   first = _;
   fresh = fresh_moment _ _ _ _ _ _ c.requires.fresh;
   cause = c.verify_session.ensures.cause;

@@ -1,11 +1,12 @@
 use Rattle.std.proofs.Common.{sym, ◌∙◌, subst, map, flat_map}
+use Rattle.std.specs.Prelude.{All}
 use Rattle.zk_model.specs.Frames.{frame_spelling}
 use Rattle.frame_link.specs.Lines.{Sends}
-use Rattle.proof_frames.specs.Frames.{said}
+use Rattle.proof_frames.specs.Frames.{said, IsShort}
 use Rattle.frame_link.proofs.LineLemmas.{fails_at}
 use Rattle.session_verifier.specs.Outcomes.{line_outcome, session_outcome}
-use Rattle.session_verifier.specs.Stages.{IsShortAnswer}
 use Rattle.session_verifier.proofs.StageLemmas.{goes_on, stops_without, stops_refused, stops_unsent, short_answers}
+use Rattle.session_verifier.proofs.AskLemmas.{follows_of}
 use Rattle.session_verifier.proofs.course.advance.Goals as goal
 
 pub returns-in_err-frame-clause-stops : goal.returns-in_err-frame-clause-stops
@@ -27,8 +28,10 @@ returns-in_err-answer-clause-stops g c =
 
 pub send_answer-requires-clause-short : goal.send_answer-requires-clause-short
 send_answer-requires-clause-short g c =
-    subst (λ l. IsShortAnswer (map said l)) (sym c.deref.ensures.value)
-    (short_answers c.args.core.now.job c.args.core.now.place _ (said c.in_ok-frame.frame) _ c.in_ok-answer.ensures.answered)
+    let expects = sym c.expects.ensures.place ∙ c.in-Some.is in
+    subst (λ l. All IsShort (map said l)) (sym c.deref.ensures.value)
+    (short_answers c.args.core.now.job c.args.core.now.place _ c.args.line.now.log c.in-Some.place (said c.in_ok-frame.frame) _ c.replies_are_in_range.ensures c.requires.job
+    expects c.in_ok-frame.ensures.arrives.whole.allowed c.requires.at.1.log c.in_ok-answer.ensures.answered)
 
 pub returns-in_err-send_answer-clause-stops : goal.returns-in_err-send_answer-clause-stops
 returns-in_err-send_answer-clause-stops g c =
@@ -44,6 +47,9 @@ returns-clause-goes_on g c first at =
     let job = c.args.core.now.job in
     let place = c.args.core.now.place in
     let expects = sym c.expects.ensures.place ∙ c.in-Some.is in
-    goes_on job place c.step.new.self.place c.in-Some.place (said c.in_ok-frame.frame) _ first c.args.line.now c.take.new.self c.send_answer.new.line expects c.in-Some.ensures.short at
+    goes_on job place c.step.new.self.place c.in-Some.place (said c.in_ok-frame.frame) _ first c.args.line.now c.take.new.self c.send_answer.new.line c.replies_are_in_range.ensures c.requires.job expects c.in-Some.ensures.short at
     c.in_ok-frame.ensures.arrives c.in_ok-answer.ensures.answered
     (subst (λ l. Sends (flat_map frame_spelling (map said l)) c.take.new.self c.send_answer.new.line) c.deref.ensures.value c.in_ok-send_answer.ensures.sends)
+
+pub returns-clause-follows : goal.returns-clause-follows
+returns-clause-follows g c = follows_of c.args.core.now.job c.args.core.now.place c.step.new.self.place (said c.in_ok-frame.frame) _ c.in_ok-answer.ensures.answered

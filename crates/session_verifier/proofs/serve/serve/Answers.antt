@@ -12,7 +12,7 @@ advance-requires-clause-expecting g c = (_, ap (λ (s : VerifierState). verifier
 pub returns-clause-course : goal.returns-clause-course
 returns-clause-course g c first at =
     let begun = c.new-core.result in
-    let met : c.advance.new.core.place ≡ owes_grant = subst (λ (s : VerifierState). Follows s.place c.advance.new.core.place) c.new-core.ensures c.in_default.ensures.follows in
+    let met : c.advance.new.core.place ≡ owes_grant = subst (λ (s : VerifierState). Follows s.job s.place c.advance.new.core.place) c.new-core.ensures c.in_default.ensures.follows in
     let job : c.advance.new.core.job ≡ c.args.job.now = c.in_default.ensures.job ∙ ap (λ (s : VerifierState). s.job) c.new-core.ensures in
     let there = c.in_default.ensures.goes_on first (subst (λ (s : VerifierState). IsLineAt s.job s.place first c.args.line.now) (sym c.new-core.ensures) at) in
     let waits : IsLineAt c.advance.new.core.job owes_grant first c.advance.new.line =
