@@ -1,9 +1,10 @@
 #!/usr/bin/env python3
 """Compares how fast two programs rehearse sessions, and how much memory they take.
 
-`rehearsing.py PROGRAM OTHER` runs `rehearse FILE BITS` of both, in sections of the default length, as `costs.py` says, and prints
-the best of five times (elapsed seconds of the whole run) and the largest resident memory of each. The circuits are chains: of
-AND gates, each of the wire before and input 0, half and all of 131,000; and of INV gates, half a million and a million.
+`rehearsing.py PROGRAM OTHER [--extended]` runs `rehearse FILE BITS` of both, in sections of the default length and over files of
+the one kind or the other, as `costs.py` says, and prints the best of five times (elapsed seconds of the whole run) and the
+largest resident memory of each. The circuits are chains: of AND gates, each of the wire before and input 0, half and all of
+131,000, and in kind extended a million; and of INV gates, half a million and a million.
 """
 import pathlib
 import sys
@@ -21,15 +22,18 @@ def chain(gates: int, name: str) -> str:
 
 
 def main() -> None:
-    given = sys.argv[1:]
-    if len(given) != 2:
-        sys.exit("rehearsing.py PROGRAM OTHER")
+    given, kind = sys.argv[1:3], sys.argv[3:]
+    if len(given) != 2 or kind not in ([], ["--extended"]):
+        sys.exit("rehearsing.py PROGRAM OTHER [--extended]")
+    chains = [(65_500, "AND"), (131_000, "AND"), (500_000, "INV"), (1_000_000, "INV")]
+    if kind:
+        chains.append((1_000_000, "AND"))
     print(table_head("Circuit"))
     with tempfile.TemporaryDirectory() as folder:
         file = f"{folder}/text"
-        for gates, name in ((65_500, "AND"), (131_000, "AND"), (500_000, "INV"), (1_000_000, "INV")):
+        for gates, name in chains:
             pathlib.Path(file).write_text(chain(gates, name))
-            print(row(f"{gates:,} {name}", compare(given, ["rehearse", file, "11"], folder)), flush=True)
+            print(row(f"{gates:,} {name}", compare(given, ["rehearse", file, "11", *kind], folder)), flush=True)
 
 
 if __name__ == "__main__":

@@ -6,8 +6,7 @@ height 1, base 10), and journals with the id of that seed in which nothing is wr
 bytes it has, and in hex SHA-256 of the bytes: of a dealt file of all but its last 32, which are that digest.
 
 It follows the formats of `docs/FORMATS.md`, and rests on public definitions alone:
-  - ChaCha20 of 20 rounds in its first form, with a block counter and a stream number of 64 bits each; a stream's words
-    of 32 bits are counted through its blocks from 0, as the crate rand_chacha counts them;
+  - ChaCha20, as `chacha.py` has it;
   - the field of the integers modulo 2^61 - 1;
   - SHA-256, from hashlib.
 Run `python3 vectors/dealt_files.py`; `--rust` prints the digests as the test's constants.
@@ -17,6 +16,8 @@ import struct
 import sys
 from collections import namedtuple
 
+import chacha
+
 P = 2**61 - 1
 SEED = bytes([7] * 32)
 
@@ -25,36 +26,9 @@ DIRECT = Params(kind=0, height=0, trees=0, base=0, total=1)
 EXTENDED = Params(kind=1, height=1, trees=1, base=10, total=1)
 
 
-def chacha_block(key, counter, stream):
-    """The 16 words of a block."""
-    start = list(struct.unpack("<4I", b"expand 32-byte k")) + list(struct.unpack("<8I", key))
-    start += list(struct.unpack("<4I", struct.pack("<QQ", counter, stream)))
-    w = start[:]
-
-    def add_xor_rotate(a, b, c, bits):
-        w[a] = (w[a] + w[b]) % 2**32
-        w[c] ^= w[a]
-        w[c] = (w[c] << bits | w[c] >> (32 - bits)) % 2**32
-
-    columns = [(0, 4, 8, 12), (1, 5, 9, 13), (2, 6, 10, 14), (3, 7, 11, 15)]
-    diagonals = [(0, 5, 10, 15), (1, 6, 11, 12), (2, 7, 8, 13), (3, 4, 9, 14)]
-    for _ in range(10):
-        for a, b, c, d in columns + diagonals:
-            add_xor_rotate(a, b, d, 16)
-            add_xor_rotate(c, d, b, 12)
-            add_xor_rotate(a, b, d, 8)
-            add_xor_rotate(c, d, b, 7)
-    return [(x + y) % 2**32 for x, y in zip(w, start)]
-
-
-# The first words of the published vector for a key of zeros, block 0 of stream 0.
-assert chacha_block(bytes(32), 0, 0)[:4] == list(struct.unpack("<4I", bytes.fromhex("76b8e0ada0f13d90405d6ae55386bd28")))
-
-
 def word(stream, place):
-    """Word `place` of 64 bits of the seed's stream: words 2 * place (its low half) and 2 * place + 1."""
-    halves = [chacha_block(SEED, i // 16, stream)[i % 16] for i in (2 * place, 2 * place + 1)]
-    return halves[0] + 2**32 * halves[1]
+    """Word `place` of 64 bits of the seed's stream."""
+    return chacha.word(SEED, stream, place)
 
 
 def words(stream, first, count):

@@ -9,8 +9,8 @@ it prints what differs, and ends with 1 where anything does.
 Outputs come from what each circuit is for: sums, comparisons, the vectors of AES in FIPS 197 (2001). Faults stand here
 as they follow from the rules in `bristol.py`. That module must find the same of each; from it come the numbers of
 inputs and gates. A rehearsal has a product for each input wire and for each XOR and AND, a section for each product, a
-correlation for each product and each section, and units of 64 correlations, but one unit at least. Nobody calls at the
-door, so a verifier that serves prints nothing, or why it does not listen.
+correlation for each product and each section, and units of 64 correlations, or in kind extended of 8 trees with 1,024 leaves
+each, but one unit at least. Nobody calls at the door, so a verifier that serves prints nothing, or why it does not listen.
 """
 import pathlib
 import sys
@@ -107,6 +107,14 @@ WRONG_WORDS = [
     "rehearse and.txt 11 --section 1 --units 1",
     "eval and.txt 11 11",
     "eval and.txt 1x",
+    "rehearse and.txt 11 --extended --extended",
+    "rehearse and.txt 11 --extended 1",
+    "rehearse and.txt 11 --extended --section",
+    "rehearse and.txt 11 --extended=1",
+    "--extended rehearse and.txt 11",
+    "eval and.txt 11 --extended",
+    "serve here z.verifier and.txt 1 --sessions 1 --extended",
+    "deal x --units 1 --extended",
     "deal",
     "deal x",
     "deal x y --units 1",
@@ -206,16 +214,17 @@ def rehearse_words(file: str, bits: str) -> str:
     return f"rehearse {file} {bits} --section 1"
 
 
-def rehearse_run(case: Case, section: Optional[int] = 1) -> Run:
-    """A rehearsal in sections of so many products, or of the greatest length."""
+def rehearse_run(case: Case, section: Optional[int] = 1, extended: bool = False) -> Run:
+    """A rehearsal in sections of so many products, or of the greatest length, over files of either kind."""
     circuit = bristol.read((DATA / case.file).read_bytes())
     assert isinstance(circuit, bristol.Circuit)
     products = circuit.inputs + sum(gate.name in ("XOR", "AND") for gate in circuit.gates)
     sections = -(-products // (section or 2**20))
     need = products + sections
-    units = max(1, -(-need // 64))
+    units = max(1, -(-need // (8 * 1024 if extended else 64)))
     counts = f"products {products} sections {sections} correlations {need} units {units}"
     words = f"rehearse {case.file} {case.bits}" + (f" --section {section}" if section else "")
+    words += " --extended" if extended else ""
     return Run(words, [f"outputs {case.outputs}", counts, "accepted"], 0)
 
 
@@ -244,6 +253,8 @@ def orders() -> List[Run]:
             "rehearse and.txt --section 1 {}",
             "rehearse and.txt {} --section 01",
             "rehearse and.txt {} --section 0000000000000000000000001",
+            "rehearse --extended and.txt --section 1 {}",
+            "rehearse and.txt --extended {} --section 1",
         )
     ]
 
@@ -259,6 +270,21 @@ def sections() -> List[Run]:
     return [rehearse_run(case, length) for case, length in lengths]
 
 
+def extensions() -> List[Run]:
+    """Rehearsals over files of kind extended: of one unit, of several, and at a refusal."""
+    small = [case for case in small_cases() if case.file in ("and.txt", "constant.txt", "no_outputs.txt", "gates.txt")]
+    adder = next(case for case in small_cases() if case.file == "adder64.txt")
+    aes = aes_case(*AES_B)
+    runs = [rehearse_run(case, None, True) for case in small]
+    runs += [rehearse_run(adder, length, True) for length in (1, None)]
+    runs += [rehearse_run(aes, length, True) for length in (1, 1000, None)]
+    line = f"refused {FAULTS[0][2]} {bristol.NUMBERS[FAULTS[0][2]]} {FAULTS[0][3]}"
+    return runs + [
+        Run(rehearse_words(FAULTS[0][0], FAULTS[0][1]) + " --extended", [line], 3),
+        Run(rehearse_words("and.txt", "1") + " --extended", ["refused bits 2 1"], 3),
+    ]
+
+
 def dealings() -> List[Run]:
     """Files that are dealt, at the ends of what may be asked for."""
     given = [
@@ -271,14 +297,15 @@ def dealings() -> List[Run]:
 
 
 def services() -> List[Run]:
-    """Services over files that are dealt for them, and over those of kind extended that `dealings` leaves."""
+    """Services over files of kind direct that are dealt for them, and over those of kind extended that `dealings` leaves."""
     given: List[Tuple[str, List[str], int]] = [
         ("z.verifier and.txt 1", [], 0),
         ("z.verifier no_outputs.txt none", [], 0),
         ("z.verifier and.txt 10", ["refused outputs 1 2"], 3),
         ("z.verifier and.txt none", ["refused outputs 1 0"], 3),
         ("z.prover and.txt 1", ["refused BadKind 2"], 3),
-        ("y.verifier and.txt 1", ["refused BadKind 2"], 3),
+        ("y.verifier and.txt 1", [], 0),
+        ("y.prover and.txt 1", ["refused BadKind 2"], 3),
         ("and.txt and.txt 1", ["refused BadMagic 1"], 3),
         ("z.verifier short_text.txt 1", ["refused ShortText 1 2"], 3),
         ("missing and.txt 1", ["failed shelf"], 4),
@@ -308,7 +335,7 @@ def all_runs() -> List[Run]:
     for case in small_cases():
         runs += [eval_run(case.file, case.bits, case.outputs, 0), rehearse_run(case)]
     runs += [eval_run(case.file, case.bits, case.outputs, 0) for case in aes]
-    runs += [rehearse_run(aes[1])] + refusals() + orders() + sections() + dealings()
+    runs += [rehearse_run(aes[1])] + refusals() + orders() + sections() + extensions() + dealings()
     return runs + services() + too_large()
 
 

@@ -3,7 +3,7 @@ use Rattle.std.specs.Prelude.{ℕ, List, [], ◌∷◌, ◌++◌, Bool, true, fa
 use Rattle.std.specs.Option.{option_map}
 use Rattle.std.specs.Str.{bytes_eq}
 use Rattle.command_words.specs.declared.arrange.Kind.{Kind}
-use Rattle.command_words.specs.declared.arrange.Kind.TheVariants.{Place, Valued, Unknown}
+use Rattle.command_words.specs.declared.arrange.Kind.TheVariants.{Place, Valued, Flag, Unknown}
 
 -- the first byte is a dash
 abbrev pub begins_with_dash : List ℕ → Bool
@@ -16,11 +16,16 @@ is_valued word =
     bytes_eq word (codes "--section") || bytes_eq word (codes "--units") || bytes_eq word (codes "--trees")
     || bytes_eq word (codes "--height") || bytes_eq word (codes "--base") || bytes_eq word (codes "--sessions")
 
+-- the option that stands by itself
+abbrev pub is_flag : List ℕ → Bool
+is_flag word = bytes_eq word (codes "--extended")
+
 -- what a word is, by itself
 abbrev pub kind_of : List ℕ → Kind
-kind_of word = if is_valued word then Valued else if begins_with_dash word then Unknown else Place
+kind_of word =
+    if is_valued word then Valued else if is_flag word then Flag else if begins_with_dash word then Unknown else Place
 
--- an option's name and its value
+-- an option's name and its value, which is empty where none follows it
 abbrev pub Word : Type 0
 Word = List ℕ × List ℕ
 
@@ -36,6 +41,7 @@ before places options parts = (places ++ parts.0, options ++ parts.1)
 abbrev pub alone : Kind → List ℕ → Option Parts
 alone Place word = Some (word ∷ [], [])
 alone Valued word = None
+alone Flag word = Some ([], (word, []) ∷ [])
 alone Unknown word = None
 
 -- a word, the one behind it, and what comes from the latter on and behind it
@@ -43,6 +49,7 @@ abbrev pub step : Kind → List ℕ → List ℕ → Option Parts → Option Par
 step Place word value next behind = option_map (before (word ∷ []) []) next
 step Valued word value next behind =
     if begins_with_dash value then None else option_map (before [] ((word, value) ∷ [])) behind
+step Flag word value next behind = option_map (before [] ((word, []) ∷ [])) next
 step Unknown word value next behind = None
 
 -- None where the words are no places and options

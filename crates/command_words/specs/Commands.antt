@@ -6,7 +6,7 @@ use Rattle.command_words.specs.declared.words.Command.{Command}
 use Rattle.command_words.specs.declared.words.Command.TheVariants.{Rehearse, Eval, Deal, Serve}
 
 abbrev pub ask_of : Command → Ask
-ask_of (Rehearse circuit bits section) = rehearse (rehearse_ask circuit.now bits.items section)
+ask_of (Rehearse circuit bits kind section) = rehearse (rehearse_ask circuit.now bits.items kind section)
 ask_of (Eval circuit bits) = eval (eval_ask circuit.now bits.items)
 ask_of (Deal name params) = deal (deal_ask name.now params)
 ask_of (Serve address file circuit outputs section) =
@@ -19,7 +19,7 @@ pub record IsSectionSize (section : ℕ) : Type 0 where
 
 -- the numbers that a command names are within their limits
 abbrev pub IsWithinLimits : Command → Type 0
-IsWithinLimits (Rehearse circuit bits section) = IsSectionSize section
+IsWithinLimits (Rehearse circuit bits kind section) = IsSectionSize section
 IsWithinLimits (Eval circuit bits) = Unit {0}
 IsWithinLimits (Deal name params) = AreParams params
 IsWithinLimits (Serve address file circuit outputs section) = IsSectionSize section

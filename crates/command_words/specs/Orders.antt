@@ -1,7 +1,7 @@
 -- The words behind a command's name, as they may stand.
 use Rattle.std.specs.Prelude.{◌≡◌, ℕ, List, [], ◌∷◌, false}
 use Rattle.command_words.specs.Arranged.{kind_of, begins_with_dash, Word}
-use Rattle.command_words.specs.declared.arrange.Kind.TheVariants.{Place, Valued}
+use Rattle.command_words.specs.declared.arrange.Kind.TheVariants.{Place, Valued, Flag}
 
 -- places in their order, and options anywhere among them in theirs
 pub data StandsAmong : List (List ℕ) → List (List ℕ) → List Word → Type 0 where
@@ -11,3 +11,5 @@ pub data StandsAmong : List (List ℕ) → List (List ℕ) → List Word → Typ
   valued : {word value : List ℕ} {words places : List (List ℕ)} {options : List Word}
       → kind_of word ≡ Valued → begins_with_dash value ≡ false → StandsAmong words places options
       → StandsAmong (word ∷ value ∷ words) places ((word, value) ∷ options)
+  flag : {word : List ℕ} {words places : List (List ℕ)} {options : List Word}
+      → kind_of word ≡ Flag → StandsAmong words places options → StandsAmong (word ∷ words) places ((word, []) ∷ options)

@@ -1,10 +1,11 @@
 -- What the words of a command line ask for.
 use Rattle.std.specs.Prelude.{◌^◌, ◌&&◌, nat_le, ℕ, List, [], ◌∷◌, map, Bool, if◌then◌else◌, Option, Some, None, String, string_bytes, codes}
-use Rattle.std.specs.Option.{option_map, option_and_then}
+use Rattle.std.specs.Option.{option_map, option_and_then, is_some}
 use Rattle.std.specs.List.{list_any}
 use Rattle.std.specs.Str.{bytes_eq}
 use Rattle.std.specs.declared.alloc.Global.{Global}
 use Rattle.zk_model.specs.FileFaults.{file_length}
+use Rattle.zk_model.specs.declared.Kind.{Kind}
 use Rattle.zk_model.specs.declared.Kind.TheVariants.{Direct, Extended}
 use Rattle.zk_model.specs.declared.Params.{Params}
 use Rattle.zk_model.specs.declared.Side.TheVariants.{Prover, Verifier}
@@ -17,14 +18,16 @@ use Rattle.command_words.specs.Arranged.{arranged, option_named, stand_once, Wor
 abbrev pub texts : List (String Global) → List (List ℕ)
 texts words = map (λ w. string_bytes w) words
 
--- what the words of a rehearsal name: the circuit's file, the bits, and how many products a section has
+-- what the words of a rehearsal name: the circuit's file, the bits, the kind of the dealt files, and how many products a section
+-- has
 pub record RehearseAsk : Type 0 where
   pub circuit : List ℕ
   pub bits : List Bool
+  pub kind : Kind
   pub section : ℕ
 
-abbrev pub rehearse_ask : List ℕ → List Bool → ℕ → RehearseAsk
-rehearse_ask circuit bits section = record { circuit = circuit; bits = bits; section = section }
+abbrev pub rehearse_ask : List ℕ → List Bool → Kind → ℕ → RehearseAsk
+rehearse_ask circuit bits kind section = record { circuit = circuit; bits = bits; kind = kind; section = section }
 
 -- what the words of an evaluation name: the circuit's file and the bits
 pub record EvalAsk : Type 0 where
@@ -71,16 +74,23 @@ abbrev pub length_of : Option (List ℕ) → Option ℕ
 length_of None = Some (2 ^ 20)
 length_of (Some word) = number_within 1 (2 ^ 20) word
 
--- `[--section G]`, and nothing else
+abbrev pub rehearse_options : List (List ℕ)
+rehearse_options = codes "--section" ∷ codes "--extended" ∷ []
+
+-- `[--section G] [--extended]`, and nothing else: the section's length
 abbrev pub section_of : List Word → Option ℕ
 section_of options =
-    if stand_once_among (codes "--section" ∷ []) options then length_of (option_named (codes "--section") options)
+    if stand_once_among rehearse_options options then length_of (option_named (codes "--section") options)
     else None
 
--- `rehearse CIRCUIT BITS [--section G]`
+-- kind extended where `--extended` stands
+abbrev pub rehearsed_kind : List Word → Kind
+rehearsed_kind options = if is_some (option_named (codes "--extended") options) then Extended else Direct
+
+-- `rehearse CIRCUIT BITS [--section G] [--extended]`
 abbrev pub rehearse_of : List (List ℕ) → List Word → Option Ask
 rehearse_of (circuit ∷ bits ∷ []) options =
-    option_and_then (λ section. option_map (λ read. rehearse (rehearse_ask circuit read section))
+    option_and_then (λ section. option_map (λ read. rehearse (rehearse_ask circuit read (rehearsed_kind options) section))
     (bits_of bits)) (section_of options)
 rehearse_of places options = None
 

@@ -5,7 +5,7 @@ ghost use Rattle.std.specs.List.{list_any};
 ghost use Rattle.std.specs.Str.{bytes_eq};
 ghost use Rattle.command_words.specs.PartsOf.{parts_of, word_of};
 ghost use Rattle.command_words.specs.Words.{texts};
-ghost use Rattle.command_words.specs.Arranged.{kind_of, is_valued, begins_with_dash, arranged, stand_once, option_named};
+ghost use Rattle.command_words.specs.Arranged.{kind_of, is_valued, is_flag, begins_with_dash, arranged, stand_once, option_named};
 
 use std::alloc::{AllocError, Global};
 
@@ -16,11 +16,13 @@ pub enum Kind {
     Place,
     /// An option that a value follows.
     Valued,
+    /// An option that stands by itself.
+    Flag,
     /// Any other word that begins with a dash.
     Unknown,
 }
 
-/// An option with its value.
+/// An option with its value, which is empty where none follows it.
 #[derive(Clone, Copy, Debug)]
 pub struct Named<'a> {
     pub name: &'a str,
@@ -53,12 +55,21 @@ fn is_valued(word: &str) -> bool
         || word == "--sessions"
 }
 
+/// Whether the word is an option that stands by itself.
+fn is_flag(word: &str) -> bool
+    ensures { result ≡ is_flag word.now }
+{
+    word == "--extended"
+}
+
 /// What a word behind the name is, by itself.
 fn word_kind(word: &str) -> Kind
     ensures { result ≡ kind_of word.now }
 {
     if is_valued(word) {
         Kind::Valued
+    } else if is_flag(word) {
+        Kind::Flag
     } else if has_dash(word) {
         Kind::Unknown
     } else {
@@ -90,6 +101,10 @@ pub fn arrange(alloc: Global, words: &[String]) -> Result<Option<Arranged<'_>>, 
                 })?;
                 rest = behind;
             }
+            Kind::Flag => options.push(Named {
+                name: word.as_str(),
+                value: "",
+            })?,
             Kind::Unknown => return Ok(None),
         }
     }

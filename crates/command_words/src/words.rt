@@ -1,7 +1,7 @@
 // What the words of a command line ask for.
 ghost use Rattle.std.specs.Prelude.{◌≡◌, ◌≤◌, ◌^◌, ◌↔◌, map, codes, IfOk, IfSome, IsTrue};
 ghost use Rattle.std.specs.Option.{option_map};
-ghost use Rattle.command_words.specs.Words.{texts, asked, eval_of, rehearse_of, section_of, length_of};
+ghost use Rattle.command_words.specs.Words.{texts, asked, eval_of, rehearse_of, rehearsed_kind, section_of, length_of};
 ghost use Rattle.command_words.specs.Words.{serve_of, serve_section_of, sessions_of};
 ghost use Rattle.command_words.specs.Words.{deal_of, params_of, direct_params, extended_of};
 ghost use Rattle.zk_model.specs.FileFaults.{file_length};
@@ -25,10 +25,11 @@ const MOST_SECTION: u32 = 1 << 20;
 /// A command with its words.
 #[derive(Debug, Drop)]
 pub enum Command<'a> {
-    /// `rehearse CIRCUIT BITS [--section G]`
+    /// `rehearse CIRCUIT BITS [--section G] [--extended]`
     Rehearse {
         circuit: &'a str,
         bits: Vec<bool>,
+        kind: Kind,
         section: u32,
     },
     /// `eval CIRCUIT BITS`
@@ -72,7 +73,7 @@ pub fn read_words(alloc: Global, words: &[String]) -> Result<Option<Command<'_>>
     }
 }
 
-/// `CIRCUIT BITS [--section G]`
+/// `CIRCUIT BITS [--section G] [--extended]`
 fn read_rehearse<'a>(
     alloc: Global,
     places: &[&'a str],
@@ -94,6 +95,7 @@ fn read_rehearse<'a>(
     Ok(Some(Command::Rehearse {
         circuit,
         bits,
+        kind: read_kind(options),
         section,
     }))
 }
@@ -120,15 +122,25 @@ fn read_eval<'a>(
     Ok(Some(Command::Eval { circuit, bits }))
 }
 
-/// The length of a section: the value of `--section`, which is the only option, or else the greatest.
+/// The length of a section: the value of `--section`, beside which only `--extended` may stand, or else the greatest.
 fn read_section(options: &[Named]) -> Option<u32>
     ensures value { result ≡ section_of (map word_of options.now) }
     ensures size { IfSome result IsSectionSize }
 {
-    if !are_once(options, &["--section"]) {
+    if !are_once(options, &["--section", "--extended"]) {
         return None;
     }
     read_length(options)
+}
+
+/// The kind of the dealt files: extended where `--extended` stands.
+fn read_kind(options: &[Named]) -> Kind
+    ensures { result ≡ rehearsed_kind (map word_of options.now) }
+{
+    match find_option(options, "--extended") {
+        Some(_) => Kind::Extended,
+        None => Kind::Direct,
+    }
 }
 
 /// The value of the first `--section`, or else the greatest.

@@ -1,4 +1,6 @@
 // Each part of a session at rows that the program did not make.
+ghost use Rattle.proof_frames.specs.Readings.{IsShortPlace};
+
 use crate::vectors::FILE_ID;
 use bool_eval::{eval, eval_wires};
 use bristol_reader::read;
@@ -6,9 +8,11 @@ use dealer_files::{FileFault, NotDealt, Pads, deal, dealt, decode_prover, decode
 use gate_translate::{FieldProgram, translate};
 use mersenne_field::{Fe, Pair};
 use mult_check::{check_openings, section_left, section_sums};
-use proof_frames::encode_elements;
+use pad_transfer::Masked;
+use proof_frames::{Decoder, Expect, Frame, encode_asks, encode_elements, encode_replies};
 use std::alloc::{AllocError, Global};
 use std::test::Fail;
+use tree_messages::{TreeAsk, TreeReply};
 use wire_auth::{KeyTriple, ProverWires, Triple, VerifierWires, bit_products};
 use zk_coins::CoinBox;
 use zk_model::{FrameKind, Kind, Params, Span};
@@ -253,5 +257,92 @@ fn elements_are_framed(rt: HostRuntime) -> Result<(), Fail> {
     );
     let corrections = encode_elements(alloc, FrameKind::Corrections, &[])?;
     assert_eq!(rt; corrections.as_slice(), [5, 0, 0, 0, 0].as_slice());
+    Ok(())
+}
+
+/// The place of the asks, or of the replies, for one tree of height 1.
+fn one_tree(asks: bool) -> Expect
+    ensures { IsShortPlace result }
+{
+    if asks {
+        Expect::Ask {
+            height: 1,
+            trees: 1,
+            units_left: 0,
+        }
+    } else {
+        Expect::Reply {
+            height: 1,
+            trees: 1,
+            units_left: 0,
+        }
+    }
+}
+
+/// The frame that bytes are at a place, read byte by byte.
+fn frame_at(alloc: Global, place: Expect, bytes: &[u8]) -> Result<Option<Frame>, Fail>
+    requires { IsShortPlace place }
+{
+    let mut decoder = Decoder::new(alloc);
+    decoder.expect(place)?;
+    for piece in bytes.chunks(1) {
+        if decoder.feed(piece).is_err() {
+            return Ok(None);
+        }
+    }
+    Ok(decoder.next())
+}
+
+#[test]
+fn an_ask_is_framed(rt: HostRuntime) -> Result<(), Fail> {
+    let alloc = rt.alloc();
+    let mut flips = Vec::new(alloc);
+    flips.push(true)?;
+    let mut asks = Vec::new(alloc);
+    asks.push(TreeAsk {
+        flips,
+        base_correction: small(2),
+    })?;
+    let mut bytes = encode_asks(alloc, &asks)?;
+    assert_eq!(rt;
+        bytes.as_slice(),
+        [3, 9, 0, 0, 0, 1, 2, 0, 0, 0, 0, 0, 0, 0].as_slice()
+    );
+    let read = frame_at(alloc, one_tree(true), &bytes)?;
+    assert!(rt;
+        matches!(&read, Some(Frame::ExtendAsk(said))
+        if matches!(said.as_slice(), [ask] if ask.base_correction == small(2) && ask.flips.as_slice() == [true].as_slice()))
+    );
+    bytes[5] = 2;
+    assert!(rt; frame_at(alloc, one_tree(true), &bytes)?.is_none());
+    Ok(())
+}
+
+#[test]
+fn a_reply_is_framed(rt: HostRuntime) -> Result<(), Fail> {
+    let alloc = rt.alloc();
+    let mut messages = Vec::new(alloc);
+    messages.push(Masked {
+        left: [7; 16],
+        right: [9; 16],
+    })?;
+    let mut replies = Vec::new(alloc);
+    replies.push(TreeReply {
+        messages,
+        leaf_offset: small(3),
+    })?;
+    let bytes = encode_replies(alloc, &replies)?;
+    assert_eq!(rt; bytes.len(), 45);
+    assert_eq!(rt; &bytes[..6], [4, 40, 0, 0, 0, 7].as_slice());
+    assert_eq!(rt;
+        &bytes[20..38],
+        [7, 9, 9, 9, 9, 9, 9, 9, 9, 9, 9, 9, 9, 9, 9, 9, 9, 3].as_slice()
+    );
+    let read = frame_at(alloc, one_tree(false), &bytes)?;
+    assert!(rt;
+        matches!(&read, Some(Frame::ExtendReply(said))
+        if matches!(said.as_slice(), [reply] if reply.leaf_offset == small(3)
+            && matches!(reply.messages.as_slice(), [both] if both.left == [7; 16] && both.right == [9; 16])))
+    );
     Ok(())
 }

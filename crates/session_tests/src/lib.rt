@@ -6,8 +6,12 @@ mod chains;
 #[cfg(test)]
 mod prover_tests;
 #[cfg(test)]
+mod round_tests;
+#[cfg(test)]
 mod scene;
 #[cfg(test)]
 mod size_tests;
+#[cfg(test)]
+mod vectors;
 #[cfg(test)]
 mod verifier_tests;

@@ -2,7 +2,8 @@
 ghost use Rattle.std.specs.Prelude.{◌≡◌, ◌≤◌, None, length, IfOk};
 
 use crate::scene::{
-    LONG, Rehearsal, Scene, and_gate, circuit_of, claim_of, files_of, part_of, refusal, rehearsed,
+    Dealing, LONG, Rehearsal, Scene, and_gate, circuit_of, claim_of, files_of, part_of, refusal,
+    rehearsed,
 };
 use bool_eval::eval_wires;
 use bristol_reader::Circuit;
@@ -48,9 +49,9 @@ impl Claimant for AskedUnits {
 
 /// What came of a session, and the first unit and the count that the claimant was asked for, if it was.
 #[derive(Drop)]
-struct Ending<P> {
-    note: ProverNote<ScriptedLink<P>>,
-    asked: Option<(u64, u64)>,
+pub struct Ending<P> {
+    pub note: ProverNote<ScriptedLink<P>>,
+    pub asked: Option<(u64, u64)>,
 }
 
 /// The given values of a scene's program.
@@ -77,7 +78,7 @@ fn given_of(
 
 /// A prover's session about the claim that a scene's circuit gives what it gives, whose peer sends these bytes, and whose
 /// units are claimed or not.
-fn proved<P: FaultPlan + Drop>(
+pub fn proved<P: FaultPlan + Drop>(
     alloc: Global,
     scene: &Scene<'_>,
     script: &[u8],
@@ -171,15 +172,19 @@ fn a_verifier_may_end_behind_any_byte(rt: HostRuntime) -> Result<(), Fail> {
 /// What comes of a verifier's byte that is changed at this place: a challenge stays an element unless the highest bit of its
 /// last byte is set, the code 0 becomes 1 or one that there is not, and the number beside the code 0 may be any.
 fn outcome_of_changed(place: usize, is_high: bool) -> ProverOutcome {
-    match place {
-        5..13 => ProverOutcome::OutOfRange { total: 1 },
-        13..21 => ProverOutcome::BadGrant,
-        39 if !is_high => rejected(1, 0),
-        26..33 | 40..44 => ProverOutcome::Accepted,
-        33 if !is_high => ProverOutcome::Accepted,
-        _ => ProverOutcome::BadFrame {
+    let is_challenge = (26..33).contains(&place) || place == 33 && !is_high;
+    if (5..13).contains(&place) {
+        ProverOutcome::OutOfRange { total: 1 }
+    } else if (13..21).contains(&place) {
+        ProverOutcome::BadGrant
+    } else if place == 39 && !is_high {
+        rejected(1, 0)
+    } else if is_challenge || (40..44).contains(&place) {
+        ProverOutcome::Accepted
+    } else {
+        ProverOutcome::BadFrame {
             place: place as u64,
-        },
+        }
     }
 }
 
@@ -394,6 +399,7 @@ fn ending_of_inputs(
         text: &text,
         bits: &bits,
         section: 1,
+        dealing: Dealing::Direct,
         total: 1,
     };
     let script = grant(alloc, count, 1)?;

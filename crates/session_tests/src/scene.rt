@@ -1,6 +1,6 @@
 // What both ends of a session have: the claim of what a circuit gives, files, and the log of a rehearsal.
-ghost use Rattle.std.specs.Prelude.{◌≡◌, IfOk};
-ghost use Rattle.zk_model.specs.declared.Kind.TheVariants.{Direct};
+ghost use Rattle.std.specs.Prelude.{◌≡◌};
+ghost use Rattle.zk_model.specs.declared.Kind.TheVariants.{Extended};
 
 use bool_eval::eval;
 use bristol_reader::{Circuit, read};
@@ -17,12 +17,25 @@ pub const LONG: u32 = 1 << 20;
 /// The seed of all files.
 const SEED: [u8; 32] = [7; 32];
 
-/// A circuit's text, the bits that it is given, how many products a section has, and how many units the files have.
+/// What files are dealt for.
+#[derive(Clone, Copy)]
+pub enum Dealing {
+    /// Kind direct.
+    Direct,
+    /// Kind extended, with one tree of height 1 and base 10.
+    OneTree,
+    /// Kind extended, with 8 trees of height 10 and base 64, as a rehearsal has them.
+    EightTrees,
+}
+
+/// A circuit's text, the bits that it is given, how many products a section has, and what the files are dealt for: their kind, and
+/// how many units.
 #[derive(Clone, Copy)]
 pub struct Scene<'a> {
     pub text: &'a str,
     pub bits: &'a [bool],
     pub section: u32,
+    pub dealing: Dealing,
     pub total: u32,
 }
 
@@ -32,6 +45,7 @@ pub fn and_gate(section: u32) -> Scene<'static> {
         text: "1 3\n2 1 1\n1 1\n\n2 1 0 1 2 AND\n",
         bits: &[true, true],
         section,
+        dealing: Dealing::Direct,
         total: 1,
     }
 }
@@ -53,20 +67,35 @@ pub fn claim_of(alloc: Global, scene: &Scene<'_>, circuit: &Circuit) -> Result<C
     Ok(claim)
 }
 
-/// Both files of a scene, of kind direct.
-pub fn files_of(alloc: Global, scene: &Scene<'_>) -> Result<(ProverFile, VerifierFile), Fail>
-    ensures prover { IfOk result (λ files. files.0.params.kind ≡ Direct) }
-    ensures verifier { IfOk result (λ files. files.1.params.kind ≡ Direct) }
+/// So many units of kind extended.
+fn extended(height: u8, trees: u32, base: u32, total: u64) -> Params
+    ensures { result ≡ record { kind = Extended; height = height; trees = trees; base = base; total = total } }
 {
+    Params {
+        kind: Kind::Extended,
+        height,
+        trees,
+        base,
+        total,
+    }
+}
+
+/// Both files of a scene.
+pub fn files_of(alloc: Global, scene: &Scene<'_>) -> Result<(ProverFile, VerifierFile), Fail> {
     if scene.total < 1 {
         return Err(Fail::new("no units"));
     }
-    let params = Params {
-        kind: Kind::Direct,
-        height: 0,
-        trees: 0,
-        base: 0,
-        total: u64::from(scene.total),
+    let total = u64::from(scene.total);
+    let params = match scene.dealing {
+        Dealing::Direct => Params {
+            kind: Kind::Direct,
+            height: 0,
+            trees: 0,
+            base: 0,
+            total,
+        },
+        Dealing::OneTree => extended(1, 1, 10, total),
+        Dealing::EightTrees => extended(10, 8, 64, total),
     };
     Ok(deal(alloc, &params, &SEED)?)
 }
@@ -107,7 +136,11 @@ pub fn rehearsed(alloc: Global, scene: &Scene<'_>) -> Result<Rehearsal, Fail> {
         return Err(Fail::new("no section"));
     }
     let circuit = circuit_of(alloc, scene)?;
-    let Ok(rehearsal) = rehearse(alloc, &circuit, scene.bits, scene.section, &SEED) else {
+    let kind = match scene.dealing {
+        Dealing::Direct => Kind::Direct,
+        Dealing::OneTree | Dealing::EightTrees => Kind::Extended,
+    };
+    let Ok(rehearsal) = rehearse(alloc, &circuit, scene.bits, kind, scene.section, &SEED) else {
         return Err(Fail::new("no rehearsal"));
     };
     let prover = part_of(alloc, &rehearsal.log, Side::Prover)?;

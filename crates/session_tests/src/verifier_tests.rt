@@ -148,31 +148,32 @@ fn a_peer_may_end_or_send_another_frame(rt: HostRuntime) -> Result<(), Fail> {
     Ok(())
 }
 
+/// Whether a prover's byte at this place is the kind or of the length of a frame.
+fn is_of_heading(place: usize) -> bool {
+    (0..5).contains(&place)
+        || (102..107).contains(&place)
+        || (131..136).contains(&place)
+        || (152..157).contains(&place)
+}
+
 /// Whether this is what comes of a prover's byte that is changed at this place: an element stays below the prime unless the
 /// highest bit of its last byte is set.
 fn is_of_changed(place: usize, outcome: &VerifierOutcome, is_high: bool) -> bool {
-    let is_bad = *outcome
-        == VerifierOutcome::BadFrame {
-            place: place as u64,
-        };
-    match place {
-        0..5 | 102..107 | 131..136 | 152..157 => is_bad,
-        5..37 => matches!(outcome, VerifierOutcome::BadHello(HelloDiffers::Id { .. })),
-        37..69 => matches!(
-            outcome,
-            VerifierOutcome::BadHello(HelloDiffers::Circuit { .. })
-        ),
-        69..101 => matches!(
-            outcome,
-            VerifierOutcome::BadHello(HelloDiffers::Outputs { .. })
-        ),
-        101 => matches!(
-            outcome,
-            VerifierOutcome::BadHello(HelloDiffers::Version { .. })
-        ),
-        114 | 122 | 130 | 143 | 151 | 164 if is_high => is_bad,
-        107..131 | 136..152 => matches!(outcome, VerifierOutcome::RejectedSum { section: 0, .. }),
-        157..165 => matches!(outcome, VerifierOutcome::RejectedOpening { output: 0, .. }),
+    let is_prime = is_high && [114, 122, 130, 143, 151, 164].contains(&place);
+    match outcome {
+        VerifierOutcome::BadFrame { place: bad } => {
+            *bad == place as u64 && (is_prime || is_of_heading(place))
+        }
+        VerifierOutcome::BadHello(HelloDiffers::Id { .. }) => (5..37).contains(&place),
+        VerifierOutcome::BadHello(HelloDiffers::Circuit { .. }) => (37..69).contains(&place),
+        VerifierOutcome::BadHello(HelloDiffers::Outputs { .. }) => (69..101).contains(&place),
+        VerifierOutcome::BadHello(HelloDiffers::Version { .. }) => place == 101,
+        VerifierOutcome::RejectedSum { section: 0, .. } => {
+            !is_prime && ((107..131).contains(&place) || (136..152).contains(&place))
+        }
+        VerifierOutcome::RejectedOpening { output: 0, .. } => {
+            !is_prime && (157..165).contains(&place)
+        }
         _ => false,
     }
 }

@@ -7,7 +7,7 @@ use Rattle.zk_cli.specs.CircuitFiles.{IsCircuitFile}
 use Rattle.zk_cli.specs.Made.{IfRehearsed, Effects}
 use Rattle.zk_cli.specs.Outcomes.{Accepts, IsRefused, TakesTooMany, IsReady, AnswersFor, HasFailed, IsRehearseStatus}
 use Rattle.zk_cli.specs.Prints.{after_sink_fault}
-use Rattle.session_core.specs.Rehearsals.{EndsWithVerdict, RehearseCause, direct_units}
+use Rattle.session_core.specs.Rehearsals.{EndsWithVerdict, RehearseCause, rehearsal_units}
 use Rattle.zk_cli.specs.RehearseRuns.{HasOutputs, HasNumbers, IsRehearsed, SaysPart, RehearseLines, RehearseStop, verdict_status, rehearsal_lines}
 use Rattle.zk_cli.specs.Stops.{PrintsMade, stop_status, stop_line}
 use Rattle.zk_cli.specs.StopsOf.{rehearse_stop}
@@ -58,7 +58,7 @@ StopMeans ask shelf status =
     CircuitMeans ask.circuit ask.bits shelf status ⊎ ((status ≡ 9) × TakesTooMany shelf.old.told ask)
 
 unrehearsed_means : (ask : RehearseAsk) (shelf : ShelfChange) (circuit : Circuit) (fault : RehearseFault)
-    → IsCircuitFile shelf.old.told ask.circuit circuit → RehearseCause circuit ask.bits ask.section fault
+    → IsCircuitFile shelf.old.told ask.circuit circuit → RehearseCause circuit ask.bits ask.kind ask.section fault
     → StopMeans ask shelf (stop_status (rehearse_stop fault))
 unrehearsed_means ask shelf circuit (session.WrongLength need got) file cause =
     inl (inl (
@@ -194,10 +194,10 @@ statuses_mean ask seed run made says =
 -- a rehearsal that is handed back takes few enough units
 few_units : {L : Type 0} → OneCircuit → (part : Part L) (told : Option Files) (ask : RehearseAsk) (seed : List ℕ) (circuit : Circuit) (sink : SinkChange)
     → IsReady told ask.circuit ask.bits circuit → IfRehearsed part (IsRehearsed told ask seed) → Accepts part sink
-    → direct_units circuit ask.section ≤ 4096
+    → rehearsal_units circuit ask.kind ask.section ≤ 4096
 few_units one (Rehearsed r) told ask seed circuit sink ready made accepts =
     let same = told_circuit one told ask.circuit circuit made.circuit ready.file made.file in
-    subst (λ c. direct_units c ask.section ≤ 4096) same
+    subst (λ c. rehearsal_units c ask.kind ask.section ≤ 4096) same
     (subst (λ n. n ≤ 4096) made.rehearsal.units made.rehearsal.units_most)
 few_units one Plain told ask seed circuit sink ready made accepts = absurd accepts
 few_units one (Served links) told ask seed circuit sink ready made accepts = absurd accepts
@@ -205,7 +205,7 @@ few_units one (Served links) told ask seed circuit sink ready made accepts = abs
 -- the status of a run where the shelf tells the circuit and nothing fails
 completed : {L : Type 0} → OneCircuit → (ask : RehearseAsk) (seed : List ℕ) (run : Effects L) (circuit : Circuit)
     → IfRehearsed run.part (IsRehearsed run.shelf.old.told ask seed) → IsReady run.shelf.old.told ask.circuit ask.bits circuit
-    → ¬ HasFailed ask.circuit run.shelf run.sink → RunMeans ask run → AnswersFor (direct_units circuit ask.section) run.status
+    → ¬ HasFailed ask.circuit run.shelf run.sink → RunMeans ask run → AnswersFor (rehearsal_units circuit ask.kind ask.section) run.status
 completed one ask seed run circuit made ready calm (inl m) =
     inl (m.0, few_units one run.part run.shelf.old.told ask seed circuit run.sink ready made m.1)
 completed one ask seed run circuit made ready calm (inr (inl m)) = absurd (not_refused one run.shelf.old.told ask.circuit ask.bits circuit ready m.1)
@@ -213,11 +213,11 @@ completed one ask seed run circuit made ready calm (inr (inr (inl m))) = absurd 
 completed one ask seed run circuit made ready calm (inr (inr (inr (inl m)))) = inr (inr m)
 completed one ask seed run circuit made ready calm (inr (inr (inr (inr m)))) =
     let same = told_circuit one run.shelf.old.told ask.circuit circuit m.1.circuit ready.file m.1.file in
-    inr (inl (m.0, subst (λ c. 4096 < direct_units c ask.section) same m.1.many))
+    inr (inl (m.0, subst (λ c. 4096 < rehearsal_units c ask.kind ask.section) same m.1.many))
 
 pub rehearse_done : {L : Type 0} → OneCircuit → (ask : RehearseAsk) (seed : List ℕ) (run : Effects L) (circuit : Circuit)
     → IfRehearsed run.part (IsRehearsed run.shelf.old.told ask seed) → RehearseLines ask run
     → IsReady run.shelf.old.told ask.circuit ask.bits circuit → ¬ HasFailed ask.circuit run.shelf run.sink
-    → AnswersFor (direct_units circuit ask.section) run.status
+    → AnswersFor (rehearsal_units circuit ask.kind ask.section) run.status
 rehearse_done one ask seed run circuit made says ready calm =
     completed one ask seed run circuit made ready calm (run_means run.part ask seed run.status run.shelf run.sink made says)

@@ -3,7 +3,6 @@ use Rattle.std.proofs.Common.{◌≡◌, ◌⊎◌, ◌≤◌, ◌<◌, ℕ, Boo
 use Rattle.std.proofs.lemmas.Bool.Decides.{nat_tests}
 use Rattle.std.proofs.lemmas.List.{length-replicate}
 use Rattle.std.specs.Prelude.{◌==◌, ◌||◌, ◌≢◌, if◌then◌else◌}
-use Rattle.zk_model.specs.declared.Kind.TheVariants.{Direct, Extended}
 use Rattle.lease_store.specs.declared.LeaseFault.TheVariants as lease
 use Rattle.zk_model.specs.Circuit.{Circuit}
 use Rattle.zk_model.specs.Program.{correlations_needed}
@@ -101,21 +100,14 @@ claim_7 one ask shelf stop ready calm (inr (inl why)) =
     absurd (why.differ (ready.outputs ∙ sym (ap (λ c. c.outputs) same)))
 claim_7 one ask shelf stop ready calm (inr (inr is)) = ap stop_status is
 
-other_kind : Direct ≡ Extended → ⊥
-other_kind same = cc
-
 file_7 : (ask : ServeAsk) (shelf : ShelfChange) (stop : Stop) → (ready : IsServable shelf.old.told ask)
     → ¬ Rose (shelf.old.faults_of ask.file) (shelf.new.faults_of ask.file) → FileStop shelf ask.file stop → stop_status stop ≡ 7
 file_7 ask shelf stop ready calm (inl why) =
     ap stop_status why.stops ∙ unloaded_7 shelf.old.told ask.file ready.bytes (shelf.old.faults_of ask.file) (shelf.new.faults_of ask.file)
     why.fault ready.stands ready.fits calm why.cause
-file_7 ask shelf stop ready calm (inr (inl why)) =
+file_7 ask shelf stop ready calm (inr why) =
     let same = told_text shelf.old.told ask.file ready.bytes why.bytes ready.stands why.loaded.stands in
     ap stop_status why.stops ∙ undecoded_7 ready.bytes why.fault ready.dealt (subst (λ (b : List ℕ). IsFirstFault Verifier b why.fault) same why.first)
-file_7 ask shelf stop ready calm (inr (inr why)) =
-    let same = told_text shelf.old.told ask.file ready.bytes why.stands.bytes ready.stands why.stands.loaded.stands in
-    let room : HasRoom ready.circuit ask.section why.file = ready.room why.file why.stands.valid (why.stands.says ∙ same) in
-    absurd (other_kind (sym room.direct ∙ why.extended))
 
 stop_7 : OneCircuit → (ask : ServeAsk) (shelf : ShelfChange) (sink : SinkChange) (door : DoorChange) (stop : Stop) → (ready : IsServable shelf.old.told ask)
     → ¬ HasServeFailed ask shelf sink door → ServeStop ask shelf door stop → stop_status stop ≡ 7

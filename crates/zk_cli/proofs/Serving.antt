@@ -11,7 +11,6 @@ use Rattle.zk_model.specs.Headline.{ShowsOutputs}
 use Rattle.zk_model.specs.Statement.{Statement}
 use Rattle.zk_model.specs.declared.Side.{Side}
 use Rattle.zk_model.specs.declared.Span.{Span}
-use Rattle.zk_model.specs.declared.Kind.TheVariants.{Direct}
 use Rattle.zk_port.specs.Counts.{Rose}
 use Rattle.zk_port.specs.Files.{Files, LoadCause, StandsLonger}
 use Rattle.zk_port.specs.declared.fault.LoadFault.{LoadFault}
@@ -28,7 +27,7 @@ use Rattle.command_words.specs.Words.{ServeAsk}
 use Rattle.command_words.specs.declared.TheConstants.{FILE_LIMIT}
 use Rattle.zk_cli.specs.Changes.{ShelfState, ShelfChange, SinkState, SinkChange}
 use Rattle.zk_cli.specs.Prints.{Prints}
-use Rattle.zk_cli.specs.ServeRuns.{IsClaim, IsVerifierFileAt, FileStop, IsUndecoded, IsExtendedFile, ServeStop, SaysNoService, DoorChange}
+use Rattle.zk_cli.specs.ServeRuns.{IsClaim, IsVerifierFileAt, FileStop, IsUndecoded, ServeStop, SaysNoService, DoorChange}
 use Rattle.zk_cli.specs.Made.{EachNote}
 use Rattle.zk_cli.specs.ServedNotes.{IsServedNote, IsHeadline}
 use Rattle.zk_cli.specs.declared.finish.Part.{Part}
@@ -57,24 +56,22 @@ file_stop_since old mid new name stop same earlier (inl why) = inl record {
   cause = load_cause_since old.told mid.told name (old.faults_of name) (mid.faults_of name) (new.faults_of name) why.fault same earlier why.cause;
   stops = why.stops;
 }
-file_stop_since old mid new name stop same earlier (inr (inl why)) =
-    inr (inl (subst (λ (told : Option Files). IsUndecoded told name stop) same why))
-file_stop_since old mid new name stop same earlier (inr (inr why)) =
-    inr (inr (subst (λ (told : Option Files). IsExtendedFile told name stop) same why))
+file_stop_since old mid new name stop same earlier (inr why) =
+    inr (subst (λ (told : Option Files). IsUndecoded told name stop) same why)
 
 -- the notes of a job that a claim and a file make are those of what was asked
 pub notes_served : {L : Type 0} (moment : SessionNote L → Moment) (told : Option Files) (ask : ServeAsk) (circuit : Circuit)
     (claim : Statement) (file : VerifierFile) (result : Result (pool.Served L) Stop)
-    → IsClaim told ask circuit claim → IsVerifierFileAt told ask.file file → file.params.kind ≡ Direct
+    → IsClaim told ask circuit claim → IsVerifierFileAt told ask.file file
     → IfOk result (λ _. units_of_job (verifier_of claim file ask.section) ≤ 4096)
     → IfOk result (λ served. All (λ note. IsNote (verifier_of claim file ask.section) note.granted note.outcome (moment note)) served.notes.items)
     → IfOk result (λ served. All (λ note. IsServedNote told ask note.granted note.outcome (moment note)) served.notes.items)
-notes_served moment told ask circuit claim file (Err stop) is_claim is_file direct few notes = tt
-notes_served moment told ask circuit claim file (Ok served) is_claim is_file direct few notes =
+notes_served moment told ask circuit claim file (Err stop) is_claim is_file few notes = tt
+notes_served moment told ask circuit claim file (Ok served) is_claim is_file few notes =
     λ k default within. record {
       circuit = circuit;
       job = verifier_of claim file ask.section;
-      served = record { claim = is_claim; file = is_file; direct = direct; section = refl };
+      served = record { claim = is_claim; file = is_file; section = refl };
       few = few;
       note = notes k default within;
     }

@@ -7,7 +7,7 @@ use Rattle.zk_port.specs.Files.{Files, StandsLonger}
 use Rattle.zk_port.specs.Logs.{appended}
 use Rattle.zk_cli.specs.Changes.{ShelfChange, SinkChange, NameFailed, SomeFailed, SinkFailed}
 use Rattle.zk_cli.specs.CircuitFiles.{IsLoaded, IsCircuitFile, IsToldCircuit, GivesOutputs}
-use Rattle.session_core.specs.Rehearsals.{EndsWithVerdict, direct_units}
+use Rattle.session_core.specs.Rehearsals.{EndsWithVerdict, rehearsal_units}
 use Rattle.zk_cli.specs.RehearseRuns.{rehearsal_lines}
 use Rattle.zk_cli.specs.DealRuns.{StoresDealt, IsDealName, dealt_lines}
 use Rattle.zk_cli.specs.EvalRuns.{outputs_line}
@@ -91,7 +91,7 @@ pub record TakesTooMany (told : Option Files) (ask : RehearseAsk) : Type 0 where
   pub circuit : Circuit
   pub file : IsCircuitFile told ask.circuit circuit
   pub inputs : length ask.bits ≡ circuit.inputs
-  pub many : 4096 < direct_units circuit ask.section
+  pub many : 4096 < rehearsal_units circuit ask.kind ask.section
 
 -- ---- where nothing is refused and nothing fails
 

@@ -1,4 +1,4 @@
--- `rehearse CIRCUIT BITS [--section G]`: what it hands back, and what it says.
+-- `rehearse CIRCUIT BITS [--section G] [--extended]`: what it hands back, and what it says.
 use Rattle.std.specs.Prelude.{◌≡◌, ◌⊎◌, ◌≤◌, ℕ, List, length, ◌++◌, codes, Option}
 use Rattle.std.specs.Fmt.{decimal}
 use Rattle.zk_model.specs.Circuit.{Circuit}
@@ -9,7 +9,7 @@ use Rattle.command_words.specs.BitWords.{bits_word}
 use Rattle.zk_cli.specs.Changes.{ShelfChange, SinkChange}
 use Rattle.zk_cli.specs.CircuitFiles.{IsCircuitFile, GivesOutputs, CircuitStop}
 use Rattle.zk_cli.specs.Made.{Effects}
-use Rattle.session_core.specs.Rehearsals.{IsRehearsalOf, RehearseCause, rehearsal_need, direct_units}
+use Rattle.session_core.specs.Rehearsals.{IsRehearsalOf, RehearseCause, rehearsal_need, rehearsal_units}
 use Rattle.zk_cli.specs.Stops.{PrintsStop, PrintsMade}
 use Rattle.zk_cli.specs.StopsOf.{rehearse_stop}
 use Rattle.command_words.specs.Words.{RehearseAsk}
@@ -64,7 +64,7 @@ pub record HasNumbers (told : Option Files) (ask : RehearseAsk) (r : Rehearsal) 
   pub products : r.products ≡ length (circuit_products 0 circuit)
   pub sections : r.sections ≡ section_count (circuit_program 0 circuit) ask.section
   pub need : r.need ≡ rehearsal_need circuit ask.section
-  pub units : r.units ≡ direct_units circuit ask.section
+  pub units : r.units ≡ rehearsal_units circuit ask.kind ask.section
   pub units_most : r.units ≤ 4096
 
 -- one circuit under the name has these outputs and numbers, and this log is that of an honest session over it
@@ -72,7 +72,7 @@ pub record IsRehearsed (told : Option Files) (ask : RehearseAsk) (seed : List �
     : Type 0 where
   pub circuit : Circuit
   pub file : IsCircuitFile told ask.circuit circuit
-  pub rehearsal : IsRehearsalOf circuit ask.bits ask.section seed r
+  pub rehearsal : IsRehearsalOf circuit ask.bits ask.kind ask.section seed r
 
 -- ---- what is said
 
@@ -81,7 +81,7 @@ pub record IsUnrehearsed (told : Option Files) (ask : RehearseAsk) (stop : Stop)
   pub circuit : Circuit
   pub file : IsCircuitFile told ask.circuit circuit
   pub fault : RehearseFault
-  pub cause : RehearseCause circuit ask.bits ask.section fault
+  pub cause : RehearseCause circuit ask.bits ask.kind ask.section fault
   pub stops : stop ≡ rehearse_stop fault
 
 -- why there is no rehearsal: the circuit can't be had, or can't be rehearsed

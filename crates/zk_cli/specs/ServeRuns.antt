@@ -6,13 +6,11 @@ use Rattle.zk_model.specs.Bristol.{IsText}
 use Rattle.zk_model.specs.FileBytes.{verifier_file_bytes}
 use Rattle.zk_model.specs.Files.{VerifierFile, IsVerifierFile}
 use Rattle.zk_model.specs.Statement.{Statement, circuit_statement}
-use Rattle.zk_model.specs.declared.Kind.TheVariants.{Direct, Extended}
 use Rattle.zk_model.specs.declared.Side.TheVariants.{Verifier}
 use Rattle.zk_port.specs.Counts.{Rose}
 use Rattle.zk_port.specs.Files.{Files}
 use Rattle.dealer_files.specs.Faults.{IsFirstFault}
 use Rattle.dealer_files.specs.declared.fault.FileFault.{FileFault}
-use Rattle.dealer_files.specs.declared.fault.FileFault.TheVariants.{BadKind}
 use Rattle.session_core.specs.Jobs.{VerifierJob, IsTooLarge, units_of_job}
 use Rattle.session_core.specs.declared.verifier_job.TooManyUnits.{TooManyUnits}
 use Rattle.session_pool.specs.Doors.{DoorState, TakesOneAtMost, door_state}
@@ -28,7 +26,7 @@ use Rattle.zk_cli.specs.declared.finish.Part.{Part}
 use Rattle.zk_cli.specs.declared.finish.Part.TheVariants.{Plain, Served}
 use Rattle.zk_cli.specs.declared.serve_command.ServeWords.{ServeWords}
 use Rattle.zk_cli.specs.declared.stop.Stop.{Stop}
-use Rattle.zk_cli.specs.declared.stop.Stop.TheVariants.{BadFile, WrongOutputs, DoorFailed, NoMemory}
+use Rattle.zk_cli.specs.declared.stop.Stop.TheVariants.{WrongOutputs, DoorFailed, NoMemory}
 
 -- what is asked for
 abbrev pub serve_words : ServeWords → ServeAsk
@@ -52,11 +50,10 @@ pub record IsVerifierFileAt (told : Option Files) (name : List ℕ) (file : Veri
   pub says : verifier_file_bytes file ≡ bytes
   pub valid : IsVerifierFile file
 
--- what a verifier is to do: the claim, over its file of kind direct, in sections of the length that is named
+-- what a verifier is to do: the claim, over its file, in sections of the length that is named
 pub record IsServeJob (told : Option Files) (ask : ServeAsk) (circuit : Circuit) (job : VerifierJob) : Type 0 where
   pub claim : IsClaim told ask circuit job.task.statement
   pub file : IsVerifierFileAt told ask.file job.task.file
-  pub direct : job.task.file.params.kind ≡ Direct
   pub section : job.section_length ≡ ask.section
 
 -- ---- why nothing is served
@@ -90,17 +87,10 @@ pub record IsUndecoded (told : Option Files) (name : List ℕ) (stop : Stop) : T
   pub first : IsFirstFault Verifier bytes fault
   pub stops : stop ≡ file_stop fault
 
--- the file under the name is of kind extended
-pub record IsExtendedFile (told : Option Files) (name : List ℕ) (stop : Stop) : Type 0 where
-  pub file : VerifierFile
-  pub stands : IsVerifierFileAt told name file
-  pub extended : file.params.kind ≡ Extended
-  pub stops : stop ≡ BadFile BadKind
-
 -- why the verifier's file under this name can't be had
 abbrev pub FileStop : ShelfChange → List ℕ → Stop → Type 0
 FileStop shelf name stop =
-    IsUnloaded shelf name stop ⊎ IsUndecoded shelf.old.told name stop ⊎ IsExtendedFile shelf.old.told name stop
+    IsUnloaded shelf name stop ⊎ IsUndecoded shelf.old.told name stop
 
 -- there is a claim, but no file for it
 pub record LacksFile (ask : ServeAsk) (shelf : ShelfChange) (stop : Stop) : Type 0 where

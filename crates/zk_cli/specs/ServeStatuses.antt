@@ -7,7 +7,6 @@ use Rattle.zk_model.specs.Files.{VerifierFile, IsVerifierFile}
 use Rattle.zk_model.specs.HonestProver.{ProverTask}
 use Rattle.zk_model.specs.Program.{correlations_needed}
 use Rattle.zk_model.specs.Transcript.{units_for}
-use Rattle.zk_model.specs.declared.Kind.TheVariants.{Direct}
 use Rattle.zk_model.specs.declared.Side.TheVariants.{Verifier}
 use Rattle.dealer_files.specs.Faults.{IsDealtFile}
 use Rattle.session_core.specs.Jobs.{VerifierJob}
@@ -64,9 +63,8 @@ ServeMeans ask run = PartMeans run.part ask run.status run.shelf run.sink run.do
 
 -- ---- where nothing is refused and nothing fails
 
--- a file of kind direct with as many units as a session about the circuit takes, which are few
+-- a file with as many units as a session about the circuit takes, which are few
 pub record HasRoom (circuit : Circuit) (section : ℕ) (file : VerifierFile) : Type 0 where
-  pub direct : file.params.kind ≡ Direct
   pub few : units_for file.params (correlations_needed (circuit_program 0 circuit) section) ≤ 4096
   pub room : units_for file.params (correlations_needed (circuit_program 0 circuit) section) ≤ file.params.total
 

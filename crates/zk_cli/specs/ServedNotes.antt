@@ -31,8 +31,8 @@ pub record IsHeadline (told : Option Files) (ask : ServeAsk) (granted : Option S
   pub shows : (prover : ProverFile) → IsProverFile prover → AreDealt prover job.task.file
       → ShowsOutputs circuit ask.outputs prover job.task.file.key job.task.statement t
 
--- A note of a session about what was asked: which units were leased, of how many; the verdict; what the verifier sent; why the
--- session ended; and that with an honest peer it is accepted, unless memory was wanting.
+-- A note of a session about what was asked: which units were leased, of how many; the verdict; what the verifier sent; that its
+-- keys fit the pairs of whatever prover; why the session ended; and that with an honest peer it is accepted, unless memory was wanting.
 pub record IsServedNote (told : Option Files) (ask : ServeAsk) (granted : Option Span) (outcome : VerifierOutcome) (now : Moment)
     : Type 0 where
   pub circuit : Circuit

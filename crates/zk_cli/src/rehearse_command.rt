@@ -1,4 +1,4 @@
-// `rehearse CIRCUIT BITS [--section G]`
+// `rehearse CIRCUIT BITS [--section G] [--extended]`
 ghost use Rattle.std.specs.Prelude.{◌≡◌, ◌≤◌, ◌^◌, IfOk, IfErr, string_bytes};
 ghost use Rattle.zk_cli.specs.Changes.{shelf_change, sink_change, OnlyLoads};
 ghost use Rattle.zk_cli.specs.Made.{IfRehearsed, effects};
@@ -12,6 +12,7 @@ use crate::finish::{Ending, Part};
 use crate::say::{say, say_memory, say_stop};
 use crate::stop::Stop;
 use command_words::write_bits;
+use dealer_files::Kind;
 use session_core::{Rehearsal, Verdict, rehearse};
 use std::alloc::{AllocError, Global};
 use zk_port::{Shelf, Sink};
@@ -22,19 +23,20 @@ fn rehearse_file<F: Shelf>(
     shelf: &mut F,
     name: &str,
     bits: &[bool],
+    kind: Kind,
     section: u32,
     seed: &[u8; 32],
 ) -> Result<Rehearsal, Stop>
     requires some { 1 ≤ section }
     requires most { section ≤ 2 ^ 20 }
     ensures rehearsed { IfOk result
-        (IsRehearsed (F.told shelf.old) (rehearse_ask name.now bits.now section) seed.now) }
-    ensures stop { IfErr result (RehearseStop (rehearse_ask name.now bits.now section)
+        (IsRehearsed (F.told shelf.old) (rehearse_ask name.now bits.now kind section) seed.now) }
+    ensures stop { IfErr result (RehearseStop (rehearse_ask name.now bits.now kind section)
         (shelf_change F.told F.faults F.faults_of shelf.old shelf.new)) }
     ensures kept { OnlyLoads name.now (shelf_change F.told F.faults F.faults_of shelf.old shelf.new) }
 {
     let circuit = load_circuit(alloc, shelf, name)?;
-    Ok(rehearse(alloc, &circuit, bits, section, seed)?)
+    Ok(rehearse(alloc, &circuit, bits, kind, section, seed)?)
 }
 
 /// The line of the verdict.
@@ -113,19 +115,20 @@ pub fn run_rehearse<F: Shelf, O: Sink, L: Drop>(
     out: &mut O,
     name: &str,
     bits: &[bool],
+    kind: Kind,
     section: u32,
     seed: &[u8; 32],
 ) -> Ending<L>
     requires some { 1 ≤ section }
     requires most { section ≤ 2 ^ 20 }
     ensures made { IfRehearsed result.part
-        (IsRehearsed (F.told shelf.old) (rehearse_ask name.now bits.now section) seed.now) }
-    ensures lines { RehearseLines (rehearse_ask name.now bits.now section)
+        (IsRehearsed (F.told shelf.old) (rehearse_ask name.now bits.now kind section) seed.now) }
+    ensures lines { RehearseLines (rehearse_ask name.now bits.now kind section)
         (effects result.status result.part (shelf_change F.told F.faults F.faults_of shelf.old shelf.new)
         (sink_change O.written O.faults out.old out.new)) }
     ensures kept { OnlyLoads name.now (shelf_change F.told F.faults F.faults_of shelf.old shelf.new) }
 {
-    match rehearse_file(alloc, shelf, name, bits, section, seed) {
+    match rehearse_file(alloc, shelf, name, bits, kind, section, seed) {
         Ok(rehearsal) => {
             let status = match write_rehearsal(alloc, &rehearsal) {
                 Ok(lines) => say(alloc, out, lines.as_bytes(), status_of(rehearsal.verdict)),

@@ -9,7 +9,7 @@ ghost use Rattle.zk_cli.specs.Outcomes.{IsReady, AnswersFor, IsEvalStatus, Write
 ghost use Rattle.zk_cli.specs.Outcomes.{IsDealStatus, DealsAll, HasStoreFailed};
 ghost use Rattle.zk_cli.specs.DealRuns.{DealLines, IsDealName};
 ghost use Rattle.zk_cli.specs.EvalRuns.{EvalLines};
-ghost use Rattle.session_core.specs.Rehearsals.{direct_units};
+ghost use Rattle.session_core.specs.Rehearsals.{rehearsal_units};
 ghost use Rattle.zk_cli.specs.RehearseRuns.{HasOutputs, HasNumbers, IsRehearsed, RehearseLines};
 ghost use Rattle.session_pool.specs.Doors.{door_state};
 ghost use Rattle.session_verifier.specs.Stages.{moment_at};
@@ -38,7 +38,7 @@ use zk_port::{Disk, Door, Gate, Shelf, Sink};
 /// Does what the words behind the program's name ask for, over these files, this disk, this door and this
 /// output, and hands back the status, the disk, the door and what was made. `deal` and `rehearse` use the seed.
 ///
-/// Words of no command end with 2, or with 7 where memory is wanting. `rehearse CIRCUIT BITS [--section G]` ends
+/// Words of no command end with 2, or with 7 where memory is wanting. `rehearse CIRCUIT BITS [--section G] [--extended]` ends
 /// with 0 where it is accepted; 3 where the file, or the bits for it, are refused; 4 where a load of the file
 /// failed, or the output before a 0; 7 where memory is wanting; 9 where the session would take more than 4,096
 /// units. `eval CIRCUIT BITS` ends with 0 where it wrote the outputs, and with 3, 4 and 7 in the same cases. `deal NAME
@@ -73,7 +73,7 @@ where
         × (result.journal ≡ journal) × (result.door ≡ door)) }
     ensures usage_2 { result.status ≡ 2 → asked (texts words.now) ≡ None }
 
-    // `rehearse CIRCUIT BITS [--section G]`: the rehearsal that is handed back, if one is. Its outputs are the only
+    // `rehearse CIRCUIT BITS [--section G] [--extended]`: the rehearsal that is handed back, if one is. Its outputs are the only
     // ones that the circuit gives at the bits, its numbers are the circuit's, and its log is that of an honest
     // session of that circuit over the files of the seed.
     ensures rehearse_outputs { OnRehearse words.now
@@ -111,7 +111,7 @@ where
         IsReady (F.told shelf.old) ask.circuit ask.bits circuit →
         ¬ HasFailed ask.circuit (shelf_change F.told F.faults F.faults_of shelf.old shelf.new)
         (sink_change O.written O.faults out.old out.new) →
-        AnswersFor (direct_units circuit ask.section) result.status) }
+        AnswersFor (rehearsal_units circuit ask.kind ask.section) result.status) }
 
     // `eval CIRCUIT BITS`: the line of the only outputs that the circuit gives at the bits is written, or that of a
     // stop with its cause.
@@ -176,8 +176,8 @@ where
     ensures serve_headline { OnServe words.now (λ ask. EachNote result.part (λ note. note.outcome ≡ Accepted →
         IsHeadline (F.told shelf.old) ask note.granted note.log)) }
 
-    // What each note says: the units that were leased, the verdict, what the verifier sent, why the session ended, and
-    // that with an honest peer it is accepted.
+    // What each note says: the units that were leased, the verdict, what the verifier sent, that its keys fit the pairs of
+    // whatever prover, why the session ended, and that with an honest peer it is accepted.
     ensures serve_notes { OnServe words.now (λ ask. EachNote result.part (λ note.
         IsServedNote (F.told shelf.old) ask note.granted note.outcome
         (moment_at note.log (D.Link.log note.link) (D.Link.to_come note.link)
@@ -252,11 +252,12 @@ where
         Command::Rehearse {
             circuit,
             bits,
+            kind,
             section,
         } => {
             let bits = bits.as_slice();
             let Ending { status, part } = run_rehearse(
-                alloc, shelf, out, circuit, bits, section, seed,
+                alloc, shelf, out, circuit, bits, kind, section, seed,
             );
             Finish {
                 status,

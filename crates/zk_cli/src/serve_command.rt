@@ -1,7 +1,6 @@
 // `serve ADDRESS FILE CIRCUIT OUTPUTS --sessions 1 [--section G]`
 ghost use Rattle.std.specs.Prelude.{◌≡◌, ◌≤◌, ◌^◌, All, IfOk, IfErr, OnErr, length};
 ghost use Rattle.zk_model.specs.Circuit.{Circuit};
-ghost use Rattle.zk_model.specs.declared.Kind.TheVariants.{Direct};
 ghost use Rattle.session_core.specs.Jobs.{units_of_job, verifier_of};
 ghost use Rattle.session_pool.specs.Doors.{door_state, TakesOneAtMost};
 ghost use Rattle.session_pool.specs.Notes.{IsNote};
@@ -20,7 +19,7 @@ use crate::note_lines::{served_status, write_served};
 use crate::say::{say, say_stop};
 use crate::stop::Stop;
 use bristol_reader::read;
-use dealer_files::{FileFault, Kind, VerifierFile, decode_verifier};
+use dealer_files::{VerifierFile, decode_verifier};
 use session_core::{CircuitClaim, VerifierJob};
 use session_pool::{Served, serve_first};
 use sha2::{Digest, Sha256};
@@ -61,20 +60,16 @@ fn load_claim<F: Shelf>(
     Ok(CircuitClaim::new(alloc, &circuit, digest, words.outputs)?)
 }
 
-/// The verifier's file of this name, of kind direct.
+/// The verifier's file of this name.
 fn load_verifier<F: Shelf>(alloc: Global, shelf: &mut F, name: &str) -> Result<VerifierFile, Stop>
     ensures file { IfOk result (IsVerifierFileAt (F.told shelf.old) name.now) }
-    ensures direct { IfOk result (λ file. file.params.kind ≡ Direct) }
     ensures stop { IfErr result
         (FileStop (shelf_change F.told F.faults F.faults_of shelf.old shelf.new) name.now) }
     ensures kept { OnlyLoads name.now (shelf_change F.told F.faults F.faults_of shelf.old shelf.new) }
 {
     let bytes = load_file(alloc, shelf, name)?;
     let file = decode_verifier(alloc, &bytes)?;
-    match file.params().kind {
-        Kind::Direct => Ok(file),
-        Kind::Extended => Err(Stop::BadFile(FileFault::BadKind)),
-    }
+    Ok(file)
 }
 
 /// Listens for one session, and leads it with the first peer that calls.
@@ -88,7 +83,6 @@ fn serve_claim<D: Door, G: Gate>(
 ) -> Result<Served<D::Link>, Stop>
 where
     D::Link: Drop,
-    requires direct { file.now.params.kind ≡ Direct }
     requires some { 1 ≤ words.now.section }
     requires most { words.now.section ≤ 2 ^ 20 }
     ensures notes { IfOk result (λ served. All (λ note.

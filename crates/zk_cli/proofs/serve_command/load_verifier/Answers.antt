@@ -1,4 +1,4 @@
-use Rattle.std.proofs.Common.{inl, inr, refl, subst, ℕ, List}
+use Rattle.std.proofs.Common.{inr, refl, subst, ℕ, List}
 use Rattle.dealer_files.specs.Faults.{IsFirstFault}
 use Rattle.zk_model.specs.declared.Side.TheVariants.{Verifier}
 use Rattle.frame_link.proofs.LineLemmas.{fails_at}
@@ -8,7 +8,7 @@ use Rattle.zk_cli.proofs.serve_command.load_verifier.Goals as goal
 pub returns-in_err-file-clause-stop : goal.returns-in_err-file-clause-stop
 returns-in_err-file-clause-stop g c =
     fails_at _ c.from_residual-in_err-file.result (file_stop c.in_err-file.field-0.0) c.from_residual-in_err-file.ensures.1
-    (inr (inl record {
+    (inr (record {
       bytes = c.in_ok-bytes.bytes.items;
       loaded = c.in_ok-bytes.ensures.loaded;
       fault = c.in_err-file.field-0.0;

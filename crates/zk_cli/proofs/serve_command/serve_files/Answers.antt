@@ -24,4 +24,4 @@ returns-clause-notes g c =
     (g.F.Shelf.told c.args.shelf.now) _ c.in_ok-claim.ensures.claim.0 c.in_ok-claim.claim c.in_ok-file.file c.serve_claim.result
     c.in_ok-claim.ensures.claim.1
     (subst (λ (told : Option Files). IsVerifierFileAt told c.args.words.now.file.now c.in_ok-file.file) c.load_claim.ensures.kept.told c.in_ok-file.ensures.file)
-    c.in_ok-file.ensures.direct c.serve_claim.ensures.few c.serve_claim.ensures.notes
+    c.serve_claim.ensures.few c.serve_claim.ensures.notes
