@@ -1,14 +1,17 @@
 -- The loop over the gates of a circuit.
-use Rattle.std.proofs.Common.{◌≡◌, ℕ, ◌+◌, ◌-◌, ◌<◌, ◌≤◌, ◌^◌, List, [], ◌∷◌, ◌++◌, length, map, flat_map, take, get_or, refl, sym, ap, ◌∙◌, arith, subst, append-nil, append_assoc, length-append}
-use Rattle.std.specs.Prelude.{sum_by}
+use Rattle.std.proofs.Common.{◌≡◌, ℕ, zero, suc, All, ◌+◌, ◌-◌, ◌<◌, ◌≤◌, ◌^◌, List, [], ◌∷◌, ◌++◌, length, map, flat_map, take, get_or, refl, sym, ap, ◌∙◌, arith, subst, append-nil, append_assoc, length-append}
+use Rattle.std.specs.Prelude.{sum_by, Some, slice_get}
+use Rattle.std.proofs.lemmas.Option.{slice_get-get_or, slice_get_within, get_or_from_slice_get}
 use Rattle.std.specs.List.{range_with_len}
-use Rattle.std.proofs.lemmas.List.{take_more, map-append, length-map}
+use Rattle.std.proofs.lemmas.List.{take_more, map-append, length-map, get_or-map, get_or_append_left, get_or-append_right}
+use Rattle.std.proofs.lemmas.List.Elements.{All-head, All-tail, All-nil, All-push, All-same, All-weaker}
 use Rattle.std.proofs.lemmas.List.Sums.{sum_by-cons}
 use Rattle.std.proofs.Common.{length-take}
 use Rattle.std.proofs.Math.Seq.{take-length}
 use Rattle.std.proofs.lemmas.List.FromFn.{length-range_with_len}
 use Rattle.std.proofs.lemmas.List.Concat.{flat_map-append}
 use Rattle.zk_model.specs.Circuit.{Circuit}
+use Rattle.zk_model.specs.Program as model
 use Rattle.zk_model.specs.Program.{Program}
 use Rattle.zk_model.specs.Boolean.{gate_step, gate_products, products_in, private_inputs, bit_check, circuit_products, circuit_program}
 use Rattle.zk_model.specs.declared.GateRow.{GateRow}
@@ -17,9 +20,15 @@ use Rattle.zk_model.specs.declared.Product.{Product}
 use Rattle.zk_laws.proofs.ByGate.{from_given, from_given-more, by_gate_is, products_of_all}
 use Rattle.zk_laws.specs.Booleans.{CircuitIsProgram, GatesAreFew}
 use Rattle.bristol_reader.specs.Circuits.{IsCircuit}
-use Rattle.gate_translate.specs.Programs.{IsHeld}
+use Rattle.gate_translate.specs.Gates.{gate_rule, gate_factors, squared}
+use Rattle.gate_translate.specs.Programs.{IsHeld, program_of}
+use Rattle.gate_translate.specs.Rules.{IsRule, factors_of, step_of, numbered}
 use Rattle.gate_translate.specs.Steps.{step_equation, equations}
-use Rattle.gate_translate.specs.declared.program.Step.{Step}
+use Rattle.gate_translate.specs.declared.rule.Factors.{Factors}
+use Rattle.gate_translate.specs.declared.rule.Rule.{Rule}
+use Rattle.gate_translate.specs.declared.rule.Rule.TheVariants as rule
+use Rattle.gate_translate.specs.declared.step.Step.{Step}
+use Rattle.gate_translate.specs.declared.step.Step.TheVariants as step
 
 -- the products of gates, from given value c on
 abbrev pub products_from : ℕ → List GateRow → List Product
@@ -29,10 +38,83 @@ products_from c gates = flat_map (λ products. products) (from_given gate_produc
 abbrev pub products_up_to : ℕ → List GateRow → List Product
 products_up_to inputs gates = map (bit_check 0) (range_with_len 0 inputs) ++ products_from inputs gates
 
--- steps and products of these gates
-pub record AreTranslated (inputs : ℕ) (gates : List GateRow) (steps : List Step) (products : List Product) : Type 0 where
-  pub steps_are : equations steps ≡ from_given gate_step inputs gates
-  pub products_are : products ≡ products_up_to inputs gates
+-- rules and factors of these gates
+pub record AreTranslated (inputs : ℕ) (gates : List GateRow) (rules : List Rule) (factors : List Factors) : Type 0 where
+  pub steps_are : equations (map (step_of factors) rules) ≡ from_given gate_step inputs gates
+  pub products_are : numbered 0 factors ≡ products_up_to inputs gates
+  pub within : All (IsRule (length factors)) rules
+
+-- ---- numbered products
+
+pub length-numbered : (number : ℕ) (factors : List Factors) → length (numbered number factors) ≡ length factors
+length-numbered number [] = refl
+length-numbered number (factors ∷ others) = ap suc (length-numbered (number + 1) others)
+
+pub numbered-append : (number : ℕ) (some others : List Factors)
+    → numbered number (some ++ others) ≡ numbered number some ++ numbered (number + length some) others
+numbered-append number [] others = ap (λ k. numbered k others) same
+  where
+    same : number ≡ number + 0
+    same = omega arith
+numbered-append number (factors ∷ some) others =
+    let same : number + 1 + length some ≡ number + suc (length some) = omega arith in
+    ap (λ l. record { a = factors.a; b = factors.b; c = number } ∷ l)
+    (numbered-append (number + 1) some others ∙ ap (λ k. numbered (number + 1) some ++ numbered k others) same)
+
+-- product i of these
+pub numbered_at : (number : ℕ) (factors : List Factors) (i : ℕ) (d : Product) (e : Factors) → i < length factors
+    → get_or (numbered number factors) i d ≡ record { a = (get_or factors i e).a; b = (get_or factors i e).b; c = number + i }
+numbered_at number [] i d e below = elim below [ ]
+numbered_at number (factors ∷ others) zero d e below = λ j. record { a = factors.a; b = factors.b; c = same j }
+  where
+    same : number ≡ number + 0
+    same = omega arith
+numbered_at number (factors ∷ others) (suc i) d e below =
+    numbered_at (number + 1) others i d e (omega (arith, below)) ∙ (λ j. record { a = (get_or others i e).a; b = (get_or others i e).b; c = same j })
+  where
+    same : number + 1 + i ≡ number + suc i
+    same = omega arith
+
+pub product_at : (factors : List Factors) (i : ℕ) (e : Factors) → i < length factors
+    → slice_get (numbered 0 factors) i ≡ Some (record { a = (get_or factors i e).a; b = (get_or factors i e).b; c = i })
+product_at factors i e below =
+    let within : i < length (numbered 0 factors) = omega (arith, below, length-numbered 0 factors) in
+    slice_get-get_or (numbered 0 factors) i (record { a = e.a; b = e.b; c = i }) within
+    ∙ ap (λ (p : Product). Some p) (numbered_at 0 factors i (record { a = e.a; b = e.b; c = i }) e below)
+    ∙ (λ j. Some (record { a = (get_or factors i e).a; b = (get_or factors i e).b; c = same j }))
+  where
+    same : 0 + i ≡ i
+    same = omega arith
+
+-- which has the given value of its number
+pub numbers_are : (factors : List Factors) (i : ℕ) (product : Product) → slice_get (numbered 0 factors) i ≡ Some product → product.c ≡ i
+numbers_are factors i product at =
+    let within : i < length factors = omega (arith, slice_get_within (numbered 0 factors) i product at, length-numbered 0 factors) in
+    ap (λ (p : Product). p.c) (sym (get_or_from_slice_get (numbered 0 factors) i product product at)
+    ∙ numbered_at 0 factors i product (record { a = 0; b = 0 }) within) ∙ same
+  where
+    same : 0 + i ≡ i
+    same = omega arith
+
+-- step k of these rules
+pub step_at : (factors : List Factors) (rules : List Rule) (k : ℕ) (r : Rule) → k < length rules
+    → slice_get (equations (map (step_of factors) rules)) k ≡ Some (step_equation (step_of factors (get_or rules k r)))
+step_at factors rules k r below =
+    let said : k < length (map (step_of factors) rules) = omega (arith, below, length-map rules (step_of factors)) in
+    let within : k < length (equations (map (step_of factors) rules)) = omega (arith, said, length-map (map (step_of factors) rules) step_equation) in
+    slice_get-get_or (equations (map (step_of factors) rules)) k (step_equation (step_of factors r)) within
+    ∙ ap (λ (s : model.Step). Some s) (get_or-map step_equation (map (step_of factors) rules) k (step_of factors r) (step_equation (step_of factors r)) said
+    ∙ ap step_equation (get_or-map (step_of factors) rules k r (step_of factors r) below))
+
+numbered_squares : (start count : ℕ) → numbered start (map squared (range_with_len start count)) ≡ map (bit_check 0) (range_with_len start count)
+numbered_squares start zero = refl
+numbered_squares start (suc count) =
+    λ i. record { a = same i; b = same i; c = start } ∷ numbered_squares (start + 1) count i
+  where
+    same : start ≡ 0 + start
+    same = omega arith
+
+-- ---- counts
 
 one_of : (c : ℕ) (gate : GateRow) → length (gate_products c gate) ≡ products_in gate
 one_of c (And a b out) = refl
@@ -66,57 +148,151 @@ next_given inputs gates products are =
     ap length are ∙ length-append (map (bit_check 0) (range_with_len 0 inputs)) (products_from inputs gates)
     ∙ (λ i. (length-map (range_with_len 0 inputs) (bit_check 0) ∙ length-range_with_len 0 inputs) i + count_from inputs gates i)
 
+-- ---- one gate more
+
+-- a rule says the same where there are more factors
+rule_kept : (factors more : List Factors) (rule : Rule) → IsRule (length factors) rule → step_of (factors ++ more) rule ≡ step_of factors rule
+rule_kept factors more (rule.Bit out value) within = refl
+rule_kept factors more (rule.Copy out a) within = refl
+rule_kept factors more (rule.Not out a) within = refl
+rule_kept factors more (rule.Mul out product) within =
+    let same = get_or_append_left factors more (record { a = 0; b = 0 }) product within in
+    λ i. step.Mul out (same i).a (same i).b product
+rule_kept factors more (rule.XorFrom out product) within =
+    let same = get_or_append_left factors more (record { a = 0; b = 0 }) product within in
+    λ i. step.XorFrom out (same i).a (same i).b product
+
+rules_kept : (factors more : List Factors) (rules : List Rule) → All (IsRule (length factors)) rules
+    → map (step_of (factors ++ more)) rules ≡ map (step_of factors) rules
+rules_kept factors more [] within = refl
+rules_kept factors more (rule ∷ rules) within =
+    λ i. rule_kept factors more rule (All-head (IsRule (length factors)) rule rules within) i
+    ∷ rules_kept factors more rules (All-tail (IsRule (length factors)) rule rules within) i
+
+-- nor does it lose its product
+rule_stays : (few many : ℕ) (rule : Rule) → few ≤ many → IsRule few rule → IsRule many rule
+rule_stays few many (rule.Bit out value) more within = tt
+rule_stays few many (rule.Copy out a) more within = tt
+rule_stays few many (rule.Not out a) more within = tt
+rule_stays few many (rule.Mul out product) more within = omega (arith, more, within)
+rule_stays few many (rule.XorFrom out product) more within = omega (arith, more, within)
+
+-- the last factors
+last_factors : (factors : List Factors) (last : Factors) → factors_of (factors ++ last ∷ []) (length factors) ≡ last
+last_factors factors last =
+    get_or-append_right factors (last ∷ []) (length factors) (length factors) (record { a = 0; b = 0 }) refl (omega arith)
+    ∙ ap (λ k. factors_of (last ∷ []) k) none
+  where
+    none : length factors - length factors ≡ 0
+    none = omega arith
+
+-- the rule of a gate says its step, once its factors stand
+gate_says : (factors : List Factors) (gate : GateRow)
+    → step_equation (step_of (factors ++ gate_factors gate) (gate_rule (length factors) gate)) ≡ gate_step (length factors) gate
+gate_says factors (And a b out) = refl
+gate_says factors (Xor a b out) =
+    let at = last_factors factors (record { a = a; b = b }) in
+    ap (λ (f : Factors). step_equation (step.XorFrom out f.a f.b (length factors))) at
+gate_says factors (Inv a out) = refl
+gate_says factors (Eqw a out) = refl
+gate_says factors (Eq bit out) = refl
+
+gate_within : (factors : List Factors) (gate : GateRow) → IsRule (length (factors ++ gate_factors gate)) (gate_rule (length factors) gate)
+gate_within factors (And a b out) = omega (arith, length-append factors (gate_factors (And a b out)))
+gate_within factors (Xor a b out) = omega (arith, length-append factors (gate_factors (Xor a b out)))
+gate_within factors (Inv a out) = tt
+gate_within factors (Eqw a out) = tt
+gate_within factors (Eq bit out) = tt
+
+-- its product
+product_of : (c : ℕ) (gate : GateRow) → numbered c (gate_factors gate) ≡ gate_products c gate
+product_of c (And a b out) = refl
+product_of c (Xor a b out) = refl
+product_of c (Inv a out) = refl
+product_of c (Eqw a out) = refl
+product_of c (Eq bit out) = refl
+
 -- one gate more
-pub translated_more : (inputs : ℕ) (all rows : List GateRow) (n : ℕ) (other : GateRow) (steps steps_now : List Step) (step : Step) (products products_now : List Product)
+pub translated_more : (inputs : ℕ) (all rows : List GateRow) (n : ℕ) (other : GateRow) (rules rules_now : List Rule) (rule : Rule) (factors factors_now : List Factors)
     → rows ≡ all → n < length rows
-    → steps_now ≡ steps ++ step ∷ [] → step_equation step ≡ gate_step (length products) (get_or rows n other)
-    → products_now ≡ products ++ gate_products (length products) (get_or rows n other)
-    → AreTranslated inputs (take n all) steps products → AreTranslated inputs (take (n + 1) all) steps_now products_now
-translated_more inputs all rows n other steps steps_now step products products_now same below pushed says product far =
+    → rules_now ≡ rules ++ rule ∷ [] → rule ≡ gate_rule (length factors) (get_or rows n other)
+    → factors_now ≡ factors ++ gate_factors (get_or rows n other)
+    → AreTranslated inputs (take n all) rules factors → AreTranslated inputs (take (n + 1) all) rules_now factors_now
+translated_more inputs all rows n other rules rules_now rule factors factors_now same below pushed rule_is factors_are far =
     let gate = get_or rows n other in
     let within : n < length all = omega (arith, ap length same) in
     let at : get_or all n other ≡ gate = ap (λ gates. get_or gates n other) (sym same) in
     let more : take (n + 1) all ≡ take n all ++ gate ∷ [] = take_more all n other within ∙ ap (λ g. take n all ++ g ∷ []) at in
-    let number : length products ≡ inputs + products_of_all (take n all) = next_given inputs (take n all) products far.products_are in
+    let number : length factors ≡ inputs + products_of_all (take n all) =
+    sym (length-numbered 0 factors) ∙ next_given inputs (take n all) (numbered 0 factors) far.products_are in
     let checks = map (bit_check 0) (range_with_len 0 inputs) in
-    let behind : products_from inputs (take n all ++ gate ∷ []) ≡ products_from inputs (take n all) ++ gate_products (length products) gate =
+    let behind : products_from inputs (take n all ++ gate ∷ []) ≡ products_from inputs (take n all) ++ gate_products (length factors) gate =
     ap (λ lists. flat_map (λ products. products) lists) (from_given-more gate_products inputs (take n all) gate)
     ∙ flat_map-append (λ products. products) (from_given gate_products inputs (take n all)) (gate_products (inputs + products_of_all (take n all)) gate ∷ [])
     ∙ ap (λ l. products_from inputs (take n all) ++ l) (append-nil (gate_products (inputs + products_of_all (take n all)) gate))
     ∙ ap (λ k. products_from inputs (take n all) ++ gate_products k gate) (sym number) in
+    let said : step_equation (step_of factors_now rule) ≡ gate_step (inputs + products_of_all (take n all)) gate =
+    (λ i. step_equation (step_of (factors_are i) (rule_is i))) ∙ gate_says factors gate ∙ ap (λ k. gate_step k gate) number in
+    let kept : equations (map (step_of factors_now) rules) ≡ equations (map (step_of factors) rules) =
+    ap (λ f. equations (map (step_of f) rules)) factors_are
+    ∙ ap equations (rules_kept factors (gate_factors gate) rules far.within) in
+    let first : 0 + length factors ≡ length factors = omega arith in
+    let longer : length factors ≤ length factors_now = omega (arith, ap length factors_are, length-append factors (gate_factors gate)) in
     record {
-      steps_are = ap (map step_equation) pushed ∙ map-append step_equation steps (step ∷ [])
-          ∙ (λ i. far.steps_are i ++ (says ∙ ap (λ k. gate_step k gate) number) i ∷ [])
+      steps_are = ap (λ l. equations (map (step_of factors_now) l)) pushed
+          ∙ ap equations (map-append (step_of factors_now) rules (rule ∷ []))
+          ∙ map-append step_equation (map (step_of factors_now) rules) (step_of factors_now rule ∷ [])
+          ∙ (λ i. (kept ∙ far.steps_are) i ++ said i ∷ [])
           ∙ sym (from_given-more gate_step inputs (take n all) gate) ∙ ap (from_given gate_step inputs) (sym more);
-      products_are = product ∙ ap (λ l. l ++ gate_products (length products) gate) far.products_are
-          ∙ append_assoc checks (products_from inputs (take n all)) (gate_products (length products) gate)
+      products_are = ap (numbered 0) factors_are ∙ numbered-append 0 factors (gate_factors gate)
+          ∙ ap (λ k. numbered 0 factors ++ numbered k (gate_factors gate)) first
+          ∙ (λ i. far.products_are i ++ product_of (length factors) gate i)
+          ∙ append_assoc checks (products_from inputs (take n all)) (gate_products (length factors) gate)
           ∙ ap (λ l. checks ++ l) (sym behind) ∙ ap (λ gates. checks ++ products_from inputs gates) (sym more);
+      within = All-same (IsRule (length factors_now)) rules_now (rules ++ rule ∷ []) pushed
+          (All-push (IsRule (length factors_now)) rules rule
+          (All-weaker (IsRule (length factors)) (IsRule (length factors_now)) (λ r. rule_stays (length factors) (length factors_now) r longer) rules far.within)
+          (subst (IsRule (length factors_now)) (sym rule_is)
+          (subst (λ f. IsRule (length f) (gate_rule (length factors) gate)) (sym factors_are) (gate_within factors gate))));
     }
 
+take_none : (gates : List GateRow) → take 0 gates ≡ []
+take_none [] = refl
+take_none (gate ∷ gates) = refl
+
+-- no gate yet
+pub none_translated : (inputs : ℕ) (all : List GateRow) (rules : List Rule) (factors : List Factors) → rules ≡ [] → factors ≡ map squared (range_with_len 0 inputs)
+    → AreTranslated inputs (take 0 all) rules factors
+none_translated inputs all rules factors none are = record {
+  steps_are = ap (λ l. equations (map (step_of factors) l)) none ∙ ap (from_given gate_step inputs) (sym (take_none all));
+  products_are = ap (numbered 0) are ∙ numbered_squares 0 inputs ∙ sym (append-nil (map (bit_check 0) (range_with_len 0 inputs)))
+      ∙ ap (products_up_to inputs) (sym (take_none all));
+  within = All-same (IsRule (length factors)) rules [] none (All-nil (IsRule (length factors)));
+}
+
 -- there are few products
-pub few_translated : (circuit : Circuit) (inputs n : ℕ) (products : List Product) → IsCircuit circuit → inputs ≡ circuit.inputs
-    → products ≡ products_up_to inputs (take n circuit.gates) → length products ≤ 2 ^ 21
-few_translated circuit inputs n products rules same are =
-    omega (arith, next_given inputs (take n circuit.gates) products are, few_products (take n circuit.gates), length-take n circuit.gates, rules.well_formed.inputs_within, rules.wires, rules.gates, same)
+pub few_translated : (circuit : Circuit) (inputs n : ℕ) (factors : List Factors) → IsCircuit circuit → inputs ≡ circuit.inputs
+    → numbered 0 factors ≡ products_up_to inputs (take n circuit.gates) → length factors ≤ 2 ^ 21
+few_translated circuit inputs n factors rules same are =
+    omega (arith, next_given inputs (take n circuit.gates) (numbered 0 factors) are, length-numbered 0 factors, few_products (take n circuit.gates), length-take n circuit.gates, rules.well_formed.inputs_within, rules.wires, rules.gates, same)
 
 -- ---- all gates
 
-pub is_translated : (circuit : Circuit) (wires inputs givens : ℕ) (steps : List Step) (products : List Product) (opened : List ℕ)
-    → wires ≡ circuit.wires → inputs ≡ circuit.inputs → givens ≡ length products
+pub is_translated : (circuit : Circuit) (wires inputs givens : ℕ) (rules : List Rule) (factors : List Factors) (opened : List ℕ)
+    → wires ≡ circuit.wires → inputs ≡ circuit.inputs → givens ≡ length factors
     → opened ≡ map (λ o. circuit.wires - circuit.outputs + o) (range_with_len 0 circuit.outputs)
-    → AreTranslated inputs (take (length circuit.gates) circuit.gates) steps products
-    → record { wires = wires; public = 0; inputs = inputs; steps = equations steps; givens = givens; products = products; opened = opened }
-    ≡ circuit_program 0 circuit
-is_translated circuit wires inputs givens steps products opened w i g o far =
+    → AreTranslated inputs (take (length circuit.gates) circuit.gates) rules factors
+    → program_of wires 0 inputs givens rules factors opened ≡ circuit_program 0 circuit
+is_translated circuit wires inputs givens rules factors opened w i g o far =
     let all : take (length circuit.gates) circuit.gates ≡ circuit.gates = take-length circuit.gates in
     let private : inputs ≡ private_inputs 0 circuit = omega (arith, i) in
-    let steps_are : equations steps ≡ (circuit_program 0 circuit).steps =
+    let steps_are : equations (map (step_of factors) rules) ≡ (circuit_program 0 circuit).steps =
     far.steps_are ∙ ap (from_given gate_step inputs) all ∙ ap (λ k. from_given gate_step k circuit.gates) private ∙ sym (by_gate_is gate_step 0 circuit) in
-    let products_are : products ≡ circuit_products 0 circuit =
+    let products_are : numbered 0 factors ≡ circuit_products 0 circuit =
     far.products_are ∙ ap (products_up_to inputs) all ∙ ap (λ k. products_up_to k circuit.gates) private
     ∙ ap (λ (lists : List (List Product)). map (bit_check 0) (range_with_len 0 (private_inputs 0 circuit)) ++ flat_map (λ products. products) lists) (sym (by_gate_is gate_products 0 circuit)) in
     let givens_are : givens ≡ private_inputs 0 circuit + sum_by products_in circuit.gates =
-    g ∙ next_given inputs (take (length circuit.gates) circuit.gates) products far.products_are
+    g ∙ sym (length-numbered 0 factors) ∙ next_given inputs (take (length circuit.gates) circuit.gates) (numbered 0 factors) far.products_are
     ∙ (λ j. private j + products_of_all (all j)) in
     λ j. record {
       wires = w j;
@@ -128,12 +304,15 @@ is_translated circuit wires inputs givens steps products opened w i g o far =
       opened = o j;
     }
 
-pub is_held : (circuit : Circuit) (program : Program) → CircuitIsProgram → GatesAreFew → IsCircuit circuit → program ≡ circuit_program 0 circuit → IsHeld program
-is_held circuit program law few rules same = subst IsHeld (sym same) (record {
+pub is_held : (circuit : Circuit) (program : Program) → CircuitIsProgram → GatesAreFew → IsCircuit circuit → program ≡ circuit_program 0 circuit
+    → ((i : ℕ) (product : Product) → slice_get program.products i ≡ Some product → product.c ≡ i) → IsHeld program
+is_held circuit program law few rules same numbers = subst IsHeld (sym same) (record {
   formed = law 0 circuit rules.well_formed (omega arith);
   wires = rules.wires;
   givens = omega (arith, few_products circuit.gates, few circuit rules.well_formed, rules.wires);
   products = omega (arith, count, few_products circuit.gates, few circuit rules.well_formed, rules.wires);
+  counted = count;
+  numbered = λ i product at. numbers i product (ap (λ (p : Program). slice_get p.products i) same ∙ at);
   opened = omega (
     arith,
     length-map (range_with_len 0 circuit.outputs) (λ o. circuit.wires - circuit.outputs + o),

@@ -1,2 +1,4 @@
+pub mod Gates
 pub mod Programs
+pub mod Rules
 pub mod Steps

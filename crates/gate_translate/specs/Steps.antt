@@ -2,8 +2,8 @@
 use Rattle.std.specs.Prelude.{List, [], ◌∷◌, map}
 use Rattle.zk_model.specs.Boolean.{once, less_once, less_twice}
 use Rattle.zk_model.specs.Program as model
-use Rattle.gate_translate.specs.declared.program.Step.{Step}
-use Rattle.gate_translate.specs.declared.program.Step.TheVariants.{Const, Copy, Not, Mul, XorFrom}
+use Rattle.gate_translate.specs.declared.step.Step.{Step}
+use Rattle.gate_translate.specs.declared.step.Step.TheVariants.{Const, Copy, Not, Mul, XorFrom}
 
 -- the linear equation of a step: the constant; a; 1 - a; the given value; a + b less twice the given value
 abbrev pub step_equation : Step → model.Step

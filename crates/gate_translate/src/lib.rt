@@ -3,8 +3,11 @@
 #![tactic(auto)]
 
 mod program;
+mod rule;
+mod step;
 mod translation;
 
-pub use program::{FieldProgram, Step};
+pub use program::FieldProgram;
+pub use step::Step;
 pub use translation::translate;
 pub use zk_model::Product;

@@ -1,73 +1,26 @@
 // Programs over the field.
-ghost use Rattle.std.specs.Prelude.{◌≡◌, ◌≤◌, length};
+ghost use Rattle.std.specs.Prelude.{◌≡◌, ◌≤◌, ◌<◌, length, slice_get, All, Some};
 ghost use Rattle.zk_model.specs.Program.{section_count, correlations_needed};
 ghost use Rattle.gate_translate.specs.Programs.{IsHeld, program_of};
-ghost use Rattle.gate_translate.specs.Steps.{equations, step_equation};
+ghost use Rattle.gate_translate.specs.Rules.{IsRule};
+ghost use Rattle.gate_translate.specs.Steps.{step_equation};
 
-use mersenne_field::Fe;
+use crate::rule::{Factors, Rule, step_of};
+use crate::step::Step;
 use std::marker::Model;
 use zk_model::Product;
 
-/// How the number of a wire comes from those of earlier wires and of the given values. `product` is the number of the
-/// given value, and of the correlation that authenticates it; of the wires `a` and `b` it is the product.
-#[derive(Clone, Copy, Debug, PartialEq, Eq)]
-pub enum Step {
-    /// The constant.
-    Const {
-        out: u32,
-        value: Fe,
-    },
-    /// The number of `a`.
-    Copy {
-        out: u32,
-        a: u32,
-    },
-    /// 1 less that of `a`.
-    Not {
-        out: u32,
-        a: u32,
-    },
-    /// The given value.
-    Mul {
-        out: u32,
-        a: u32,
-        b: u32,
-        product: u32,
-    },
-    /// The sum of those of `a` and `b`, less twice the given value.
-    XorFrom {
-        out: u32,
-        a: u32,
-        b: u32,
-        product: u32,
-    },
-}
-
-impl Step {
-    /// The wire that it sets.
-    pub fn out(self) -> u32
-        ensures { result ≡ (step_equation self).out }
-    {
-        match self {
-            Step::Const { out, .. }
-            | Step::Copy { out, .. }
-            | Step::Not { out, .. }
-            | Step::Mul { out, .. }
-            | Step::XorFrom { out, .. } => out,
-        }
-    }
-}
-
 /// A program over the field: linear equations of wires, and products to be checked (Yang, Sarkar, Weng and Wang,
-/// QuickSilver, ACM CCS 2021). It is well formed: wires are set before they are read, and once.
+/// QuickSilver, ACM CCS 2021). It is well formed: wires are set before they are read, and once. It takes 12 bytes for each
+/// step, and 8 for each product, which has the given value of its own number.
 #[derive(Debug, Drop)]
 pub struct FieldProgram {
     wires: u32,
     public: u32,
     inputs: u32,
     givens: u32,
-    steps: Vec<Step>,
-    products: Vec<Product>,
+    rules: Vec<Rule>,
+    factors: Vec<Factors>,
     opened: Vec<u32>,
 }
 
@@ -76,30 +29,51 @@ impl Model for FieldProgram {
 
     ghost Value = { model.Program };
 
+    ghost use Rattle.std.specs.Prelude.{length, All};
     ghost use Rattle.gate_translate.specs.Programs.{IsHeld, program_of};
+    ghost use Rattle.gate_translate.specs.Rules.{IsRule};
 
     ghost view = { λ p. program_of p.wires p.public p.inputs p.givens
-        p.steps.items p.products.items p.opened.items };
+        p.rules.items p.factors.items p.opened.items };
 
     ghost invariant = { λ p. IsHeld (program_of p.wires p.public p.inputs p.givens
-        p.steps.items p.products.items p.opened.items) };
+        p.rules.items p.factors.items p.opened.items) × All (IsRule (length p.factors.items)) p.rules.items };
 }
 
 impl FieldProgram {
-    /// The steps, in the order in which they set wires.
-    pub fn steps(&self) -> &[Step]
-        ensures steps { equations result.now ≡ self.now.steps }
+    /// How many steps there are.
+    pub fn steps(&self) -> usize
+        ensures count { result ≡ length self.now.steps }
         ensures held { IsHeld self.now }
     {
-        &self.steps
+        self.rules.len()
     }
 
-    /// The products to be checked, in order.
-    pub fn products(&self) -> &[Product]
-        ensures products { result.now ≡ self.now.products }
+    /// Step k, in the order in which they set wires.
+    pub fn step(&self, k: usize) -> Step
+        requires { k < length self.now.steps }
+        ensures step { slice_get self.now.steps k ≡ Some (step_equation result) }
         ensures held { IsHeld self.now }
     {
-        &self.products
+        step_of(self.rules[k], &self.factors)
+    }
+
+    /// How many products are to be checked.
+    pub fn products(&self) -> usize
+        ensures count { result ≡ length self.now.products }
+        ensures held { IsHeld self.now }
+    {
+        self.factors.len()
+    }
+
+    /// Product i, in order.
+    pub fn product(&self, i: usize) -> Product
+        requires { i < length self.now.products }
+        ensures product { slice_get self.now.products i ≡ Some result }
+        ensures held { IsHeld self.now }
+    {
+        let Factors { a, b } = self.factors[i];
+        Product { a, b, c: i as u32 }
     }
 
     /// The wires that are opened, in order.
@@ -147,7 +121,7 @@ impl FieldProgram {
         requires { 1 ≤ g }
         ensures { result ≡ section_count self.now g }
     {
-        (self.products.len() as u64).div_ceil(g)
+        (self.products() as u64).div_ceil(g)
     }
 
     /// The correlations of a session with sections of this many products: one for each given value, and one mask for
@@ -165,20 +139,21 @@ impl FieldProgram {
         public: u32,
         inputs: u32,
         givens: u32,
-        steps: Vec<Step>,
-        products: Vec<Product>,
+        rules: Vec<Rule>,
+        factors: Vec<Factors>,
         opened: Vec<u32>,
     ) -> Self
-        requires { IsHeld (program_of wires public inputs givens steps.items products.items opened.items) }
-        ensures { result ≡ program_of wires public inputs givens steps.items products.items opened.items }
+        requires held { IsHeld (program_of wires public inputs givens rules.items factors.items opened.items) }
+        requires rules { All (IsRule (length factors.items)) rules.items }
+        ensures { result ≡ program_of wires public inputs givens rules.items factors.items opened.items }
     {
         FieldProgram {
             wires,
             public,
             inputs,
             givens,
-            steps,
-            products,
+            rules,
+            factors,
             opened,
         }
     }

@@ -1,70 +1,51 @@
 // From a circuit to its program.
-ghost use Rattle.std.specs.Prelude.{◌≡◌, ◌≤◌, ◌^◌, ◌+◌, ◌-◌, ◌++◌, length, map, IfOk, OnOk};
+ghost use Rattle.std.specs.Prelude.{◌≡◌, ◌≤◌, ◌+◌, ◌-◌, ◌++◌, map, IfOk, OnOk};
 ghost use Rattle.std.specs.List.{range_with_len};
-ghost use Rattle.zk_model.specs.Boolean.{gate_step, gate_products, bit_check, circuit_program};
-ghost use Rattle.gate_translate.specs.Steps.{step_equation};
+ghost use Rattle.zk_model.specs.Boolean.{circuit_program};
+ghost use Rattle.gate_translate.specs.Gates.{gate_rule, gate_factors, squared};
 
-use crate::program::{FieldProgram, Step};
+use crate::program::FieldProgram;
+use crate::rule::{Factors, Rule};
 use bristol_reader::{Circuit, GateRow};
-use mersenne_field::Fe;
 use std::alloc::{AllocError, Global};
 use zk_laws::{circuit_is_program, gates_are_few};
-use zk_model::Product;
 
-/// The step of a gate whose product, if it has one, is the given value of this number.
-fn gate_step(gate: GateRow, number: u32) -> Step
-    ensures { step_equation result ≡ gate_step number gate }
+/// The rule of a gate whose product, if it has one, is the given value of this number.
+fn gate_rule(gate: GateRow, number: u32) -> Rule
+    ensures { result ≡ gate_rule number gate }
 {
     match gate {
-        GateRow::And { a, b, out } => Step::Mul {
+        GateRow::And { out, .. } => Rule::Mul {
             out,
-            a,
-            b,
             product: number,
         },
-        GateRow::Xor { a, b, out } => Step::XorFrom {
+        GateRow::Xor { out, .. } => Rule::XorFrom {
             out,
-            a,
-            b,
             product: number,
         },
-        GateRow::Inv { a, out } => Step::Not { out, a },
-        GateRow::Eqw { a, out } => Step::Copy { out, a },
-        GateRow::Eq { value, out } => Step::Const {
-            out,
-            value: Fe::from_bit(value),
-        },
+        GateRow::Inv { a, out } => Rule::Not { out, a },
+        GateRow::Eqw { a, out } => Rule::Copy { out, a },
+        GateRow::Eq { value, out } => Rule::Bit { out, value },
     }
 }
 
-/// Appends the product of a gate, if it has one.
-fn push_product(products: &mut Vec<Product>, gate: GateRow) -> Result<(), AllocError>
-    requires { length products.old.items ≤ 2 ^ 22 }
-    ensures { OnOk result (products.new.items
-        ≡ products.old.items ++ gate_products (length products.old.items) gate) }
+/// Appends the factors of a gate's product, if it has one.
+fn push_factors(factors: &mut Vec<Factors>, gate: GateRow) -> Result<(), AllocError>
+    ensures { OnOk result (factors.new.items ≡ factors.old.items ++ gate_factors gate) }
 {
-    let number = products.len() as u32;
     match gate {
-        GateRow::And { a, b, .. } | GateRow::Xor { a, b, .. } => products.push(Product {
-            a,
-            b,
-            c: number,
-        })?,
+        GateRow::And { a, b, .. } | GateRow::Xor { a, b, .. } => factors.push(Factors { a, b })?,
         GateRow::Inv { .. } | GateRow::Eqw { .. } | GateRow::Eq { .. } => {}
     }
     Ok(())
 }
 
-/// One bit check for each input wire.
-fn bit_checks(alloc: Global, inputs: u32) -> Result<Vec<Product>, AllocError>
-    ensures { IfOk result (λ v. v.items ≡ map (bit_check 0) (range_with_len 0 inputs)) }
+/// The factors of a bit check for each input wire.
+fn bit_checks(alloc: Global, inputs: u32) -> Result<Vec<Factors>, AllocError>
+    ensures { IfOk result (λ v. v.items ≡ map squared (range_with_len 0 inputs)) }
 {
     (0..inputs)
-        .map(|wire| Product {
-            a: wire,
-            b: wire,
-            c: wire,
-        })
+        .map(|wire| Factors { a: wire, b: wire })
         .collect(alloc)
 }
 
@@ -92,13 +73,13 @@ pub fn translate(alloc: Global, circuit: &Circuit) -> Result<FieldProgram, Alloc
     gates_are_few();
     let wires = circuit.wires() as u32;
     let inputs = circuit.inputs() as u32;
-    let mut products = bit_checks(alloc, inputs)?;
-    let mut steps = Vec::with_capacity(alloc, circuit.gates())?;
+    let mut factors = bit_checks(alloc, inputs)?;
+    let mut rules = Vec::with_capacity(alloc, circuit.gates())?;
     for gate in circuit.rows() {
-        steps.push(gate_step(*gate, products.len() as u32))?;
-        push_product(&mut products, *gate)?;
+        rules.push(gate_rule(*gate, factors.len() as u32))?;
+        push_factors(&mut factors, *gate)?;
     }
-    let givens = products.len() as u32;
+    let givens = factors.len() as u32;
     let opened = last_wires(alloc, wires, circuit.outputs() as u32)?;
-    Ok(FieldProgram::from_parts(wires, 0, inputs, givens, steps, products, opened))
+    Ok(FieldProgram::from_parts(wires, 0, inputs, givens, rules, factors, opened))
 }

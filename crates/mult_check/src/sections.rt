@@ -82,7 +82,7 @@ fn sums_of_section(
     requires there { s < section_count wires.now.program g }
     ensures { result ≡ honest_sums challenge (section_triples wires.now.program g wires.now.pairs s) mask }
 {
-    let products = wires.program().products().len();
+    let products = wires.program().products();
     let (first, end) = section_bounds(products, g, s);
     sums_between(wires, first, end, challenge, mask)
 }
@@ -100,7 +100,7 @@ fn left_of_section(
     requires there { s < section_count wires.now.program g }
     ensures { result ≡ section_left key challenge (section_keys wires.now.program g wires.now.keys s) mask }
 {
-    let products = wires.program().products().len();
+    let products = wires.program().products();
     let (first, end) = section_bounds(products, g, s);
     left_between(wires, first, end, challenge, mask, key)
 }

@@ -1,8 +1,14 @@
 -- How many corrections, pairs and keys there are.
-use Rattle.std.proofs.Common.{◌≡◌, ℕ, ◌≤◌, List, length, zip, arith, ◌∙◌}
-use Rattle.std.proofs.lemmas.List.{length-map}
+use Rattle.std.proofs.Common.{◌≡◌, ℕ, zero, suc, ◌<◌, ◌≤◌, ◌+◌, ◌&&◌, Bool, List, [], ◌∷◌, ◌++◌, length, take, get_or, zip, arith, ap, refl, sym, ◌∙◌}
+use Rattle.std.specs.Prelude.{Some, slice_get}
+use Rattle.std.proofs.lemmas.Option.{slice_get_within, get_or_from_slice_get}
+use Rattle.std.proofs.lemmas.List.{length-map, take_more, get_or-map}
 use Rattle.std.proofs.lemmas.Slice.Zip.{length-zip}
-use Rattle.zk_model.specs.Mac.{Pair, corrected_pair, corrected_key, corrected_pairs, corrected_keys}
+use Rattle.zk_model.specs.Bits.{from_bit}
+use Rattle.zk_model.specs.Boolean.{bits_of_products}
+use Rattle.zk_model.specs.Circuit.{bit_of}
+use Rattle.zk_model.specs.declared.Product.{Product}
+use Rattle.zk_model.specs.Mac.{Pair, corrected_key, corrected_keys}
 use Rattle.zk_model.specs.Field.{◌-ₚ◌}
 use Rattle.zk_model.specs.HonestProver.{honest_corrections}
 
@@ -11,12 +17,64 @@ length-honest_corrections given pairs enough =
     let zipped = length-zip given pairs in
     length-map (zip given pairs) (λ q. q.0 -ₚ q.1.x) ∙ omega (arith, zipped)
 
-pub length-corrected_pairs : (pairs : List Pair) (corrections : List ℕ) → length corrections ≤ length pairs → length (corrected_pairs pairs corrections) ≡ length corrections
-length-corrected_pairs pairs corrections enough =
-    let zipped = length-zip pairs corrections in
-    length-map (zip pairs corrections) (λ q. corrected_pair q.0 q.1) ∙ omega (arith, zipped)
+correction_at : (values : List ℕ) (dealt : List Pair) (i : ℕ) (pair : Pair) → i < length values → i < length dealt
+    → get_or (honest_corrections values dealt) i 0 ≡ get_or values i 0 -ₚ (get_or dealt i pair).x
+correction_at [] dealt i pair below within = elim below [ ]
+correction_at (x ∷ values) [] i pair below within = elim within [ ]
+correction_at (x ∷ values) (p ∷ dealt) zero pair below within = refl
+correction_at (x ∷ values) (p ∷ dealt) (suc i) pair below within =
+    correction_at values dealt i pair (omega (arith, below)) (omega (arith, within))
+
+pub next_correction : (values : List ℕ) (dealt : List Pair) (i value : ℕ) (pair : Pair) → i < length values → length values ≤ length dealt
+    → value ≡ get_or values i 0 → pair ≡ get_or dealt i pair
+    → take (i + 1) (honest_corrections values dealt) ≡ take i (honest_corrections values dealt) ++ (value -ₚ pair.x) ∷ []
+next_correction values dealt i value pair below enough at pair_at =
+    let within : i < length (honest_corrections values dealt) = omega (arith, below, length-honest_corrections values dealt enough) in
+    take_more (honest_corrections values dealt) i 0 within
+    ∙ ap (λ n. take i (honest_corrections values dealt) ++ n ∷ [])
+    (correction_at values dealt i pair below (omega (arith, below, enough)) ∙ (λ j. at_is j -ₚ (pair_is j).x))
+  where
+    at_is : get_or values i 0 ≡ value
+    at_is = sym at
+
+    pair_is : get_or dealt i pair ≡ pair
+    pair_is = sym pair_at
+
+-- the product of a product's bits is that of its number
+pub product_value : (products : List Product) (bits : List Bool) (i : ℕ) (product : Product) → slice_get products i ≡ Some product
+    → from_bit (bit_of bits product.a && bit_of bits product.b) ≡ get_or (bits_of_products products bits) i 0
+product_value products bits i product at =
+    let below = slice_get_within products i product at in
+    ap (λ (p : Product). from_bit (bit_of bits p.a && bit_of bits p.b)) (sym (get_or_from_slice_get products i product product at))
+    ∙ sym (get_or-map (λ (p : Product). from_bit (bit_of bits p.a && bit_of bits p.b)) products i product 0 below)
+
+pub length-bits_of_products : (products : List Product) (bits : List Bool) → length (bits_of_products products bits) ≡ length products
+length-bits_of_products products bits = length-map products (λ (p : Product). from_bit (bit_of bits p.a && bit_of bits p.b))
 
 pub length-corrected_keys : (key : ℕ) (keys corrections : List ℕ) → length corrections ≤ length keys → length (corrected_keys key keys corrections) ≡ length corrections
 length-corrected_keys key keys corrections enough =
     let zipped = length-zip keys corrections in
     length-map (zip keys corrections) (λ q. corrected_key key q.0 q.1) ∙ omega (arith, zipped)
+
+-- the key of a given value
+pub corrected_at : (key : ℕ) (keys corrections : List ℕ) (i : ℕ) → i < length keys → i < length corrections
+    → get_or (corrected_keys key keys corrections) i 0 ≡ corrected_key key (get_or keys i 0) (get_or corrections i 0)
+corrected_at key [] corrections i below within = elim below [ ]
+corrected_at key (k ∷ keys) [] i below within = elim within [ ]
+corrected_at key (k ∷ keys) (d ∷ corrections) zero below within = refl
+corrected_at key (k ∷ keys) (d ∷ corrections) (suc i) below within =
+    corrected_at key keys corrections i (omega (arith, below)) (omega (arith, within))
+
+-- those of the first given values
+pub take-corrected_keys : (key : ℕ) (keys corrections : List ℕ) (n : ℕ)
+    → take n (corrected_keys key keys corrections) ≡ corrected_keys key (take n keys) (take n corrections)
+take-corrected_keys key keys corrections zero = none keys corrections
+  where
+    none : (keys corrections : List ℕ) → take zero (corrected_keys key keys corrections) ≡ corrected_keys key (take zero keys) (take zero corrections)
+    none [] corrections = refl
+    none (k ∷ keys) [] = refl
+    none (k ∷ keys) (d ∷ corrections) = refl
+take-corrected_keys key [] corrections (suc n) = refl
+take-corrected_keys key (k ∷ keys) [] (suc n) = refl
+take-corrected_keys key (k ∷ keys) (d ∷ corrections) (suc n) =
+    ap (λ l. corrected_key key k d ∷ l) (take-corrected_keys key keys corrections n)

@@ -1,3 +1,3 @@
 pub mod Lengths
+pub mod Joined
 pub mod Setting
-pub mod Steps

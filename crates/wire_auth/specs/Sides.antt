@@ -1,15 +1,18 @@
 -- What either end holds of a program's wires.
-use Rattle.std.specs.Prelude.{◌≡◌, ◌<◌, ℕ, List, length, map, take, drop}
+use Rattle.std.specs.Prelude.{◌≡◌, ◌<◌, ℕ, Bool, List, length, map, zip, take, drop, slice_index}
+use Rattle.zk_model.specs.Bits.{from_bit}
+use Rattle.zk_model.specs.Boolean.{bits_of_products}
 use Rattle.zk_model.specs.Field.{◌*ₚ◌}
-use Rattle.zk_model.specs.Mac.{Pair, values_of, macs_of}
+use Rattle.zk_model.specs.Mac.{Pair, macs_of}
 use Rattle.zk_model.specs.Program.{Program}
 use Rattle.zk_model.specs.Check.{WirePairs, WireKeys}
-use Rattle.gate_translate.specs.declared.program.Step.{Step}
-use Rattle.gate_translate.specs.declared.program.Step.TheVariants.{Const, Copy, Not, Mul, XorFrom}
+use Rattle.gate_translate.specs.declared.step.Step.{Step}
+use Rattle.gate_translate.specs.declared.step.Step.TheVariants.{Const, Copy, Not, Mul, XorFrom}
 
--- a program with pairs of its given values and of all its wires
+-- a program with the pairs that were dealt, and those of its given values and of all its wires
 pub record ProverSide : Type 0 where
   pub program : Program
+  pub dealt : List Pair
   pub pairs : WirePairs
 
 -- a program with keys of its given values and of all its wires
@@ -17,25 +20,44 @@ pub record VerifierSide : Type 0 where
   pub program : Program
   pub keys : WireKeys
 
--- what a step reads and sets is there
-abbrev pub IsWithin : ℕ → ℕ → Step → Type 0
-IsWithin wires given (Const out value) = out < wires
-IsWithin wires given (Copy out a) = (out < wires) × (a < wires)
-IsWithin wires given (Not out a) = (out < wires) × (a < wires)
-IsWithin wires given (Mul out a b product) = (out < wires) × (product < given)
-IsWithin wires given (XorFrom out a b product) = (out < wires) × (a < wires) × (b < wires) × (product < given)
+-- values and MACs, one by one
+abbrev pub joined : List ℕ → List ℕ → List Pair
+joined values macs = map (λ q. record { x = q.0; m = q.1 }) (zip values macs)
 
--- the pair of a public value, whose MAC is 0: the value times the constant 1 that a step has for values and for MACs
-abbrev pub public_pair : ℕ → Pair
-public_pair value = record { x = value *ₚ 1; m = value *ₚ 0 }
+-- the pairs of a program's given values and of its wires, where these are the bits of all wires, the pairs that were dealt
+-- and the MACs of all wires: a given value has the MAC of the dealt pair
+abbrev pub pairs_from : Program → List Bool → List Pair → List ℕ → WirePairs
+pairs_from program bits dealt macs = record {
+  given = joined (bits_of_products program.products bits) (macs_of dealt);
+  wires = joined (map from_bit bits) macs;
+}
+
+-- the wires that a step reads and sets are there
+abbrev pub ReadsWithin : ℕ → Step → Type 0
+ReadsWithin wires (Const out value) = out < wires
+ReadsWithin wires (Copy out a) = (out < wires) × (a < wires)
+ReadsWithin wires (Not out a) = (out < wires) × (a < wires)
+ReadsWithin wires (Mul out a b product) = out < wires
+ReadsWithin wires (XorFrom out a b product) = (out < wires) × (a < wires) × (b < wires)
+
+-- so is the given value that it takes
+abbrev pub TakesWithin : ℕ → Step → Type 0
+TakesWithin given (Const out value) = Unit {0}
+TakesWithin given (Copy out a) = Unit {0}
+TakesWithin given (Not out a) = Unit {0}
+TakesWithin given (Mul out a b product) = product < given
+TakesWithin given (XorFrom out a b product) = product < given
+
+-- this is the number of the given value that a step takes
+abbrev pub IsTaken : List ℕ → Step → ℕ → Type 0
+IsTaken given (Const out value) taken = Unit {0}
+IsTaken given (Copy out a) taken = Unit {0}
+IsTaken given (Not out a) taken = Unit {0}
+IsTaken given (Mul out a b product) taken = taken ≡ slice_index given product
+IsTaken given (XorFrom out a b product) taken = taken ≡ slice_index given product
 
 -- one number for each wire: the public values times `one`, and then the first given values
 pub record IsBegun (one : ℕ) (program : Program) (public given wires : List ℕ) : Type 0 where
   pub whole : length wires ≡ program.wires
   pub constants : take program.public wires ≡ map (λ value. value *ₚ one) public
   pub inputs : take program.inputs (drop program.public wires) ≡ take program.inputs given
-
--- the same of the values and of the MACs of pairs
-pub record ArePairsBegun (program : Program) (public : List ℕ) (given wires : List Pair) : Type 0 where
-  pub values : IsBegun 1 program public (values_of given) (values_of wires)
-  pub macs : IsBegun 0 program public (macs_of given) (macs_of wires)

@@ -1,13 +1,13 @@
 // The verifier's side: keys of all wires.
 ghost use Rattle.std.specs.Prelude.{◌≡◌, ◌<◌, ◌≤◌, ◌+◌, ℕ, List, length, map, take, drop, All, IfOk, slice_index, slice_get, Some};
-ghost use Rattle.zk_model.specs.Field.{IsElement, ◌*ₚ◌};
-ghost use Rattle.zk_model.specs.Program.{Carries, MeetsStep, step_value};
+ghost use Rattle.zk_model.specs.Program.{Carries};
 ghost use Rattle.zk_model.specs.Mac.{corrected_keys};
 ghost use Rattle.zk_model.specs.Check.{AreKeysFor, key_triple};
-ghost use Rattle.gate_translate.specs.Steps.{step_equation};
-ghost use Rattle.wire_auth.specs.Sides.{IsWithin, IsBegun};
+ghost use Rattle.wire_auth.specs.Keys.{given_keys};
+ghost use Rattle.wire_auth.specs.Sides.{TakesWithin, IsBegun, IsTaken};
 ghost use Rattle.zk_model.specs.declared.Product as zk;
 
+use crate::carrying::{begun, step_number};
 use crate::triples::KeyTriple;
 use gate_translate::{FieldProgram, Step};
 use mersenne_field::Fe;
@@ -15,108 +15,78 @@ use std::alloc::{AllocError, Global};
 use std::marker::Model;
 
 /// The keys of a program's given values and of all its wires. Under the verifier's one key a value x with the MAC m has the
-/// key `m + x * key` (Weng, Yang, Katz and Wang, Wolverine, IEEE S&P 2021).
+/// key `m + x * key` (Weng, Yang, Katz and Wang, Wolverine, IEEE S&P 2021). A given value has the dealt key, with its
+/// correction times the one key added.
 #[derive(Debug, Drop)]
 pub struct VerifierWires<'a> {
     program: &'a FieldProgram,
-    given: Vec<Fe>,
+    given: Given<'a>,
     wires: Vec<Fe>,
 }
 
+/// The keys of given values: dealt ones, and their corrections under the one key.
+#[derive(Debug, Drop)]
+struct Given<'a> {
+    keys: &'a [Fe],
+    corrections: &'a [Fe],
+    key: Fe,
+}
+
 impl<'a> Model for VerifierWires<'a> {
-    ghost use Rattle.std.specs.Prelude.{◌≡◌, length};
+    ghost use Rattle.std.specs.Prelude.{◌≡◌, ◌≤◌, length};
+    ghost use Rattle.wire_auth.specs.Keys.{given_keys};
     ghost use Rattle.wire_auth.specs.Sides as sides;
 
     ghost Value = { sides.VerifierSide };
 
     ghost view = { λ w. record {
       program = w.program.now;
-      keys = record { given = w.given.items; wires = w.wires.items };
+      keys = record { given = given_keys w.given; wires = w.wires.items };
     } };
 
-    ghost invariant = { λ w. (length w.given.items ≡ w.program.now.givens)
+    ghost invariant = { λ w. (w.program.now.givens ≤ length w.given.keys.now)
+        × (length w.given.corrections.now ≡ w.program.now.givens)
         × (length w.wires.items ≡ w.program.now.wires) };
 }
 
-/// The key, which is an element.
-fn known(key: Fe) -> Fe
-    ensures same { result ≡ key }
-    ensures element { IsElement key }
-{
-    let _key = key.value();
-    key
-}
+impl Given<'_> {
+    /// The key of given value i.
+    fn at(&self, i: u32) -> Fe
+        requires keys { i < length self.now.keys.now }
+        requires corrections { i < length self.now.corrections.now }
+        ensures { result ≡ slice_index (given_keys self.now) i }
+    {
+        self.keys[i as usize] + self.corrections[i as usize] * self.key
+    }
 
-/// The key that a step gives its wire, from those that it reads. That of the constant 1 is `one`.
-fn step_key(step: Step, one: Fe, wires: &[Fe], given: &[Fe]) -> Fe
-    requires { IsWithin (length wires.now) (length given.now) step }
-    ensures { result ≡ step_value one wires.now given.now (step_equation step) }
-{
-    match step {
-        Step::Const { value, .. } => value * one,
-        Step::Copy { a, .. } => known(wires[a as usize]),
-        Step::Not { a, .. } => one - wires[a as usize],
-        Step::Mul { product, .. } => known(given[product as usize]),
-        Step::XorFrom { a, b, product, .. } => {
-            let c = given[product as usize];
-            wires[a as usize] + wires[b as usize] - (c + c)
+    /// The key of the given value that a step takes, and 0 where it takes none.
+    fn taken(&self, step: &Step) -> Fe
+        requires keys { TakesWithin (length self.now.keys.now) step.now }
+        requires corrections { TakesWithin (length self.now.corrections.now) step.now }
+        ensures { IsTaken (given_keys self.now) step.now result }
+    {
+        match *step {
+            Step::Mul { product, .. } | Step::XorFrom { product, .. } => self.at(product),
+            Step::Const { .. } | Step::Copy { .. } | Step::Not { .. } => Fe::ZERO,
         }
     }
 }
 
-/// The keys of public values: each times the one key.
-fn public_keys(alloc: Global, public: &[Fe], key: Fe) -> Result<Vec<Fe>, AllocError>
-    ensures { IfOk result (λ keys. keys.items ≡ map (λ value. value *ₚ key) public.now) }
-{
-    public.iter().map(|value| *value * key).collect(alloc)
-}
-
-/// The keys of the first wires: those of the public values, and then the first given ones; and 0 for the others.
-fn begun_keys(
-    alloc: Global,
-    program: &FieldProgram,
-    public: &[Fe],
-    key: Fe,
-    given: &[Fe],
-) -> Result<Vec<Fe>, AllocError>
-    requires public { length public.now ≡ program.now.public }
-    requires given { length given.now ≡ program.now.givens }
-    ensures { IfOk result (λ wires. IsBegun key program.now public.now given.now wires.items) }
-{
-    let mut wires = public_keys(alloc, public, key)?;
-    wires.extend_from_slice(&given[..program.inputs()])?;
-    wires.resize(program.wires(), Fe::ZERO)?;
-    Ok(wires)
-}
-
 /// The keys of all wires, from those of the first ones: each step gives that of its wire.
-fn follow_keys(program: &FieldProgram, key: Fe, given: &[Fe], begun: Vec<Fe>) -> Vec<Fe>
+fn follow_keys(program: &FieldProgram, given: &Given<'_>, begun: Vec<Fe>) -> Vec<Fe>
     requires begun { length begun.items ≡ program.now.wires }
-    requires given { length given.now ≡ program.now.givens }
-    ensures { (public : List ℕ) → IsBegun key program.now public given.now begun.items
-        → Carries key program.now public given.now result.items }
+    requires keys { program.now.givens ≤ length given.now.keys.now }
+    requires corrections { length given.now.corrections.now ≡ program.now.givens }
+    ensures { (public : List ℕ) → IsBegun given.now.key program.now public (given_keys given.now) begun.items
+        → Carries given.now.key program.now public (given_keys given.now) result.items }
 {
     let mut wires = begun;
-    for step in program.steps() {
-        wires[step.out() as usize] = step_key(*step, key, &wires, given);
+    for k in 0..program.steps() {
+        let step = program.step(k);
+        let number = step_number(&step, given.key, &wires, given.taken(&step));
+        wires[step.out() as usize] = number;
     }
     wires
-}
-
-/// The keys of all wires. A wire that no step sets has 0.
-fn carry_keys(
-    alloc: Global,
-    program: &FieldProgram,
-    public: &[Fe],
-    key: Fe,
-    given: &[Fe],
-) -> Result<Vec<Fe>, AllocError>
-    requires public { length public.now ≡ program.now.public }
-    requires given { length given.now ≡ program.now.givens }
-    ensures { IfOk result (λ wires. Carries key program.now public.now given.now wires.items) }
-{
-    let begun = begun_keys(alloc, program, public, key, given)?;
-    Ok(follow_keys(program, key, given, begun))
 }
 
 /// As many keys as there are corrections, each with its correction times the one key added.
@@ -127,6 +97,29 @@ fn corrected(alloc: Global, keys: &[Fe], corrections: &[Fe], key: Fe) -> Result<
         .zip(corrections)
         .map(|(k, correction)| *k + *correction * key)
         .collect(alloc)
+}
+
+/// The keys of all wires. A wire that no step sets has 0.
+fn carry_keys(
+    alloc: Global,
+    program: &FieldProgram,
+    public: &[Fe],
+    given: &Given<'_>,
+) -> Result<Vec<Fe>, AllocError>
+    requires public { length public.now ≡ program.now.public }
+    requires keys { program.now.givens ≤ length given.now.keys.now }
+    requires corrections { length given.now.corrections.now ≡ program.now.givens }
+    ensures { IfOk result (λ wires. Carries given.now.key program.now public.now (given_keys given.now) wires.items) }
+{
+    let count = program.inputs();
+    let Given {
+        keys,
+        corrections,
+        key,
+    } = given;
+    let inputs = corrected(alloc, &keys[..count], &corrections[..count], *key)?;
+    let begun = begun(alloc, program, public, given.key, &inputs)?;
+    Ok(follow_keys(program, given, begun))
 }
 
 impl<'a> VerifierWires<'a> {
@@ -143,9 +136,9 @@ impl<'a> VerifierWires<'a> {
         alloc: Global,
         program: &'a FieldProgram,
         public: &[Fe],
-        keys: &[Fe],
+        keys: &'a [Fe],
         key: Fe,
-        corrections: &[Fe],
+        corrections: &'a [Fe],
     ) -> Result<VerifierWires<'a>, AllocError>
         requires public { length public.now ≡ program.now.public }
         requires keys { program.now.givens ≤ length keys.now }
@@ -154,8 +147,12 @@ impl<'a> VerifierWires<'a> {
         ensures given { IfOk result (λ w. w.keys.given ≡ corrected_keys key keys.now corrections.now) }
         ensures carried { IfOk result (λ w. AreKeysFor key program.now public.now w.keys) }
     {
-        let given = corrected(alloc, keys, corrections, key)?;
-        let wires = carry_keys(alloc, program, public, key, &given)?;
+        let given = Given {
+            keys,
+            corrections,
+            key,
+        };
+        let wires = carry_keys(alloc, program, public, &given)?;
         Ok(VerifierWires {
             program,
             given,
@@ -176,11 +173,11 @@ impl<'a> VerifierWires<'a> {
         ensures { (product : zk.Product) → slice_get self.now.program.products i ≡ Some product
             → result ≡ key_triple self.now.keys product }
     {
-        let product = self.program.products()[i];
+        let product = self.program.product(i);
         KeyTriple {
             a: self.wires[product.a as usize],
             b: self.wires[product.b as usize],
-            c: self.given[product.c as usize],
+            c: self.given.at(product.c),
         }
     }
 

@@ -1,29 +1,58 @@
-use Rattle.std.proofs.Common.{◌≡◌, ◌≤◌, ◌∙◌, arith, length, ap, sym}
-use Rattle.std.proofs.lemmas.List.{length-map}
-use Rattle.zk_model.specs.Mac.{Pair, corrected_pairs}
-use Rattle.wire_auth.proofs.Lengths.{length-honest_corrections, length-corrected_pairs}
+use Rattle.std.proofs.Common.{◌≡◌, ◌≤◌, ◌∙◌, List, ℕ, arith, length, map, take, ap, sym, subst}
+use Rattle.std.proofs.lemmas.List.{length-map, length-take-le, take-map}
+use Rattle.std.proofs.Math.Seq.{take-length}
+use Rattle.zk_model.specs.Bits.{from_bit}
+use Rattle.zk_model.specs.Boolean.{bits_of_products}
+use Rattle.zk_model.specs.Mac.{Pair, values_of, macs_of}
+use Rattle.zk_model.specs.Program.{Carries}
+use Rattle.wire_auth.specs.Held.{held_in}
+use Rattle.wire_auth.specs.Sides.{joined}
+use Rattle.wire_auth.proofs.Lengths.{length-bits_of_products}
+use Rattle.wire_auth.proofs.Joined.{values_of-joined, macs_of-joined, joined_is_corrected, products_are_elements}
 use Rattle.wire_auth.proofs.pairs.ProverWires.run.Goals as goal
 
-pub carry_pairs-requires-clause-given : goal.carry_pairs-requires-clause-given
-carry_pairs-requires-clause-given c = ap length c.deref-2.ensures.value ∙ ap length c.in_ok-given.ensures ∙ counted
+pub returns-clause-given : goal.returns-clause-given
+returns-clause-given c =
+    joined_is_corrected (bits_of_products c.args.program.now.products c.args.bits.now) (held_in c.args.dealt)
+    (products_are_elements c.args.program.now.products c.args.bits.now)
+
+pub returns-clause-carried : goal.returns-clause-carried
+returns-clause-carried c = record {
+  values = subst (λ (l : List ℕ). Carries 1 c.args.program.now c.args.public.now l (values_of (joined bits c.in_ok-macs.macs.items))) (sym given_values)
+      (subst (Carries 1 c.args.program.now c.args.public.now values) (sym wire_values) c.requires.values);
+  macs = subst (λ (l : List ℕ). Carries 0 c.args.program.now c.args.public.now l (macs_of (joined bits c.in_ok-macs.macs.items))) (sym given_macs)
+      (subst (Carries 0 c.args.program.now c.args.public.now (take c.args.program.now.givens (macs_of (held_in c.args.dealt)))) (sym wire_macs) carried);
+}
   where
-    counted : length (corrected_pairs c.args.pairs.now c.deref.result.now) ≡ c.args.program.now.givens
-    counted =
-        let enough : length c.args.given.now ≤ length c.args.pairs.now = omega (arith, c.requires.given, c.requires.pairs) in
-        let sized : length c.deref.result.now ≡ length c.args.given.now =
-        ap length c.deref.ensures.value ∙ ap length c.in_ok-corrections.ensures ∙ length-honest_corrections c.args.given.now c.args.pairs.now enough in
-        length-corrected_pairs c.args.pairs.now c.deref.result.now (omega (arith, sized, enough)) ∙ sized ∙ c.requires.given
+    bits : List ℕ
+    bits = map from_bit c.args.bits.now
 
-pub invariant_of-side : goal.invariant_of-side
-invariant_of-side c =
-    let enough : length c.args.given.now ≤ length c.args.pairs.now = omega (arith, c.requires.given, c.requires.pairs) in
-    let sized : length c.deref.result.now ≡ length c.args.given.now =
-    ap length c.deref.ensures.value ∙ ap length c.in_ok-corrections.ensures ∙ length-honest_corrections c.args.given.now c.args.pairs.now enough in (
-      ap length c.in_ok-given.ensures ∙ length-corrected_pairs c.args.pairs.now c.deref.result.now (omega (arith, sized, enough)) ∙ sized ∙ c.requires.given,
-      sym (length-map c.in_ok-wires.wires.items (λ (p : Pair). p.x)) ∙ c.in_ok-wires.ensures.values.whole,
-    )
+    values : List ℕ
+    values = bits_of_products c.args.program.now.products c.args.bits.now
 
-pub returns-clause-one_each : goal.returns-clause-one_each
-returns-clause-one_each c =
-    let enough : length c.args.given.now ≤ length c.args.pairs.now = omega (arith, c.requires.given, c.requires.pairs) in
-    ap length c.in_ok-corrections.ensures ∙ length-honest_corrections c.args.given.now c.args.pairs.now enough ∙ c.requires.given
+    sized : length values ≡ c.args.program.now.givens
+    sized = length-bits_of_products c.args.program.now.products c.args.bits.now ∙ c.givens.ensures.held.counted
+
+    carried : Carries 0 c.args.program.now c.args.public.now (take c.args.program.now.givens (macs_of (held_in c.args.dealt))) c.in_ok-macs.macs.items
+    carried = subst (λ (l : List ℕ). Carries 0 c.args.program.now c.args.public.now l c.in_ok-macs.macs.items)
+        (ap (λ (l : List Pair). macs_of (take c.givens.result l)) c.as_slice-2.ensures
+        ∙ ap (λ n. macs_of (take n (held_in c.args.dealt))) c.givens.ensures.count
+        ∙ sym (take-map (λ (p : Pair). p.m) c.args.program.now.givens (held_in c.args.dealt))) c.in_ok-macs.ensures
+
+    enough : length values ≤ length (macs_of (held_in c.args.dealt))
+    enough = omega (arith, sized, c.requires.dealt, length-map (held_in c.args.dealt) (λ (p : Pair). p.m))
+
+    given_values : values_of (joined values (macs_of (held_in c.args.dealt))) ≡ values
+    given_values = values_of-joined values (macs_of (held_in c.args.dealt)) enough
+
+    given_macs : macs_of (joined values (macs_of (held_in c.args.dealt))) ≡ take c.args.program.now.givens (macs_of (held_in c.args.dealt))
+    given_macs = macs_of-joined values (macs_of (held_in c.args.dealt)) ∙ ap (λ n. take n (macs_of (held_in c.args.dealt))) sized
+
+    same : length bits ≡ length c.in_ok-macs.macs.items
+    same = c.requires.values.whole ∙ sym carried.whole
+
+    wire_values : values_of (joined bits c.in_ok-macs.macs.items) ≡ bits
+    wire_values = values_of-joined bits c.in_ok-macs.macs.items (omega (arith, same))
+
+    wire_macs : macs_of (joined bits c.in_ok-macs.macs.items) ≡ c.in_ok-macs.macs.items
+    wire_macs = macs_of-joined bits c.in_ok-macs.macs.items ∙ ap (λ n. take n c.in_ok-macs.macs.items) same ∙ take-length c.in_ok-macs.macs.items

@@ -1,0 +1,20 @@
+use Rattle.std.proofs.Common.{◌≡◌, ◌<◌, ◌∙◌, rules, arith, length, map, ap, sym}
+use Rattle.std.specs.Prelude.{Some, slice_get, slice_index_or}
+use Rattle.std.proofs.lemmas.List.{length-map}
+use Rattle.zk_model.specs.Program.{Program}
+use Rattle.gate_translate.specs.Rules.{step_of}
+use Rattle.gate_translate.specs.Steps.{step_equation}
+use Rattle.gate_translate.specs.declared.rule.Factors.{Factors}
+use Rattle.gate_translate.specs.declared.rule.Rule.{Rule}
+use Rattle.gate_translate.proofs.Translating.{step_at}
+use Rattle.gate_translate.proofs.program.FieldProgram.step.Goals as goal
+
+pub returns-clause-step : goal.returns-clause-step
+returns-clause-step c =
+    let at : c.index.result.now ≡ slice_index_or c.self.inside.rules.items c.args.k c.index.result.now = search (rules, c.index.ensures) in
+    let below : c.args.k < length c.self.inside.rules.items =
+    omega (arith, c.requires, ap (λ (p : Program). length p.steps) c.self.view_is, length-map c.self.inside.rules.items (step_of c.self.inside.factors.items), length-map (map (step_of c.self.inside.factors.items) c.self.inside.rules.items) step_equation) in
+    ap (λ (p : Program). slice_get p.steps c.args.k) (sym c.self.view_is)
+    ∙ step_at c.self.inside.factors.items c.self.inside.rules.items c.args.k c.index.result.now below
+    ∙ sym (λ i. Some (step_equation (step_of (c.deref.ensures.value i) (at i))))
+    ∙ ap (λ s. Some (step_equation s)) (sym c.step_of.ensures)

@@ -1,0 +1,34 @@
+-- Steps and products as a program keeps them.
+use Rattle.std.specs.Prelude.{ℕ, ◌+◌, ◌<◌, List, [], ◌∷◌, map, slice_index_or}
+use Rattle.zk_model.specs.Bits.{from_bit}
+use Rattle.zk_model.specs.declared.Product.{Product}
+use Rattle.gate_translate.specs.declared.rule.Factors.{Factors}
+use Rattle.gate_translate.specs.declared.rule.Rule.{Rule}
+use Rattle.gate_translate.specs.declared.rule.Rule.TheVariants.{Bit, Copy, Not, Mul, XorFrom}
+use Rattle.gate_translate.specs.declared.step.Step.{Step}
+use Rattle.gate_translate.specs.declared.step.Step.TheVariants as step
+
+-- the given value that a rule takes is that of a product
+abbrev pub IsRule : ℕ → Rule → Type 0
+IsRule products (Bit out value) = Unit {0}
+IsRule products (Copy out a) = Unit {0}
+IsRule products (Not out a) = Unit {0}
+IsRule products (Mul out product) = product < products
+IsRule products (XorFrom out product) = product < products
+
+-- the factors of a product
+abbrev pub factors_of : List Factors → ℕ → Factors
+factors_of factors product = slice_index_or factors product (record { a = 0; b = 0 })
+
+-- the step that a rule says
+abbrev pub step_of : List Factors → Rule → Step
+step_of factors (Bit out value) = step.Const out (from_bit value)
+step_of factors (Copy out a) = step.Copy out a
+step_of factors (Not out a) = step.Not out a
+step_of factors (Mul out product) = step.Mul out (factors_of factors product).a (factors_of factors product).b product
+step_of factors (XorFrom out product) = step.XorFrom out (factors_of factors product).a (factors_of factors product).b product
+
+-- the products of these factors, numbered from this number on
+abbrev pub numbered : ℕ → List Factors → List Product
+numbered number [] = []
+numbered number (factors ∷ others) = record { a = factors.a; b = factors.b; c = number } ∷ numbered (number + 1) others

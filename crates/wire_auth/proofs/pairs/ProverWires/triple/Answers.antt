@@ -1,0 +1,61 @@
+use Rattle.std.proofs.Common.{◌≡◌, ◌<◌, ◌≤◌, ◌∙◌, ◌&&◌, ℕ, List, arith, length, map, ap, sym, subst}
+use Rattle.std.specs.Prelude.{Some, slice_get, slice_index, slice_index_or}
+use Rattle.std.proofs.lemmas.List.{length-map, get_or-map}
+use Rattle.std.proofs.lemmas.Option.{get_or_from_slice_get}
+use Rattle.zk_model.specs.Bits.{from_bit}
+use Rattle.zk_model.specs.Boolean.{bits_of_products}
+use Rattle.zk_model.specs.Circuit.{bit_of}
+use Rattle.zk_model.specs.Check.{Triple}
+use Rattle.zk_model.specs.Mac.{Pair, pair_at, macs_of}
+use Rattle.zk_model.specs.declared.Product as zk
+use Rattle.wire_auth.specs.Held.{held_in}
+use Rattle.wire_auth.specs.Sides.{ProverSide}
+use Rattle.wire_auth.proofs.Joined.{given_at}
+use Rattle.wire_auth.proofs.pairs.ProverWires.triple.Goals as goal
+
+pub returns : goal.returns
+returns c product at = λ j. record { a = a_is j; b = b_is j; c = c_is j }
+  where
+    inside_at : slice_get c.self.inside.program.now.products c.args.i ≡ Some product
+    inside_at = ap (λ (side : ProverSide). slice_get side.program.products c.args.i) c.self.view_is ∙ at
+
+    same : c.product-product.result ≡ product
+    same =
+        sym (get_or_from_slice_get c.self.inside.program.now.products c.args.i c.product-product.result product c.product-product.ensures.product)
+        ∙ get_or_from_slice_get c.self.inside.program.now.products c.args.i product product inside_at
+
+    number : product.c ≡ c.args.i
+    number = c.product-product.ensures.held.numbered c.args.i product inside_at
+
+    a_is : c.wire.result ≡ pair_at c.args.self.now.pairs.wires product.a
+    a_is = c.wire.ensures ∙ ap (λ (p : zk.Product). pair_at c.args.self.now.pairs.wires p.a) same
+
+    b_is : c.wire-2.result ≡ pair_at c.args.self.now.pairs.wires product.b
+    b_is = c.wire-2.ensures ∙ ap (λ (p : zk.Product). pair_at c.args.self.now.pairs.wires p.b) same
+
+    within : c.args.i < length (held_in c.self.inside.dealt)
+    within = omega (
+      arith,
+      c.requires,
+      c.product-product.ensures.held.counted,
+      ap (λ (side : ProverSide). length side.program.products) c.self.view_is,
+      c.self.invariant.2,
+    )
+
+    dealt_is : c.index-dealt-product.result ≡ slice_index_or (held_in c.self.inside.dealt) c.args.i c.index-dealt-product.result
+    dealt_is =
+        c.index-dealt-product.is
+        ∙ (λ j. slice_index_or ((c.dealt.ensures.dealt ∙ ap (λ (side : ProverSide). side.dealt) (sym c.self.view_is)) j)
+        ((ap (λ (p : zk.Product). p.c) same ∙ number) j) c.index-dealt-product.result)
+
+    c_is : record { x = c.bit_product.result; m = c.dealt-2.inside.m } ≡ pair_at c.args.self.now.pairs.given product.c
+    c_is =
+        (λ j. record {
+          x = (c.bit_product.ensures ∙ ap (λ (p : zk.Product). from_bit (bit_of c.self.inside.bits.now p.a && bit_of c.self.inside.bits.now p.b)) same) j;
+          m = (c.dealt-2.view_is j).m;
+        })
+        ∙ sym (given_at c.self.inside.program.now.products c.self.inside.bits.now (held_in c.self.inside.dealt) c.args.i product c.index-dealt-product.result inside_at within dealt_is)
+        ∙ (λ j. pair_at (c.self.view_is j).pairs.given (number_back j))
+      where
+        number_back : c.args.i ≡ product.c
+        number_back = sym number

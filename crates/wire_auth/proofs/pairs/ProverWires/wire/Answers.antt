@@ -1,0 +1,28 @@
+use Rattle.std.proofs.Common.{◌≡◌, ◌<◌, ◌∙◌, ℕ, false, List, arith, rules, length, map, ap, sym}
+use Rattle.std.specs.Prelude.{slice_index, slice_index_or}
+use Rattle.std.proofs.lemmas.List.{length-map, get_or-map, get_or_default}
+use Rattle.zk_model.specs.Bits.{from_bit}
+use Rattle.zk_model.specs.Mac.{Pair, pair_at}
+use Rattle.wire_auth.specs.Sides.{ProverSide}
+use Rattle.wire_auth.proofs.Joined.{joined_at}
+use Rattle.wire_auth.proofs.pairs.ProverWires.wire.Goals as goal
+
+pub returns : goal.returns
+returns c =
+    (λ j. record { x = bit_is j; m = mac_is j })
+    ∙ sym (joined_at (map from_bit c.self.inside.bits.now) c.self.inside.macs.items c.args.wire
+    (omega (arith, below, c.self.invariant.0, length-map c.self.inside.bits.now from_bit)) (omega (arith, below, c.self.invariant.1)))
+    ∙ ap (λ (side : ProverSide). pair_at side.pairs.wires c.args.wire) c.self.view_is
+  where
+    below : c.args.wire < c.self.inside.program.now.wires
+    below = omega (arith, c.requires, ap (λ (side : ProverSide). side.program.wires) c.self.view_is)
+
+    bit_is : c.from_bit.result ≡ slice_index (map from_bit c.self.inside.bits.now) c.args.wire
+    bit_is =
+        c.from_bit.ensures
+        ∙ sym (get_or-map from_bit c.self.inside.bits.now c.args.wire false 0 (omega (arith, below, c.self.invariant.0)))
+
+    mac_is : c.known.result ≡ slice_index c.self.inside.macs.items c.args.wire
+    mac_is =
+        c.known.ensures.same ∙ c.index.ensures
+        ∙ get_or_default c.self.inside.macs.items c.args.wire c.index.result.now 0 (omega (arith, below, c.self.invariant.1))

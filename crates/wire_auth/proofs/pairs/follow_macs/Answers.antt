@@ -1,0 +1,32 @@
+use Rattle.std.proofs.Common.{◌≡◌, ◌∙◌, ◌≤◌, ℕ, List, arith, length, ap, refl}
+use Rattle.zk_model.specs.Program.{step_value}
+use Rattle.zk_model.specs.Mac.{macs_of}
+use Rattle.gate_translate.specs.Steps.{step_equation}
+use Rattle.wire_auth.proofs.Setting.{reads_within, takes_within, one_more, all_follow}
+use Rattle.wire_auth.proofs.pairs.follow_macs.Goals as goal
+
+pub taken_mac-requires : goal.taken_mac-requires
+taken_mac-requires c =
+    takes_within c.args.program.now c.loop-k.k (length c.args.dealt.now) c.step-step.result c.step-step.ensures.held.formed c.step-step.ensures.step
+    (omega (arith, c.requires.dealt))
+
+pub step_number-number-requires : goal.step_number-number-requires
+step_number-number-requires c =
+    reads_within c.args.program.now c.loop-k.k (length c.deref.result.now) c.step-step.result c.step-step.ensures.held.formed c.step-step.ensures.step
+    (ap length c.deref.ensures.value ∙ c.loop-k.invariant.whole)
+
+pub loop-k-preserved : goal.loop-k-preserved
+loop-k-preserved c =
+    one_more c.args.program.now 0 (macs_of c.args.dealt.now) c.args.begun.items c.loop-k.wires.items _
+    c.loop-k.k c.out.result c.step_number-number.result c.step-step.result
+    c.step-step.ensures.held.formed c.step-step.ensures.step c.out.ensures
+    (c.step_number-number.ensures (macs_of c.args.dealt.now) c.taken_mac.ensures
+    ∙ ap (λ (l : List ℕ). step_value 0 l (macs_of c.args.dealt.now) (step_equation c.step-step.result)) c.deref.ensures.value)
+    refl c.loop-k.invariant
+
+pub returns : goal.returns
+returns c public begun =
+    let end : c.loop-k.k ≡ length c.args.program.now.steps =
+    omega (arith, c.loop-k.auto.k-end, c.loop-k-test.false, c.steps-k-end.ensures.count) in
+    all_follow c.args.program.now 0 public (macs_of c.args.dealt.now) c.args.begun.items c.loop-k.wires.items
+    c.loop-k.k end c.loop-k.invariant begun

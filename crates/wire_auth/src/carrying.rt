@@ -1,0 +1,61 @@
+// What the steps of a program make of numbers: of values, MACs and keys.
+ghost use Rattle.std.specs.Prelude.{◌≡◌, ◌<◌, ◌≤◌, ℕ, List, length, map, take, IfOk};
+ghost use Rattle.zk_model.specs.Field.{IsElement, ◌*ₚ◌};
+ghost use Rattle.zk_model.specs.Program.{step_value};
+ghost use Rattle.gate_translate.specs.Steps.{step_equation};
+ghost use Rattle.wire_auth.specs.Sides.{ReadsWithin, IsBegun, IsTaken};
+
+use gate_translate::{FieldProgram, Step};
+use mersenne_field::Fe;
+use std::alloc::{AllocError, Global};
+
+/// The number, which is an element.
+pub(crate) fn known(number: Fe) -> Fe
+    ensures same { result ≡ number }
+    ensures element { IsElement number }
+{
+    let _number = number.value();
+    number
+}
+
+/// The number that a step gives its wire, from those that it reads: of wires, and of the given value that it takes. The
+/// constant 1 is `one`: 1 among values, 0 among MACs, and the verifier's one key among keys.
+pub(crate) fn step_number(step: &Step, one: Fe, wires: &[Fe], taken: Fe) -> Fe
+    requires { ReadsWithin (length wires.now) step.now }
+    ensures { (given : List ℕ) → IsTaken given step.now taken
+        → result ≡ step_value one wires.now given (step_equation step.now) }
+{
+    match *step {
+        Step::Const { value, .. } => value * one,
+        Step::Copy { a, .. } => known(wires[a as usize]),
+        Step::Not { a, .. } => one - wires[a as usize],
+        Step::Mul { .. } => known(taken),
+        Step::XorFrom { a, b, .. } => wires[a as usize] + wires[b as usize] - (taken + taken),
+    }
+}
+
+/// The numbers of public values: each times the constant 1.
+fn public_numbers(alloc: Global, public: &[Fe], one: Fe) -> Result<Vec<Fe>, AllocError>
+    ensures { IfOk result (λ numbers. numbers.items ≡ map (λ value. value *ₚ one) public.now) }
+{
+    public.iter().map(|value| *value * one).collect(alloc)
+}
+
+/// The numbers of the first wires: those of the public values, and then of the inputs; and 0 for the others.
+pub(crate) fn begun(
+    alloc: Global,
+    program: &FieldProgram,
+    public: &[Fe],
+    one: Fe,
+    inputs: &[Fe],
+) -> Result<Vec<Fe>, AllocError>
+    requires public { length public.now ≡ program.now.public }
+    requires inputs { length inputs.now ≡ program.now.inputs }
+    ensures { IfOk result (λ wires. (given : List ℕ) → take program.now.inputs given ≡ inputs.now
+        → IsBegun one program.now public.now given wires.items) }
+{
+    let mut wires = public_numbers(alloc, public, one)?;
+    wires.extend_from_slice(inputs)?;
+    wires.resize(program.wires(), Fe::ZERO)?;
+    Ok(wires)
+}
