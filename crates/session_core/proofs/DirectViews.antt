@@ -14,7 +14,6 @@ use Rattle.zk_model.specs.ServedVerifier.{round_replies}
 use Rattle.zk_model.specs.View.{span_of}
 use Rattle.zk_model.specs.declared.Kind.TheVariants.{Direct}
 use Rattle.zk_model.specs.declared.Side.{Side}
-use Rattle.session_core.specs.Holding.{HoldsRounds}
 
 -- without rounds the prover sees the pairs that are dealt in the units of the grant
 pub pairs_seen : (file : ProverFile) (setup : Setup) → IsProverView file (record setup { rounds = [] }) (span_pairs file (span_of setup.grant))
@@ -29,21 +28,3 @@ pairs_seen file setup = record {
   where
     units : List ℕ
     units = range_with_len setup.grant.start (setup.grant.start + setup.grant.count - setup.grant.start)
-
--- in kind direct there are no rounds to hold
-pub none_held : (prover : ProverFile) (verifier : VerifierFile) (grant : Grant) (pairs : List Pair) (log : List (Side × ℕ)) → verifier.params.kind ≡ Direct
-    → pairs ≡ span_pairs prover (span_of grant) → HoldsRounds prover verifier grant pairs log log
-none_held prover verifier grant pairs log direct are = record {
-  rounds = [];
-  held = record {
-    served = record {
-      count = sym (ap rounds_of direct);
-      ranged = All-nil (IsRound verifier.params grant);
-      replies = All-nil (λ round. round.replies ≡ round_replies verifier grant round.asks);
-    };
-    asks = All-nil (λ round. round.asks ≡ round_asks prover grant);
-    seen = λ hello. subst (λ (l : List Pair). IsProverView prover (record { hello = hello; grant = grant; rounds = [] }) l) (sym are)
-        (pairs_seen prover (record { hello = hello; grant = grant; rounds = [] }));
-  };
-  noted = sym (append-nil log);
-}

@@ -1,10 +1,7 @@
 pub mod Enough
-pub mod Held
 pub mod Judged
 pub mod Masks
 pub mod Opening
-pub mod Rehearsed
 pub mod Rounds
-pub mod Spelled
+pub mod Served
 pub mod DirectViews
-pub mod HeldRounds

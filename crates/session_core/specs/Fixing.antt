@@ -9,26 +9,19 @@ use Rattle.zk_model.specs.View.{span_of}
 use Rattle.zk_model.specs.declared.Kind.TheVariants.{Extended}
 use Rattle.linear_code.specs.Codes.{Code}
 use Rattle.vole_extend.specs.Rounds.{unit_code}
+use Rattle.wire_auth.specs.Sides.{ProverSide}
 use Rattle.session_core.specs.Cores.{AreRoundPairs}
 use Rattle.session_core.specs.Jobs.{ProverJob, VerifierJob, granted_from, units_of_job}
-use Rattle.session_core.specs.declared.correlations.Correlations.{Correlations}
-use Rattle.session_core.specs.declared.correlations.Correlations.TheVariants.{Dealt, Made}
-use Rattle.session_core.specs.declared.prover_job.Fixed.{Fixed}
-
--- the correlations, in order
-abbrev pub held_in : {A : Type 0} → Correlations A → List A
-held_in (Dealt items) = items.now
-held_in (Made items) = items.items
 
 -- as many as a session about the statement takes with sections of this length
 abbrev pub AreEnough : {A : Type 0} → ProverJob → ℕ → List A → Type 0
 AreEnough job section_length items = correlations_needed job.statement.program section_length ≤ length items
 
--- a prover that has answered a grant by its corrections has wires of the program, and correlations for all masks
-pub record IsFixedUnder (job : ProverJob) (grant : Grant) (fixed : Fixed) : Type 0 where
+-- a prover that has answered a grant by its corrections has pairs of the program's wires, and correlations for all masks
+pub record IsFixedUnder (job : ProverJob) (grant : Grant) (wires : ProverSide) : Type 0 where
   pub some : 1 ≤ grant.section_length
-  pub program : fixed.wires.program ≡ job.statement.program
-  pub enough : AreEnough job grant.section_length (held_in fixed.pairs)
+  pub program : wires.program ≡ job.statement.program
+  pub enough : AreEnough job grant.section_length wires.dealt
 
 -- the pairs of the first units of a grant, from the replies that have come, unit by unit
 pub record AreFirstPairs (file : ProverFile) (grant : Grant) (replies : List (List TreeReply)) (pairs : List Pair) : Type 0 where

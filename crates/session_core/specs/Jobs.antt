@@ -1,7 +1,10 @@
 -- What either end of a session is to do.
-use Rattle.std.specs.Prelude.{◌≡◌, ◌^◌, ◌<◌, ◌≤◌, ℕ, List, length}
-use Rattle.zk_model.specs.Program.{Program, correlations_needed}
-use Rattle.zk_model.specs.Statement.{Statement}
+use Rattle.std.specs.Prelude.{◌≡◌, ◌^◌, ◌<◌, ◌≤◌, ℕ, Bool, List, map, length}
+use Rattle.zk_model.specs.Bits.{from_bit}
+use Rattle.zk_model.specs.Boolean.{bits_of_products}
+use Rattle.zk_model.specs.Program.{Program, Carries, correlations_needed}
+use Rattle.zk_model.specs.Circuit.{Circuit, IsWellFormed, AreWireBits}
+use Rattle.zk_model.specs.Statement.{Statement, circuit_statement}
 use Rattle.zk_model.specs.Files.{ProverFile, VerifierFile}
 use Rattle.zk_model.specs.Transcript.{Grant, units_for}
 use Rattle.zk_model.specs.ServedVerifier.{VerifierTask}
@@ -38,9 +41,20 @@ abbrev pub verifier_of : Statement → VerifierFile → ℕ → VerifierJob
 verifier_of statement file section_length =
     record { task = record { file = file; statement = statement }; section_length = section_length }
 
--- the job of a prover with this statement, these given values and this file
-abbrev pub prover_of : Statement → List ℕ → ProverFile → ProverJob
-prover_of statement given file = record { statement = statement; file = file; given = given }
+-- the bits of all wires are values that follow from the public ones and, for each product, that of its two wires
+abbrev pub AreValues : Statement → List Bool → Type 0
+AreValues statement bits =
+    Carries 1 statement.program statement.public (bits_of_products statement.program.products bits) (map from_bit bits)
+
+-- those of all wires of a circuit, for each claim about it
+abbrev pub WireBitsAreValues : Type 0
+WireBitsAreValues = (circuit : Circuit) (digest : List ℕ) (outputs inputs bits : List Bool) → IsWellFormed circuit
+    → AreWireBits circuit inputs bits → AreValues (circuit_statement circuit digest outputs) bits
+
+-- the job of a prover with this statement, these bits of all wires and this file
+abbrev pub prover_of : Statement → List Bool → ProverFile → ProverJob
+prover_of statement bits file =
+    record { statement = statement; file = file; given = bits_of_products statement.program.products bits }
 
 -- as many given values as the program has
 pub record IsProverJob (job : ProverJob) : Type 0 where

@@ -6,5 +6,3 @@ pub mod Cores
 pub mod Extending
 pub mod Fixing
 pub mod Places
-pub mod Holding
-pub mod Rehearsals

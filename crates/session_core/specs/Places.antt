@@ -1,8 +1,9 @@
 -- The places of both ends, as contracts see them.
+use Rattle.wire_auth.specs.Held.{held_in}
 use Rattle.session_core.specs.Cores.{VerifierPlace, awaits_hello, owes_grant, awaits_asks, awaits_corrections, awaits_sums, awaits_openings, has_judged, has_refused, ProverPlace, awaits_grant, awaits_replies, awaits_challenge, awaits_verdict, has_ended}
 use Rattle.session_core.specs.Jobs.{ProverJob, VerifierJob}
 use Rattle.session_core.specs.Extending.{asks_of}
-use Rattle.session_core.specs.Fixing.{held_in, IsFixedUnder, IsGrowing, HoldsKeys}
+use Rattle.session_core.specs.Fixing.{IsFixedUnder, IsGrowing, HoldsKeys}
 use Rattle.session_core.specs.declared.verifier_core.Place as verifier
 use Rattle.session_core.specs.declared.verifier_core.Place.TheVariants as at
 use Rattle.session_core.specs.declared.prover_core.Place as prover
@@ -34,7 +35,7 @@ HoldsKeysAt job at.Refused = Unit {0}
 abbrev pub prover_place : prover.Place → ProverPlace
 prover_place in_turn.Grant = awaits_grant
 prover_place (in_turn.Replies grant done pairs columns) = awaits_replies grant done pairs.items
-prover_place (in_turn.Challenge grant fixed) = awaits_challenge grant (held_in fixed.pairs) fixed.wires.pairs
+prover_place (in_turn.Challenge grant wires) = awaits_challenge grant wires.dealt wires.pairs
 prover_place in_turn.Verdict = awaits_verdict
 prover_place in_turn.Ended = has_ended
 
@@ -42,6 +43,6 @@ prover_place in_turn.Ended = has_ended
 abbrev pub IsHeldAt : ProverJob → prover.Place → Type 0
 IsHeldAt job in_turn.Grant = Unit {0}
 IsHeldAt job (in_turn.Replies grant done pairs columns) = IsGrowing job grant done pairs.items columns
-IsHeldAt job (in_turn.Challenge grant fixed) = IsFixedUnder job grant fixed
+IsHeldAt job (in_turn.Challenge grant wires) = IsFixedUnder job grant wires
 IsHeldAt job in_turn.Verdict = Unit {0}
 IsHeldAt job in_turn.Ended = Unit {0}

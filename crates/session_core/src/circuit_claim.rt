@@ -2,6 +2,7 @@
 ghost use Rattle.std.specs.Prelude.{◌≡◌, length, IfOk};
 ghost use Rattle.zk_model.specs.Bytes.{AreBytes};
 ghost use Rattle.zk_model.specs.Statement.{circuit_statement};
+ghost use Rattle.session_core.specs.Jobs.{WireBitsAreValues};
 
 use crate::statement::{Statement, elements_of, outputs_digest};
 use bristol_reader::Circuit;
@@ -9,7 +10,7 @@ use gate_translate::{FieldProgram, translate};
 use mersenne_field::Fe;
 use std::alloc::{AllocError, Global};
 use std::marker::Model;
-use zk_laws::circuit_is_statement;
+use zk_laws::{bits_solve, circuit_is_statement};
 
 /// The claim that some input bits make a circuit give these output bits: its program, and what a hello says of it. Contracts see
 /// the statement.
@@ -82,4 +83,12 @@ impl CircuitClaim {
             self.outputs,
         )
     }
+}
+
+/// The bits that a circuit has on all its wires at some inputs are values of every claim about it: they are what a prover proves
+/// with. It does nothing.
+pub fn wire_bits_are_values()
+    ensures { WireBitsAreValues }
+{
+    bits_solve();
 }

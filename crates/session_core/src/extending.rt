@@ -25,9 +25,9 @@ use vole_extend::{ProverRound, UnitReply, VerifierRound, columns_of};
 
 /// What a verifier makes of the asks for all units of its grant: a frame of replies for each, and its keys.
 #[derive(Debug, Drop)]
-pub(crate) struct Replied {
-    pub(crate) replies: Vec<Frame>,
-    pub(crate) keys: Vec<Fe>,
+pub struct Replied {
+    pub replies: Vec<Frame>,
+    pub keys: Vec<Fe>,
 }
 
 /// The asks of a frame, none where it has none.
@@ -51,11 +51,7 @@ fn replies_in(frame: &Frame) -> &[TreeReply]
 }
 
 /// What a prover asks for the trees of all units of a grant: a frame for each unit.
-pub(crate) fn ask_units(
-    alloc: Global,
-    file: &ProverFile,
-    grant: Grant,
-) -> Result<Vec<Frame>, AllocError>
+pub fn ask_units(alloc: Global, file: &ProverFile, grant: Grant) -> Result<Vec<Frame>, AllocError>
     requires extended { file.now.params.kind ≡ Extended }
     requires within { grant.start + grant.count ≤ file.now.params.total }
     ensures { IfOk result (λ frames. map said frames.items ≡ map model.asks (round_asks file.now grant)) }
@@ -89,7 +85,7 @@ pub(crate) fn finish_unit(
 }
 
 /// The pairs that the replies for all units of a grant make, unit by unit.
-pub(crate) fn finish_units(
+pub fn finish_units(
     alloc: Global,
     file: &ProverFile,
     grant: Grant,
@@ -135,7 +131,7 @@ fn reply_unit(
 }
 
 /// What a verifier replies to the asks for all units of a grant, a frame for each unit; and the keys of these units.
-pub(crate) fn reply_units(
+pub fn reply_units(
     alloc: Global,
     file: &VerifierFile,
     grant: Grant,

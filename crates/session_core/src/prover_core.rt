@@ -8,15 +8,15 @@ ghost use Rattle.zk_model.specs.declared.Expect.TheVariants as expect;
 ghost use Rattle.zk_model.specs.declared.Kind.TheVariants.{Extended};
 ghost use Rattle.proof_frames.specs.Frames.{said};
 ghost use Rattle.proof_frames.specs.Readings.{IsShortPlace};
+ghost use Rattle.wire_auth.specs.Held.{held_in};
 ghost use Rattle.vole_extend.specs.Rounds.{unit_code};
-ghost use Rattle.session_core.specs.Fixing.{held_in, IsFixedUnder, IsGrowing};
+ghost use Rattle.session_core.specs.Fixing.{IsFixedUnder, IsGrowing};
 ghost use Rattle.session_core.specs.Cores.{AnswersGrant, Commits, GoesOn, ProverAnswers, ProverRefuses, StaysWithin, awaits_grant, awaits_replies, awaits_challenge, awaits_verdict, has_ended, prover_expects};
 ghost use Rattle.session_core.specs.declared.fault.SessionFault.TheVariants.{NoMemory};
 
-use crate::correlations::Correlations;
 use crate::extending::{ask_units, finish_unit};
 use crate::fault::SessionFault;
-use crate::prover_job::{Fixed, ProverJob};
+use crate::prover_job::ProverJob;
 use crate::verifier_core::one_frame;
 use dealer_files::{Kind, Params};
 use linear_code::Columns;
@@ -26,9 +26,10 @@ use std::alloc::{AllocFailed, Global};
 use std::marker::Model;
 use std::mem;
 use vole_extend::columns_of;
+use wire_auth::{Correlations, ProverWires};
 use zk_model::Expect;
 
-/// What the prover waits for, with the grant, the pairs of so many units that replies have made, or all that it has fixed.
+/// What the prover waits for, with the grant, the pairs of so many units that replies have made, or the pairs of all wires, which it has fixed.
 #[derive(Debug, Drop)]
 pub(crate) enum Place<'a> {
     Grant,
@@ -40,7 +41,7 @@ pub(crate) enum Place<'a> {
     },
     Challenge {
         grant: Grant,
-        fixed: Fixed<'a>,
+        wires: ProverWires<'a>,
     },
     Verdict,
     Ended,
@@ -80,20 +81,20 @@ fn opened<'a>(
     alloc: Global,
     job: &ProverJob<'a>,
     grant: Grant,
-    fixed: &Fixed<'a>,
+    wires: &ProverWires<'a>,
     frame: Frame,
 ) -> Result<Vec<Frame>, SessionFault>
-    requires held { IsFixedUnder job.now grant fixed.now }
+    requires held { IsFixedUnder job.now grant wires.now }
     requires expected { Allows expect.Challenge (said frame) }
     ensures answered { IfOk result (λ answer. ProverAnswers job.now
-        (awaits_challenge grant (held_in fixed.now.pairs) fixed.now.wires.pairs)
+        (awaits_challenge grant wires.now.dealt wires.now.pairs)
         (said frame) (map said answer.items) awaits_verdict) }
     ensures memory { IfErr result (λ fault. fault ≡ NoMemory) }
 {
     let Frame::Challenge(challenge) = frame else {
         return Ok(Vec::new(alloc));
     };
-    let opened = job.open(alloc, grant, fixed, challenge)?;
+    let opened = job.open(alloc, grant, wires, challenge)?;
     let sums = Frame::Sums(opened.sums);
     Ok(two_frames(alloc, sums, Frame::Openings(opened.openings))?)
 }
@@ -154,7 +155,7 @@ impl<'a> ProverCore<'a> {
                 pairs,
                 columns,
             } => self.take_replies(alloc, grant, done, pairs, columns, frame),
-            Place::Challenge { grant, fixed } => self.take_challenge(alloc, grant, fixed, frame),
+            Place::Challenge { grant, wires } => self.take_challenge(alloc, grant, wires, frame),
             Place::Verdict | Place::Ended => Ok(Vec::new(alloc)),
         }
     }
@@ -280,19 +281,19 @@ impl<'a> ProverCore<'a> {
         &mut self,
         alloc: Global,
         grant: Grant,
-        fixed: Fixed<'a>,
+        wires: ProverWires<'a>,
         frame: Frame,
     ) -> Result<Vec<Frame>, SessionFault>
-        requires held { IsFixedUnder self.old.job grant fixed }
+        requires held { IsFixedUnder self.old.job grant wires }
         requires expected { Allows expect.Challenge (said frame) }
         ensures answered { IfOk result (λ answer. ProverAnswers self.old.job
-            (awaits_challenge grant (held_in fixed.entry.pairs) fixed.entry.wires.pairs)
+            (awaits_challenge grant wires.entry.dealt wires.entry.pairs)
             (said frame) (map said answer.items) self.new.place) }
         ensures memory { IfErr result (λ fault. fault ≡ NoMemory) }
         ensures over { OnErr result (self.new.place ≡ self.old.place) }
         ensures job { self.new.job ≡ self.old.job }
     {
-        let answer = opened(alloc, self.job, grant, &fixed, frame)?;
+        let answer = opened(alloc, self.job, grant, &wires, frame)?;
         self.place = Place::Verdict;
         Ok(answer)
     }
@@ -317,7 +318,7 @@ impl<'a> ProverCore<'a> {
         let answer = one_frame(alloc, Frame::Corrections(committed.corrections))?;
         self.place = Place::Challenge {
             grant,
-            fixed: committed.fixed,
+            wires: committed.wires,
         };
         Ok(answer)
     }

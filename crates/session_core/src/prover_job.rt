@@ -1,5 +1,6 @@
 // What a prover is to do, and how it answers a grant and a challenge.
 ghost use Rattle.std.specs.Prelude.{◌≡◌, true, false, ◌+◌, ◌*◌, ◌≤◌, ◌^◌, length, take, drop, IfOk};
+ghost use Rattle.zk_model.specs.Boolean.{bits_of_products};
 ghost use Rattle.zk_model.specs.Mac.{macs_of};
 ghost use Rattle.zk_model.specs.Program.{section_count};
 ghost use Rattle.zk_model.specs.Files.{correlations_per_unit, span_pairs};
@@ -7,11 +8,11 @@ ghost use Rattle.zk_model.specs.Check.{all_sums, opened_pairs};
 ghost use Rattle.zk_model.specs.Transcript.{IsGrant, wanted_hello};
 ghost use Rattle.zk_model.specs.View.{span_of};
 ghost use Rattle.zk_model.specs.declared.Kind.TheVariants.{Direct};
+ghost use Rattle.wire_auth.specs.Held.{held_in};
 ghost use Rattle.session_core.specs.Ends.{IsFixed, masks_in};
-ghost use Rattle.session_core.specs.Jobs.{IsProverJob, Suits};
-ghost use Rattle.session_core.specs.Fixing.{held_in, AreEnough, IsFixedUnder};
+ghost use Rattle.session_core.specs.Jobs.{AreValues, IsProverJob, Suits, prover_of};
+ghost use Rattle.session_core.specs.Fixing.{AreEnough, IsFixedUnder};
 
-use crate::correlations::Correlations;
 use crate::statement::Statement;
 use crate::verifier_job::{MOST_UNITS, units_for};
 use dealer_files::{ProverFile, Span};
@@ -20,54 +21,43 @@ use mult_check::prover_sums;
 use proof_frames::{Grant, Hello};
 use std::alloc::{AllocError, Global};
 use std::marker::Model;
-use wire_auth::ProverWires;
+use wire_auth::{Correlations, ProverWires};
 
 /// The most products of a section.
 const MOST_SECTION: u32 = 1 << 20;
 
-/// What a prover is to do: its statement and its file, and the given values that it proves with.
+/// What a prover is to do: its statement and its file, and the bits of all wires that it proves with.
 #[derive(Debug, Drop)]
 pub struct ProverJob<'a> {
     statement: &'a Statement<'a>,
     file: &'a ProverFile,
-    given: &'a [Fe],
+    bits: &'a [bool],
 }
 
 impl<'a> Model for ProverJob<'a> {
     ghost use Rattle.session_core.specs.Jobs as jobs;
-    ghost use Rattle.session_core.specs.Jobs.{IsProverJob, Suits};
+    ghost use Rattle.session_core.specs.Jobs.{AreValues, IsProverJob, prover_of};
 
     ghost Value = { jobs.ProverJob };
 
-    ghost view = { λ p. record { statement = p.statement.now; file = p.file.now; given = p.given.now } };
+    ghost view = { λ p. prover_of p.statement.now p.bits.now p.file.now };
 
-    ghost invariant = { λ p. IsProverJob (record {
-      statement = p.statement.now;
-      file = p.file.now;
-      given = p.given.now;
-    }) };
+    ghost invariant = { λ p. IsProverJob (prover_of p.statement.now p.bits.now p.file.now)
+        × AreValues p.statement.now p.bits.now };
 }
 
-/// What a prover has fixed by its corrections: the pairs of all wires, and those of all correlations, of which the last are the
-/// masks of the sections.
+/// What a prover answers by once it has all its pairs: its corrections, and the pairs of all wires, which these fix.
 #[derive(Debug, Drop)]
-pub(crate) struct Fixed<'a> {
-    pub(crate) wires: ProverWires<'a>,
-    pub(crate) pairs: Correlations<'a, Pair>,
-}
-
-/// What a prover answers by once it has all its pairs: its corrections, and what they fix.
-#[derive(Debug, Drop)]
-pub(crate) struct Committed<'a> {
-    pub(crate) fixed: Fixed<'a>,
-    pub(crate) corrections: Vec<Fe>,
+pub struct Committed<'a> {
+    pub wires: ProverWires<'a>,
+    pub corrections: Vec<Fe>,
 }
 
 /// What a prover answers a challenge by.
 #[derive(Debug, Drop)]
-pub(crate) struct Opened {
-    pub(crate) sums: Vec<(Fe, Fe)>,
-    pub(crate) openings: Vec<Fe>,
+pub struct Opened {
+    pub sums: Vec<(Fe, Fe)>,
+    pub openings: Vec<Fe>,
 }
 
 /// As many items as there are sections, behind those of the given values.
@@ -106,15 +96,17 @@ fn opened_macs(alloc: Global, wires: &ProverWires<'_>) -> Result<Vec<Fe>, AllocE
 }
 
 impl<'a> ProverJob<'a> {
-    /// A job with as many given values as the program has.
-    pub fn new(statement: &'a Statement<'a>, file: &'a ProverFile, given: &'a [Fe]) -> Self
-        requires { IsProverJob (record { statement = statement.now; file = file.now; given = given.now }) }
-        ensures { result ≡ record { statement = statement.now; file = file.now; given = given.now } }
+    /// A job with the bits of all wires: they follow from the public values and, for each product, that of its two wires, which is
+    /// its given value.
+    pub fn new(statement: &'a Statement<'a>, file: &'a ProverFile, bits: &'a [bool]) -> Self
+        requires { AreValues statement.now bits.now }
+        ensures { result ≡ prover_of statement.now bits.now file.now }
     {
+        let _givens = statement.program().givens();
         ProverJob {
             statement,
             file,
-            given,
+            bits,
         }
     }
 
@@ -135,7 +127,7 @@ impl<'a> ProverJob<'a> {
     }
 
     /// The greeting.
-    pub(crate) fn greet(&self) -> Hello
+    pub fn greet(&self) -> Hello
         ensures { result ≡ wanted_hello self.now.file.id self.now.statement }
     {
         self.statement.hello(self.file.id())
@@ -156,7 +148,7 @@ impl<'a> ProverJob<'a> {
     }
 
     /// The pairs that are dealt in the units of a grant: those of its session in kind direct.
-    pub(crate) fn dealt_pairs(&self, grant: Grant) -> &'a [Pair]
+    pub fn dealt_pairs(&self, grant: Grant) -> &'a [Pair]
         requires direct { self.now.file.params.kind ≡ Direct }
         requires granted { IsGrant self.now.file.params self.now.statement.program grant }
         ensures pairs { result.now ≡ span_pairs self.now.file (span_of grant) }
@@ -167,7 +159,7 @@ impl<'a> ProverJob<'a> {
     }
 
     /// The pairs of a session's correlations are answered by the corrections that make them those of the given values.
-    pub(crate) fn commit(
+    pub fn commit(
         &self,
         alloc: Global,
         grant: Grant,
@@ -176,34 +168,32 @@ impl<'a> ProverJob<'a> {
         requires some { 1 ≤ grant.section_length }
         requires enough { AreEnough self.now grant.section_length (held_in pairs) }
         ensures fixed { IfOk result (λ c. IsFixed self.now.statement self.now.given
-            (held_in pairs.entry) c.corrections.items c.fixed.wires.pairs) }
-        ensures same { IfOk result (λ c. held_in c.fixed.pairs ≡ held_in pairs.entry) }
-        ensures held { IfOk result (λ c. IsFixedUnder self.now grant c.fixed) }
+            (held_in pairs.entry) c.corrections.items c.wires.pairs) }
+        ensures same { IfOk result (λ c. c.wires.dealt ≡ held_in pairs.entry) }
+        ensures held { IfOk result (λ c. IsFixedUnder self.now grant c.wires) }
         ensures one_each { IfOk result (λ c. length c.corrections.items
             ≡ self.now.statement.program.givens) }
     {
         let program = self.statement.program();
         let public = self.statement.public();
-        let dealt = pairs.as_slice();
-        let (wires, corrections) = ProverWires::run(alloc, program, public, self.given, dealt)?;
-        let fixed = Fixed { wires, pairs };
-        Ok(Committed { fixed, corrections })
+        let (wires, corrections) = ProverWires::run(alloc, program, public, self.bits, pairs)?;
+        Ok(Committed { wires, corrections })
     }
 
     /// A challenge is answered by the sums of all sections and the MACs of the opened wires.
-    pub(crate) fn open(
+    pub fn open(
         &self,
         alloc: Global,
         grant: Grant,
-        fixed: &Fixed<'a>,
+        wires: &ProverWires<'a>,
         challenge: Fe,
     ) -> Result<Opened, AllocError>
-        requires held { IsFixedUnder self.now grant fixed.now }
+        requires held { IsFixedUnder self.now grant wires.now }
         ensures sums { IfOk result (λ o. o.sums.items
-            ≡ all_sums self.now.statement.program grant.section_length challenge fixed.now.wires.pairs
-            (drop self.now.statement.program.givens (held_in fixed.now.pairs))) }
+            ≡ all_sums self.now.statement.program grant.section_length challenge wires.now.pairs
+            (drop self.now.statement.program.givens wires.now.dealt)) }
         ensures openings { IfOk result (λ o. o.openings.items
-            ≡ macs_of (opened_pairs self.now.statement.program fixed.now.wires.pairs)) }
+            ≡ macs_of (opened_pairs self.now.statement.program wires.now.pairs)) }
         ensures sum_count { IfOk result (λ o. length o.sums.items
             ≡ section_count self.now.statement.program grant.section_length) }
         ensures opening_count { IfOk result (λ o. length o.openings.items
@@ -213,9 +203,9 @@ impl<'a> ProverJob<'a> {
         let section = u64::from(grant.section);
         let program = self.statement.program();
         let sections = program.sections(section) as usize;
-        let masks = masks_of(fixed.pairs.as_slice(), program.givens(), sections);
-        let sums = prover_sums(alloc, &fixed.wires, section, challenge, masks)?;
-        let openings = opened_macs(alloc, &fixed.wires)?;
+        let masks = masks_of(wires.dealt(), program.givens(), sections);
+        let sums = prover_sums(alloc, wires, section, challenge, masks)?;
+        let openings = opened_macs(alloc, wires)?;
         Ok(Opened { sums, openings })
     }
 }

@@ -4,6 +4,7 @@ ghost use Rattle.zk_model.specs.Frames.{Allows, AreAsks};
 ghost use Rattle.zk_model.specs.View.{verdict_code, verdict_number};
 ghost use Rattle.zk_model.specs.Frames as model;
 ghost use Rattle.proof_frames.specs.Frames.{said};
+ghost use Rattle.wire_auth.specs.Held.{held_in};
 ghost use Rattle.proof_frames.specs.Readings.{IsShortPlace};
 ghost use Rattle.session_core.specs.Jobs.{units_of_job, granted_from};
 ghost use Rattle.session_core.specs.Judgements.{verdict_in};
@@ -12,10 +13,9 @@ ghost use Rattle.zk_model.specs.declared.Expect.TheVariants as expect;
 ghost use Rattle.zk_model.specs.declared.Kind.TheVariants.{Extended};
 ghost use Rattle.zk_model.specs.Program.{section_count};
 ghost use Rattle.session_core.specs.Extending.{asks_of};
-ghost use Rattle.session_core.specs.Fixing.{held_in, HoldsKeys};
+ghost use Rattle.session_core.specs.Fixing.{HoldsKeys};
 ghost use Rattle.session_core.specs.Cores.{AnswersAsks, VerifierAnswers, VerifierRefuses, IsVerifierPlace, awaits_hello, owes_grant, behind_grant, awaits_asks, awaits_corrections, awaits_sums, awaits_openings, has_refused, verifier_expects, judgement_at, DiffersFirst};
 
-use crate::correlations::Correlations;
 use crate::extending::reply_units;
 use crate::fault::{HelloDiffers, SessionFault};
 use crate::judgement::Judgement;
@@ -26,6 +26,7 @@ use proof_frames::{Frame, Hello};
 use std::alloc::{AllocFailed, Global};
 use std::marker::Model;
 use std::mem;
+use wire_auth::Correlations;
 use zk_model::{Expect, Span, Verdict};
 
 /// What the verifier waits for, with the first unit of its grant, what it has taken since, and its keys once they are fixed.

@@ -46,7 +46,7 @@ fn parts(count: u64, size: u64) -> u64
 }
 
 /// The units that give this many correlations: at least one.
-pub(crate) fn units_for(params: &Params, need: u64) -> u64
+pub fn units_for(params: &Params, need: u64) -> u64
     requires { AreParams params.now }
     ensures { result ≡ transcript.units_for params.now need }
 {
@@ -197,7 +197,7 @@ impl<'a> VerifierJob<'a> {
     }
 
     /// The grant of its units from this one on.
-    pub(crate) fn grant(&self, start: u64) -> Grant
+    pub fn grant(&self, start: u64) -> Grant
         ensures { result ≡ granted_from self.now start }
     {
         Grant {
@@ -208,7 +208,7 @@ impl<'a> VerifierJob<'a> {
     }
 
     /// The challenge of the session whose first unit this is: its coin.
-    pub(crate) fn challenge(&self, start: u64) -> Fe
+    pub fn challenge(&self, start: u64) -> Fe
         requires { start ≤ 2 ^ 32 }
         ensures { result ≡ challenge_coin self.now.task.file start }
     {
@@ -216,7 +216,7 @@ impl<'a> VerifierJob<'a> {
     }
 
     /// The keys that are dealt in the units of its grant from this one on: those of its session in kind direct.
-    pub(crate) fn dealt_keys(&self, start: u64) -> &'a [Fe]
+    pub fn dealt_keys(&self, start: u64) -> &'a [Fe]
         requires direct { self.now.task.file.params.kind ≡ Direct }
         requires within { start + units_of_job self.now ≤ self.now.task.file.params.total }
         ensures { HoldsKeys self.now start result.now }
@@ -228,7 +228,7 @@ impl<'a> VerifierJob<'a> {
     /// What it finds of the session whose first unit this is and whose keys these are, in which these corrections, sums and openings
     /// came: the first section whose sums do not meet its keys, else the first opened wire whose MAC does not open to the claim, else
     /// that all is well.
-    pub(crate) fn judge(
+    pub fn judge(
         &self,
         alloc: Global,
         start: u64,

@@ -1,5 +1,7 @@
 // A prover's sessions over the files of a seed, with a peer whose bytes are stated: those of a rehearsal's verifier, and others.
-ghost use Rattle.std.specs.Prelude.{◌≡◌, ◌≤◌, None, length, IfOk};
+ghost use Rattle.std.specs.Prelude.{◌≡◌, ◌≤◌, ℕ, Bool, List, None, IfOk};
+ghost use Rattle.zk_model.specs.Statement.{circuit_statement};
+ghost use Rattle.session_core.specs.Jobs.{AreValues};
 
 use crate::scene::{
     Dealing, LONG, Rehearsal, Scene, and_gate, circuit_of, claim_of, files_of, part_of, refusal,
@@ -8,14 +10,11 @@ use crate::scene::{
 use bool_eval::eval_wires;
 use bristol_reader::Circuit;
 use claim_store::{ClaimFault, Span};
-use gate_translate::FieldProgram;
-use mersenne_field::Fe;
 use proof_frames::{Grant, encode_grant, encode_verdict};
-use session_core::ProverJob;
+use session_core::{ProverJob, wire_bits_are_values};
 use session_prover::{Claimant, ProverNote, ProverOutcome, prove_session};
 use std::alloc::{AllocError, Global};
 use std::test::Fail;
-use wire_auth::bit_products;
 use zk_model::Side;
 use zk_port::{FailAt, FaultPlan, Link, NoFault, ScriptedLink};
 
@@ -54,26 +53,17 @@ pub struct Ending<P> {
     pub asked: Option<(u64, u64)>,
 }
 
-/// The given values of a scene's program.
-fn given_of(
-    alloc: Global,
-    scene: &Scene<'_>,
-    circuit: &Circuit,
-    program: &FieldProgram,
-) -> Result<Vec<Fe>, Fail>
-    ensures { IfOk result (λ given. length given.items ≡ program.now.givens) }
+/// The bits of all wires of a scene's circuit, which are values of every claim about it.
+fn wires_of(alloc: Global, scene: &Scene<'_>, circuit: &Circuit) -> Result<Vec<bool>, Fail>
+    ensures { IfOk result (λ bits. (digest : List ℕ) (outputs : List Bool)
+        → AreValues (circuit_statement circuit.now digest outputs) bits.items) }
 {
+    wire_bits_are_values();
+    let _wires = circuit.wires();
     let Ok(bits) = eval_wires(alloc, circuit, scene.bits) else {
         return Err(Fail::new("no bits"));
     };
-    if bits.len() != program.wires() {
-        return Err(Fail::new("another program"));
-    }
-    let given = bit_products(alloc, program, &bits)?;
-    if given.len() != program.givens() {
-        return Err(Fail::new("another program"));
-    }
-    Ok(given)
+    Ok(bits)
 }
 
 /// A prover's session about the claim that a scene's circuit gives what it gives, whose peer sends these bytes, and whose
@@ -88,9 +78,9 @@ pub fn proved<P: FaultPlan + Drop>(
     let circuit = circuit_of(alloc, scene)?;
     let claim = claim_of(alloc, scene, &circuit)?;
     let statement = claim.statement();
-    let given = given_of(alloc, scene, &circuit, statement.program())?;
+    let bits = wires_of(alloc, scene, &circuit)?;
     let (file, _) = files_of(alloc, scene)?;
-    let job = ProverJob::new(&statement, &file, &given);
+    let job = ProverJob::new(&statement, &file, &bits);
     let mut claimant = AskedUnits {
         total: file.total(),
         fault,

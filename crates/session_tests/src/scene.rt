@@ -1,12 +1,14 @@
 // What both ends of a session have: the claim of what a circuit gives, files, and the log of a rehearsal.
-ghost use Rattle.std.specs.Prelude.{◌≡◌};
+ghost use Rattle.std.specs.Prelude.{◌≡◌, Bool, List, replicate, IfOk};
+ghost use Rattle.zk_model.specs.Statement.{circuit_statement};
 ghost use Rattle.zk_model.specs.declared.Kind.TheVariants.{Extended};
 
 use bool_eval::eval;
 use bristol_reader::{Circuit, read};
 use dealer_files::{ProverFile, VerifierFile, deal};
 use frame_link::Log;
-use session_core::{CircuitClaim, rehearse};
+use session_core::CircuitClaim;
+use session_rehearsal::rehearse;
 use std::alloc::{AllocError, Global};
 use std::test::Fail;
 use zk_model::{Kind, Params, Side};
@@ -59,7 +61,10 @@ pub fn circuit_of(alloc: Global, scene: &Scene<'_>) -> Result<Circuit, Fail> {
 }
 
 /// The claim that a scene's circuit gives what it gives.
-pub fn claim_of(alloc: Global, scene: &Scene<'_>, circuit: &Circuit) -> Result<CircuitClaim, Fail> {
+pub fn claim_of(alloc: Global, scene: &Scene<'_>, circuit: &Circuit) -> Result<CircuitClaim, Fail>
+    ensures { IfOk result (λ claim. (outputs : List Bool)
+        × (claim ≡ circuit_statement circuit.now (replicate 32 0) outputs)) }
+{
     let Ok(outputs) = eval(alloc, circuit, scene.bits) else {
         return Err(Fail::new("no outputs"));
     };
@@ -140,7 +145,7 @@ pub fn rehearsed(alloc: Global, scene: &Scene<'_>) -> Result<Rehearsal, Fail> {
         Dealing::Direct => Kind::Direct,
         Dealing::OneTree | Dealing::EightTrees => Kind::Extended,
     };
-    let Ok(rehearsal) = rehearse(alloc, &circuit, scene.bits, kind, scene.section, &SEED) else {
+    let Ok(rehearsal) = rehearse(alloc, circuit, scene.bits, kind, scene.section, &SEED) else {
         return Err(Fail::new("no rehearsal"));
     };
     let prover = part_of(alloc, &rehearsal.log, Side::Prover)?;

@@ -21,7 +21,7 @@ use Rattle.session_core.specs.Cores.{VerifierPlace, awaits_hello, owes_grant, aw
 use Rattle.session_core.specs.declared.judgement.Judgement.{Judgement}
 use Rattle.session_core.specs.declared.judgement.Judgement.TheVariants as judged
 use Rattle.session_core.proofs.Enough.{parts_within}
-use Rattle.session_core.proofs.Held.{AreRanged, served_is}
+use Rattle.session_core.proofs.Served.{AreRanged, served_is}
 use Rattle.frame_link.specs.Lines.{LineState}
 use Rattle.frame_link.proofs.LineLemmas.{appended_none}
 use Rattle.session_verifier.proofs.StageLemmas.{sent_answered, tells_so}

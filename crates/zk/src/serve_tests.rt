@@ -1,6 +1,6 @@
 // Runs of `serve` over a door in memory, with peers whose bytes are those of a rehearsal's prover, or others.
 use crate::run_tests::{AND, USAGE, chain, fail_at, file_of, rehearsal_of, words_of};
-use session_core::Rehearsal;
+use session_rehearsal::Rehearsal;
 use sha2::{Digest, Sha256};
 use std::alloc::{AllocError, Global};
 use std::collections::BTreeMap;

@@ -7,16 +7,16 @@ use Rattle.zk_cli.specs.CircuitFiles.{IsCircuitFile}
 use Rattle.zk_cli.specs.Made.{IfRehearsed, Effects}
 use Rattle.zk_cli.specs.Outcomes.{Accepts, IsRefused, TakesTooMany, IsReady, AnswersFor, HasFailed, IsRehearseStatus}
 use Rattle.zk_cli.specs.Prints.{after_sink_fault}
-use Rattle.session_core.specs.Rehearsals.{EndsWithVerdict, RehearseCause, rehearsal_units}
+use Rattle.session_rehearsal.specs.Rehearsals.{EndsWithVerdict, RehearseCause, rehearsal_units}
 use Rattle.zk_cli.specs.RehearseRuns.{HasOutputs, HasNumbers, IsRehearsed, SaysPart, RehearseLines, RehearseStop, verdict_status, rehearsal_lines}
 use Rattle.zk_cli.specs.Stops.{PrintsMade, stop_status, stop_line}
 use Rattle.zk_cli.specs.StopsOf.{rehearse_stop}
 use Rattle.command_words.specs.Words.{RehearseAsk}
 use Rattle.zk_cli.specs.declared.finish.Part.{Part}
 use Rattle.zk_cli.specs.declared.finish.Part.TheVariants.{Plain, Rehearsed, Served}
-use Rattle.session_core.specs.declared.rehearsal.Rehearsal.{Rehearsal}
-use Rattle.session_core.specs.declared.rehearsal.RehearseFault.{RehearseFault}
-use Rattle.session_core.specs.declared.rehearsal.RehearseFault.TheVariants as session
+use Rattle.session_rehearsal.specs.declared.rehearsal.Rehearsal.{Rehearsal}
+use Rattle.session_rehearsal.specs.declared.rehearsal.RehearseFault.{RehearseFault}
+use Rattle.session_rehearsal.specs.declared.rehearsal.RehearseFault.TheVariants as session
 use Rattle.zk_model.specs.declared.Verdict.TheVariants.{Accepted}
 use Rattle.zk_cli.specs.declared.stop.Stop.{Stop}
 use Rattle.zk_cli.proofs.Answering.{stop_answers, high_stop, memory_answers}

@@ -3,7 +3,7 @@ use Rattle.std.specs.Prelude.{ℕ, All}
 use Rattle.zk_cli.specs.Changes.{ShelfChange, SinkChange}
 use Rattle.zk_cli.specs.declared.finish.Part.{Part}
 use Rattle.zk_cli.specs.declared.finish.Part.TheVariants.{Plain, Rehearsed, Served}
-use Rattle.session_core.specs.declared.rehearsal.Rehearsal.{Rehearsal}
+use Rattle.session_rehearsal.specs.declared.rehearsal.Rehearsal.{Rehearsal}
 use Rattle.session_verifier.specs.declared.note.SessionNote.{SessionNote}
 
 -- of the rehearsal, if one is handed back

@@ -7,14 +7,14 @@ use Rattle.zk_port.specs.Files.{Files, StandsLonger}
 use Rattle.zk_port.specs.Logs.{appended}
 use Rattle.zk_cli.specs.Changes.{ShelfChange, SinkChange, NameFailed, SomeFailed, SinkFailed}
 use Rattle.zk_cli.specs.CircuitFiles.{IsLoaded, IsCircuitFile, IsToldCircuit, GivesOutputs}
-use Rattle.session_core.specs.Rehearsals.{EndsWithVerdict, rehearsal_units}
+use Rattle.session_rehearsal.specs.Rehearsals.{EndsWithVerdict, rehearsal_units}
 use Rattle.zk_cli.specs.RehearseRuns.{rehearsal_lines}
 use Rattle.zk_cli.specs.DealRuns.{StoresDealt, IsDealName, dealt_lines}
 use Rattle.zk_cli.specs.EvalRuns.{outputs_line}
 use Rattle.command_words.specs.Words.{RehearseAsk, EvalAsk, DealAsk}
 use Rattle.zk_cli.specs.declared.finish.Part.{Part}
 use Rattle.zk_cli.specs.declared.finish.Part.TheVariants.{Rehearsed}
-use Rattle.session_core.specs.declared.rehearsal.Rehearsal.{Rehearsal}
+use Rattle.session_rehearsal.specs.declared.rehearsal.Rehearsal.{Rehearsal}
 use Rattle.zk_model.specs.declared.Verdict.TheVariants.{Accepted}
 use Rattle.command_words.specs.declared.TheConstants.{FILE_LIMIT}
 

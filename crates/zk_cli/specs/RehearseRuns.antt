@@ -9,14 +9,14 @@ use Rattle.command_words.specs.BitWords.{bits_word}
 use Rattle.zk_cli.specs.Changes.{ShelfChange, SinkChange}
 use Rattle.zk_cli.specs.CircuitFiles.{IsCircuitFile, GivesOutputs, CircuitStop}
 use Rattle.zk_cli.specs.Made.{Effects}
-use Rattle.session_core.specs.Rehearsals.{IsRehearsalOf, RehearseCause, rehearsal_need, rehearsal_units}
+use Rattle.session_rehearsal.specs.Rehearsals.{IsRehearsalOf, RehearseCause, rehearsal_need, rehearsal_units}
 use Rattle.zk_cli.specs.Stops.{PrintsStop, PrintsMade}
 use Rattle.zk_cli.specs.StopsOf.{rehearse_stop}
 use Rattle.command_words.specs.Words.{RehearseAsk}
 use Rattle.zk_cli.specs.declared.finish.Part.{Part}
 use Rattle.zk_cli.specs.declared.finish.Part.TheVariants.{Plain, Rehearsed}
-use Rattle.session_core.specs.declared.rehearsal.Rehearsal.{Rehearsal}
-use Rattle.session_core.specs.declared.rehearsal.RehearseFault.{RehearseFault}
+use Rattle.session_rehearsal.specs.declared.rehearsal.Rehearsal.{Rehearsal}
+use Rattle.session_rehearsal.specs.declared.rehearsal.RehearseFault.{RehearseFault}
 use Rattle.zk_model.specs.declared.Verdict.{Verdict}
 use Rattle.zk_model.specs.declared.Verdict.TheVariants.{Accepted, RejectedSum, RejectedOpening}
 use Rattle.zk_cli.specs.declared.stop.Stop.{Stop}

@@ -10,8 +10,8 @@ use Rattle.bool_eval.specs.declared.EvalFault.TheVariants as evaluation
 use Rattle.dealer_files.specs.declared.fault.FileFault.{FileFault}
 use Rattle.dealer_files.specs.declared.fault.FileFault.TheVariants as file
 use Rattle.session_core.specs.declared.verifier_job.TooManyUnits.{TooManyUnits}
-use Rattle.session_core.specs.declared.rehearsal.RehearseFault.{RehearseFault}
-use Rattle.session_core.specs.declared.rehearsal.RehearseFault.TheVariants as session
+use Rattle.session_rehearsal.specs.declared.rehearsal.RehearseFault.{RehearseFault}
+use Rattle.session_rehearsal.specs.declared.rehearsal.RehearseFault.TheVariants as session
 use Rattle.zk_cli.specs.declared.stop.Stop.{Stop}
 use Rattle.zk_cli.specs.declared.stop.Stop.TheVariants as stop
 

@@ -1,5 +1,5 @@
 // What a run hands back.
-use session_core::Rehearsal;
+use session_rehearsal::Rehearsal;
 use session_verifier::SessionNote;
 use zk_port::Door;
 

@@ -15,5 +15,5 @@ mod stop;
 pub use command_words::FILE_LIMIT;
 pub use finish::{Finish, Part};
 pub use run::run_zk;
-pub use session_core::{Bits, Rehearsal, RehearseFault, Verdict};
+pub use session_rehearsal::{Bits, Rehearsal, RehearseFault, Verdict};
 pub use stop::Stop;

@@ -13,7 +13,7 @@ use crate::say::{say, say_memory, say_stop};
 use crate::stop::Stop;
 use command_words::write_bits;
 use dealer_files::Kind;
-use session_core::{Rehearsal, Verdict, rehearse};
+use session_rehearsal::{Rehearsal, Verdict, rehearse};
 use std::alloc::{AllocError, Global};
 use zk_port::{Shelf, Sink};
 
@@ -36,7 +36,7 @@ fn rehearse_file<F: Shelf>(
     ensures kept { OnlyLoads name.now (shelf_change F.told F.faults F.faults_of shelf.old shelf.new) }
 {
     let circuit = load_circuit(alloc, shelf, name)?;
-    Ok(rehearse(alloc, &circuit, bits, kind, section, seed)?)
+    Ok(rehearse(alloc, circuit, bits, kind, section, seed)?)
 }
 
 /// The line of the verdict.

@@ -9,7 +9,7 @@ ghost use Rattle.zk_cli.specs.Outcomes.{IsReady, AnswersFor, IsEvalStatus, Write
 ghost use Rattle.zk_cli.specs.Outcomes.{IsDealStatus, DealsAll, HasStoreFailed};
 ghost use Rattle.zk_cli.specs.DealRuns.{DealLines, IsDealName};
 ghost use Rattle.zk_cli.specs.EvalRuns.{EvalLines};
-ghost use Rattle.session_core.specs.Rehearsals.{rehearsal_units};
+ghost use Rattle.session_rehearsal.specs.Rehearsals.{rehearsal_units};
 ghost use Rattle.zk_cli.specs.RehearseRuns.{HasOutputs, HasNumbers, IsRehearsed, RehearseLines};
 ghost use Rattle.session_pool.specs.Doors.{door_state};
 ghost use Rattle.session_verifier.specs.Stages.{moment_at};

@@ -5,7 +5,8 @@ ghost use Rattle.zk_cli.specs.declared.stop.Stop.TheVariants as stop;
 use bool_eval::EvalFault;
 use bristol_reader::{ReadError, ReadFault};
 use dealer_files::FileFault;
-use session_core::{RehearseFault, TooManyUnits};
+use session_core::TooManyUnits;
+use session_rehearsal::RehearseFault;
 use std::alloc::AllocError;
 use zk_port::{LoadFault, PortFault};
 

@@ -2,7 +2,8 @@ use Rattle.std.proofs.Common.{ap, subst, length, ◌≡◌, ◌∙◌, sym}
 use Rattle.zk_model.specs.Files.{AreParams}
 use Rattle.session_core.specs.Jobs.{ProverJob}
 use Rattle.session_core.specs.Cores.{ProverState}
-use Rattle.session_core.specs.Fixing.{held_in, AreEnough}
+use Rattle.session_core.specs.Fixing.{AreEnough}
+use Rattle.wire_auth.specs.Held.{held_in}
 use Rattle.session_core.proofs.Enough.{enough_units}
 use Rattle.session_core.proofs.prover_core.ProverCore.commit.Goals as goal
 

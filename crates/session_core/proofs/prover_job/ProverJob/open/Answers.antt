@@ -3,7 +3,6 @@ use Rattle.zk_model.specs.Program.{Program, section_count}
 use Rattle.zk_model.specs.Check.{all_sums}
 use Rattle.zk_model.specs.Transcript.{Grant}
 use Rattle.session_core.specs.Jobs.{ProverJob}
-use Rattle.session_core.specs.Fixing.{held_in}
 use Rattle.session_core.proofs.Masks.{sums_of_few}
 use Rattle.session_core.proofs.prover_job.ProverJob.open.Goals as goal
 
@@ -16,20 +15,20 @@ masks_of-masks-requires c =
     let sections : c.sections-sections.result ≡ section_count job.statement.program c.args.grant.section_length =
     c.sections-sections.ensures ∙ (λ i. section_count (program i) (section i)) in
     let givens : c.givens.result ≡ job.statement.program.givens = c.givens.ensures.count ∙ ap (λ (p : Program). p.givens) program in
-    let pairs = ap length c.as_slice.ensures in
+    let pairs = ap length c.dealt.ensures.dealt in
     omega (arith, c.requires.held.enough, sections, givens, pairs)
 
 pub returns-clause-sums : goal.returns-clause-sums
 returns-clause-sums c =
     let job = c.args.self.now in
-    let pairs = held_in c.args.fixed.now.pairs in
+    let pairs = c.args.wires.now.dealt in
     let program : c.program-program.result.now ≡ job.statement.program = c.program-program.ensures.program ∙ ap (λ (j : ProverJob). j.statement.program) c.self.view_is in
     let section : c.from-section.result ≡ c.args.grant.section_length = c.from-section.ensures ∙ ap (λ (g : Grant). g.section_length) c.grant.view_is in
     let sections : c.sections-sections.result ≡ section_count job.statement.program c.args.grant.section_length =
     c.sections-sections.ensures ∙ (λ i. section_count (program i) (section i)) in
     let givens : c.givens.result ≡ job.statement.program.givens = c.givens.ensures.count ∙ ap (λ (p : Program). p.givens) program in
     let masks : c.masks_of-masks.result.now ≡ take (section_count job.statement.program c.args.grant.section_length) (drop job.statement.program.givens pairs) =
-    c.masks_of-masks.ensures.masks ∙ (λ i. take (sections i) (drop (givens i) (c.as_slice.ensures i))) in
+    c.masks_of-masks.ensures.masks ∙ (λ i. take (sections i) (drop (givens i) (c.dealt.ensures.dealt i))) in
     c.in_ok-sums.ensures.sums
-    ∙ (λ i. all_sums (c.requires.held.program i) (section i) c.args.challenge c.args.fixed.now.wires.pairs (masks i))
-    ∙ sums_of_few job.statement.program c.args.grant.section_length c.args.challenge c.args.fixed.now.wires.pairs (drop job.statement.program.givens pairs)
+    ∙ (λ i. all_sums (c.requires.held.program i) (section i) c.args.challenge c.args.wires.now.pairs (masks i))
+    ∙ sums_of_few job.statement.program c.args.grant.section_length c.args.challenge c.args.wires.now.pairs (drop job.statement.program.givens pairs)

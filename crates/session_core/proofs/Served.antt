@@ -1,0 +1,82 @@
+-- What a verifier answers makes a session that it serves.
+use Rattle.std.proofs.Common.{◌≡◌, ℕ, ◌^◌, ◌<◌, ◌≤◌, List, drop, length, refl, sym, ◌∙◌, ap, subst, arith}
+use Rattle.zk_model.specs.Field.{IsElement}
+use Rattle.zk_model.specs.Program.{Program, section_count, correlations_needed}
+use Rattle.zk_model.specs.Statement.{Statement, IsStatement}
+use Rattle.zk_model.specs.Mac.{Pair, macs_of}
+use Rattle.zk_model.specs.Files.{IsVerifierFile}
+use Rattle.zk_model.specs.Transcript.{Round, IsGrant, IsTranscript, units_for, wanted_hello, spelling}
+use Rattle.zk_model.specs.Frames.{AreElements, AreSums}
+use Rattle.zk_model.specs.Check.{WirePairs, all_sums, opened_pairs}
+use Rattle.zk_model.specs.View.{verdict_code, verdict_number}
+use Rattle.zk_model.specs.HonestProver.{IsWitness}
+use Rattle.zk_model.specs.ServedVerifier.{IsServed, challenge_coin}
+use Rattle.zk_model.specs.declared.Params.{Params}
+use Rattle.zk_model.specs.declared.Side.{Side}
+use Rattle.zk_model.specs.declared.Verdict.{Verdict}
+use Rattle.zk_model.specs.declared.Verdict.TheVariants.{Accepted, RejectedSum, RejectedOpening}
+use Rattle.session_core.specs.Jobs.{VerifierJob, IsVerifierJob, granted_from}
+use Rattle.session_core.specs.Judgements.{IsJudgement, session_transcript, verdict_in}
+use Rattle.session_core.specs.Rounds.{AreServedRounds}
+use Rattle.session_core.specs.declared.judgement.Judgement.{Judgement}
+
+code_most : (verdict : Verdict) → verdict_code verdict ≤ 2
+code_most Accepted = omega arith
+code_most (RejectedSum s) = omega arith
+code_most (RejectedOpening o) = omega arith
+
+-- what came in a session: as much as the job's statement wants, in range
+pub record AreRanged (job : VerifierJob) (start : ℕ) (d : List ℕ) (both : List (ℕ × ℕ)) (macs : List ℕ) (said : Verdict) : Type 0 where
+  pub corrections : AreElements job.task.statement.program.givens d
+  pub challenge : IsElement (challenge_coin job.task.file start)
+  pub sums : AreSums (section_count job.task.statement.program job.section_length) both
+  pub openings : AreElements (length job.task.statement.program.opened) macs
+  pub number : verdict_number said < 2 ^ 32
+
+-- the transcript has the right counts and ranges
+pub in_range : (job : VerifierJob) (start : ℕ) (rounds : List Round) (d : List ℕ) (both : List (ℕ × ℕ)) (macs : List ℕ) (said : Verdict) → IsStatement job.task.statement
+    → IsVerifierFile job.task.file → IsVerifierJob job
+    → IsGrant job.task.file.params job.task.statement.program (granted_from job start)
+    → AreServedRounds job.task.file (granted_from job start) rounds
+    → AreRanged job start d both macs said
+    → IsTranscript job.task.file.params job.task.statement.program (session_transcript job start rounds d both macs said)
+in_range job start rounds d both macs said stated file is granted served ranged = record {
+  commitment = record {
+    setup = record {
+      hello = record { id = file.id; circuit = stated.circuit; outputs = stated.outputs; version = stated.version };
+      grant = granted;
+      round_count = served.count;
+      rounds = served.ranged;
+    };
+    count = ranged.corrections.counted;
+    elements = ranged.corrections.ranged;
+  };
+  challenge = ranged.challenge;
+  sum_count = ranged.sums.counted;
+  sums = ranged.sums.ranged;
+  opening_count = ranged.openings.counted;
+  openings = ranged.openings.ranged;
+  code = code_most said;
+  number = ranged.number;
+}
+
+-- the verifier serves the session
+pub served_is : (job : VerifierJob) (start : ℕ) (rounds : List Round) (d : List ℕ) (both : List (ℕ × ℕ)) (macs : List ℕ) (judgement : Judgement) (log : List (Side × ℕ))
+    → IsStatement job.task.statement → IsVerifierFile job.task.file → IsVerifierJob job
+    → IsGrant job.task.file.params job.task.statement.program (granted_from job start)
+    → AreServedRounds job.task.file (granted_from job start) rounds
+    → AreRanged job start d both macs (verdict_in judgement)
+    → IsJudgement job.task (session_transcript job start rounds d both macs (verdict_in judgement)) judgement
+    → log ≡ spelling (session_transcript job start rounds d both macs (verdict_in judgement))
+    → IsServed job.task (session_transcript job start rounds d both macs (verdict_in judgement)) (verdict_in judgement) log
+served_is job start rounds d both macs judgement log stated file is granted served ranged found spelled = record {
+  in_order = record {
+    stated = stated;
+    hello = refl;
+    transcript = in_range job start rounds d both macs (verdict_in judgement) stated file is granted served ranged;
+    bytes = spelled;
+  };
+  replies = served.replies;
+  challenge = refl;
+  judged = record { keys = found.keys; carried = found.carried; judged = found.judged; said = record { code = refl; number = refl } };
+}

@@ -1,0 +1,212 @@
+// What passes between both ends of a session: each turn is answered by the other end.
+ghost use Rattle.std.specs.Prelude.{◌≡◌, ◌+◌, ◌*◌, ◌≤◌, ℕ, [], List, length, IfOk};
+ghost use Rattle.zk_model.specs.Correlations.{span_keys};
+ghost use Rattle.zk_model.specs.Files.{AreDealt, correlations_per_unit};
+ghost use Rattle.zk_model.specs.Transcript.{Round, IsGrant};
+ghost use Rattle.zk_model.specs.View.{span_of};
+ghost use Rattle.zk_model.specs.declared.Kind.TheVariants.{Extended};
+ghost use Rattle.zk_model.specs.declared.Side.{Side};
+ghost use Rattle.wire_auth.specs.Held.{held_in};
+ghost use Rattle.session_core.specs.Ends.{whole_grant};
+ghost use Rattle.session_core.specs.Jobs.{AreValues, units_of_job, granted_from};
+ghost use Rattle.session_core.specs.Fixing.{HoldsKeys};
+ghost use Rattle.session_rehearsal.specs.Exchanges.{IsNoted, IsShortExchange, AreShort, round_log};
+ghost use Rattle.session_rehearsal.specs.Holding.{AreRoundsHeld, HoldsRounds, IsSessionOf, ends_of, ends_from};
+
+use dealer_files::{Kind, ProverFile, VerifierFile};
+use mersenne_field::{Fe, Pair};
+use proof_frames::{Frame, Grant, Hello};
+use session_core::{
+    Committed, Correlations, Opened, ProverJob, Statement, VerifierJob, ask_units, finish_units,
+    reply_units,
+};
+use session_laws::{asks_are_in_range, replies_are_in_range};
+use std::alloc::{AllocError, Global};
+use zk_model::Verdict;
+
+/// All that both ends of a session say, in order.
+#[derive(Debug, Drop)]
+pub(crate) struct Exchange {
+    pub(crate) hello: Hello,
+    pub(crate) grant: Grant,
+    /// The frames of the rounds behind the grant, none in kind direct.
+    pub(crate) asked: Vec<Frame>,
+    pub(crate) replied: Vec<Frame>,
+    pub(crate) corrections: Vec<Fe>,
+    pub(crate) challenge: Fe,
+    pub(crate) opened: Opened,
+    pub(crate) verdict: Verdict,
+}
+
+/// What the rounds behind a grant leave both ends with, and the frames of these rounds.
+#[derive(Debug, Drop)]
+struct Established<'a> {
+    asked: Vec<Frame>,
+    replied: Vec<Frame>,
+    pairs: Correlations<'a, Pair>,
+    keys: Correlations<'a, Fe>,
+}
+
+/// A session of both ends over all units of their files.
+pub(crate) fn hold<'a>(
+    alloc: Global,
+    statement: &'a Statement<'a>,
+    bits: &'a [bool],
+    prover_file: &'a ProverFile,
+    verifier_file: &'a VerifierFile,
+    section: u32,
+) -> Result<Exchange, AllocError>
+    requires values { AreValues statement.now bits.now }
+    requires dealt { AreDealt prover_file.now verifier_file.now }
+    requires granted { IsGrant prover_file.now.params statement.now.program
+        (whole_grant prover_file.now.params.total section) }
+    ensures session { IfOk result (λ e. (log : List (Side × ℕ)) → IsNoted e log
+        → IsSessionOf (ends_from statement.now bits.now prover_file.now verifier_file.now)
+        (whole_grant prover_file.now.params.total section) e.verdict log) }
+    ensures short { IfOk result IsShortExchange }
+{
+    let prover = ProverJob::new(statement, prover_file, bits);
+    let verifier = VerifierJob::new(statement, verifier_file, section);
+    let exchange = hold_turns(alloc, &prover, &verifier)?;
+    Ok(exchange)
+}
+
+/// The turns of both ends, which are those that their cores take.
+fn hold_turns(
+    alloc: Global,
+    prover: &ProverJob<'_>,
+    verifier: &VerifierJob<'_>,
+) -> Result<Exchange, AllocError>
+    requires stated { prover.now.statement ≡ verifier.now.task.statement }
+    requires dealt { AreDealt prover.now.file verifier.now.task.file }
+    requires within { units_of_job verifier.now ≤ verifier.now.task.file.params.total }
+    ensures session { IfOk result (λ e. (log : List (Side × ℕ)) → IsNoted e log
+        → IsSessionOf (ends_of prover.now verifier.now) (granted_from verifier.now 0) e.verdict log) }
+    ensures short { IfOk result IsShortExchange }
+{
+    let grant = verifier.grant(0);
+    let established = establish(alloc, prover, verifier, grant)?;
+    let exchange = check(alloc, prover, verifier, grant, established)?;
+    Ok(exchange)
+}
+
+/// The rounds behind the grant: none in kind direct, and one in kind extended.
+fn establish<'a>(
+    alloc: Global,
+    prover: &ProverJob<'a>,
+    verifier: &VerifierJob<'a>,
+    grant: Grant,
+) -> Result<Established<'a>, AllocError>
+    requires stated { prover.now.statement ≡ verifier.now.task.statement }
+    requires params { prover.now.file.params ≡ verifier.now.task.file.params }
+    requires grant { grant ≡ granted_from verifier.now 0 }
+    requires within { units_of_job verifier.now ≤ verifier.now.task.file.params.total }
+    ensures held { IfOk result (λ e. HoldsRounds prover.now.file verifier.now.task.file grant
+        (held_in e.pairs) [] (round_log e.asked.items e.replied.items)) }
+    ensures short { IfOk result (λ e. AreShort e.asked.items e.replied.items) }
+    ensures pairs { IfOk result (λ e. length (held_in e.pairs)
+        ≡ grant.count * correlations_per_unit prover.now.file.params) }
+    ensures keys { IfOk result (λ e. HoldsKeys verifier.now 0 (held_in e.keys)) }
+{
+    match verifier.file().params().kind {
+        Kind::Direct => Ok(Established {
+            asked: Vec::new(alloc),
+            replied: Vec::new(alloc),
+            pairs: Correlations::Dealt(prover.dealt_pairs(grant)),
+            keys: Correlations::Dealt(verifier.dealt_keys(0)),
+        }),
+        Kind::Extended => {
+            let established = extend(alloc, prover.file(), verifier.file(), grant)?;
+            Ok(established)
+        }
+    }
+}
+
+/// The round of all units of a grant: all asks, and all replies.
+fn extend<'a>(
+    alloc: Global,
+    prover: &'a ProverFile,
+    verifier: &'a VerifierFile,
+    grant: Grant,
+) -> Result<Established<'a>, AllocError>
+    requires params { prover.now.params ≡ verifier.now.params }
+    requires extended { verifier.now.params.kind ≡ Extended }
+    requires within { grant.start + grant.count ≤ verifier.now.params.total }
+    ensures held { IfOk result (λ e. HoldsRounds prover.now verifier.now grant
+        (held_in e.pairs) [] (round_log e.asked.items e.replied.items)) }
+    ensures short { IfOk result (λ e. AreShort e.asked.items e.replied.items) }
+    ensures pairs { IfOk result (λ e. length (held_in e.pairs)
+        ≡ grant.count * correlations_per_unit prover.now.params) }
+    ensures keys { IfOk result (λ e. held_in e.keys ≡ span_keys verifier.now (span_of grant)) }
+    ensures key_count { IfOk result (λ e. length (held_in e.keys)
+        ≡ grant.count * correlations_per_unit verifier.now.params) }
+{
+    asks_are_in_range();
+    replies_are_in_range();
+    let _verifier = verifier.params();
+    let _prover = prover.params();
+    let asked = ask_units(alloc, prover, grant)?;
+    let given = reply_units(alloc, verifier, grant, &asked)?;
+    let pairs = finish_units(alloc, prover, grant, &given.replies)?;
+    Ok(Established {
+        asked,
+        replied: given.replies,
+        pairs: Correlations::Made(pairs),
+        keys: Correlations::Made(given.keys),
+    })
+}
+
+/// The turns behind the rounds.
+fn check<'a>(
+    alloc: Global,
+    prover: &ProverJob<'a>,
+    verifier: &VerifierJob<'a>,
+    grant: Grant,
+    established: Established<'a>,
+) -> Result<Exchange, AllocError>
+    requires stated { prover.now.statement ≡ verifier.now.task.statement }
+    requires dealt { AreDealt prover.now.file verifier.now.task.file }
+    requires grant { grant ≡ granted_from verifier.now 0 }
+    requires within { units_of_job verifier.now ≤ verifier.now.task.file.params.total }
+    requires held { HoldsRounds prover.now.file verifier.now.task.file grant
+        (held_in established.pairs) [] (round_log established.asked.items established.replied.items) }
+    requires short { AreShort established.asked.items established.replied.items }
+    requires pairs { length (held_in established.pairs) ≡ grant.count * correlations_per_unit prover.now.file.params }
+    requires keys { HoldsKeys verifier.now 0 (held_in established.keys) }
+    ensures session { IfOk result (λ e. (log : List (Side × ℕ)) → IsNoted e log
+        → IsSessionOf (ends_of prover.now verifier.now) (granted_from verifier.now 0) e.verdict log) }
+    ensures short { IfOk result IsShortExchange }
+{
+    let program = prover.statement().program();
+    let _products = program.products();
+    let _total = verifier.file().total();
+    let hello = prover.greet();
+    let Established {
+        asked,
+        replied,
+        pairs,
+        keys,
+    } = established;
+    let Committed { wires, corrections } = prover.commit(alloc, grant, pairs)?;
+    let challenge = verifier.challenge(0);
+    let opened = prover.open(alloc, grant, &wires, challenge)?;
+    drop(wires);
+    let judgement = verifier.judge(
+        alloc,
+        0,
+        keys.as_slice(),
+        &corrections,
+        &opened.sums,
+        &opened.openings,
+    )?;
+    Ok(Exchange {
+        hello,
+        grant,
+        asked,
+        replied,
+        corrections,
+        challenge,
+        opened,
+        verdict: judgement.verdict(),
+    })
+}

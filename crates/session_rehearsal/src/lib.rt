@@ -1,0 +1,14 @@
+//! A rehearsal: both ends of a session, turn by turn, over files that a seed gives (Weng, Yang, Katz and Wang, Wolverine, IEEE
+//! S&P 2021; Yang, Sarkar, Weng and Wang, QuickSilver, ACM CCS 2021).
+#![tactic(auto)]
+
+mod bits;
+mod exchange;
+mod noting;
+mod rehearsal;
+mod rehearsing;
+
+pub use bits::Bits;
+pub use rehearsal::{Rehearsal, RehearseFault};
+pub use rehearsing::rehearse;
+pub use zk_model::Verdict;

@@ -1,0 +1,63 @@
+// What a rehearsal gives.
+ghost use Rattle.std.specs.Prelude.{◌≡◌};
+ghost use Rattle.session_rehearsal.specs.declared.rehearsal.RehearseFault.TheVariants.{NoMemory};
+
+use crate::bits::Bits;
+use bool_eval::EvalFault;
+use frame_link::Log;
+use std::alloc::AllocError;
+use zk_model::Verdict;
+
+/// What a rehearsal gives.
+#[derive(Debug, Drop)]
+pub struct Rehearsal {
+    /// What the circuit gives, and the prover claims.
+    pub outputs: Bits,
+    /// How many products are checked.
+    pub products: u64,
+    /// How many sections they make.
+    pub sections: u64,
+    /// How many correlations these take: one for each product and each section.
+    pub need: u64,
+    /// How many units of 64 correlations are dealt.
+    pub units: u64,
+    /// What the verifier says in the end.
+    pub verdict: Verdict,
+    /// All frames of both ends.
+    pub log: Log,
+}
+
+/// Why there is no rehearsal.
+#[derive(Clone, Copy, Debug, PartialEq, Eq)]
+pub enum RehearseFault {
+    /// The bits are not as many as the circuit's inputs: so many are needed, and so many were given.
+    WrongLength { need: u64, got: u64 },
+    /// The session takes so many correlations, and so many units, which are more than 4,096.
+    TooLarge { need: u64, units: u64 },
+    /// Memory was wanting.
+    NoMemory,
+}
+
+impl From<AllocError> for RehearseFault {
+    ghost from_gives = { λ _ e. e ≡ NoMemory };
+
+    fn from(_: AllocError) -> Self {
+        RehearseFault::NoMemory
+    }
+}
+
+impl From<EvalFault> for RehearseFault {
+    ghost use Rattle.session_rehearsal.specs.Rehearsals.{eval_fault};
+
+    ghost from_gives = { λ fault e. e ≡ eval_fault fault };
+
+    fn from(fault: EvalFault) -> Self {
+        match fault {
+            EvalFault::WrongLength { need, got } => RehearseFault::WrongLength {
+                need: need as u64,
+                got: got as u64,
+            },
+            EvalFault::NoMemory => RehearseFault::NoMemory,
+        }
+    }
+}

@@ -1,0 +1,149 @@
+// A rehearsal: files from a seed, and a session of both ends over them.
+ghost use Rattle.std.specs.Prelude.{◌≡◌, ◌≤◌, ◌^◌, ℕ, length, drop, List, Bool, IfOk, IfErr};
+ghost use Rattle.zk_model.specs.Circuit.{output_wire};
+ghost use Rattle.zk_model.specs.Dealing.{dealt_prover, dealt_verifier};
+ghost use Rattle.zk_model.specs.Program.{correlations_needed};
+ghost use Rattle.zk_model.specs.Transcript.{units_for};
+ghost use Rattle.zk_model.specs.declared.Side.{Side};
+ghost use Rattle.session_core.specs.Ends.{whole_grant};
+ghost use Rattle.session_core.specs.Jobs.{AreValues};
+ghost use Rattle.session_rehearsal.specs.Exchanges.{IsNoted, IsShortExchange};
+ghost use Rattle.session_rehearsal.specs.Holding.{IsSessionOf, ends_from};
+ghost use Rattle.session_rehearsal.specs.Rehearsals.{IsClaimed, IsRehearsalOf, RehearseCause, AreRehearsedFiles, rehearsed_params};
+
+use crate::bits::Bits;
+use crate::exchange::{Exchange, hold};
+use crate::noting::note;
+use crate::rehearsal::{Rehearsal, RehearseFault};
+use bool_eval::eval_wires;
+use bristol_reader::Circuit;
+use dealer_files::{Kind, Params, deal};
+use session_core::{CircuitClaim, MOST_UNITS, Statement, units_for, wire_bits_are_values};
+use std::alloc::{AllocError, Global};
+use zk_laws::{bits_solve, honest_session_is_accepted, one_outcome};
+
+/// The bits of a circuit's output wires, from those of all wires.
+fn output_bits<'a>(circuit: &Circuit, bits: &'a [bool]) -> &'a [bool]
+    requires { length bits.now ≡ circuit.now.wires }
+    ensures { result.now ≡ drop (output_wire circuit.now 0) bits.now }
+{
+    let first = circuit.wires() - circuit.outputs();
+    let (_, outputs) = bits.split_at(first);
+    outputs
+}
+
+/// What the files of a rehearsal are dealt for: this many units, in kind extended with 8 trees of height 10 and 64 base
+/// correlations for the code.
+fn rehearsed_params(kind: Kind, total: u64) -> Params
+    ensures { result ≡ rehearsed_params kind total }
+{
+    let (height, trees, base) = match kind {
+        Kind::Direct => (0, 0, 0),
+        Kind::Extended => (10, 8, 64),
+    };
+    Params {
+        kind,
+        height,
+        trees,
+        base,
+        total,
+    }
+}
+
+/// All that passes in a session over this many units, which are dealt from the seed.
+fn exchange_dealt(
+    alloc: Global,
+    statement: &Statement<'_>,
+    bits: &[bool],
+    kind: Kind,
+    section: u32,
+    units: u64,
+    seed: &[u8; 32],
+) -> Result<Exchange, AllocError>
+    requires some { 1 ≤ section }
+    requires most { section ≤ 2 ^ 20 }
+    requires values { AreValues statement.now bits.now }
+    requires units { units ≡ units_for (rehearsed_params kind 0) (correlations_needed statement.now.program section) }
+    requires units_some { 1 ≤ units }
+    requires units_most { units ≤ 4096 }
+    ensures held { IfOk result (λ e. (log : List (Side × ℕ)) → IsNoted e log
+        → IsSessionOf (ends_from statement.now bits.now
+        (dealt_prover (rehearsed_params kind units) seed.now) (dealt_verifier (rehearsed_params kind units) seed.now))
+        (whole_grant units section) e.verdict log) }
+    ensures short { IfOk result IsShortExchange }
+    ensures files { IfOk result (λ _. AreRehearsedFiles kind units seed.now) }
+{
+    let params = rehearsed_params(kind, units);
+    let (prover, verifier) = deal(alloc, &params, seed)?;
+    let exchange = hold(alloc, statement, bits, &prover, &verifier, section)?;
+    Ok(exchange)
+}
+
+/// A rehearsal of a claim whose prover has these bits of all wires.
+fn rehearse_claim(
+    alloc: Global,
+    claim: &CircuitClaim,
+    bits: &[bool],
+    outputs: Bits,
+    kind: Kind,
+    section: u32,
+    seed: &[u8; 32],
+) -> Result<Rehearsal, RehearseFault>
+    requires some { 1 ≤ section }
+    requires most { section ≤ 2 ^ 20 }
+    requires values { AreValues claim.now bits.now }
+    ensures done { IfOk result (λ r. (circuit : Circuit) (inputs : List Bool)
+        → IsClaimed circuit inputs bits.now outputs claim.now → IsRehearsalOf circuit inputs kind section seed.now r) }
+    ensures cause { IfErr result (λ fault. (circuit : Circuit) (inputs : List Bool)
+        → IsClaimed circuit inputs bits.now outputs claim.now → RehearseCause circuit inputs kind section fault) }
+{
+    bits_solve();
+    one_outcome();
+    honest_session_is_accepted();
+    let g = u64::from(section);
+    let statement = claim.statement();
+    let program = statement.program();
+    let need = program.need(g);
+    let units = units_for(&rehearsed_params(kind, 1), need);
+    if units > MOST_UNITS {
+        return Err(RehearseFault::TooLarge { need, units });
+    }
+    let exchange = exchange_dealt(alloc, &statement, bits, kind, section, units, seed)?;
+    let log = note(alloc, &exchange)?;
+    Ok(Rehearsal {
+        outputs,
+        products: program.products() as u64,
+        sections: program.sections(g),
+        need,
+        units,
+        verdict: exchange.verdict,
+        log,
+    })
+}
+
+/// Rehearses a session in which the prover claims what the circuit gives at these bits: the seed's files of this kind, as many
+/// units as the session takes, and both ends over a log. The circuit is given up once its program and its outputs are known. The
+/// bits must be as many as the circuit's inputs (else [`RehearseFault::WrongLength`]), and the units 4,096 at most (else
+/// [`RehearseFault::TooLarge`]).
+pub fn rehearse(
+    alloc: Global,
+    circuit: Circuit,
+    bits: &[bool],
+    kind: Kind,
+    section: u32,
+    seed: &[u8; 32],
+) -> Result<Rehearsal, RehearseFault>
+    requires some { 1 ≤ section }
+    requires most { section ≤ 2 ^ 20 }
+    ensures done { IfOk result (IsRehearsalOf circuit bits.now kind section seed.now) }
+    ensures cause { IfErr result (RehearseCause circuit bits.now kind section) }
+{
+    wire_bits_are_values();
+    let _wires = circuit.wires();
+    let wires = eval_wires(alloc, &circuit, bits)?;
+    let outputs = Bits::copied(alloc, output_bits(&circuit, &wires))?;
+    let claim = CircuitClaim::new(alloc, &circuit, [0; 32], outputs.as_slice())?;
+    drop(circuit);
+    let rehearsal = rehearse_claim(alloc, &claim, &wires, outputs, kind, section, seed)?;
+    Ok(rehearsal)
+}
