@@ -8,7 +8,7 @@ use crate::vectors::FILE_ID;
 use bool_eval::{eval, eval_wires};
 use bristol_reader::{Circuit, read};
 use dealer_files::{FileFault, NotDealt, Pads, deal, dealt, decode_prover, decode_verifier};
-use gate_translate::{FieldProgram, translate};
+use gate_translate::{FieldProgram, Step, translate};
 use mersenne_field::{Fe, Pair};
 use mult_check::{check_openings, section_left, section_sums};
 use pad_transfer::Masked;
@@ -150,9 +150,18 @@ fn values_of_products_are_those_of_the_bits(rt: HostRuntime) -> Result<(), Fail>
     };
     assert_eq!(rt; bits.as_slice(), [true, false, false].as_slice());
     let pairs = [small_pair(0, 10), small_pair(0, 20), small_pair(0, 30)];
-    if program.givens() != 3 || program.products() != 3 {
+    if bits.len() != program.wires() || program.steps() != 1 || program.givens() != 3 {
         return Err(Fail::new("another program"));
     }
+    assert_eq!(rt;
+        program.step(0),
+        Step::Mul {
+            out: 2,
+            a: 0,
+            b: 1,
+            product: 2,
+        }
+    );
     let (prover, values) = prover_wires(alloc, &circuit, &program, &bits, &pairs)?;
     assert_eq!(rt;
         values.as_slice(),
