@@ -4,13 +4,26 @@
 `rehearsing.py PROGRAM OTHER [--extended]` runs `rehearse FILE BITS` of both, in sections of the default length and over files of
 the one kind or the other, as `costs.py` says, and prints the best of five times (elapsed seconds of the whole run) and the
 largest resident memory of each. The circuits are chains: of AND gates, each of the wire before and input 0, half and all of
-131,000, and in kind extended a million; and of INV gates, half a million and a million.
+131,000, and in kind extended a million; and of INV gates, half a million and a million. Others are those of `generated.py`, of
+131,000 gates, and in kind extended a million.
 """
 import pathlib
 import sys
 import tempfile
+from typing import Iterator, NamedTuple
 
 from costs import compare, row, table_head
+from generated import INPUTS, circuit
+
+SEED = 1
+
+
+class Rehearsed(NamedTuple):
+    """A circuit of this name, and its input bits."""
+
+    name: str
+    text: str
+    bits: str
 
 
 def chain(gates: int, name: str) -> str:
@@ -21,19 +34,29 @@ def chain(gates: int, name: str) -> str:
     return "\n".join(rows) + "\n"
 
 
+def circuits(extended: bool) -> Iterator[Rehearsed]:
+    """What is rehearsed over files of one kind."""
+    chains = [(65_500, "AND"), (131_000, "AND"), (500_000, "INV"), (1_000_000, "INV")]
+    drawn = [131_000]
+    if extended:
+        chains.append((1_000_000, "AND"))
+        drawn.append(1_000_000)
+    for gates, name in chains:
+        yield Rehearsed(f"{gates:,} {name}", chain(gates, name), "11")
+    for gates in drawn:
+        yield Rehearsed(f"{gates:,} generated", circuit(gates, SEED), "01" * (INPUTS // 2))
+
+
 def main() -> None:
     given, kind = sys.argv[1:3], sys.argv[3:]
     if len(given) != 2 or kind not in ([], ["--extended"]):
         sys.exit("rehearsing.py PROGRAM OTHER [--extended]")
-    chains = [(65_500, "AND"), (131_000, "AND"), (500_000, "INV"), (1_000_000, "INV")]
-    if kind:
-        chains.append((1_000_000, "AND"))
     print(table_head("Circuit"))
     with tempfile.TemporaryDirectory() as folder:
         file = f"{folder}/text"
-        for gates, name in chains:
-            pathlib.Path(file).write_text(chain(gates, name))
-            print(row(f"{gates:,} {name}", compare(given, ["rehearse", file, "11", *kind], folder)), flush=True)
+        for name, text, bits in circuits(bool(kind)):
+            pathlib.Path(file).write_text(text)
+            print(row(name, compare(given, ["rehearse", file, bits, *kind], folder)), flush=True)
 
 
 if __name__ == "__main__":

@@ -27,7 +27,6 @@ use Rattle.gate_translate.specs.Steps.{step_equation, equations}
 use Rattle.gate_translate.specs.declared.rule.Factors.{Factors}
 use Rattle.gate_translate.specs.declared.rule.Rule.{Rule}
 use Rattle.gate_translate.specs.declared.rule.Rule.TheVariants as rule
-use Rattle.gate_translate.specs.declared.step.Step.{Step}
 use Rattle.gate_translate.specs.declared.step.Step.TheVariants as step
 
 -- the products of gates, from given value c on

@@ -1,5 +1,5 @@
 -- Steps and products as a program keeps them.
-use Rattle.std.specs.Prelude.{ℕ, ◌+◌, ◌<◌, List, [], ◌∷◌, map, slice_index_or}
+use Rattle.std.specs.Prelude.{ℕ, ◌+◌, ◌<◌, List, [], ◌∷◌, slice_index_or}
 use Rattle.zk_model.specs.Bits.{from_bit}
 use Rattle.zk_model.specs.declared.Product.{Product}
 use Rattle.gate_translate.specs.declared.rule.Factors.{Factors}

@@ -1,11 +1,14 @@
 // Each part of a session at rows that the program did not make.
+ghost use Rattle.std.specs.Prelude.{◌≡◌, ◌≤◌, Bool, List, length, IfOk};
+ghost use Rattle.zk_model.specs.Circuit.{AreWireBits};
+ghost use Rattle.zk_model.specs.Boolean.{circuit_program};
 ghost use Rattle.proof_frames.specs.Readings.{IsShortPlace};
 
 use crate::vectors::FILE_ID;
 use bool_eval::{eval, eval_wires};
-use bristol_reader::read;
+use bristol_reader::{Circuit, read};
 use dealer_files::{FileFault, NotDealt, Pads, deal, dealt, decode_prover, decode_verifier};
-use gate_translate::{FieldProgram, translate};
+use gate_translate::{FieldProgram, Step, translate};
 use mersenne_field::{Fe, Pair};
 use mult_check::{check_openings, section_left, section_sums};
 use pad_transfer::Masked;
@@ -13,8 +16,9 @@ use proof_frames::{Decoder, Expect, Frame, encode_asks, encode_elements, encode_
 use std::alloc::{AllocError, Global};
 use std::test::Fail;
 use tree_messages::{TreeAsk, TreeReply};
-use wire_auth::{KeyTriple, ProverWires, Triple, VerifierWires, bit_products};
+use wire_auth::{Correlations, KeyTriple, ProverWires, Triple, VerifierWires};
 use zk_coins::CoinBox;
+use zk_laws::bits_solve;
 use zk_model::{FrameKind, Kind, Params, Span};
 
 /// The element of a small number.
@@ -30,12 +34,31 @@ fn small_pair(x: u64, m: u64) -> Pair {
     }
 }
 
-/// The program of a circuit's text.
-fn program_of(alloc: Global, text: &[u8]) -> Result<FieldProgram, Fail> {
+/// The circuit of a text.
+fn circuit_of(alloc: Global, text: &[u8]) -> Result<Circuit, Fail> {
     let Ok(circuit) = read(alloc, text) else {
         return Err(Fail::new("no circuit"));
     };
-    Ok(translate(alloc, &circuit)?)
+    Ok(circuit)
+}
+
+/// The pairs of all wires of a circuit's program at the bits of its wires, over dealt pairs, and the corrections.
+fn prover_wires<'a>(
+    alloc: Global,
+    circuit: &Circuit,
+    program: &'a FieldProgram,
+    bits: &'a [bool],
+    dealt: &'a [Pair],
+) -> Result<(ProverWires<'a>, Vec<Fe>), Fail>
+    requires translated { program.now ≡ circuit_program 0 circuit.now }
+    requires wires { (inputs : List Bool) × AreWireBits circuit.now inputs bits.now }
+    requires dealt { program.now.givens ≤ length dealt.now }
+    ensures program { IfOk result (λ r. r.0.program ≡ program.now) }
+    ensures one_each { IfOk result (λ r. length r.1.items ≡ program.now.givens) }
+{
+    bits_solve();
+    let _wires = circuit.wires();
+    Ok(ProverWires::run(alloc, program, &[], bits, Correlations::Dealt(dealt))?)
 }
 
 #[test]
@@ -75,17 +98,21 @@ fn both_sides_of_a_check_agree(rt: HostRuntime) {
 #[test]
 fn a_correction_changes_the_value_and_the_key(rt: HostRuntime) -> Result<(), Fail> {
     let alloc = rt.alloc();
-    let program = program_of(alloc, b"0 1 1 1 1 1")?;
+    let circuit = circuit_of(alloc, b"0 1 1 1 1 1")?;
+    let program = translate(alloc, &circuit)?;
+    let Ok(bits) = eval_wires(alloc, &circuit, &[true]) else {
+        return Err(Fail::new("no bits"));
+    };
     let key = small(5);
-    let given = [small(1)];
     let pairs = [small_pair(3, 4)];
+    let keys = [small(19)];
     if program.public() != 0 || program.givens() != 1 || program.opened().len() != 1 {
         return Err(Fail::new("another program"));
     }
-    let (prover, corrections) = ProverWires::run(alloc, &program, &[], &given, &pairs)?;
+    let (prover, corrections) = prover_wires(alloc, &circuit, &program, &bits, &pairs)?;
     assert_eq!(rt; corrections.as_slice(), [small((1 << 61) - 3)].as_slice());
     assert_eq!(rt; prover.output(0), small_pair(1, 4));
-    let verifier = VerifierWires::run(alloc, &program, &[], &[small(19)], key, &corrections)?;
+    let verifier = VerifierWires::run(alloc, &program, &[], &keys, key, &corrections)?;
     assert_eq!(rt; verifier.output(0), small(9));
     assert!(rt; check_openings(&verifier, key, &[small(4)], &[small(1)]).is_ok());
     let Err(differs) = check_openings(&verifier, key, &[small(4)], &[small(0)]) else {
@@ -101,9 +128,7 @@ fn a_correction_changes_the_value_and_the_key(rt: HostRuntime) -> Result<(), Fai
 #[test]
 fn a_circuit_gives_its_outputs(rt: HostRuntime) -> Result<(), Fail> {
     let alloc = rt.alloc();
-    let Ok(circuit) = read(alloc, b"2 4 1 2 1 2 2 1 0 1 2 AND 1 1 2 3 INV") else {
-        return Err(Fail::new("no circuit"));
-    };
+    let circuit = circuit_of(alloc, b"2 4 1 2 1 2 2 1 0 1 2 AND 1 1 2 3 INV")?;
     let Ok(outputs) = eval(alloc, &circuit, &[true, true]) else {
         return Err(Fail::new("no outputs"));
     };
@@ -118,21 +143,37 @@ fn a_circuit_gives_its_outputs(rt: HostRuntime) -> Result<(), Fail> {
 #[test]
 fn values_of_products_are_those_of_the_bits(rt: HostRuntime) -> Result<(), Fail> {
     let alloc = rt.alloc();
-    let Ok(circuit) = read(alloc, b"1 3\n2 1 1\n1 1\n\n2 1 0 1 2 AND\n") else {
-        return Err(Fail::new("no circuit"));
-    };
+    let circuit = circuit_of(alloc, b"1 3\n2 1 1\n1 1\n\n2 1 0 1 2 AND\n")?;
     let program = translate(alloc, &circuit)?;
     let Ok(bits) = eval_wires(alloc, &circuit, &[true, false]) else {
         return Err(Fail::new("no bits"));
     };
     assert_eq!(rt; bits.as_slice(), [true, false, false].as_slice());
-    if bits.len() != program.wires() {
+    let pairs = [small_pair(0, 10), small_pair(0, 20), small_pair(0, 30)];
+    if bits.len() != program.wires() || program.steps() != 1 || program.givens() != 3 {
         return Err(Fail::new("another program"));
     }
-    let values = bit_products(alloc, &program, &bits)?;
+    assert_eq!(rt;
+        program.step(0),
+        Step::Mul {
+            out: 2,
+            a: 0,
+            b: 1,
+            product: 2,
+        }
+    );
+    let (prover, values) = prover_wires(alloc, &circuit, &program, &bits, &pairs)?;
     assert_eq!(rt;
         values.as_slice(),
         [small(1), small(0), small(0)].as_slice()
+    );
+    assert_eq!(rt;
+        prover.triple(2),
+        Triple {
+            a: small_pair(1, 10),
+            b: small_pair(0, 20),
+            c: small_pair(0, 30),
+        }
     );
     Ok(())
 }

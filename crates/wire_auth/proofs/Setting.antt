@@ -2,7 +2,7 @@
 use Rattle.std.proofs.Common.{◌≡◌, ℕ, zero, suc, ◌+◌, ◌<◌, ◌≤◌, List, [], ◌∷◌, ◌++◌, map, length, take, drop, get_or, set, refl, sym, ap, ◌∙◌, arith, subst, length-set, append_assoc, length-append}
 use Rattle.std.proofs.Math.Seq.{take-nil, take-append_seam}
 use Rattle.std.specs.Prelude.{Some, slice_get, All}
-use Rattle.std.proofs.lemmas.List.{get_or-map, map-set, length-map, drop-take, drop_at, length-take-le, take_all, map-append}
+use Rattle.std.proofs.lemmas.List.{length-map, drop-take, drop_at, take_all}
 use Rattle.std.proofs.lemmas.Option.{slice_get-get_or}
 use Rattle.zk_model.specs.Program.{Program, IsProgram, IsStep, MeetsStep, step_value, Carries}
 use Rattle.zk_model.specs.Boolean.{once, less_once, less_twice}

@@ -1,4 +1,4 @@
-use Rattle.std.proofs.Common.{◌≡◌, ◌≤◌, ◌<◌, ◌∙◌, ◌++◌, List, [], ◌∷◌, ℕ, arith, rules, length, take, ap, sym}
+use Rattle.std.proofs.Common.{◌∙◌, ◌++◌, [], ◌∷◌, arith, length, take, ap, sym}
 use Rattle.std.proofs.lemmas.List.{take_all}
 use Rattle.zk_model.specs.Boolean.{bits_of_products}
 use Rattle.zk_model.specs.Field.{◌-ₚ◌}

@@ -1,4 +1,4 @@
-use Rattle.std.proofs.Common.{◌≡◌, ◌∙◌, ◌≤◌, ℕ, List, arith, length, ap, refl}
+use Rattle.std.proofs.Common.{◌≡◌, ◌∙◌, ℕ, List, arith, length, ap, refl}
 use Rattle.zk_model.specs.Program.{step_value}
 use Rattle.gate_translate.specs.Steps.{step_equation}
 use Rattle.wire_auth.specs.Keys.{given_keys}

@@ -1,4 +1,4 @@
-use Rattle.std.proofs.Common.{◌≡◌, ◌∙◌, ◌≤◌, ℕ, List, arith, length, ap, refl}
+use Rattle.std.proofs.Common.{◌≡◌, ◌∙◌, ℕ, List, arith, length, ap, refl}
 use Rattle.zk_model.specs.Program.{step_value}
 use Rattle.zk_model.specs.Mac.{macs_of}
 use Rattle.gate_translate.specs.Steps.{step_equation}

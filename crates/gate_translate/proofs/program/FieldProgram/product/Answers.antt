@@ -1,7 +1,6 @@
 use Rattle.std.proofs.Common.{◌≡◌, ◌<◌, ◌∙◌, rules, arith, length, ap, sym}
 use Rattle.std.specs.Prelude.{Some, slice_get, slice_index_or}
 use Rattle.zk_model.specs.Program.{Program}
-use Rattle.zk_model.specs.declared.Product.{Product}
 use Rattle.gate_translate.specs.declared.rule.Factors.{Factors}
 use Rattle.gate_translate.proofs.Translating.{length-numbered, product_at}
 use Rattle.gate_translate.proofs.program.FieldProgram.product.Goals as goal

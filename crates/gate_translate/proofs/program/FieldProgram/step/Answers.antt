@@ -4,8 +4,6 @@ use Rattle.std.proofs.lemmas.List.{length-map}
 use Rattle.zk_model.specs.Program.{Program}
 use Rattle.gate_translate.specs.Rules.{step_of}
 use Rattle.gate_translate.specs.Steps.{step_equation}
-use Rattle.gate_translate.specs.declared.rule.Factors.{Factors}
-use Rattle.gate_translate.specs.declared.rule.Rule.{Rule}
 use Rattle.gate_translate.proofs.Translating.{step_at}
 use Rattle.gate_translate.proofs.program.FieldProgram.step.Goals as goal
 

@@ -1,12 +1,9 @@
-use Rattle.std.proofs.Common.{◌≡◌, ◌<◌, ◌≤◌, ◌∙◌, ◌&&◌, ℕ, List, arith, length, map, ap, sym, subst}
-use Rattle.std.specs.Prelude.{Some, slice_get, slice_index, slice_index_or}
-use Rattle.std.proofs.lemmas.List.{length-map, get_or-map}
+use Rattle.std.proofs.Common.{◌≡◌, ◌<◌, ◌∙◌, ◌&&◌, arith, length, ap, sym}
+use Rattle.std.specs.Prelude.{Some, slice_get, slice_index_or}
 use Rattle.std.proofs.lemmas.Option.{get_or_from_slice_get}
 use Rattle.zk_model.specs.Bits.{from_bit}
-use Rattle.zk_model.specs.Boolean.{bits_of_products}
 use Rattle.zk_model.specs.Circuit.{bit_of}
-use Rattle.zk_model.specs.Check.{Triple}
-use Rattle.zk_model.specs.Mac.{Pair, pair_at, macs_of}
+use Rattle.zk_model.specs.Mac.{pair_at}
 use Rattle.zk_model.specs.declared.Product as zk
 use Rattle.wire_auth.specs.Held.{held_in}
 use Rattle.wire_auth.specs.Sides.{ProverSide}

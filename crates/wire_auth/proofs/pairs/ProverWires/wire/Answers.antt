@@ -1,8 +1,8 @@
-use Rattle.std.proofs.Common.{◌≡◌, ◌<◌, ◌∙◌, ℕ, false, List, arith, rules, length, map, ap, sym}
-use Rattle.std.specs.Prelude.{slice_index, slice_index_or}
+use Rattle.std.proofs.Common.{◌≡◌, ◌<◌, ◌∙◌, false, arith, map, ap, sym}
+use Rattle.std.specs.Prelude.{slice_index}
 use Rattle.std.proofs.lemmas.List.{length-map, get_or-map, get_or_default}
 use Rattle.zk_model.specs.Bits.{from_bit}
-use Rattle.zk_model.specs.Mac.{Pair, pair_at}
+use Rattle.zk_model.specs.Mac.{pair_at}
 use Rattle.wire_auth.specs.Sides.{ProverSide}
 use Rattle.wire_auth.proofs.Joined.{joined_at}
 use Rattle.wire_auth.proofs.pairs.ProverWires.wire.Goals as goal
