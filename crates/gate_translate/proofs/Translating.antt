@@ -22,7 +22,7 @@ use Rattle.zk_laws.specs.Booleans.{CircuitIsProgram, GatesAreFew}
 use Rattle.bristol_reader.specs.Circuits.{IsCircuit}
 use Rattle.gate_translate.specs.Gates.{gate_rule, gate_factors, squared}
 use Rattle.gate_translate.specs.Programs.{IsHeld, program_of}
-use Rattle.gate_translate.specs.Rules.{IsRule, factors_of, step_of, numbered}
+use Rattle.gate_translate.specs.Rules.{HasFactors, IsRule, factors_of, step_of, numbered}
 use Rattle.gate_translate.specs.Steps.{step_equation, equations}
 use Rattle.gate_translate.specs.declared.rule.Factors.{Factors}
 use Rattle.gate_translate.specs.declared.rule.Rule.{Rule}
@@ -84,6 +84,14 @@ product_at factors i e below =
   where
     same : 0 + i ≡ i
     same = omega arith
+
+-- a step that takes a given value has its factors
+pub has_factors : (factors : List Factors) (r : Rule) → IsRule (length factors) r → HasFactors (numbered 0 factors) (step_of factors r)
+has_factors factors (rule.Bit out value) within = tt
+has_factors factors (rule.Copy out a) within = tt
+has_factors factors (rule.Not out a) within = tt
+has_factors factors (rule.Mul out product) within = product_at factors product (record { a = 0; b = 0 }) within
+has_factors factors (rule.XorFrom out product) within = product_at factors product (record { a = 0; b = 0 }) within
 
 -- which has the given value of its number
 pub numbers_are : (factors : List Factors) (i : ℕ) (product : Product) → slice_get (numbered 0 factors) i ≡ Some product → product.c ≡ i

@@ -1,5 +1,5 @@
 -- Steps and products as a program keeps them.
-use Rattle.std.specs.Prelude.{ℕ, ◌+◌, ◌<◌, List, [], ◌∷◌, slice_index_or}
+use Rattle.std.specs.Prelude.{◌≡◌, Some, slice_get, ℕ, ◌+◌, ◌<◌, List, [], ◌∷◌, slice_index_or}
 use Rattle.zk_model.specs.Bits.{from_bit}
 use Rattle.zk_model.specs.declared.Product.{Product}
 use Rattle.gate_translate.specs.declared.rule.Factors.{Factors}
@@ -32,3 +32,11 @@ step_of factors (XorFrom out product) = step.XorFrom out (factors_of factors pro
 abbrev pub numbered : ℕ → List Factors → List Product
 numbered number [] = []
 numbered number (factors ∷ others) = record { a = factors.a; b = factors.b; c = number } ∷ numbered (number + 1) others
+
+-- a step that takes a given value has the factors of the product of its number
+abbrev pub HasFactors : List Product → Step → Type 0
+HasFactors products (step.Const out value) = Unit {0}
+HasFactors products (step.Copy out a) = Unit {0}
+HasFactors products (step.Not out a) = Unit {0}
+HasFactors products (step.Mul out a b product) = slice_get products product ≡ Some (record { a = a; b = b; c = product })
+HasFactors products (step.XorFrom out a b product) = slice_get products product ≡ Some (record { a = a; b = b; c = product })

@@ -2,7 +2,7 @@
 ghost use Rattle.std.specs.Prelude.{◌≡◌, ◌≤◌, ◌<◌, length, slice_get, All, Some};
 ghost use Rattle.zk_model.specs.Program.{section_count, correlations_needed};
 ghost use Rattle.gate_translate.specs.Programs.{IsHeld, program_of};
-ghost use Rattle.gate_translate.specs.Rules.{IsRule};
+ghost use Rattle.gate_translate.specs.Rules.{HasFactors, IsRule};
 ghost use Rattle.gate_translate.specs.Steps.{step_equation};
 
 use crate::rule::{Factors, Rule, step_of};
@@ -53,6 +53,7 @@ impl FieldProgram {
     pub fn step(&self, k: usize) -> Step
         requires { k < length self.now.steps }
         ensures step { slice_get self.now.steps k ≡ Some (step_equation result) }
+        ensures factors { HasFactors self.now.products result }
         ensures held { IsHeld self.now }
     {
         step_of(self.rules[k], &self.factors)
