@@ -2,7 +2,7 @@
 ghost use Rattle.std.specs.Prelude.{◌≡◌, ◌+◌, ◌*◌, ◌<◌, ◌≤◌, length, map, All, IfOk};
 ghost use Rattle.zk_model.specs.Correlations.{unit_keys, span_keys};
 ghost use Rattle.zk_model.specs.Replies.{unit_reply};
-ghost use Rattle.zk_model.specs.Files.{correlations_per_unit};
+ghost use Rattle.zk_model.specs.Files.{AreParams, correlations_per_unit};
 ghost use Rattle.zk_model.specs.Frames.{AreAsks, AreReplies};
 ghost use Rattle.zk_model.specs.Frames as model;
 ghost use Rattle.zk_model.specs.HonestProver.{round_asks};
@@ -15,7 +15,8 @@ ghost use Rattle.session_core.specs.Cores.{AreRoundPairs};
 ghost use Rattle.session_core.specs.Extending.{asks_in, replies_in, asks_of, replies_of};
 ghost use Rattle.session_core.specs.Fixing.{AreFirstPairs};
 
-use dealer_files::{ProverFile, VerifierFile};
+use crate::verifier_job::correlations_per_unit;
+use dealer_files::{Params, ProverFile, VerifierFile};
 use linear_code::Columns;
 use mersenne_field::{Fe, Pair};
 use proof_frames::{Frame, Grant};
@@ -84,6 +85,13 @@ pub(crate) fn finish_unit(
     Ok(pairs)
 }
 
+/// How many correlations so many units give: the room to take for them at once.
+fn room_of(params: &Params, units: usize) -> usize
+    requires { AreParams params.now }
+{
+    units.saturating_mul(correlations_per_unit(params) as usize)
+}
+
 /// The pairs that the replies for all units of a grant make, unit by unit.
 pub fn finish_units(
     alloc: Global,
@@ -101,7 +109,7 @@ pub fn finish_units(
 {
     let _total = file.total();
     let columns = columns_of(alloc, &file.params(), &file.code_seed())?;
-    let mut pairs = Vec::new(alloc);
+    let mut pairs = Vec::with_capacity(alloc, room_of(&file.params(), replies.len()))?;
     for (i, frame) in replies.iter().enumerate() {
         let unit = grant.start + i as u64;
         let more = finish_unit(alloc, file, &columns, unit, replies_in(frame))?;
@@ -150,7 +158,7 @@ pub fn reply_units(
     let _total = file.total();
     let columns = columns_of(alloc, &file.params(), &file.code_seed())?;
     let mut replies = Vec::with_capacity(alloc, asked.len())?;
-    let mut keys = Vec::new(alloc);
+    let mut keys = Vec::with_capacity(alloc, room_of(&file.params(), asked.len()))?;
     for (i, frame) in asked.iter().enumerate() {
         let unit = grant.start + i as u64;
         let reply = reply_unit(alloc, file, &columns, unit, asks_in(frame))?;

@@ -26,7 +26,7 @@ use wire_auth::VerifierWires;
 pub const MOST_UNITS: u64 = 4096;
 
 /// How many correlations a unit gives to a session.
-fn correlations_per_unit(params: &Params) -> u64
+pub(crate) fn correlations_per_unit(params: &Params) -> u64
     requires { AreParams params.now }
     ensures count { result ≡ correlations_per_unit params.now }
     ensures some { 1 ≤ result }
