@@ -1,19 +1,14 @@
 -- The pairs of a session over files of kind direct.
-use Rattle.std.proofs.Common.{◌≡◌, ℕ, ◌+◌, ◌-◌, List, [], map, refl, sym, ◌∙◌, ap, subst, arith, append-nil}
+use Rattle.std.proofs.Common.{ℕ, ◌+◌, ◌-◌, List, [], map, refl, sym, ◌∙◌, arith}
 use Rattle.std.specs.List.{range_with_len}
 use Rattle.std.proofs.lemmas.List.{length-map}
-use Rattle.std.proofs.lemmas.List.Elements.{All-nil}
 use Rattle.std.proofs.lemmas.List.Folds.{flat_map-map}
 use Rattle.std.proofs.lemmas.List.FromFn.{length-range_with_len, get_or-map-range_with_len}
 use Rattle.zk_model.specs.Mac.{Pair}
-use Rattle.zk_model.specs.Files.{ProverFile, VerifierFile, prover_unit, span_pairs, rounds_of}
-use Rattle.zk_model.specs.Transcript.{Grant, Setup, IsRound}
+use Rattle.zk_model.specs.Files.{ProverFile, prover_unit, span_pairs}
+use Rattle.zk_model.specs.Transcript.{Setup}
 use Rattle.zk_model.specs.Correlations.{IsProverView}
-use Rattle.zk_model.specs.HonestProver.{round_asks}
-use Rattle.zk_model.specs.ServedVerifier.{round_replies}
 use Rattle.zk_model.specs.View.{span_of}
-use Rattle.zk_model.specs.declared.Kind.TheVariants.{Direct}
-use Rattle.zk_model.specs.declared.Side.{Side}
 
 -- without rounds the prover sees the pairs that are dealt in the units of the grant
 pub pairs_seen : (file : ProverFile) (setup : Setup) → IsProverView file (record setup { rounds = [] }) (span_pairs file (span_of setup.grant))

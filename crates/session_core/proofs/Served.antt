@@ -1,17 +1,13 @@
 -- What a verifier answers makes a session that it serves.
-use Rattle.std.proofs.Common.{◌≡◌, ℕ, ◌^◌, ◌<◌, ◌≤◌, List, drop, length, refl, sym, ◌∙◌, ap, subst, arith}
+use Rattle.std.proofs.Common.{◌≡◌, ℕ, ◌^◌, ◌<◌, ◌≤◌, List, length, refl, arith}
 use Rattle.zk_model.specs.Field.{IsElement}
-use Rattle.zk_model.specs.Program.{Program, section_count, correlations_needed}
-use Rattle.zk_model.specs.Statement.{Statement, IsStatement}
-use Rattle.zk_model.specs.Mac.{Pair, macs_of}
+use Rattle.zk_model.specs.Program.{section_count}
+use Rattle.zk_model.specs.Statement.{IsStatement}
 use Rattle.zk_model.specs.Files.{IsVerifierFile}
-use Rattle.zk_model.specs.Transcript.{Round, IsGrant, IsTranscript, units_for, wanted_hello, spelling}
+use Rattle.zk_model.specs.Transcript.{Round, IsGrant, IsTranscript, spelling}
 use Rattle.zk_model.specs.Frames.{AreElements, AreSums}
-use Rattle.zk_model.specs.Check.{WirePairs, all_sums, opened_pairs}
 use Rattle.zk_model.specs.View.{verdict_code, verdict_number}
-use Rattle.zk_model.specs.HonestProver.{IsWitness}
 use Rattle.zk_model.specs.ServedVerifier.{IsServed, challenge_coin}
-use Rattle.zk_model.specs.declared.Params.{Params}
 use Rattle.zk_model.specs.declared.Side.{Side}
 use Rattle.zk_model.specs.declared.Verdict.{Verdict}
 use Rattle.zk_model.specs.declared.Verdict.TheVariants.{Accepted, RejectedSum, RejectedOpening}

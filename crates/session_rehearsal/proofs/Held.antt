@@ -1,25 +1,19 @@
 -- What both ends answer makes a session of an honest prover that the verifier serves.
-use Rattle.std.proofs.Common.{◌≡◌, ℕ, ◌^◌, ◌<◌, ◌≤◌, List, drop, length, refl, sym, ◌∙◌, ap, subst, arith}
-use Rattle.zk_model.specs.Field.{IsElement}
-use Rattle.zk_model.specs.Program.{Program, section_count, correlations_needed}
-use Rattle.zk_model.specs.Statement.{Statement, IsStatement}
+use Rattle.std.proofs.Common.{◌≡◌, ℕ, List, drop, refl, sym, ◌∙◌, ap, subst}
+use Rattle.zk_model.specs.Program.{Program, correlations_needed}
+use Rattle.zk_model.specs.Statement.{Statement}
 use Rattle.zk_model.specs.Mac.{Pair, macs_of}
-use Rattle.zk_model.specs.Files.{IsVerifierFile}
-use Rattle.zk_model.specs.Transcript.{Round, IsGrant, IsTranscript, units_for, wanted_hello, spelling}
-use Rattle.zk_model.specs.Frames.{AreElements, AreSums}
+use Rattle.zk_model.specs.Transcript.{Round, IsGrant, units_for, wanted_hello}
 use Rattle.zk_model.specs.Check.{WirePairs, all_sums, opened_pairs}
-use Rattle.zk_model.specs.View.{verdict_code, verdict_number}
 use Rattle.zk_model.specs.HonestProver.{IsWitness}
 use Rattle.zk_model.specs.ServedVerifier.{IsServed, challenge_coin}
 use Rattle.zk_model.specs.declared.Params.{Params}
 use Rattle.zk_model.specs.declared.Side.{Side}
 use Rattle.zk_model.specs.declared.Verdict.{Verdict}
-use Rattle.zk_model.specs.declared.Verdict.TheVariants.{Accepted, RejectedSum, RejectedOpening}
 use Rattle.session_core.specs.Ends.{IsFixed, whole_grant}
-use Rattle.session_core.specs.Jobs.{ProverJob, VerifierJob, IsVerifierJob, granted_from}
-use Rattle.session_core.specs.Judgements.{IsJudgement, session_transcript, verdict_in}
+use Rattle.session_core.specs.Jobs.{ProverJob, VerifierJob, granted_from}
+use Rattle.session_core.specs.Judgements.{session_transcript, verdict_in}
 use Rattle.session_rehearsal.specs.Holding.{AreRoundsHeld, IsHonestWith, IsSessionOf, ends_of}
-use Rattle.session_core.specs.Rounds.{AreServedRounds}
 use Rattle.session_core.specs.declared.judgement.Judgement.{Judgement}
 
 -- the prover is honest with these wires

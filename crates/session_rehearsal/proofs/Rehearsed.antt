@@ -1,14 +1,11 @@
 -- A rehearsal's statement and witness, and what its session makes.
-use Rattle.std.proofs.Common.{◌≡◌, ℕ, ◌+◌, ◌-◌, ◌^◌, ◌<◌, ◌≤◌, Bool, List, [], ◌++◌, map, take, drop, length, replicate, refl, sym, ◌∙◌, ap, subst, arith, length-drop}
+use Rattle.std.proofs.Common.{◌≡◌, ℕ, ◌+◌, ◌-◌, ◌^◌, ◌≤◌, Bool, List, [], ◌++◌, map, take, drop, length, replicate, refl, sym, ◌∙◌, ap, subst, arith}
 use Rattle.std.proofs.lemmas.List.{length-map}
-use Rattle.std.proofs.lemmas.List.Elements.{All-replicate}
-use Rattle.sha2.specs.Sha256.{sha256}
-use Rattle.zk_model.specs.Bits.{from_bit, digits_of}
-use Rattle.zk_model.specs.Bytes.{AreBytes}
+use Rattle.zk_model.specs.Bits.{from_bit}
 use Rattle.zk_model.specs.Circuit.{Circuit, IsWellFormed, AreWireBits, output_wire}
 use Rattle.zk_model.specs.Program.{Program, Solves, opened_values, correlations_needed}
 use Rattle.zk_model.specs.Boolean.{circuit_program, products_of_bits}
-use Rattle.zk_model.specs.Statement.{IsStatement, circuit_statement}
+use Rattle.zk_model.specs.Statement.{circuit_statement}
 use Rattle.zk_model.specs.Transcript.{Grant, Transcript, IsGrant, units_for, bytes_from, verdict_frame}
 use Rattle.zk_model.specs.Dealing.{dealt_prover, dealt_verifier}
 use Rattle.zk_model.specs.HonestProver.{IsWitness}
@@ -20,10 +17,8 @@ use Rattle.zk_model.specs.declared.Side.{Side}
 use Rattle.zk_model.specs.declared.Side.TheVariants.{Verifier}
 use Rattle.zk_model.specs.declared.Verdict.{Verdict}
 use Rattle.zk_model.specs.declared.Verdict.TheVariants.{Accepted}
-use Rattle.zk_laws.specs.Booleans.{CircuitIsStatement, BitsSolve}
+use Rattle.zk_laws.specs.Booleans.{BitsSolve}
 use Rattle.zk_laws.specs.Rehearsing.{HonestSessionIsAccepted}
-use Rattle.std.proofs.lemmas.List.FromFn.{length-range_with_len}
-use Rattle.zk_laws.proofs.CircuitIsProgram.{numbered}
 use Rattle.zk_laws.proofs.BitsSolve.{value_of_bit}
 use Rattle.zk_laws.proofs.Satisfied.{inputs_are, outputs_are}
 use Rattle.session_rehearsal.proofs.Spelled.{before_verdict, ends_with_verdict}

@@ -1,4 +1,4 @@
-use Rattle.std.proofs.Common.{◌≤◌, arith}
+use Rattle.std.proofs.Common.{arith}
 use Rattle.session_core.proofs.circuit_claim.wire_bits_are_values.Goals as goal
 
 pub returns : goal.returns

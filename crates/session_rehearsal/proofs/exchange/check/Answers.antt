@@ -1,9 +1,8 @@
-use Rattle.std.proofs.Common.{◌≡◌, ◌++◌, ◌∷◌, ◌≤◌, ◌<◌, ◌^◌, ℕ, List, ap, ◌∙◌, subst, refl, sym, arith, length, drop, map, flat_map}
-use Rattle.std.specs.Prelude.{All}
+use Rattle.std.proofs.Common.{◌≡◌, ◌∷◌, ◌≤◌, ◌<◌, ◌^◌, ℕ, List, ap, ◌∙◌, subst, refl, sym, arith, length, drop, map, flat_map}
 use Rattle.zk_model.specs.Field.{IsElement}
 use Rattle.zk_model.specs.Files.{AreParams, IsVerifierFile}
 use Rattle.zk_model.specs.Statement.{Statement, IsStatement}
-use Rattle.zk_model.specs.Transcript.{Grant, IsGrant, bytes_from, hello_frame, grant_frame, turn_bytes, corrections_frame, challenge_frame, sums_frame, openings_frame, verdict_frame, wanted_hello, units_for, spelling}
+use Rattle.zk_model.specs.Transcript.{Grant, IsGrant, bytes_from, hello_frame, grant_frame, turn_bytes, wanted_hello, units_for, spelling}
 use Rattle.zk_model.specs.View.{verdict_code, verdict_number}
 use Rattle.zk_model.specs.declared.Side.TheVariants.{Prover, Verifier}
 use Rattle.zk_model.specs.declared.Verdict.{Verdict}

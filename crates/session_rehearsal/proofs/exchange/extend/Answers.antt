@@ -1,11 +1,9 @@
-use Rattle.std.proofs.Common.{◌∙◌, ◌++◌, sym, ap, subst, refl, map, flat_map}
+use Rattle.std.proofs.Common.{◌∙◌, sym, ap, subst, refl, map}
 use Rattle.std.specs.Prelude.{All}
 use Rattle.zk_model.specs.Frames as model
 use Rattle.zk_model.specs.Frames.{AreReplies, frame_spelling}
-use Rattle.zk_model.specs.Transcript.{bytes_from}
 use Rattle.zk_model.specs.ServedVerifier.{round_replies}
 use Rattle.zk_model.specs.declared.Params.{Params}
-use Rattle.zk_model.specs.declared.Side.TheVariants.{Prover, Verifier}
 use Rattle.session_core.specs.Extending.{asks_of, replies_of}
 use Rattle.session_core.specs.Fixing.{AreFirstPairs}
 use Rattle.session_rehearsal.proofs.HeldRounds.{knows_round, asked_are, replied_are, round_held}

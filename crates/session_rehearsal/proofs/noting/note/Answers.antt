@@ -1,10 +1,9 @@
-use Rattle.std.proofs.Common.{◌≡◌, ◌++◌, ◌∙◌, ◌<◌, ℕ, List, ap, subst, arith, map, flat_map}
+use Rattle.std.proofs.Common.{◌++◌, ◌∙◌, ℕ, List, ap, subst, arith, map, flat_map}
 use Rattle.std.specs.Prelude.{All}
 use Rattle.zk_model.specs.Field.{IsElement}
 use Rattle.zk_model.specs.Frames.{frame_spelling}
 use Rattle.zk_model.specs.Transcript.{bytes_from, hello_frame, grant_frame, corrections_frame, challenge_frame, sums_frame, openings_frame, verdict_frame}
 use Rattle.zk_model.specs.View.{verdict_code, verdict_number}
-use Rattle.zk_model.specs.declared.Side.{Side}
 use Rattle.zk_model.specs.declared.Side.TheVariants.{Prover, Verifier}
 use Rattle.proof_frames.specs.Frames.{said}
 use Rattle.session_rehearsal.proofs.noting.note.Goals as goal

@@ -1,5 +1,4 @@
 use Rattle.std.proofs.Common.{◌≡◌, ℕ, ◌∙◌, ap, sym, subst}
-use Rattle.zk_model.specs.Program.{Program}
 use Rattle.zk_model.specs.Files.{ProverFile, VerifierFile, IsProverFile, IsVerifierFile, AreDealt}
 use Rattle.zk_model.specs.Dealing.{dealt_prover, dealt_verifier}
 use Rattle.zk_model.specs.declared.Params.{Params}

@@ -1,4 +1,4 @@
-use Rattle.std.proofs.Common.{◌≡◌, ◌∙◌, ap, sym, subst, drop, replicate}
+use Rattle.std.proofs.Common.{◌∙◌, ap, sym, subst, drop, replicate}
 use Rattle.zk_model.specs.Circuit.{AreWireBits, output_wire}
 use Rattle.zk_model.specs.Statement.{Statement, circuit_statement}
 use Rattle.session_core.specs.Jobs.{AreValues}

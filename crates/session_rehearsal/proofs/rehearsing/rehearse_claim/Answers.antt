@@ -1,4 +1,4 @@
-use Rattle.std.proofs.Common.{◌≡◌, ◌∙◌, ℕ, ap, sym, subst, length, drop, replicate, rules, ◌≤◌}
+use Rattle.std.proofs.Common.{◌≡◌, ◌∙◌, ap, sym, subst, length, drop, replicate, rules}
 use Rattle.zk_model.specs.Circuit.{output_wire}
 use Rattle.zk_model.specs.Program.{Program, section_count, correlations_needed}
 use Rattle.zk_model.specs.Boolean.{circuit_program}
