@@ -19,7 +19,7 @@ pub struct Rehearsal {
     pub sections: u64,
     /// How many correlations these take: one for each product and each section.
     pub need: u64,
-    /// How many units of 64 correlations are dealt.
+    /// How many units of its kind of files are dealt.
     pub units: u64,
     /// What the verifier says in the end.
     pub verdict: Verdict,
