@@ -21,6 +21,10 @@ use Rattle.bristol_reader.specs.Wants.{IsFaultBehind, IsPlaced, pair_text, singl
 abbrev pub flag_of : List Bool → ℕ → Bool
 flag_of flags wire = slice_index_or flags wire false
 
+-- by their flags, all wires below a mark are set
+abbrev pub AreSetBelow : List Bool → ℕ → Type 0
+AreSetBelow flags mark = (wire : ℕ) → wire < mark → flag_of flags wire ≡ true
+
 -- the flags say which wires are set so far
 pub record AreFlags (flags : List Bool) (begun : Circuit) : Type 0 where
   pub whole : length flags ≡ begun.wires

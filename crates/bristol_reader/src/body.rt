@@ -1,13 +1,14 @@
 // The gates of a circuit's text.
 ghost use Rattle.std.specs.Prelude.{◌≡◌, ◌≤◌, ◌^◌, IfOk, IfErr, IfSome, IfNone, length};
 ghost use Rattle.zk_model.specs.Circuit.{wire_set};
-ghost use Rattle.bristol_reader.specs.Bodies.{AreFirstFlags, AreOutputsSet, BodyCause, IsBody, IsUnsetOutput};
+ghost use Rattle.bristol_reader.specs.Bodies.{AreOutputsSet, BodyCause, IsBody, IsUnsetOutput};
 
 use crate::fault::ReadError;
 use crate::gate::read_gate;
 use crate::header::Header;
+use crate::set_wires::SetWires;
 use crate::tokens::Tokens;
-use std::alloc::{AllocError, Global};
+use std::alloc::Global;
 use zk_model::{GateRow, ReadFault};
 
 /// The wire that a gate sets.
@@ -39,17 +40,6 @@ fn unset_output(set: &[bool], outputs: u32) -> Option<u32>
     None
 }
 
-/// The flags of the wires before any gate: the inputs are set.
-fn first_flags(alloc: Global, header: Header) -> Result<Vec<bool>, AllocError>
-    requires { header.inputs ≤ header.wires }
-    ensures { IfOk result (λ set. AreFirstFlags set.items header.wires header.inputs) }
-{
-    let mut set = Vec::new(alloc);
-    set.resize(header.inputs as usize, true)?;
-    set.resize(header.wires as usize, false)?;
-    Ok(set)
-}
-
 /// Takes the gates and the end of the text.
 pub fn read_body(
     alloc: Global,
@@ -62,15 +52,15 @@ pub fn read_body(
     ensures found { IfOk result (λ gates. IsBody header tokens.old gates.items) }
     ensures cause { IfErr result (BodyCause header tokens.old) }
 {
-    let mut set = first_flags(alloc, header)?;
+    let mut set = SetWires::of_inputs(alloc, header.wires, header.inputs)?;
     let mut gates = Vec::with_capacity(alloc, header.gates as usize)?;
     'gates: for _ in 0..header.gates {
         let gate = read_gate(tokens, &set)?;
         gates.push(gate)?;
-        set[out_wire(gate) as usize] = true;
+        set.insert(out_wire(gate));
     }
     tokens.end()?;
-    if let Some(wire) = unset_output(&set, header.outputs) {
+    if let Some(wire) = unset_output(set.as_slice(), header.outputs) {
         return Err(ReadFault::OutputUnset { wire }.into());
     }
     Ok(gates)

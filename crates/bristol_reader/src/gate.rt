@@ -9,12 +9,13 @@ ghost use Rattle.bristol_reader.specs.Gates.{MayBeInput, MayNotBeInput};
 ghost use Rattle.bristol_reader.specs.Gates.{FitsFlags, pair_gate, single_gate, IsWrongPair, IsWrongSingle};
 ghost use Rattle.bristol_reader.specs.Gates.{IsGateFault, IsGateBehind, IsFaultIn};
 
+use crate::set_wires::SetWires;
 use crate::tokens::Tokens;
 use crate::wants::{Pair, Placed, Single};
 use zk_model::{GateRow, ReadFault};
 
 /// The wire that a gate reads, which is to be set.
-fn read_wire(set: &[bool], wire: Placed) -> Result<u32, ReadFault>
+fn read_wire(set: &SetWires, wire: Placed) -> Result<u32, ReadFault>
     ensures wire { IfOk result (IsSetWire set.now wire) }
     ensures fault { IfErr result (IsNoSetWire set.now wire) }
 {
@@ -22,14 +23,14 @@ fn read_wire(set: &[bool], wire: Placed) -> Result<u32, ReadFault>
     if number as usize >= set.len() {
         return Err(ReadFault::WireRange { token });
     }
-    if !set[number as usize] {
+    if !set.contains(number) {
         return Err(ReadFault::ReadBeforeSet { token });
     }
     Ok(number)
 }
 
 /// The wire that a gate sets, which is not to be set before.
-fn set_wire(set: &[bool], wire: Placed) -> Result<u32, ReadFault>
+fn set_wire(set: &SetWires, wire: Placed) -> Result<u32, ReadFault>
     ensures wire { IfOk result (IsFreeWire set.now wire) }
     ensures fault { IfErr result (IsNoFreeWire set.now wire) }
 {
@@ -37,14 +38,14 @@ fn set_wire(set: &[bool], wire: Placed) -> Result<u32, ReadFault>
     if number as usize >= set.len() {
         return Err(ReadFault::WireRange { token });
     }
-    if set[number as usize] {
+    if set.contains(number) {
         return Err(ReadFault::SetTwice { token });
     }
     Ok(number)
 }
 
 /// Looks at the input of a gate: EQ has a constant, and the others a wire that is to be set.
-fn check_input(set: &[bool], name: Single, input: Placed) -> Result<(), ReadFault>
+fn check_input(set: &SetWires, name: Single, input: Placed) -> Result<(), ReadFault>
     ensures input { IfOk result (λ _. MayBeInput set.now name input) }
     ensures fault { IfErr result (MayNotBeInput set.now name input) }
 {
@@ -87,7 +88,7 @@ fn single_gate(name: Single, input: u32, out: u32) -> GateRow
 
 /// The gate with two inputs, if the wires that it reads are set and the one that it sets is not.
 fn pair_row(
-    set: &[bool],
+    set: &SetWires,
     name: Pair,
     a: Placed,
     b: Placed,
@@ -105,7 +106,12 @@ fn pair_row(
 }
 
 /// The gate with one input, if that is right, and the wire that it sets is not set before.
-fn single_row(set: &[bool], name: Single, input: Placed, out: Placed) -> Result<GateRow, ReadFault>
+fn single_row(
+    set: &SetWires,
+    name: Single,
+    input: Placed,
+    out: Placed,
+) -> Result<GateRow, ReadFault>
     requires { length set.now ≤ 2 ^ 20 }
     ensures row { IfOk result (λ gate. gate ≡ single_gate name input.number out.number) }
     ensures input { IfOk result (λ _. MayBeInput set.now name input) }
@@ -118,7 +124,7 @@ fn single_row(set: &[bool], name: Single, input: Placed, out: Placed) -> Result<
 }
 
 /// Takes the tokens of a gate with two inputs behind their numbers of inputs and of outputs.
-fn read_pair(tokens: &mut Tokens, set: &[bool]) -> Result<GateRow, ReadFault>
+fn read_pair(tokens: &mut Tokens, set: &SetWires) -> Result<GateRow, ReadFault>
     requires { length set.now ≤ 2 ^ 20 }
     ensures gate { IfOk result (IsGateBehind 2 tokens.old tokens.new) }
     ensures fits { IfOk result (FitsFlags set.now) }
@@ -133,7 +139,7 @@ fn read_pair(tokens: &mut Tokens, set: &[bool]) -> Result<GateRow, ReadFault>
 }
 
 /// Takes the tokens of a gate with one input.
-fn read_single(tokens: &mut Tokens, set: &[bool]) -> Result<GateRow, ReadFault>
+fn read_single(tokens: &mut Tokens, set: &SetWires) -> Result<GateRow, ReadFault>
     requires { length set.now ≤ 2 ^ 20 }
     ensures gate { IfOk result (IsGateBehind 1 tokens.old tokens.new) }
     ensures fits { IfOk result (FitsFlags set.now) }
@@ -160,7 +166,7 @@ fn read_numbers(tokens: &mut Tokens) -> Result<bool, ReadFault>
 }
 
 /// Takes the tokens of a gate.
-pub fn read_gate(tokens: &mut Tokens, set: &[bool]) -> Result<GateRow, ReadFault>
+pub fn read_gate(tokens: &mut Tokens, set: &SetWires) -> Result<GateRow, ReadFault>
     requires { length set.now ≤ 2 ^ 20 }
     ensures gate { IfOk result (λ gate. Takes (gate_lexemes gate) tokens.old tokens.new) }
     ensures fits { IfOk result (FitsFlags set.now) }

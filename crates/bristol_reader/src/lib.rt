@@ -8,6 +8,7 @@ mod gate;
 mod header;
 mod laws;
 mod reader;
+mod set_wires;
 mod tokens;
 mod wants;
 

@@ -1,8 +1,8 @@
-use Rattle.std.proofs.Common.{inl, inr, refl}
+use Rattle.std.proofs.Common.{inl, inr, refl, sym, ◌∙◌, arith}
 use Rattle.bristol_reader.proofs.gate.set_wire.Goals as goal
 
-pub returns-then-number-set-clause-fault : goal.returns-then-number-set-clause-fault
-returns-then-number-set-clause-fault c = inl (c.if-number-set.true, refl)
+pub returns-then-number-len-clause-fault : goal.returns-then-number-len-clause-fault
+returns-then-number-len-clause-fault c = inl (omega (arith, c.if-number-len.true, c.len.ensures), refl)
 
-pub returns-then-set-number-clause-fault : goal.returns-then-set-number-clause-fault
-returns-then-set-number-clause-fault c = inr (c.if-set-number.true, refl)
+pub returns-then-contains-clause-fault : goal.returns-then-contains-clause-fault
+returns-then-contains-clause-fault c = inr (sym c.contains.ensures ∙ c.if-contains.true, refl)
