@@ -1,3 +1,4 @@
+mod Over
 pub mod Products
 pub mod Sectioning
 pub mod WeightedSums

@@ -1,30 +1,47 @@
--- Products of a section, one after another.
-use Rattle.std.proofs.Common.{◌≡◌, ℕ, ◌+◌, ◌-◌, ◌<◌, ◌≤◌, List, length, map, take, drop, get_or, ap, sym, ◌∙◌, arith, length-drop}
+-- Products of a section, block by block.
+use Rattle.std.proofs.Common.{◌≡◌, ℕ, ◌+◌, ◌-◌, ◌<◌, ◌≤◌, List, [], ◌∷◌, ◌++◌, length, map, take, drop, get_or, set, ap, sym, ◌∙◌, arith, length-drop, length-set, get_or-set_same, refl}
 use Rattle.std.specs.Prelude.{Some, slice_get}
-use Rattle.std.specs.List.{take-map}
-use Rattle.std.proofs.lemmas.List.{get_or-map, length-map, get_or-drop}
+use Rattle.std.proofs.Math.Seq.{take-add}
+use Rattle.std.proofs.lemmas.List.{get_or-drop, drop-drop, map-append, take_more, take-set}
 use Rattle.std.proofs.lemmas.Option.{slice_get-get_or}
 use Rattle.zk_model.specs.declared.Product.{Product}
 
--- item i of a list, among those behind the first ones
-pub item_between : {T : Type 0} (f : Product → T) (products : List Product) (first i : ℕ) (item : T) → first ≤ i → i < length products
-    → ((product : Product) → slice_get products i ≡ Some product → item ≡ f product)
-    → item ≡ get_or (map f (drop first products)) (i - first) item
-item_between f products first i item low below gives =
+-- one item more of a block that begins behind the first products
+pub filled_more : {T : Type 0} (f : Product → T) (products : List Product) (first i : ℕ) (items : List T) (item : T)
+    → first + i < length products → i < length items
+    → ((product : Product) → slice_get products (first + i) ≡ Some product → item ≡ f product)
+    → take i items ≡ map f (take i (drop first products))
+    → take (i + 1) (set items i item) ≡ map f (take (i + 1) (drop first products))
+filled_more f products first i items item below within gives far =
     let none : Product = record { a = 0; b = 0; c = 0 } in
-    let product = get_or products i none in
-    let place : first + (i - first) ≡ i = omega (arith, low) in
-    let sized : i - first < length (drop first products) = omega (arith, length-drop first products, low, below) in
-    gives product (slice_get-get_or products i none below)
-    ∙ sym (get_or-map f (drop first products) (i - first) none item sized
-    ∙ ap f (get_or-drop first products (i - first) none ∙ ap (λ k. get_or products k none) place))
+    let behind = drop first products in
+    let there : i < length behind = omega (arith, length-drop first products, below) in
+    let room : i < length (set items i item) = omega (arith, length-set items i item, within) in
+    let same : get_or (set items i item) i item ≡ f (get_or behind i none) =
+    get_or-set_same items i item item within
+    ∙ gives (get_or products (first + i) none) (slice_get-get_or products (first + i) none below)
+    ∙ ap f (sym (get_or-drop first products i none)) in
+    take_more (set items i item) i item room
+    ∙ (λ j. (take-set items i item ∙ far) j ++ same j ∷ [])
+    ∙ sym (ap (map f) (take_more behind i none there) ∙ map-append f (take i behind) (get_or behind i none ∷ []))
 
--- there are so many behind the first ones
-pub within_between : {T : Type 0} (f : Product → T) (products : List Product) (first i : ℕ) → first ≤ i → i < length products
-    → i - first < length (map f (drop first products))
-within_between f products first i low below = omega (arith, length-map (drop first products) f, length-drop first products, low, below)
+-- the items from one number up to another, and those of a block behind them
+pub block_joined : {T : Type 0} (f : Product → T) (products : List Product) (first at count : ℕ) → first ≤ at
+    → map f (take (at - first) (drop first products)) ++ map f (take (at + count - at) (drop at products))
+    ≡ map f (take (at + count - first) (drop first products))
+block_joined f products first at count low =
+    let length_is : at + count - first ≡ (at - first) + (at + count - at) = omega (arith, low) in
+    let place : first + (at - first) ≡ at = omega (arith, low) in
+    sym (ap (λ n. map f (take n (drop first products))) length_is
+    ∙ ap (map f) (take-add (at - first) (at + count - at) (drop first products))
+    ∙ map-append f (take (at - first) (drop first products)) (take (at + count - at) (drop (at - first) (drop first products)))
+    ∙ ap (λ l. map f (take (at - first) (drop first products)) ++ map f (take (at + count - at) l))
+    (drop-drop (at - first) first products ∙ ap (λ n. drop n products) place))
 
--- those up to an end
-pub up_to : {T : Type 0} (f : Product → T) (products : List Product) (first end : ℕ)
-    → take (end - first) (map f (drop first products)) ≡ map f (take (end - first) (drop first products))
-up_to f products first end = take-map f (end - first) (drop first products)
+-- none yet
+pub none_between : {T : Type 0} (f : Product → T) (products : List Product) (first : ℕ) → map f (take (first - first) (drop first products)) ≡ []
+none_between f products first = let none : first - first ≡ 0 = omega arith in ap (λ n. map f (take n (drop first products))) none ∙ ap (map f) (no_item (drop first products))
+  where
+    no_item : {T : Type 0} (l : List T) → take 0 l ≡ []
+    no_item [] = refl
+    no_item (x ∷ l) = refl

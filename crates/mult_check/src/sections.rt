@@ -7,7 +7,7 @@ ghost use Rattle.mult_check.specs.Checks.{product_check, DiffersFirst, products_
 use crate::sums::{ProverSums, VerifierSum};
 use mersenne_field::{Fe, Pair};
 use std::alloc::{AllocError, Global};
-use wire_auth::{ProverWires, VerifierWires};
+use wire_auth::{KeyTriple, ProverWires, Triple, VerifierWires};
 
 /// The equation of a section fails: its number, from 0 on, and both sides.
 #[derive(Clone, Copy, Debug, PartialEq, Eq)]
@@ -15,6 +15,42 @@ pub struct Differs {
     pub section: u32,
     pub left: Fe,
     pub right: Fe,
+}
+
+/// How many products are summed at a time. Their wires, which lie anywhere, are read first, and nothing else is done
+/// meanwhile: so many of these reads are under way at once.
+const BLOCK: usize = 64;
+
+/// Room for a block, before it is filled.
+const BLANK: Pair = Pair {
+    x: Fe::ZERO,
+    m: Fe::ZERO,
+};
+
+/// The triples of the products from `first` on, as many as there is room for.
+fn read_triples(wires: &ProverWires<'_>, first: usize, triples: &mut [Triple])
+    requires { first + length triples.old ≤ length wires.now.program.products }
+    ensures triples { triples.new
+        ≡ products_between wires.now.program wires.now.pairs first (first + length triples.old) }
+    ensures count { length triples.new ≡ length triples.old }
+{
+    let _products = wires.program().products();
+    for i in 0..triples.len() {
+        triples[i] = wires.triple(first + i);
+    }
+}
+
+/// The same of keys.
+fn read_keys(wires: &VerifierWires<'_>, first: usize, triples: &mut [KeyTriple])
+    requires { first + length triples.old ≤ length wires.now.program.products }
+    ensures triples { triples.new
+        ≡ keys_between wires.now.program wires.now.keys first (first + length triples.old) }
+    ensures count { length triples.new ≡ length triples.old }
+{
+    let _products = wires.program().products();
+    for i in 0..triples.len() {
+        triples[i] = wires.triple(first + i);
+    }
 }
 
 /// U and V over the products from `first` up to `end`, under a mask.
@@ -30,9 +66,19 @@ fn sums_between(
     ensures { result
         ≡ honest_sums challenge (products_between wires.now.program wires.now.pairs first end) mask }
 {
+    let mut block = [Triple {
+        a: BLANK,
+        b: BLANK,
+        c: BLANK,
+    }; BLOCK];
     let mut sums = ProverSums::new();
-    for i in first..end {
-        sums = sums.with(wires.triple(i), challenge);
+    let mut at = first;
+    while at < end {
+        let count = BLOCK.min(end - at);
+        let triples = &mut block[..count];
+        read_triples(wires, at, triples);
+        sums = sums.over(triples, challenge);
+        at += count;
     }
     sums.masked(mask)
 }
@@ -51,9 +97,19 @@ fn left_between(
     ensures { result
         ≡ section_left key challenge (keys_between wires.now.program wires.now.keys first end) mask }
 {
+    let mut block = [KeyTriple {
+        a: Fe::ZERO,
+        b: Fe::ZERO,
+        c: Fe::ZERO,
+    }; BLOCK];
     let mut left = VerifierSum::new();
-    for i in first..end {
-        left = left.with(wires.triple(i), challenge, key);
+    let mut at = first;
+    while at < end {
+        let count = BLOCK.min(end - at);
+        let triples = &mut block[..count];
+        read_keys(wires, at, triples);
+        left = left.over(triples, challenge, key);
+        at += count;
     }
     left.sum + mask
 }

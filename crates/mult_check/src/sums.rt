@@ -1,7 +1,9 @@
 // The sums of one section, on either side.
-ghost use Rattle.std.specs.Prelude.{◌≡◌};
+ghost use Rattle.std.specs.Prelude.{◌≡◌, ◌++◌, ℕ, List, []};
+ghost use Rattle.zk_model.specs.Check as model;
 ghost use Rattle.zk_model.specs.Check.{honest_sums, section_left, constant_part, linear_part, key_part};
 ghost use Rattle.zk_model.specs.Field.{◌+ₚ◌, ◌-ₚ◌, ◌*ₚ◌};
+ghost use Rattle.mult_check.specs.Sums.{AreSumsOver, IsSumOver};
 
 use mersenne_field::{Fe, Pair};
 use wire_auth::{KeyTriple, Triple};
@@ -17,9 +19,7 @@ pub(crate) struct ProverSums {
 impl ProverSums {
     /// Over no product.
     pub fn new() -> Self
-        ensures power { result.power ≡ 1 }
-        ensures constant { result.constant ≡ 0 }
-        ensures linear { result.linear ≡ 0 }
+        ensures { (challenge : ℕ) → AreSumsOver challenge [] result }
     {
         ProverSums {
             power: Fe::ONE,
@@ -29,7 +29,7 @@ impl ProverSums {
     }
 
     /// With one product more: what is known of it without the key, and of the key to the 1, times the next power.
-    pub fn with(self, triple: Triple, challenge: Fe) -> Self
+    fn with(self, triple: Triple, challenge: Fe) -> Self
         ensures power { result.power ≡ self.power *ₚ challenge }
         ensures constant { result.constant ≡ self.constant +ₚ constant_part triple *ₚ result.power }
         ensures linear { result.linear ≡ self.linear +ₚ linear_part triple *ₚ result.power }
@@ -41,6 +41,18 @@ impl ProverSums {
             constant: self.constant + a.m * b.m * power,
             linear: self.linear + (a.x * b.m + b.x * a.m - c.m) * power,
         }
+    }
+
+    /// With these products more, in order.
+    pub fn over(self, triples: &[Triple], challenge: Fe) -> Self
+        ensures { (before : List model.Triple) → AreSumsOver challenge before self
+            → AreSumsOver challenge (before ++ triples.now) result }
+    {
+        let mut sums = self;
+        for triple in triples {
+            sums = sums.with(*triple, challenge);
+        }
+        sums
     }
 
     /// U and V, under a mask.
@@ -61,8 +73,7 @@ pub(crate) struct VerifierSum {
 impl VerifierSum {
     /// Over no product.
     pub fn new() -> Self
-        ensures power { result.power ≡ 1 }
-        ensures sum { result.sum ≡ 0 }
+        ensures { (key challenge : ℕ) → IsSumOver key challenge [] result }
     {
         VerifierSum {
             power: Fe::ONE,
@@ -71,7 +82,7 @@ impl VerifierSum {
     }
 
     /// With one product more: what the keys tell of it, times the next power.
-    pub fn with(self, triple: KeyTriple, challenge: Fe, key: Fe) -> Self
+    fn with(self, triple: KeyTriple, challenge: Fe, key: Fe) -> Self
         ensures power { result.power ≡ self.power *ₚ challenge }
         ensures sum { result.sum ≡ self.sum +ₚ key_part key triple *ₚ result.power }
     {
@@ -82,6 +93,18 @@ impl VerifierSum {
             sum: self.sum + (a * b - c * key) * power,
         }
     }
+
+    /// With these products more, in order.
+    pub fn over(self, triples: &[KeyTriple], challenge: Fe, key: Fe) -> Self
+        ensures { (before : List model.KeyTriple) → IsSumOver key challenge before self
+            → IsSumOver key challenge (before ++ triples.now) result }
+    {
+        let mut left = self;
+        for triple in triples {
+            left = left.with(*triple, challenge, key);
+        }
+        left
+    }
 }
 
 /// U and V of a section under a mask, for the challenge. With the i-th product times the i-th power of the challenge, from
@@ -90,11 +113,7 @@ impl VerifierSum {
 pub fn section_sums(triples: &[Triple], challenge: Fe, mask: Pair) -> (Fe, Fe)
     ensures { result ≡ honest_sums challenge triples.now mask }
 {
-    let mut sums = ProverSums::new();
-    for triple in triples {
-        sums = sums.with(*triple, challenge);
-    }
-    sums.masked(mask)
+    ProverSums::new().over(triples, challenge).masked(mask)
 }
 
 /// The left side of the check of a section, from its keys and that of its mask: `a * b - c * key` of each product times
@@ -102,9 +121,5 @@ pub fn section_sums(triples: &[Triple], challenge: Fe, mask: Pair) -> (Fe, Fe)
 pub fn section_left(triples: &[KeyTriple], challenge: Fe, mask: Fe, key: Fe) -> Fe
     ensures { result ≡ section_left key challenge triples.now mask }
 {
-    let mut left = VerifierSum::new();
-    for triple in triples {
-        left = left.with(*triple, challenge, key);
-    }
-    left.sum + mask
+    VerifierSum::new().over(triples, challenge, key).sum + mask
 }

@@ -1,8 +1,12 @@
-use Rattle.std.proofs.Common.{map, drop, ◌-◌}
-use Rattle.zk_model.specs.Check.{key_part, key_triple}
-use Rattle.mult_check.proofs.WeightedSums.{AreWeighed}
+use Rattle.std.proofs.Common.{◌≤◌, ◌-◌}
+use Rattle.mult_check.specs.Checks.{keys_between}
+use Rattle.mult_check.specs.Sums.{IsSumOver}
 use Rattle.mult_check.proofs.sections.left_between.Given as goal
 
-abbrev pub invariant-loop-i : goal.invariant-loop-i
-invariant-loop-i l =
-    AreWeighed (key_part l.key) l.challenge (map (key_triple l.wires.keys) (drop l.first l.wires.program.products)) (l.i - l.first) l.left.sum l.left.power
+abbrev pub invariant-loop-at : goal.invariant-loop-at
+invariant-loop-at l =
+    (l.first ≤ l.at) × (l.at ≤ l.end)
+    × IsSumOver l.key l.challenge (keys_between l.wires.program l.wires.keys l.first l.at) l.left
+
+abbrev pub decreases-loop-at : goal.decreases-loop-at
+decreases-loop-at l = l.end - l.at

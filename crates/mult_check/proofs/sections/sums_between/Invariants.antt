@@ -1,9 +1,12 @@
-use Rattle.std.proofs.Common.{map, drop, ◌-◌}
-use Rattle.zk_model.specs.Check.{constant_part, linear_part, product_triple}
-use Rattle.mult_check.proofs.WeightedSums.{AreWeighed}
+use Rattle.std.proofs.Common.{◌≤◌, ◌-◌}
+use Rattle.mult_check.specs.Checks.{products_between}
+use Rattle.mult_check.specs.Sums.{AreSumsOver}
 use Rattle.mult_check.proofs.sections.sums_between.Given as goal
 
-abbrev pub invariant-loop-i : goal.invariant-loop-i
-invariant-loop-i l =
-    AreWeighed constant_part l.challenge (map (product_triple l.wires.pairs) (drop l.first l.wires.program.products)) (l.i - l.first) l.sums.constant l.sums.power
-    × AreWeighed linear_part l.challenge (map (product_triple l.wires.pairs) (drop l.first l.wires.program.products)) (l.i - l.first) l.sums.linear l.sums.power
+abbrev pub invariant-loop-at : goal.invariant-loop-at
+invariant-loop-at l =
+    (l.first ≤ l.at) × (l.at ≤ l.end)
+    × AreSumsOver l.challenge (products_between l.wires.program l.wires.pairs l.first l.at) l.sums
+
+abbrev pub decreases-loop-at : goal.decreases-loop-at
+decreases-loop-at l = l.end - l.at
