@@ -80,7 +80,7 @@ fn set_gate(bits: &mut [bool], gate: GateRow)
     ensures { bits.new ≡ slice_set bits.old (wire_set gate) (gate_bit bits.old gate) }
 {
     match gate {
-        GateRow::And { a, b, out } => bits[out as usize] = bits[a as usize] && bits[b as usize],
+        GateRow::And { a, b, out } => bits[out as usize] = bits[a as usize] & bits[b as usize],
         GateRow::Xor { a, b, out } => bits[out as usize] = bits[a as usize] != bits[b as usize],
         GateRow::Inv { a, out } => bits[out as usize] = !bits[a as usize],
         GateRow::Eqw { a, out } => bits[out as usize] = bits[a as usize],

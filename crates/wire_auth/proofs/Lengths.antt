@@ -55,26 +55,3 @@ pub length-corrected_keys : (key : ℕ) (keys corrections : List ℕ) → length
 length-corrected_keys key keys corrections enough =
     let zipped = length-zip keys corrections in
     length-map (zip keys corrections) (λ q. corrected_key key q.0 q.1) ∙ omega (arith, zipped)
-
--- the key of a given value
-pub corrected_at : (key : ℕ) (keys corrections : List ℕ) (i : ℕ) → i < length keys → i < length corrections
-    → get_or (corrected_keys key keys corrections) i 0 ≡ corrected_key key (get_or keys i 0) (get_or corrections i 0)
-corrected_at key [] corrections i below within = elim below [ ]
-corrected_at key (k ∷ keys) [] i below within = elim within [ ]
-corrected_at key (k ∷ keys) (d ∷ corrections) zero below within = refl
-corrected_at key (k ∷ keys) (d ∷ corrections) (suc i) below within =
-    corrected_at key keys corrections i (omega (arith, below)) (omega (arith, within))
-
--- those of the first given values
-pub take-corrected_keys : (key : ℕ) (keys corrections : List ℕ) (n : ℕ)
-    → take n (corrected_keys key keys corrections) ≡ corrected_keys key (take n keys) (take n corrections)
-take-corrected_keys key keys corrections zero = none keys corrections
-  where
-    none : (keys corrections : List ℕ) → take zero (corrected_keys key keys corrections) ≡ corrected_keys key (take zero keys) (take zero corrections)
-    none [] corrections = refl
-    none (k ∷ keys) [] = refl
-    none (k ∷ keys) (d ∷ corrections) = refl
-take-corrected_keys key [] corrections (suc n) = refl
-take-corrected_keys key (k ∷ keys) [] (suc n) = refl
-take-corrected_keys key (k ∷ keys) (d ∷ corrections) (suc n) =
-    ap (λ l. corrected_key key k d ∷ l) (take-corrected_keys key keys corrections n)

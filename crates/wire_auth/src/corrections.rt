@@ -15,7 +15,7 @@ pub(crate) fn bit_product(bits: &[bool], product: Product) -> Fe
     requires b { product.b < length bits.now }
     ensures { result ≡ from_bit (bit_of bits.now product.a && bit_of bits.now product.b) }
 {
-    Fe::from_bit(bits[product.a as usize] && bits[product.b as usize])
+    Fe::from_bit(bits[product.a as usize] & bits[product.b as usize])
 }
 
 /// The corrections that turn dealt pairs into ones of the values that bits of all wires give: for each product the bits of

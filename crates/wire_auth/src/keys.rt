@@ -3,11 +3,10 @@ ghost use Rattle.std.specs.Prelude.{◌≡◌, ◌<◌, ◌≤◌, ◌+◌, ℕ,
 ghost use Rattle.zk_model.specs.Program.{Carries};
 ghost use Rattle.zk_model.specs.Mac.{corrected_keys};
 ghost use Rattle.zk_model.specs.Check.{AreKeysFor, key_triple};
-ghost use Rattle.wire_auth.specs.Keys.{given_keys};
 ghost use Rattle.wire_auth.specs.Sides.{TakesWithin, IsBegun, IsTaken};
 ghost use Rattle.zk_model.specs.declared.Product as zk;
 
-use crate::carrying::{begun, step_number};
+use crate::carrying::{begun, known, step_number};
 use crate::triples::KeyTriple;
 use gate_translate::{FieldProgram, Step};
 use mersenne_field::Fe;
@@ -20,70 +19,47 @@ use std::marker::Model;
 #[derive(Debug, Drop)]
 pub struct VerifierWires<'a> {
     program: &'a FieldProgram,
-    given: Given<'a>,
+    given: Vec<Fe>,
     wires: Vec<Fe>,
 }
 
-/// The keys of given values: dealt ones, and their corrections under the one key.
-#[derive(Debug, Drop)]
-struct Given<'a> {
-    keys: &'a [Fe],
-    corrections: &'a [Fe],
-    key: Fe,
-}
-
 impl<'a> Model for VerifierWires<'a> {
-    ghost use Rattle.std.specs.Prelude.{◌≡◌, ◌≤◌, length};
-    ghost use Rattle.wire_auth.specs.Keys.{given_keys};
+    ghost use Rattle.std.specs.Prelude.{◌≡◌, length};
     ghost use Rattle.wire_auth.specs.Sides as sides;
 
     ghost Value = { sides.VerifierSide };
 
     ghost view = { λ w. record {
       program = w.program.now;
-      keys = record { given = given_keys w.given; wires = w.wires.items };
+      keys = record { given = w.given.items; wires = w.wires.items };
     } };
 
-    ghost invariant = { λ w. (w.program.now.givens ≤ length w.given.keys.now)
-        × (length w.given.corrections.now ≡ w.program.now.givens)
+    ghost invariant = { λ w. (length w.given.items ≡ w.program.now.givens)
         × (length w.wires.items ≡ w.program.now.wires) };
 }
 
-impl Given<'_> {
-    /// The key of given value i.
-    fn at(&self, i: u32) -> Fe
-        requires keys { i < length self.now.keys.now }
-        requires corrections { i < length self.now.corrections.now }
-        ensures { result ≡ slice_index (given_keys self.now) i }
-    {
-        self.keys[i as usize] + self.corrections[i as usize] * self.key
-    }
-
-    /// The key of the given value that a step takes, and 0 where it takes none.
-    fn taken(&self, step: &Step) -> Fe
-        requires keys { TakesWithin (length self.now.keys.now) step.now }
-        requires corrections { TakesWithin (length self.now.corrections.now) step.now }
-        ensures { IsTaken (given_keys self.now) step.now result }
-    {
-        match *step {
-            Step::Mul { product, .. } | Step::XorFrom { product, .. } => self.at(product),
-            Step::Const { .. } | Step::Copy { .. } | Step::Not { .. } => Fe::ZERO,
-        }
+/// The key of the given value that a step takes, and 0 where it takes none.
+fn taken_key(step: &Step, given: &[Fe]) -> Fe
+    requires { TakesWithin (length given.now) step.now }
+    ensures { IsTaken given.now step.now result }
+{
+    match *step {
+        Step::Mul { product, .. } | Step::XorFrom { product, .. } => known(given[product as usize]),
+        Step::Const { .. } | Step::Copy { .. } | Step::Not { .. } => Fe::ZERO,
     }
 }
 
 /// The keys of all wires, from those of the first ones: each step gives that of its wire.
-fn follow_keys(program: &FieldProgram, given: &Given<'_>, begun: Vec<Fe>) -> Vec<Fe>
+fn follow_keys(program: &FieldProgram, key: Fe, given: &[Fe], begun: Vec<Fe>) -> Vec<Fe>
     requires begun { length begun.items ≡ program.now.wires }
-    requires keys { program.now.givens ≤ length given.now.keys.now }
-    requires corrections { length given.now.corrections.now ≡ program.now.givens }
-    ensures { (public : List ℕ) → IsBegun given.now.key program.now public (given_keys given.now) begun.items
-        → Carries given.now.key program.now public (given_keys given.now) result.items }
+    requires given { length given.now ≡ program.now.givens }
+    ensures { (public : List ℕ) → IsBegun key program.now public given.now begun.items
+        → Carries key program.now public given.now result.items }
 {
     let mut wires = begun;
     for k in 0..program.steps() {
         let step = program.step(k);
-        let number = step_number(&step, given.key, &wires, given.taken(&step));
+        let number = step_number(&step, key, &wires, taken_key(&step, given));
         wires[step.out() as usize] = number;
     }
     wires
@@ -104,22 +80,16 @@ fn carry_keys(
     alloc: Global,
     program: &FieldProgram,
     public: &[Fe],
-    given: &Given<'_>,
+    key: Fe,
+    given: &[Fe],
 ) -> Result<Vec<Fe>, AllocError>
     requires public { length public.now ≡ program.now.public }
-    requires keys { program.now.givens ≤ length given.now.keys.now }
-    requires corrections { length given.now.corrections.now ≡ program.now.givens }
-    ensures { IfOk result (λ wires. Carries given.now.key program.now public.now (given_keys given.now) wires.items) }
+    requires given { length given.now ≡ program.now.givens }
+    ensures { IfOk result (λ wires. Carries key program.now public.now given.now wires.items) }
 {
-    let count = program.inputs();
-    let Given {
-        keys,
-        corrections,
-        key,
-    } = given;
-    let inputs = corrected(alloc, &keys[..count], &corrections[..count], *key)?;
-    let begun = begun(alloc, program, public, given.key, &inputs)?;
-    Ok(follow_keys(program, given, begun))
+    let inputs = &given[..program.inputs()];
+    let begun = begun(alloc, program, public, key, inputs)?;
+    Ok(follow_keys(program, key, given, begun))
 }
 
 impl<'a> VerifierWires<'a> {
@@ -136,9 +106,9 @@ impl<'a> VerifierWires<'a> {
         alloc: Global,
         program: &'a FieldProgram,
         public: &[Fe],
-        keys: &'a [Fe],
+        keys: &[Fe],
         key: Fe,
-        corrections: &'a [Fe],
+        corrections: &[Fe],
     ) -> Result<VerifierWires<'a>, AllocError>
         requires public { length public.now ≡ program.now.public }
         requires keys { program.now.givens ≤ length keys.now }
@@ -147,12 +117,8 @@ impl<'a> VerifierWires<'a> {
         ensures given { IfOk result (λ w. w.keys.given ≡ corrected_keys key keys.now corrections.now) }
         ensures carried { IfOk result (λ w. AreKeysFor key program.now public.now w.keys) }
     {
-        let given = Given {
-            keys,
-            corrections,
-            key,
-        };
-        let wires = carry_keys(alloc, program, public, &given)?;
+        let given = corrected(alloc, keys, corrections, key)?;
+        let wires = carry_keys(alloc, program, public, key, &given)?;
         Ok(VerifierWires {
             program,
             given,
@@ -177,7 +143,7 @@ impl<'a> VerifierWires<'a> {
         KeyTriple {
             a: self.wires[product.a as usize],
             b: self.wires[product.b as usize],
-            c: self.given.at(product.c),
+            c: known(self.given[product.c as usize]),
         }
     }
 
