@@ -8,9 +8,11 @@ ghost use Rattle.zk_model.specs.declared.Kind.TheVariants.{Extended};
 ghost use Rattle.zk_model.specs.declared.Side.{Side};
 ghost use Rattle.wire_auth.specs.Held.{held_in};
 ghost use Rattle.session_core.specs.Ends.{whole_grant};
-ghost use Rattle.session_core.specs.Jobs.{AreValues, units_of_job, granted_from};
+ghost use Rattle.session_core.specs.Jobs as jobs;
+ghost use Rattle.session_core.specs.Jobs.{AreValues, units_of_job, granted_from, prover_of};
 ghost use Rattle.session_core.specs.Fixing.{HoldsKeys};
 ghost use Rattle.session_rehearsal.specs.Exchanges.{IsNoted, IsShortExchange, AreShort, round_log};
+ghost use Rattle.session_rehearsal.specs.Answers.{IsAnswered, IsCounted};
 ghost use Rattle.session_rehearsal.specs.Holding.{AreRoundsHeld, HoldsRounds, IsSessionOf, ends_of, ends_from};
 
 use dealer_files::{Kind, ProverFile, VerifierFile};
@@ -40,63 +42,80 @@ pub(crate) struct Exchange {
 
 /// What the rounds behind a grant leave both ends with, and the frames of these rounds.
 #[derive(Debug, Drop)]
-struct Established<'a> {
+struct Established<'p, 'v> {
     asked: Vec<Frame>,
     replied: Vec<Frame>,
-    pairs: Correlations<'a, Pair>,
-    keys: Correlations<'a, Fe>,
+    pairs: Correlations<'p, Pair>,
+    keys: Correlations<'v, Fe>,
 }
 
-/// A session of both ends over all units of their files.
-pub(crate) fn hold<'a>(
+/// What both ends have said once the prover has answered the challenge, and the keys of the verifier.
+#[derive(Debug, Drop)]
+pub(crate) struct Answered<'v> {
+    pub(crate) hello: Hello,
+    pub(crate) grant: Grant,
+    pub(crate) asked: Vec<Frame>,
+    pub(crate) replied: Vec<Frame>,
+    pub(crate) keys: Correlations<'v, Fe>,
+    pub(crate) corrections: Vec<Fe>,
+    pub(crate) challenge: Fe,
+    pub(crate) opened: Opened,
+}
+
+/// A session of both ends over all units of their files. The prover's file is given up once it has answered the challenge.
+pub(crate) fn hold(
     alloc: Global,
-    statement: &'a Statement<'a>,
-    bits: &'a [bool],
-    prover_file: &'a ProverFile,
-    verifier_file: &'a VerifierFile,
+    statement: &Statement<'_>,
+    bits: &[bool],
+    prover_file: ProverFile,
+    verifier_file: &VerifierFile,
     section: u32,
 ) -> Result<Exchange, AllocError>
     requires values { AreValues statement.now bits.now }
-    requires dealt { AreDealt prover_file.now verifier_file.now }
-    requires granted { IsGrant prover_file.now.params statement.now.program
-        (whole_grant prover_file.now.params.total section) }
+    requires dealt { AreDealt prover_file verifier_file.now }
+    requires granted { IsGrant prover_file.params statement.now.program
+        (whole_grant prover_file.params.total section) }
     ensures session { IfOk result (λ e. (log : List (Side × ℕ)) → IsNoted e log
-        → IsSessionOf (ends_from statement.now bits.now prover_file.now verifier_file.now)
-        (whole_grant prover_file.now.params.total section) e.verdict log) }
+        → IsSessionOf (ends_from statement.now bits.now prover_file verifier_file.now)
+        (whole_grant prover_file.params.total section) e.verdict log) }
     ensures short { IfOk result IsShortExchange }
 {
-    let prover = ProverJob::new(statement, prover_file, bits);
     let verifier = VerifierJob::new(statement, verifier_file, section);
-    let exchange = hold_turns(alloc, &prover, &verifier)?;
+    let answered = answer(alloc, statement, bits, &prover_file, &verifier)?;
+    drop(prover_file);
+    let exchange = judge(alloc, &verifier, answered)?;
     Ok(exchange)
 }
 
-/// The turns of both ends, which are those that their cores take.
-fn hold_turns(
+/// All turns up to the prover's answer to the challenge, which are those that both cores take.
+fn answer<'v>(
     alloc: Global,
-    prover: &ProverJob<'_>,
-    verifier: &VerifierJob<'_>,
-) -> Result<Exchange, AllocError>
-    requires stated { prover.now.statement ≡ verifier.now.task.statement }
-    requires dealt { AreDealt prover.now.file verifier.now.task.file }
+    statement: &Statement<'_>,
+    bits: &[bool],
+    prover_file: &ProverFile,
+    verifier: &VerifierJob<'v>,
+) -> Result<Answered<'v>, AllocError>
+    requires values { AreValues statement.now bits.now }
+    requires stated { statement.now ≡ verifier.now.task.statement }
+    requires dealt { AreDealt prover_file.now verifier.now.task.file }
     requires within { units_of_job verifier.now ≤ verifier.now.task.file.params.total }
-    ensures session { IfOk result (λ e. (log : List (Side × ℕ)) → IsNoted e log
-        → IsSessionOf (ends_of prover.now verifier.now) (granted_from verifier.now 0) e.verdict log) }
-    ensures short { IfOk result IsShortExchange }
+    ensures answered { IfOk result (IsAnswered (prover_of statement.now bits.now prover_file.now) verifier.now) }
+    ensures counted { IfOk result (IsCounted verifier.now) }
 {
+    let prover = ProverJob::new(statement, prover_file, bits);
     let grant = verifier.grant(0);
-    let established = establish(alloc, prover, verifier, grant)?;
-    let exchange = check(alloc, prover, verifier, grant, established)?;
-    Ok(exchange)
+    let established = establish(alloc, &prover, verifier, grant)?;
+    let answered = open(alloc, &prover, verifier, grant, established)?;
+    Ok(answered)
 }
 
 /// The rounds behind the grant: none in kind direct, and one in kind extended.
-fn establish<'a>(
+fn establish<'p, 'v>(
     alloc: Global,
-    prover: &ProverJob<'a>,
-    verifier: &VerifierJob<'a>,
+    prover: &ProverJob<'p>,
+    verifier: &VerifierJob<'v>,
     grant: Grant,
-) -> Result<Established<'a>, AllocError>
+) -> Result<Established<'p, 'v>, AllocError>
     requires stated { prover.now.statement ≡ verifier.now.task.statement }
     requires params { prover.now.file.params ≡ verifier.now.task.file.params }
     requires grant { grant ≡ granted_from verifier.now 0 }
@@ -123,12 +142,12 @@ fn establish<'a>(
 }
 
 /// The round of all units of a grant: all asks, and all replies.
-fn extend<'a>(
+fn extend<'p, 'v>(
     alloc: Global,
-    prover: &'a ProverFile,
-    verifier: &'a VerifierFile,
+    prover: &'p ProverFile,
+    verifier: &'v VerifierFile,
     grant: Grant,
-) -> Result<Established<'a>, AllocError>
+) -> Result<Established<'p, 'v>, AllocError>
     requires params { prover.now.params ≡ verifier.now.params }
     requires extended { verifier.now.params.kind ≡ Extended }
     requires within { grant.start + grant.count ≤ verifier.now.params.total }
@@ -156,29 +175,25 @@ fn extend<'a>(
     })
 }
 
-/// The turns behind the rounds.
-fn check<'a>(
+/// The turns behind the rounds, up to the prover's answer to the challenge.
+fn open<'p, 'v>(
     alloc: Global,
-    prover: &ProverJob<'a>,
-    verifier: &VerifierJob<'a>,
+    prover: &ProverJob<'p>,
+    verifier: &VerifierJob<'v>,
     grant: Grant,
-    established: Established<'a>,
-) -> Result<Exchange, AllocError>
+    established: Established<'p, 'v>,
+) -> Result<Answered<'v>, AllocError>
     requires stated { prover.now.statement ≡ verifier.now.task.statement }
     requires dealt { AreDealt prover.now.file verifier.now.task.file }
     requires grant { grant ≡ granted_from verifier.now 0 }
-    requires within { units_of_job verifier.now ≤ verifier.now.task.file.params.total }
     requires held { HoldsRounds prover.now.file verifier.now.task.file grant
         (held_in established.pairs) [] (round_log established.asked.items established.replied.items) }
     requires short { AreShort established.asked.items established.replied.items }
     requires pairs { length (held_in established.pairs) ≡ grant.count * correlations_per_unit prover.now.file.params }
     requires keys { HoldsKeys verifier.now 0 (held_in established.keys) }
-    ensures session { IfOk result (λ e. (log : List (Side × ℕ)) → IsNoted e log
-        → IsSessionOf (ends_of prover.now verifier.now) (granted_from verifier.now 0) e.verdict log) }
-    ensures short { IfOk result IsShortExchange }
+    ensures answered { IfOk result (IsAnswered prover.now verifier.now) }
+    ensures counted { IfOk result (IsCounted verifier.now) }
 {
-    let program = prover.statement().program();
-    let _products = program.products();
     let _total = verifier.file().total();
     let hello = prover.greet();
     let Established {
@@ -190,7 +205,45 @@ fn check<'a>(
     let Committed { wires, corrections } = prover.commit(alloc, grant, pairs)?;
     let challenge = verifier.challenge(0);
     let opened = prover.open(alloc, grant, &wires, challenge)?;
-    drop(wires);
+    Ok(Answered {
+        hello,
+        grant,
+        asked,
+        replied,
+        keys,
+        corrections,
+        challenge,
+        opened,
+    })
+}
+
+/// The verifier's last turn.
+fn judge<'v>(
+    alloc: Global,
+    verifier: &VerifierJob<'v>,
+    answered: Answered<'v>,
+) -> Result<Exchange, AllocError>
+    requires within { units_of_job verifier.now ≤ verifier.now.task.file.params.total }
+    requires counted { IsCounted verifier.now answered }
+    ensures session { IfOk result (λ e. (prover : jobs.ProverJob) (log : List (Side × ℕ))
+        → prover.statement ≡ verifier.now.task.statement → AreDealt prover.file verifier.now.task.file
+        → IsAnswered prover verifier.now answered.entry → IsNoted e log
+        → IsSessionOf (ends_of prover verifier.now) (granted_from verifier.now 0) e.verdict log) }
+    ensures short { IfOk result IsShortExchange }
+{
+    let program = verifier.statement().program();
+    let _products = program.products();
+    let _total = verifier.file().total();
+    let Answered {
+        hello,
+        grant,
+        asked,
+        replied,
+        keys,
+        corrections,
+        challenge,
+        opened,
+    } = answered;
     let judgement = verifier.judge(
         alloc,
         0,

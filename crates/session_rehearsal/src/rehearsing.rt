@@ -75,7 +75,7 @@ fn exchange_dealt(
 {
     let params = rehearsed_params(kind, units);
     let (prover, verifier) = deal(alloc, &params, seed)?;
-    let exchange = hold(alloc, statement, bits, &prover, &verifier, section)?;
+    let exchange = hold(alloc, statement, bits, prover, &verifier, section)?;
     Ok(exchange)
 }
 
