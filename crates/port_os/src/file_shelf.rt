@@ -3,6 +3,7 @@ ghost use Rattle.std.specs.Prelude.{◌≡◌, List};
 
 use crate::no_memory::found_no_memory;
 use std::alloc::Global;
+use std::fs::OpenFile;
 use std::io::Read;
 use std::rt::Files;
 use std::{fs, io};
@@ -24,10 +25,12 @@ impl<R: Files + AllocGlobal> FileShelf<R> {
     }
 }
 
-/// The first bytes of the file, at most so many.
+/// The first bytes of the file, at most so many. Room for them is taken at once, with a byte more for the read that finds the
+/// end.
 fn read_up_to<R: Files + AllocGlobal>(rt: &R, name: &str, most: u64) -> io::Result<Vec<u8>> {
     let file = fs::open(rt, name)?;
-    let mut bytes = Vec::new(rt.alloc());
+    let room = file.metadata()?.len().min(most).saturating_add(1);
+    let mut bytes = Vec::with_capacity(rt.alloc(), room as usize)?;
     file.take(most).read_to_end(&mut bytes)?;
     Ok(bytes)
 }

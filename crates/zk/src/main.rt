@@ -26,8 +26,15 @@ fn read_seed(rt: &impl Files) -> io::Result<[u8; 32]> {
     Ok(seed)
 }
 
+/// Has freed memory kept for later use. The C library's allocator gives a large piece back to the system when it is freed, until
+/// one of its size has been freed once (mallopt(3), M_MMAP_THRESHOLD, whose bound is 32 MiB); new pages take a fault each.
+fn keep_freed_memory(alloc: Global) {
+    let _ = Vec::<u8>::with_capacity(alloc, 31 << 20);
+}
+
 fn main(rt: HostRuntime) -> ExitCode {
     let alloc: Global = rt.alloc();
+    keep_freed_memory(alloc);
     let mut out = OutputSink::new(&rt);
     let words = match words(&rt) {
         Ok(words) => words,
