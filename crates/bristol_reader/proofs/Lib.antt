@@ -9,6 +9,7 @@ pub mod OneOutcome
 pub mod Only
 pub mod Orders
 pub mod Outcome
+pub mod PlainLines
 pub mod SetOutcome
 pub mod Splitting
 pub mod Wanted

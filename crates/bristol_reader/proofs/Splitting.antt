@@ -13,7 +13,7 @@ use Rattle.std.proofs.lemmas.Bool.{le-leb, leb-true, lt-ltb, ne_eqb}
 use Rattle.zk_model.specs.Bristol.{number, name, is_blank, is_digit, decimal_value, tokens, lexeme, lexemes}
 use Rattle.bristol_reader.specs.declared.tokens.Scanned.{Scanned}
 use Rattle.bristol_reader.specs.declared.tokens.Word.TheVariants.{Number}
-use Rattle.bristol_reader.specs.Words.{greatest, left_of, word_of, BeginsToken, EndsToken, Place, place_of, Takes, TakesWord}
+use Rattle.bristol_reader.specs.Words.{greatest, left_of, word_of, BeginsToken, EndsToken, Place, place_of, TakesWord}
 use Rattle.bristol_reader.specs.Scans.{AreScanned, IsScanned, IsEnded}
 
 -- ---- tokens
@@ -32,7 +32,7 @@ kept_first token pieces some = chosen (nat_lt 0 (length token)) (lt-ltb 0 (lengt
     chosen false on = cc
 
 -- a first token, and what is behind it
-tokens_first : (token rest : List ℕ) → 0 < length token → All (λ byte. is_blank byte ≡ false) token → EndsToken rest
+pub tokens_first : (token rest : List ℕ) → 0 < length token → All (λ byte. is_blank byte ≡ false) token → EndsToken rest
     → tokens (token ++ rest) ≡ token ∷ tokens rest
 tokens_first token [] some unbroken ends =
     ap tokens (append-nil token) ∙ ap kept (slice_split_none is_blank token unbroken) ∙ kept_first token [] some
@@ -221,19 +221,12 @@ left_digit byte n text no_blank is =
     ap (map lexeme) (tokens_first (byte ∷ []) (32 ∷ text) (omega arith) (All-cons IsNoBlank byte [] no_blank (All-nil IsNoBlank)) refl)
     ∙ ap (λ l. lexeme (byte ∷ []) ∷ l) (ap (map lexeme) (tokens_blank 32 text refl)) ∙ ap (λ l. l ∷ lexemes text) is
 
-left_digits : (text : List ℕ) (n : ℕ) → 4 ≤ length text → is_blank (get_or text 0 0) ≡ false → lexeme (get_or text 0 0 ∷ []) ≡ number n → get_or text 1 0 ≡ 32 → get_or text 2 0 ≡ 49
-    → get_or text 3 0 ≡ 32 → left_of text ≡ number n ∷ number 1 ∷ left_of (take (length text - 4) (drop 4 text))
-left_digits [] n enough no_blank is second third fourth = absurd (omega arith)
-left_digits (a ∷ []) n enough no_blank is second third fourth = absurd (omega arith)
-left_digits (a ∷ b ∷ []) n enough no_blank is second third fourth = absurd (omega arith)
-left_digits (a ∷ b ∷ c ∷ []) n enough no_blank is second third fourth = absurd (omega arith)
-left_digits (a ∷ b ∷ c ∷ d ∷ text) n enough no_blank is second third fourth =
-    (λ i. left_of (a ∷ second i ∷ third i ∷ fourth i ∷ text)) ∙ left_digit a n (49 ∷ 32 ∷ text) no_blank is ∙ ap (λ l. number n ∷ l) (left_digit 49 1 text refl refl)
+pub left_digits : (text : List ℕ) (byte n : ℕ) → 4 ≤ length text → is_blank byte ≡ false → lexeme (byte ∷ []) ≡ number n → get_or text 0 0 ≡ byte → get_or text 1 0 ≡ 32
+    → get_or text 2 0 ≡ 49 → get_or text 3 0 ≡ 32 → left_of text ≡ number n ∷ number 1 ∷ left_of (take (length text - 4) (drop 4 text))
+left_digits [] byte n enough no_blank is first second third fourth = absurd (omega arith)
+left_digits (a ∷ []) byte n enough no_blank is first second third fourth = absurd (omega arith)
+left_digits (a ∷ b ∷ []) byte n enough no_blank is first second third fourth = absurd (omega arith)
+left_digits (a ∷ b ∷ c ∷ []) byte n enough no_blank is first second third fourth = absurd (omega arith)
+left_digits (a ∷ b ∷ c ∷ d ∷ text) byte n enough no_blank is first second third fourth =
+    (λ i. left_of (first i ∷ second i ∷ third i ∷ fourth i ∷ text)) ∙ left_digit byte n (49 ∷ 32 ∷ text) no_blank is ∙ ap (λ l. number n ∷ l) (left_digit 49 1 text refl refl)
     ∙ ap (λ l. number n ∷ number 1 ∷ left_of l) (sym (take_all (length (a ∷ b ∷ c ∷ d ∷ text) - 4) text (omega arith)))
-
-pub takes_digits : (rest : List ℕ) (taken n : ℕ) (before : Place) → place_of rest taken ≡ before → 4 ≤ length rest → is_blank (get_or rest 0 0) ≡ false → lexeme (get_or rest 0 0 ∷ []) ≡ number n
-    → get_or rest 1 0 ≡ 32 → get_or rest 2 0 ≡ 49 → get_or rest 3 0 ≡ 32 → Takes (number n ∷ number 1 ∷ []) before (place_of (take (length rest - 4) (drop 4 rest)) (taken + 2))
-takes_digits rest taken n before view enough no_blank is second third fourth = record {
-  left = ap (λ (p : Place). p.left) (sym view) ∙ left_digits rest n enough no_blank is second third fourth;
-  taken = ap (λ (p : Place). p.taken + 2) view;
-}

@@ -3,6 +3,7 @@ pub mod Circuits
 pub mod Gates
 pub mod Headers
 pub mod Laws
+pub mod Lines
 pub mod Reads
 pub mod Scans
 pub mod Wants

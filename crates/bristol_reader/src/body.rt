@@ -12,6 +12,7 @@ use std::alloc::Global;
 use zk_model::{GateRow, ReadFault};
 
 /// The wire that a gate sets.
+#[inline(always)]
 fn out_wire(gate: GateRow) -> u32
     ensures { result ≡ wire_set gate }
 {

@@ -9,12 +9,14 @@ ghost use Rattle.bristol_reader.specs.Gates.{MayBeInput, MayNotBeInput};
 ghost use Rattle.bristol_reader.specs.Gates.{FitsFlags, pair_gate, single_gate, IsWrongPair, IsWrongSingle};
 ghost use Rattle.bristol_reader.specs.Gates.{IsGateFault, IsGateBehind, IsFaultIn};
 
+use crate::lines::{PairLine, SingleLine};
 use crate::set_wires::SetWires;
 use crate::tokens::Tokens;
 use crate::wants::{Pair, Placed, Single};
 use zk_model::{GateRow, ReadFault};
 
 /// The wire that a gate reads, which is to be set.
+#[inline(always)]
 fn read_wire(set: &SetWires, wire: Placed) -> Result<u32, ReadFault>
     ensures wire { IfOk result (IsSetWire set.now wire) }
     ensures fault { IfErr result (IsNoSetWire set.now wire) }
@@ -30,6 +32,7 @@ fn read_wire(set: &SetWires, wire: Placed) -> Result<u32, ReadFault>
 }
 
 /// The wire that a gate sets, which is not to be set before.
+#[inline(always)]
 fn set_wire(set: &SetWires, wire: Placed) -> Result<u32, ReadFault>
     ensures wire { IfOk result (IsFreeWire set.now wire) }
     ensures fault { IfErr result (IsNoFreeWire set.now wire) }
@@ -45,6 +48,7 @@ fn set_wire(set: &SetWires, wire: Placed) -> Result<u32, ReadFault>
 }
 
 /// Looks at the input of a gate: EQ has a constant, and the others a wire that is to be set.
+#[inline(always)]
 fn check_input(set: &SetWires, name: Single, input: Placed) -> Result<(), ReadFault>
     ensures input { IfOk result (λ _. MayBeInput set.now name input) }
     ensures fault { IfErr result (MayNotBeInput set.now name input) }
@@ -63,6 +67,7 @@ fn check_input(set: &SetWires, name: Single, input: Placed) -> Result<(), ReadFa
 }
 
 /// The gate of a name with two inputs.
+#[inline(always)]
 fn pair_gate(name: Pair, a: u32, b: u32, out: u32) -> GateRow
     ensures { result ≡ pair_gate name a b out }
 {
@@ -73,6 +78,7 @@ fn pair_gate(name: Pair, a: u32, b: u32, out: u32) -> GateRow
 }
 
 /// The gate of a name with one input.
+#[inline(always)]
 fn single_gate(name: Single, input: u32, out: u32) -> GateRow
     ensures { result ≡ single_gate name input out }
 {
@@ -87,6 +93,7 @@ fn single_gate(name: Single, input: u32, out: u32) -> GateRow
 }
 
 /// The gate with two inputs, if the wires that it reads are set and the one that it sets is not.
+#[inline(always)]
 fn pair_row(
     set: &SetWires,
     name: Pair,
@@ -106,6 +113,7 @@ fn pair_row(
 }
 
 /// The gate with one input, if that is right, and the wire that it sets is not set before.
+#[inline(always)]
 fn single_row(
     set: &SetWires,
     name: Single,
@@ -157,16 +165,14 @@ fn read_numbers(tokens: &mut Tokens) -> Result<bool, ReadFault>
     ensures numbers { IfOk result (λ two. Takes (numbers_of two) tokens.old tokens.new) }
     ensures fault { IfErr result (IsFaultBehind GateWants tokens.old) }
 {
-    if let Some(is_pair) = tokens.plain_numbers() {
-        return Ok(is_pair);
-    }
     let is_pair = tokens.two_inputs()?;
     tokens.one_output()?;
     Ok(is_pair)
 }
 
-/// Takes the tokens of a gate.
-pub fn read_gate(tokens: &mut Tokens, set: &SetWires) -> Result<GateRow, ReadFault>
+/// Takes the tokens of a gate, one after another.
+#[inline(never)]
+fn read_tokens(tokens: &mut Tokens, set: &SetWires) -> Result<GateRow, ReadFault>
     requires { length set.now ≤ 2 ^ 20 }
     ensures gate { IfOk result (λ gate. Takes (gate_lexemes gate) tokens.old tokens.new) }
     ensures fits { IfOk result (FitsFlags set.now) }
@@ -180,4 +186,24 @@ pub fn read_gate(tokens: &mut Tokens, set: &SetWires) -> Result<GateRow, ReadFau
         let gate = read_single(tokens, set)?;
         Ok(gate)
     }
+}
+
+/// Takes the tokens of a gate: its line, if it is written plainly.
+#[inline(always)]
+pub fn read_gate(tokens: &mut Tokens, set: &SetWires) -> Result<GateRow, ReadFault>
+    requires { length set.now ≤ 2 ^ 20 }
+    ensures gate { IfOk result (λ gate. Takes (gate_lexemes gate) tokens.old tokens.new) }
+    ensures fits { IfOk result (FitsFlags set.now) }
+    ensures fault { IfErr result (IsGateFault set.now tokens.old) }
+{
+    if let Some(PairLine { name, a, b, out }) = tokens.pair_line() {
+        let gate = pair_row(set, name, a, b, out)?;
+        return Ok(gate);
+    }
+    if let Some(SingleLine { name, input, out }) = tokens.single_line() {
+        let gate = single_row(set, name, input, out)?;
+        return Ok(gate);
+    }
+    let gate = read_tokens(tokens, set)?;
+    Ok(gate)
 }

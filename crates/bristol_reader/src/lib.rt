@@ -7,6 +7,7 @@ mod fault;
 mod gate;
 mod header;
 mod laws;
+mod lines;
 mod reader;
 mod set_wires;
 mod tokens;

@@ -2,10 +2,12 @@
 ghost use Rattle.std.specs.Prelude.{◌≡◌, ◌≤◌, ◌+◌, ◌*◌, ◌-◌, ◌<◌, ◌^◌};
 ghost use Rattle.std.specs.Prelude.{IfSome, IfNone, [], length, min};
 ghost use Rattle.zk_model.specs.Bristol.{is_blank, is_digit, lexeme, tokens};
-ghost use Rattle.bristol_reader.specs.Words.{greatest, name_of, word_of, BeginsToken, Takes, TakesWord, place_of};
-ghost use Rattle.bristol_reader.specs.Wants.{numbers_of};
-ghost use Rattle.bristol_reader.specs.Scans.{AreScanned, IsScanned, IsEnded};
+ghost use Rattle.bristol_reader.specs.Words.{greatest, name_of, word_of, BeginsToken, TakesWord, place_of};
+ghost use Rattle.bristol_reader.specs.Scans.{AreScanned, IsScanned};
+ghost use Rattle.bristol_reader.specs.Lines.{IsPairLine, IsSingleLine};
 
+use crate::lines::{PairLine, SingleLine, pair_name, short_number, single_name};
+use crate::wants::Placed;
 use std::marker::Model;
 
 /// The greatest number that a token reads as. Every greater one reads as it too.
@@ -130,50 +132,6 @@ fn scan(text: &[u8]) -> Scanned
     }
 }
 
-/// How far a byte is above the digit 0, which is below 10 at digits alone.
-fn digit_value(byte: u8) -> u32
-    ensures { result < 10 → byte ≡ result + 48 }
-{
-    u32::from(byte).wrapping_sub(u32::from(b'0'))
-}
-
-/// The number that a text begins with, if it has at most seven digits and a space behind it.
-#[inline(always)]
-fn scan_number(text: &[u8]) -> Option<Scanned>
-    ensures { IfSome result (IsEnded text.now) }
-{
-    let front = text.first_chunk::<8>()?;
-    let mut value = 0;
-    for (i, byte) in front.iter().enumerate() {
-        let digit = digit_value(*byte);
-        if digit < 10 {
-            value = value * 10 + digit;
-        } else if *byte == b' ' && i > 0 {
-            let word = Word::Number(value);
-            return Some(Scanned { length: i, word });
-        } else {
-            return None;
-        }
-    }
-    None
-}
-
-/// The gate's name that a text begins with, if it has three letters and a blank behind it.
-#[inline(always)]
-fn scan_name(text: &[u8]) -> Option<Scanned>
-    ensures { IfSome result (IsEnded text.now) }
-{
-    if text.len() < 4 || !is_blank(text[3]) {
-        return None;
-    }
-    let name = gate_name(&text[..3]);
-    if let GateName::Other = name {
-        return None;
-    }
-    let word = Word::Name(name);
-    Some(Scanned { length: 3, word })
-}
-
 /// What is left of a text behind its first tokens, and how many those are.
 #[derive(Drop)]
 pub struct Tokens<'a> {
@@ -210,9 +168,7 @@ impl<'a> Tokens<'a> {
         self.taken
     }
 
-    /// Takes the next token, if there is one, and the blanks around it. Kept apart from the two below, which most
-    /// tokens of a circuit take.
-    #[inline(never)]
+    /// Takes the next token, if there is one, and the blanks around it.
     pub fn next(&mut self) -> Option<Word>
         ensures end { IfNone result (self.old.left ≡ []) }
         ensures word { IfSome result (TakesWord self.old self.new) }
@@ -227,50 +183,64 @@ impl<'a> Tokens<'a> {
         Some(scanned.word)
     }
 
-    /// The same, quickest at a short number.
+    /// Takes all tokens of a gate with two inputs, if they are a plain line; else none.
     #[inline(always)]
-    pub fn next_number(&mut self) -> Option<Word>
-        ensures end { IfNone result (self.old.left ≡ []) }
-        ensures word { IfSome result (TakesWord self.old self.new) }
-    {
-        let Some(scanned) = scan_number(self.rest) else {
-            return self.next();
-        };
-        self.rest = &self.rest[scanned.length + 1..];
-        self.taken += 1;
-        Some(scanned.word)
-    }
-
-    /// The same, quickest at a gate's name of three letters.
-    #[inline(always)]
-    pub fn next_name(&mut self) -> Option<Word>
-        ensures end { IfNone result (self.old.left ≡ []) }
-        ensures word { IfSome result (TakesWord self.old self.new) }
-    {
-        let Some(scanned) = scan_name(self.rest) else {
-            return self.next();
-        };
-        self.rest = &self.rest[scanned.length + 1..];
-        self.taken += 1;
-        Some(scanned.word)
-    }
-
-    /// Takes a gate's numbers of inputs and of outputs if they begin here with a space behind each, and says whether
-    /// there are 2 inputs.
-    pub fn plain_numbers(&mut self) -> Option<bool>
+    pub fn pair_line(&mut self) -> Option<PairLine>
         ensures none { IfNone result (self.new ≡ self.old) }
-        ensures numbers { IfSome result (λ two. Takes (numbers_of two) self.old self.new) }
+        ensures line { IfSome result (IsPairLine self.old self.new) }
     {
-        let [inputs, b' ', b'1', b' ', behind @ ..] = self.rest else {
+        let [b'2', b' ', b'1', b' ', behind @ ..] = self.rest else {
             return None;
         };
-        let is_pair = match *inputs {
-            b'1' => false,
-            b'2' => true,
-            _ => return None,
-        };
+        let (a, behind) = short_number(behind)?;
+        let (b, behind) = short_number(behind)?;
+        let (out, behind) = short_number(behind)?;
+        let (name, behind) = pair_name(behind)?;
+        let first = self.taken;
         self.rest = behind;
-        self.taken += 2;
-        Some(is_pair)
+        self.taken += 6;
+        Some(PairLine {
+            name,
+            a: Placed {
+                number: a,
+                token: first + 2,
+            },
+            b: Placed {
+                number: b,
+                token: first + 3,
+            },
+            out: Placed {
+                number: out,
+                token: first + 4,
+            },
+        })
+    }
+
+    /// The same of a gate INV or EQW.
+    #[inline(always)]
+    pub fn single_line(&mut self) -> Option<SingleLine>
+        ensures none { IfNone result (self.new ≡ self.old) }
+        ensures line { IfSome result (IsSingleLine self.old self.new) }
+    {
+        let [b'1', b' ', b'1', b' ', behind @ ..] = self.rest else {
+            return None;
+        };
+        let (input, behind) = short_number(behind)?;
+        let (out, behind) = short_number(behind)?;
+        let (name, behind) = single_name(behind)?;
+        let first = self.taken;
+        self.rest = behind;
+        self.taken += 5;
+        Some(SingleLine {
+            name,
+            input: Placed {
+                number: input,
+                token: first + 2,
+            },
+            out: Placed {
+                number: out,
+                token: first + 3,
+            },
+        })
     }
 }

@@ -57,13 +57,12 @@ pub struct Placed {
 
 impl<'a> Tokens<'a> {
     /// A number.
-    #[inline(always)]
     pub fn number(&mut self) -> Result<Placed, ReadFault>
         ensures number { IfOk result (TakesNumber self.old self.new) }
         ensures fault { IfErr result (λ fault. next_fault a_wire self.old ≡ Some fault) }
     {
         let token = self.taken();
-        let Some(word) = self.next_number() else {
+        let Some(word) = self.next() else {
             return Err(ReadFault::ShortText { token });
         };
         let Word::Number(number) = word else {
@@ -131,7 +130,7 @@ impl<'a> Tokens<'a> {
         ensures fault { IfErr result (λ fault. next_fault (a_name 2) self.old ≡ Some fault) }
     {
         let token = self.taken();
-        let Some(word) = self.next_name() else {
+        let Some(word) = self.next() else {
             return Err(ReadFault::ShortText { token });
         };
         let Some(pair) = pair_of(word) else {
@@ -146,7 +145,7 @@ impl<'a> Tokens<'a> {
         ensures fault { IfErr result (λ fault. next_fault (a_name 1) self.old ≡ Some fault) }
     {
         let token = self.taken();
-        let Some(word) = self.next_name() else {
+        let Some(word) = self.next() else {
             return Err(ReadFault::ShortText { token });
         };
         let Some(single) = single_of(word) else {

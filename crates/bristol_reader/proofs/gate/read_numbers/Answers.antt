@@ -1,6 +1,4 @@
-use Rattle.std.proofs.Common.{subst}
 use Rattle.zk_model.specs.TextFaults.{GateWants}
-use Rattle.bristol_reader.specs.Words.{Place}
 use Rattle.bristol_reader.specs.Wants.{IsFaultBehind}
 use Rattle.bristol_reader.proofs.GateTokens.{inputs_wanted, outputs_wanted}
 use Rattle.bristol_reader.proofs.Exits.{raised}
@@ -9,11 +7,9 @@ use Rattle.bristol_reader.proofs.gate.read_numbers.Goals as goal
 pub returns-in_err-is_pair-clause-fault : goal.returns-in_err-is_pair-clause-fault
 returns-in_err-is_pair-clause-fault c =
     raised (IsFaultBehind GateWants c.args.tokens.now) c.from_residual.result c.in_err-is_pair.field-0.0 c.from_residual.ensures.1
-    (subst (λ (p : Place). IsFaultBehind GateWants p c.in_err-is_pair.field-0.0) c.in_default.ensures.none
-    (inputs_wanted c.plain_numbers.new.self c.in_err-is_pair.field-0.0 c.in_err-is_pair.ensures.fault))
+    (inputs_wanted c.args.tokens.now c.in_err-is_pair.field-0.0 c.in_err-is_pair.ensures.fault)
 
 pub returns-in_err-one_output-clause-fault : goal.returns-in_err-one_output-clause-fault
 returns-in_err-one_output-clause-fault c =
     raised (IsFaultBehind GateWants c.args.tokens.now) c.from_residual-in_err-one_output.result c.in_err-one_output.field-0.0 c.from_residual-in_err-one_output.ensures.1
-    (subst (λ (p : Place). IsFaultBehind GateWants p c.in_err-one_output.field-0.0) c.in_default.ensures.none
-    (outputs_wanted c.plain_numbers.new.self c.two_inputs.new.self c.in_ok-is_pair.is_pair c.in_err-one_output.field-0.0 c.in_ok-is_pair.ensures.number c.in_err-one_output.ensures.fault))
+    (outputs_wanted c.args.tokens.now c.two_inputs.new.self c.in_ok-is_pair.is_pair c.in_err-one_output.field-0.0 c.in_ok-is_pair.ensures.number c.in_err-one_output.ensures.fault)

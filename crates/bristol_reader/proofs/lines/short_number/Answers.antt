@@ -1,11 +1,13 @@
 use Rattle.std.proofs.Common.{arith}
 use Rattle.bristol_reader.proofs.Splitting.{short_digit, short_ended}
-use Rattle.bristol_reader.proofs.tokens.scan_number.Goals as goal
+use Rattle.bristol_reader.proofs.PlainLines.{below, starts_number}
+use Rattle.bristol_reader.proofs.lines.short_number.Goals as goal
 
 pub returns-then-i-gt0 : goal.returns-then-i-gt0
 returns-then-i-gt0 c =
-    short_ended c.args.text.now c.in_ok-front.front.now c.loop-i.i c.loop-i.value c.in_ok-front.ensures.cases.same c.in_ok-front.ensures.cases.enough (omega arith) (omega arith) c.if-byte-eq32.true
-    c.loop-i.invariant.scanned
+    starts_number c.args.text.now c.loop-i.i c.loop-i.value (below c.loop-i.i c.loop-i.value (omega arith) c.loop-i.invariant.small)
+    (short_ended c.args.text.now c.in_ok-front.front.now c.loop-i.i c.loop-i.value c.in_ok-front.ensures.cases.same c.in_ok-front.ensures.cases.enough (omega arith) (omega arith) c.if-byte-eq32.true
+    c.loop-i.invariant.scanned)
 
 pub loop-i-preserved : goal.loop-i-preserved
 loop-i-preserved c =

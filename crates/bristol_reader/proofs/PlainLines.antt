@@ -1,0 +1,236 @@
+-- Lines of gates that are written plainly.
+use Rattle.std.proofs.Common.{◌≡◌, ℕ, ◌+◌, ◌-◌, ◌^◌, ◌<◌, ◌≤◌, Bool, true, false, List, [], ◌∷◌, ◌++◌, map, length, take, drop, refl, ap, sym, ◌∙◌, subst, arith, length-take, length-drop, append_assoc}
+use Rattle.std.specs.Prelude.{All, not, min, codes}
+use Rattle.std.proofs.lemmas.List.Elements.{All-from_recursion}
+use Rattle.std.specs.Str.{bytes_eq}
+use Rattle.std.proofs.lemmas.List.{take-append-drop}
+use Rattle.std.proofs.Math.Nat.{pow-le-pow_right}
+use Rattle.std.proofs.lemmas.Slice.Eq.{bytes_eq-Decides}
+use Rattle.zk_model.specs.Bristol.{Lexeme, number, name, is_blank, lexeme, lexemes, gate_lexemes}
+use Rattle.bristol_reader.specs.declared.lines.PairLine.{PairLine}
+use Rattle.bristol_reader.specs.declared.lines.SingleLine.{SingleLine}
+use Rattle.bristol_reader.specs.declared.tokens.Word.TheVariants.{Number}
+use Rattle.bristol_reader.specs.declared.wants.Pair.{Pair}
+use Rattle.bristol_reader.specs.declared.wants.Single.{Single}
+use Rattle.bristol_reader.specs.declared.wants.Placed.{Placed}
+use Rattle.bristol_reader.specs.declared.wants.Pair.TheVariants.{And, Xor}
+use Rattle.bristol_reader.specs.declared.wants.Single.TheVariants.{Inv, Eq, Eqw}
+use Rattle.bristol_reader.specs.Words.{greatest, left_of, Place, place_of, Takes}
+use Rattle.bristol_reader.specs.Wants.{IsPlaced, TakesNumber, pair_text, single_text}
+use Rattle.bristol_reader.specs.Scans.{IsEnded}
+use Rattle.bristol_reader.specs.Lines.{StartsNumber, StartsName, IsPairLine, IsSingleLine}
+use Rattle.bristol_reader.specs.Gates.{FitsFlags, MayBeInput, pair_gate, single_gate, IsWrongPair, IsWrongSingle, IsGateFault}
+use Rattle.bristol_reader.proofs.GateTokens.{TakesThree, pair_taken, pair_wrong, single_taken, single_wrong}
+use Rattle.zk_model.specs.declared.GateRow.{GateRow}
+use Rattle.zk_model.specs.declared.ReadFault.{ReadFault}
+use Rattle.bristol_reader.proofs.Splitting.{tokens_blank, tokens_first, left_ended}
+use Rattle.bristol_reader.proofs.Wanted.{said_number}
+
+-- ---- numbers and names
+
+-- a number of at most seven digits
+pub below : (i n : ℕ) → i < 8 → n < 10 ^ i → n < 10 ^ 7
+below i n few small =
+    let some : 0 < 10 = omega arith in
+    let most : i ≤ 7 = omega arith in
+    let power : 10 ^ i ≤ 10 ^ 7 = pow-le-pow_right {n = 10} some {i = i} {j = 7} most in
+    omega arith
+
+-- the text behind a number and the blank that ends it
+pub starts_number : (text : List ℕ) (i n : ℕ) → n < 10 ^ 7 → IsEnded text (record { length = i; word = Number n })
+    → StartsNumber text n (take (length text - (i + 1)) (drop (i + 1) text))
+starts_number text i n small is =
+    let said = said_number (lexeme (take i text)) n is.is.word_is in
+    record {
+      small = small;
+      shorter = omega (arith, is.within, length-take (length text - (i + 1)) (drop (i + 1) text), length-drop (i + 1) text);
+      left = left_ended text (record { length = i; word = Number n }) is ∙ ap (λ l. l ∷ left_of (take (length text - (i + 1)) (drop (i + 1) text))) (said.1 ∙ ap number (exact said.0 said.2));
+    }
+  where
+    exact : (k : ℕ) → n ≡ min k greatest → k ≡ n
+    exact k same = omega (arith, small)
+
+same_bytes : (xs ys : List ℕ) → false ≡ not (bytes_eq xs ys) → xs ≡ ys
+same_bytes xs ys same = (bytes_eq-Decides xs ys).0 (on (bytes_eq xs ys) same)
+  where
+    on : (b : Bool) → false ≡ not b → b ≡ true
+    on true same = refl
+    on false same = cc
+
+-- a name and a line feed
+pub starts_name : (text line behind of : List ℕ) → line ≡ take 4 text → behind ≡ drop 4 text → length behind + 4 ≡ length text → false ≡ not (bytes_eq line (of ++ 10 ∷ []))
+    → 0 < length of → All (λ byte. is_blank byte ≡ false) of → lexeme of ≡ name of → StartsName text of behind
+unfolding left_of
+starts_name text line behind of front rest whole same some unbroken said =
+    let parts : text ≡ (of ++ 10 ∷ []) ++ behind =
+    sym (take-append-drop 4 text) ∙ (λ j. sym front j ++ sym rest j) ∙ ap (λ l. l ++ behind) (same_bytes line (of ++ 10 ∷ []) same) in
+    record {
+      shorter = omega (arith, whole);
+      left = ap left_of (parts ∙ append_assoc of (10 ∷ []) behind)
+          ∙ ap (map lexeme) (tokens_first of (10 ∷ behind) some unbroken refl ∙ ap (λ l. of ∷ l) (tokens_blank 10 behind refl))
+          ∙ ap (λ l. l ∷ lexemes behind) said;
+    }
+
+-- what is cut off the front of a text
+abbrev AreParts : List ℕ → List ℕ → List ℕ → Type 0
+AreParts text line behind = (line ≡ take 4 text) × (behind ≡ drop 4 text) × (length behind + 4 ≡ length text)
+
+-- a gate's name and the line that it is to be
+pub starts_pair : (text line behind wanted : List ℕ) (pair named : Pair) → AreParts text line behind → false ≡ not (bytes_eq line wanted) → named ≡ pair
+    → wanted ≡ pair_text pair ++ 10 ∷ [] → StartsName text (pair_text named) behind
+starts_pair text line behind wanted pair named parts same is wants =
+    subst (λ (p : Pair). StartsName text (pair_text p) behind) (sym is)
+    (starts_name text line behind (pair_text pair) parts.0 parts.1 parts.2 (same ∙ ap (λ (l : List ℕ). not (bytes_eq line l)) wants) (some pair) (unbroken pair) (said pair))
+  where
+    some : (pair : Pair) → 0 < length (pair_text pair)
+    some And = omega arith
+    some Xor = omega arith
+
+    unbroken : (pair : Pair) → All (λ byte. is_blank byte ≡ false) (pair_text pair)
+    unbroken And = All-from_recursion (λ byte. is_blank byte ≡ false) (codes "AND") (refl, (refl, (refl, tt)))
+    unbroken Xor = All-from_recursion (λ byte. is_blank byte ≡ false) (codes "XOR") (refl, (refl, (refl, tt)))
+
+    said : (pair : Pair) → lexeme (pair_text pair) ≡ name (pair_text pair)
+    said And = refl
+    said Xor = refl
+
+-- the same of a gate with one input
+pub starts_single : (text line behind wanted : List ℕ) (single named : Single) → AreParts text line behind → false ≡ not (bytes_eq line wanted) → named ≡ single
+    → wanted ≡ single_text single ++ 10 ∷ [] → StartsName text (single_text named) behind
+starts_single text line behind wanted single named parts same is wants =
+    subst (λ (p : Single). StartsName text (single_text p) behind) (sym is)
+    (starts_name text line behind (single_text single) parts.0 parts.1 parts.2 (same ∙ ap (λ (l : List ℕ). not (bytes_eq line l)) wants) (some single) (unbroken single) (said single))
+  where
+    some : (single : Single) → 0 < length (single_text single)
+    some Inv = omega arith
+    some Eq = omega arith
+    some Eqw = omega arith
+
+    unbroken : (single : Single) → All (λ byte. is_blank byte ≡ false) (single_text single)
+    unbroken Inv = All-from_recursion (λ byte. is_blank byte ≡ false) (codes "INV") (refl, (refl, (refl, tt)))
+    unbroken Eq = All-from_recursion (λ byte. is_blank byte ≡ false) (codes "EQ") (refl, (refl, tt))
+    unbroken Eqw = All-from_recursion (λ byte. is_blank byte ≡ false) (codes "EQW") (refl, (refl, (refl, tt)))
+
+    said : (single : Single) → lexeme (single_text single) ≡ name (single_text single)
+    said Inv = refl
+    said Eq = refl
+    said Eqw = refl
+
+-- ---- lines
+
+-- the tokens of a text, one after another
+pub pair_line : (text0 text1 text2 text3 text4 text5 : List ℕ) (taken : ℕ) (before : Place) (line : PairLine) → place_of text0 taken ≡ before
+    → left_of text0 ≡ number 2 ∷ number 1 ∷ left_of text1 → StartsNumber text1 line.a.number text2 → StartsNumber text2 line.b.number text3 → StartsNumber text3 line.out.number text4
+    → StartsName text4 (pair_text line.name) text5 → line.a.token ≡ taken + 2 → line.b.token ≡ taken + 3 → line.out.token ≡ taken + 4
+    → IsPairLine before (place_of text5 (taken + 6)) line
+pair_line text0 text1 text2 text3 text4 text5 taken before line view begins a b out named at_a at_b at_out = record {
+  takes = record {
+    left = ap (λ (p : Place). p.left) (sym view) ∙ begins ∙ ap (λ l. number 2 ∷ number 1 ∷ l)
+        (a.left ∙ ap (λ l. number line.a.number ∷ l) (b.left ∙ ap (λ l. number line.b.number ∷ l) (out.left ∙ ap (λ l. number line.out.number ∷ l) named.left)));
+    taken = ap (λ (p : Place). p.taken + 6) view;
+  };
+  a = placed line.a text1 text2 2 a at_a;
+  b = placed line.b text2 text3 3 b at_b;
+  out = placed line.out text3 text4 4 out at_out;
+}
+  where
+    placed : (it : Placed) (text behind : List ℕ) (k : ℕ) → StartsNumber text it.number behind → it.token ≡ taken + k → IsPlaced it it.number (before.taken + k)
+    placed it text behind k starts at = record { number_is = omega (arith, starts.small); token_is = at ∙ ap (λ (p : Place). p.taken + k) view }
+
+pub single_line : (text0 text1 text2 text3 text4 : List ℕ) (taken : ℕ) (before : Place) (line : SingleLine) → place_of text0 taken ≡ before
+    → left_of text0 ≡ number 1 ∷ number 1 ∷ left_of text1 → StartsNumber text1 line.input.number text2 → StartsNumber text2 line.out.number text3
+    → StartsName text3 (single_text line.name) text4 → line.input.token ≡ taken + 2 → line.out.token ≡ taken + 3
+    → IsSingleLine before (place_of text4 (taken + 5)) line
+single_line text0 text1 text2 text3 text4 taken before line view begins input out named at_input at_out = record {
+  takes = record {
+    left = ap (λ (p : Place). p.left) (sym view) ∙ begins ∙ ap (λ l. number 1 ∷ number 1 ∷ l)
+        (input.left ∙ ap (λ l. number line.input.number ∷ l) (out.left ∙ ap (λ l. number line.out.number ∷ l) named.left));
+    taken = ap (λ (p : Place). p.taken + 5) view;
+  };
+  input = placed line.input text1 text2 2 input at_input;
+  out = placed line.out text2 text3 3 out at_out;
+}
+  where
+    placed : (it : Placed) (text behind : List ℕ) (k : ℕ) → StartsNumber text it.number behind → it.token ≡ taken + k → IsPlaced it it.number (before.taken + k)
+    placed it text behind k starts at = record { number_is = omega (arith, starts.small); token_is = at ∙ ap (λ (p : Place). p.taken + k) view }
+
+-- ---- gates
+
+-- the places between the tokens of a line
+record ArePairPlaces (before after : Place) (line : PairLine) : Type 0 where
+  p0 : Place
+  p1 : Place
+  p2 : Place
+  p3 : Place
+  begins : Takes (number 2 ∷ number 1 ∷ []) before p0
+  three : TakesThree p0 p1 p2 p3 line.a line.b line.out
+  named : Takes (name (pair_text line.name) ∷ []) p3 after
+
+pair_places : (before after : Place) (line : PairLine) → IsPairLine before after line → ArePairPlaces before after line
+pair_places before after line is =
+    let l3 : List Lexeme = name (pair_text line.name) ∷ after.left in
+    let l2 : List Lexeme = number line.out.number ∷ l3 in
+    let l1 : List Lexeme = number line.b.number ∷ l2 in
+    record {
+      p0 = record { left = number line.a.number ∷ l1; taken = before.taken + 2 };
+      p1 = record { left = l1; taken = before.taken + 3 };
+      p2 = record { left = l2; taken = before.taken + 4 };
+      p3 = record { left = l3; taken = before.taken + 5 };
+      begins = record { left = is.takes.left; taken = refl };
+      three = record {
+        one = record { exact = line.a.number; is = is.a; takes = record { left = refl; taken = omega arith } };
+        two = record { exact = line.b.number; is = is.b; takes = record { left = refl; taken = omega arith } };
+        three = record { exact = line.out.number; is = is.out; takes = record { left = refl; taken = omega arith } };
+      };
+      named = record { left = refl; taken = omega (arith, is.takes.taken) };
+    }
+
+-- the tokens of a line are those of its gate
+pub pair_line_taken : (flags : List Bool) (before after : Place) (line : PairLine) (gate : GateRow) → length flags ≤ 2 ^ 20 → IsPairLine before after line
+    → gate ≡ pair_gate line.name line.a.number line.b.number line.out.number → FitsFlags flags gate → Takes (gate_lexemes gate) before after
+pair_line_taken flags before after line gate few is row fits =
+    let at = pair_places before after line is in
+    pair_taken flags at.p0 at.p1 at.p2 at.p3 after line.a line.b line.out line.name gate few at.three at.named row fits before at.begins
+
+-- its wires are wrong
+pub pair_line_wrong : (flags : List Bool) (before after : Place) (line : PairLine) (fault : ReadFault) → IsPairLine before after line
+    → IsWrongPair flags line.name line.a line.b line.out fault → IsGateFault flags before fault
+pair_line_wrong flags before after line fault is wrong =
+    let at = pair_places before after line is in
+    pair_wrong flags at.p0 at.p1 at.p2 at.p3 after line.a line.b line.out line.name fault at.three at.named wrong before at.begins
+
+-- the same of a gate with one input
+record AreSinglePlaces (before after : Place) (line : SingleLine) : Type 0 where
+  p0 : Place
+  p1 : Place
+  p2 : Place
+  begins : Takes (number 1 ∷ number 1 ∷ []) before p0
+  one : TakesNumber p0 p1 line.input
+  two : TakesNumber p1 p2 line.out
+  named : Takes (name (single_text line.name) ∷ []) p2 after
+
+single_places : (before after : Place) (line : SingleLine) → IsSingleLine before after line → AreSinglePlaces before after line
+single_places before after line is =
+    let l2 : List Lexeme = name (single_text line.name) ∷ after.left in
+    let l1 : List Lexeme = number line.out.number ∷ l2 in
+    record {
+      p0 = record { left = number line.input.number ∷ l1; taken = before.taken + 2 };
+      p1 = record { left = l1; taken = before.taken + 3 };
+      p2 = record { left = l2; taken = before.taken + 4 };
+      begins = record { left = is.takes.left; taken = refl };
+      one = record { exact = line.input.number; is = is.input; takes = record { left = refl; taken = omega arith } };
+      two = record { exact = line.out.number; is = is.out; takes = record { left = refl; taken = omega arith } };
+      named = record { left = refl; taken = omega (arith, is.takes.taken) };
+    }
+
+pub single_line_taken : (flags : List Bool) (before after : Place) (line : SingleLine) (gate : GateRow) → length flags ≤ 2 ^ 20 → IsSingleLine before after line
+    → MayBeInput flags line.name line.input → gate ≡ single_gate line.name line.input.number line.out.number → FitsFlags flags gate → Takes (gate_lexemes gate) before after
+single_line_taken flags before after line gate few is may row fits =
+    let at = single_places before after line is in
+    single_taken flags at.p0 at.p1 at.p2 after line.input line.out line.name gate few at.one at.two at.named may row fits before at.begins
+
+pub single_line_wrong : (flags : List Bool) (before after : Place) (line : SingleLine) (fault : ReadFault) → IsSingleLine before after line
+    → IsWrongSingle flags line.name line.input line.out fault → IsGateFault flags before fault
+single_line_wrong flags before after line fault is wrong =
+    let at = single_places before after line is in
+    single_wrong flags at.p0 at.p1 at.p2 after line.input line.out line.name fault at.one at.two at.named wrong before at.begins
