@@ -1,5 +1,5 @@
 // Rows: the nodes of one level of a tree, in order, at the front of a buffer.
-ghost use Rattle.std.specs.Prelude.{◌≡◌, ℕ, List, [], ◌+◌, ◌*◌, ◌^◌, ◌<◌, ◌≤◌, length, map, slice_index_or, IfOk, vec_len};
+ghost use Rattle.std.specs.Prelude.{◌≡◌, ℕ, List, [], ◌+◌, ◌*◌, ◌^◌, ◌<◌, ◌≤◌, length, map, bit_xor, slice_index, slice_index_or, IfOk, vec_len};
 ghost use Rattle.sha2.specs.Sha256.{sha256};
 ghost use Rattle.zk_model.specs.Bytes.{xor_bytes};
 ghost use Rattle.zk_model.specs.Tree.{leaf_value};
@@ -9,6 +9,7 @@ use mersenne_field::Fe;
 use sha_lanes::digest_four;
 use sha2::{Digest, Sha256};
 use std::alloc::{AllocError, Global};
+use std::simd::u8x16;
 
 /// The number of nodes of a level.
 pub fn width(level: u32) -> usize
@@ -84,13 +85,20 @@ pub fn side_sum(row: &[[u8; 16]], parents: usize, right: bool) -> [u8; 16]
     sum
 }
 
-/// Adds the bytes of a node to a sum, byte by byte, by XOR.
+/// The XOR of two nodes, byte by byte.
+#[inline(always)]
+fn xor(x: u8x16, y: u8x16) -> [u8; 16]
+    ensures { (j : ℕ) → j < 16 → slice_index result j ≡ bit_xor (slice_index x j) (slice_index y j) }
+{
+    (x ^ y).to_array()
+}
+
+/// Adds the bytes of a node to a sum, byte by byte, by XOR: all sixteen at once.
 pub fn add(sum: &mut [u8; 16], node: &[u8; 16])
     ensures { sum.new ≡ xor_bytes sum.old node.now }
 {
-    for i in 0..16 {
-        sum[i] ^= node[i];
-    }
+    let added = xor(u8x16::from_array(*sum), u8x16::from_array(*node));
+    *sum = added;
 }
 
 /// The elements that leaves stand for.
@@ -105,6 +113,8 @@ pub fn leaf_values(alloc: Global, row: &[[u8; 16]]) -> Result<Vec<Fe>, AllocErro
 fn leaf_value(leaf: &[u8; 16]) -> Fe
     ensures { result ≡ leaf_value leaf.now }
 {
-    let [a, b, c, d, e, f, g, h, ..] = *leaf;
-    Fe::from_word(u64::from_le_bytes([a, b, c, d, e, f, g, h]))
+    let Some(front) = leaf.first_chunk::<8>() else {
+        unreachable!()
+    };
+    Fe::from_word(u64::from_le_bytes(*front))
 }
