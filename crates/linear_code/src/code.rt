@@ -5,7 +5,7 @@ ghost use Rattle.zk_model.specs.Extension.{code_column, code_outputs};
 ghost use Rattle.linear_code.specs.Codes.{IsCode, output_at};
 
 use crate::places::base_places;
-use crate::sums::{base_sum, pair_sums, reduced};
+use crate::sums::{base_sum, pair_sums, total};
 use mersenne_field::{Fe, Pair};
 use std::alloc::{AllocError, Global};
 use std::marker::Model;
@@ -107,8 +107,8 @@ impl Columns {
         requires there { j < self.now.count }
         ensures { result ≡ output_at self.now.seed base.now j entry }
     {
-        let sum = base_sum(base, self.column(j));
-        reduced(sum + u128::from(entry.value()))
+        let (front, back) = self.column(j).split_at(8);
+        total(base_sum(base, front), base_sum(base, back), entry)
     }
 
     /// Output j of pairs.
@@ -118,10 +118,12 @@ impl Columns {
         ensures value { result.x ≡ output_at self.now.seed (values_of base.now) j entry.x }
         ensures mac { result.m ≡ output_at self.now.seed (macs_of base.now) j entry.m }
     {
-        let sums = pair_sums(base, self.column(j));
+        let (front, back) = self.column(j).split_at(8);
+        let eight = pair_sums(base, front);
+        let two = pair_sums(base, back);
         Pair {
-            x: reduced(sums.x + u128::from(entry.x.value())),
-            m: reduced(sums.m + u128::from(entry.m.value())),
+            x: total(eight.x, two.x, entry.x),
+            m: total(eight.m, two.m, entry.m),
         }
     }
 
