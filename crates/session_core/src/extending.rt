@@ -22,7 +22,7 @@ use mersenne_field::{Fe, Pair};
 use proof_frames::{Frame, Grant};
 use std::alloc::{AllocError, Global};
 use tree_messages::{TreeAsk, TreeReply};
-use vole_extend::{ProverRound, UnitReply, VerifierRound, columns_of};
+use vole_extend::{ProverRound, UnitReply, VerifierRound};
 
 /// What a verifier makes of the asks for all units of its grant: a frame of replies for each, and its keys.
 #[derive(Debug, Drop)]
@@ -96,11 +96,13 @@ fn room_of(params: &Params, units: usize) -> usize
 pub fn finish_units(
     alloc: Global,
     file: &ProverFile,
+    columns: &Columns,
     grant: Grant,
     replies: &[Frame],
 ) -> Result<Vec<Pair>, AllocError>
     requires extended { file.now.params.kind ≡ Extended }
     requires within { grant.start + grant.count ≤ file.now.params.total }
+    requires columns { columns.now ≡ unit_code file.now.params file.now.code_seed }
     requires count { length replies.now ≡ grant.count }
     requires replies { All (AreReplies file.now.params.height file.now.params.trees) (replies_of replies.now) }
     ensures pairs { IfOk result (λ pairs. AreFirstPairs file.now grant (replies_of replies.now) pairs.items) }
@@ -108,11 +110,10 @@ pub fn finish_units(
         ≡ grant.count * correlations_per_unit file.now.params) }
 {
     let _total = file.total();
-    let columns = columns_of(alloc, &file.params(), &file.code_seed())?;
     let mut pairs = Vec::with_capacity(alloc, room_of(&file.params(), replies.len()))?;
     for (i, frame) in replies.iter().enumerate() {
         let unit = grant.start + i as u64;
-        let more = finish_unit(alloc, file, &columns, unit, replies_in(frame))?;
+        let more = finish_unit(alloc, file, columns, unit, replies_in(frame))?;
         pairs.extend_from_slice(&more)?;
     }
     Ok(pairs)
@@ -142,11 +143,13 @@ fn reply_unit(
 pub fn reply_units(
     alloc: Global,
     file: &VerifierFile,
+    columns: &Columns,
     grant: Grant,
     asked: &[Frame],
 ) -> Result<Replied, AllocError>
     requires extended { file.now.params.kind ≡ Extended }
     requires within { grant.start + grant.count ≤ file.now.params.total }
+    requires columns { columns.now ≡ unit_code file.now.params file.now.code_seed }
     requires count { length asked.now ≡ grant.count }
     requires asks { All (AreAsks file.now.params.height file.now.params.trees) (asks_of asked.now) }
     ensures replies { IfOk result (λ r. map said r.replies.items
@@ -156,12 +159,11 @@ pub fn reply_units(
         ≡ grant.count * correlations_per_unit file.now.params) }
 {
     let _total = file.total();
-    let columns = columns_of(alloc, &file.params(), &file.code_seed())?;
     let mut replies = Vec::with_capacity(alloc, asked.len())?;
     let mut keys = Vec::with_capacity(alloc, room_of(&file.params(), asked.len()))?;
     for (i, frame) in asked.iter().enumerate() {
         let unit = grant.start + i as u64;
-        let reply = reply_unit(alloc, file, &columns, unit, asks_in(frame))?;
+        let reply = reply_unit(alloc, file, columns, unit, asks_in(frame))?;
         keys.extend_from_slice(&reply.keys)?;
         replies.push(Frame::ExtendReply(reply.replies))?;
     }

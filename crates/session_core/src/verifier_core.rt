@@ -26,6 +26,7 @@ use proof_frames::{Frame, Hello};
 use std::alloc::{AllocFailed, Global};
 use std::marker::Model;
 use std::mem;
+use vole_extend::columns_of;
 use wire_auth::Correlations;
 use zk_model::{Expect, Span, Verdict};
 
@@ -311,7 +312,9 @@ impl<'a> VerifierCore<'a> {
             self.place = Place::Asks { start, asked };
             return Ok(Vec::new(alloc));
         }
-        let replied = reply_units(alloc, self.job.file(), self.job.grant(start), &asked)?;
+        let file = self.job.file();
+        let columns = columns_of(alloc, &file.params(), &file.code_seed())?;
+        let replied = reply_units(alloc, file, &columns, self.job.grant(start), &asked)?;
         let keys = Correlations::Made(replied.keys);
         self.place = Place::Corrections { start, keys };
         Ok(replied.replies)

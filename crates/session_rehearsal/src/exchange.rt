@@ -24,6 +24,7 @@ use session_core::{
 };
 use session_laws::{asks_are_in_range, replies_are_in_range};
 use std::alloc::{AllocError, Global};
+use vole_extend::columns_of;
 use zk_model::Verdict;
 
 /// All that both ends of a session say, in order.
@@ -118,6 +119,7 @@ fn establish<'p, 'v>(
 ) -> Result<Established<'p, 'v>, AllocError>
     requires stated { prover.now.statement ≡ verifier.now.task.statement }
     requires params { prover.now.file.params ≡ verifier.now.task.file.params }
+    requires code { prover.now.file.code_seed ≡ verifier.now.task.file.code_seed }
     requires grant { grant ≡ granted_from verifier.now 0 }
     requires within { units_of_job verifier.now ≤ verifier.now.task.file.params.total }
     ensures held { IfOk result (λ e. HoldsRounds prover.now.file verifier.now.task.file grant
@@ -141,7 +143,7 @@ fn establish<'p, 'v>(
     }
 }
 
-/// The round of all units of a grant: all asks, and all replies.
+/// The round of all units of a grant: all asks, and all replies. Both files have one code, whose columns are made once.
 fn extend<'p, 'v>(
     alloc: Global,
     prover: &'p ProverFile,
@@ -149,6 +151,7 @@ fn extend<'p, 'v>(
     grant: Grant,
 ) -> Result<Established<'p, 'v>, AllocError>
     requires params { prover.now.params ≡ verifier.now.params }
+    requires code { prover.now.code_seed ≡ verifier.now.code_seed }
     requires extended { verifier.now.params.kind ≡ Extended }
     requires within { grant.start + grant.count ≤ verifier.now.params.total }
     ensures held { IfOk result (λ e. HoldsRounds prover.now verifier.now grant
@@ -165,8 +168,9 @@ fn extend<'p, 'v>(
     let _verifier = verifier.params();
     let _prover = prover.params();
     let asked = ask_units(alloc, prover, grant)?;
-    let given = reply_units(alloc, verifier, grant, &asked)?;
-    let pairs = finish_units(alloc, prover, grant, &given.replies)?;
+    let columns = columns_of(alloc, &verifier.params(), &verifier.code_seed())?;
+    let given = reply_units(alloc, verifier, &columns, grant, &asked)?;
+    let pairs = finish_units(alloc, prover, &columns, grant, &given.replies)?;
     Ok(Established {
         asked,
         replied: given.replies,
