@@ -49,6 +49,15 @@ fn bit_checks(alloc: Global, inputs: u32) -> Result<Vec<Factors>, AllocError>
         .collect(alloc)
 }
 
+/// The same, with room for so many more: a list that grows leaves holes in memory.
+fn first_factors(alloc: Global, inputs: u32, more: usize) -> Result<Vec<Factors>, AllocError>
+    ensures { IfOk result (λ v. v.items ≡ map squared (range_with_len 0 inputs)) }
+{
+    let mut factors = bit_checks(alloc, inputs)?;
+    factors.reserve(more)?;
+    Ok(factors)
+}
+
 /// The last wires, so many of them.
 fn last_wires(alloc: Global, wires: u32, count: u32) -> Result<Vec<u32>, AllocError>
     requires { count ≤ wires }
@@ -73,7 +82,7 @@ pub fn translate(alloc: Global, circuit: &Circuit) -> Result<FieldProgram, Alloc
     gates_are_few();
     let wires = circuit.wires() as u32;
     let inputs = circuit.inputs() as u32;
-    let mut factors = bit_checks(alloc, inputs)?;
+    let mut factors = first_factors(alloc, inputs, circuit.gates())?;
     let mut rules = Vec::with_capacity(alloc, circuit.gates())?;
     for gate in circuit.rows() {
         rules.push(gate_rule(*gate, factors.len() as u32))?;
