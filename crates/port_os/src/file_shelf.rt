@@ -19,7 +19,7 @@ pub struct FileShelf<R> {
 impl<R: Files + AllocGlobal> FileShelf<R> {
     /// A shelf of which no call has failed yet.
     pub fn new(rt: R) -> Self
-        ensures { ⟦<FileShelf<R> as Shelf>⟧.faults result ≡ 0 }
+        ensures { (⟦<FileShelf<R> as Shelf>⟧.state result).faults ≡ 0 }
     {
         FileShelf { rt, faults: 0 }
     }
@@ -38,11 +38,7 @@ fn read_up_to<R: Files + AllocGlobal>(rt: &R, name: &str, most: u64) -> io::Resu
 impl<R: Files + AllocGlobal> Shelf for FileShelf<R> {
     ghost use Rattle.std.specs.Prelude.{None};
 
-    ghost told = { λ _. None };
-
-    ghost faults = { λ s. s.faults };
-
-    ghost faults_of = { λ s _. s.faults };
+    ghost state = { λ s. record { told = None; faults = s.faults; faults_of = λ _. s.faults } };
 
     fn faults(&self) -> u64 {
         self.faults

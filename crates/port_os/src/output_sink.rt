@@ -17,7 +17,7 @@ pub struct OutputSink<R> {
 impl<R: Print> OutputSink<R> {
     /// Standard output, of which no call has failed yet.
     pub fn new(rt: R) -> Self
-        ensures { ⟦<OutputSink<R> as Sink>⟧.faults result ≡ 0 }
+        ensures { (⟦<OutputSink<R> as Sink>⟧.state result).faults ≡ 0 }
     {
         OutputSink { rt, faults: 0 }
     }
@@ -26,9 +26,7 @@ impl<R: Print> OutputSink<R> {
 impl<R: Print> Sink for OutputSink<R> {
     ghost use Rattle.std.specs.Prelude.{None};
 
-    ghost written = { λ _. None };
-
-    ghost faults = { λ s. s.faults };
+    ghost state = { λ s. record { written = None; faults = s.faults } };
 
     fn faults(&self) -> u64 {
         self.faults

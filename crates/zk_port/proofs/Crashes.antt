@@ -5,9 +5,10 @@ use Rattle.std.proofs.lemmas.Bool.{cases_lt}
 use Rattle.std.proofs.lemmas.List.{ext_get_or, length-append, length-take, length-replicate}
 use Rattle.std.proofs.lemmas.List.FromFn.{get_or-map-range_with_len, length-map-range_with_len}
 use Rattle.std.specs.List.{range_with_len}
-use Rattle.zk_port.specs.Images.{IsOutside, IsTorn, Elapses, written_at}
+use Rattle.zk_port.specs.Images.{IsOutside, IsTorn, written_at}
+use Rattle.zk_port.specs.Disks.{Elapses}
 use Rattle.zk_port.proofs.Torn.{torn_by_nothing, torn_by_write, torn_further}
-use Rattle.zk_port.specs.Epochs.{left_by, left_by_all, AreOutside, reach, IsImage, Leaves, HadLeft, LeavesSince}
+use Rattle.zk_port.specs.Epochs.{left_by, left_by_all, AreOutside, reach, IsImage, Leaves, HadLeft, epoch_state}
 use Rattle.zk_port.specs.declared.epoch.Epoch.{Epoch}
 use Rattle.zk_port.specs.declared.epoch.Leftover.{Leftover}
 use Rattle.zk_port.specs.declared.epoch.Leftover.TheVariants.{Old, New, Filled}
@@ -168,19 +169,21 @@ drop-push (suc t) [] epoch le = absurd (omega arith)
 drop-push (suc t) (e ∷ past) epoch le = drop-push t past epoch (omega arith)
 
 -- time in an epoch
-pub elapses_within : (past : List Epoch) (epoch later : Epoch) → ((image : List ℕ) → Leaves epoch image → Leaves later image)
-    → Elapses (length past) (length past) (LeavesSince past epoch) (LeavesSince past later) (Leaves later)
-elapses_within past epoch later grows = record {
+pub elapses_within : (names names_later : List (List ℕ)) (bytes bytes_later : List ℕ) (faults faults_later : ℕ) (past : List Epoch) (epoch later : Epoch)
+    → ((image : List ℕ) → Leaves epoch image → Leaves later image)
+    → Elapses (epoch_state names bytes past epoch faults) (epoch_state names_later bytes_later past later faults_later)
+elapses_within names names_later bytes bytes_later faults faults_later past epoch later grows = record {
   later = omega arith;
   nothing_else = λ t image le left. ⊎_elim (λ now. inr now) (λ had. inl (inr had)) left;
   keeps = λ t image le left. ⊎_elim (λ now. inl (grows image now)) (λ had. inr had) left;
 }
 
 -- time from one epoch to the next
-pub elapses_next : (past past_later : List Epoch) (epoch later : Epoch) → past_later ≡ past ++ epoch ∷ []
-    → Elapses (length past) (length past_later) (LeavesSince past epoch) (LeavesSince past_later later) (Leaves later)
-elapses_next past past_later epoch later is =
-    subst (λ p. Elapses (length past) (length p) (LeavesSince past epoch) (LeavesSince p later) (Leaves later)) (sym is) record {
+pub elapses_next : (names names_later : List (List ℕ)) (bytes bytes_later : List ℕ) (faults faults_later : ℕ) (past past_later : List Epoch) (epoch later : Epoch)
+    → past_later ≡ past ++ epoch ∷ []
+    → Elapses (epoch_state names bytes past epoch faults) (epoch_state names_later bytes_later past_later later faults_later)
+elapses_next names names_later bytes bytes_later faults faults_later past past_later epoch later is =
+    subst (λ p. Elapses (epoch_state names bytes past epoch faults) (epoch_state names_later bytes_later p later faults_later)) (sym is) record {
       later = omega (arith, length-append past (epoch ∷ []));
       nothing_else = λ t image le left.
           ⊎_elim (λ now. inr now)

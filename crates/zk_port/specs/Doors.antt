@@ -1,26 +1,83 @@
--- How a door hands out links.
-use Rattle.std.specs.Prelude.{◌≡◌, ◌+◌, ◌==◌, ◌&&◌, ℕ, List, [], ◌∷◌, Bool, true, false, not, Option, Some, None, IfSome, IsTrue}
-use Rattle.zk_model.specs.declared.Side.{Side}
-use Rattle.zk_model.specs.declared.Side.TheVariants.{Prover, Verifier}
+-- What a door tells of itself, and how it hands out links.
+use Rattle.std.specs.Prelude.{◌≡◌, ◌⊎◌, ◌+◌, ◌==◌, ◌&&◌, ℕ, List, [], ◌∷◌, ◌++◌, Bool, true, false, not, Option, Some, None, IfSome, IsTrue}
+use Rattle.zk_port.specs.Counts.{counted}
+use Rattle.zk_port.specs.Logs.{appended, NotesOnce}
+use Rattle.zk_port.specs.Links.{LinkState}
+use Rattle.zk_port.specs.declared.way.Way.{Way}
 
--- nothing has passed, nothing has ended and nothing has failed
-pub record IsFresh (log : Option (List (Side × ℕ))) (ended : Option Bool) (is_open : Bool) (faults : ℕ) : Type 0 where
-  pub unlogged : IfSome log (λ l. l ≡ [])
-  pub unended : IfSome ended (λ e. e ≡ false)
-  pub opened : IsTrue is_open
-  pub unfailed : faults ≡ 0
+-- how many links `next` can still give, and how many that will be after a listen for so many sessions; the addresses that were
+-- listened at and connected to, in order, where the door tells them; how often `next` was called; and how often a call of each kind
+-- has failed. A count at the end of its type stays there.
+pub record DoorState : Type 0 where
+  pub left : ℕ
+  pub offers : ℕ → ℕ
+  pub listened : Option (List (List ℕ))
+  pub connected : Option (List (List ℕ))
+  pub nexts : ℕ
+  pub listen_faults : ℕ
+  pub connect_faults : ℕ
+  pub next_faults : ℕ
+
+-- a door in memory with no links, of which nothing was asked yet
+abbrev pub unasked_door : DoorState
+unasked_door = record {
+  left = 0;
+  offers = λ _. 0;
+  listened = Some [];
+  connected = Some [];
+  nexts = 0;
+  listen_faults = 0;
+  connect_faults = 0;
+  next_faults = 0;
+}
+
+-- behind a listen at this address, for so many sessions
+abbrev pub after_listen : List ℕ → ℕ → DoorState → DoorState
+after_listen address sessions old =
+    record old { left = old.offers sessions; listened = appended (address ∷ []) old.listened }
+
+-- behind a connect to this address
+abbrev pub after_connect : List ℕ → DoorState → DoorState
+after_connect address old = record old { connected = appended (address ∷ []) old.connected }
+
+-- behind a listen that was refused
+pub record RefusesListen (address : List ℕ) (old new : DoorState) : Type 0 where
+  pub noted : NotesOnce address old.listened new.listened
+  pub rest : new ≡ record old { listened = new.listened; listen_faults = new.listen_faults }
+
+-- behind a connect that was refused
+pub record RefusesConnect (address : List ℕ) (old new : DoorState) : Type 0 where
+  pub noted : NotesOnce address old.connected new.connected
+  pub rest : new ≡ record old { connected = new.connected; connect_faults = new.connect_faults }
 
 -- a link takes one of those that are left; none comes exactly where none is left
 abbrev pub TakesOne : {L : Type 0} → Option L → ℕ → ℕ → Type 0
 TakesOne None old new = (old ≡ 0) × (new ≡ 0)
 TakesOne (Some link) old new = old ≡ new + 1
 
+-- behind a `next` that was not refused: nothing but how many links can still be given differs, and that it was called
+abbrev pub OnlyTakes : DoorState → DoorState → Type 0
+OnlyTakes old new = new ≡ record old { left = new.left; offers = new.offers; nexts = counted true old.nexts }
+
+-- behind a `next` that was refused
+abbrev pub after_refused_next : ℕ → DoorState → DoorState
+after_refused_next faults old = record old { nexts = counted true old.nexts; next_faults = faults }
+
+-- nothing has passed, nothing has ended and nothing has failed
+pub record IsFresh (link : LinkState) : Type 0 where
+  pub unlogged : IfSome link.log (λ l. l ≡ [])
+  pub unended : IfSome link.ended (λ e. e ≡ false)
+  pub opened : IsTrue link.is_open
+  pub unsent : link.sends ≡ 0
+  pub unreceived : link.receives ≡ 0
+  pub unfailed : link.faults ≡ 0
+
 -- the first of the links is given, if there is one, and the others stay in order
 abbrev pub GivesFirst : {L : Type 0} → Option L → List L → List L → Type 0
 GivesFirst None old new = (old ≡ []) × (new ≡ [])
 GivesFirst (Some link) old new = old ≡ link ∷ new
 
-abbrev pub is_unlogged : Option (List (Side × ℕ)) → Bool
+abbrev pub is_unlogged : Option (List (Way × ℕ)) → Bool
 is_unlogged None = true
 is_unlogged (Some []) = true
 is_unlogged (Some (entry ∷ log)) = false
@@ -29,13 +86,11 @@ abbrev pub is_unended : Option Bool → Bool
 is_unended None = true
 is_unended (Some ended) = not ended
 
-abbrev pub is_side : Side → Side → Bool
-is_side Prover Prover = true
-is_side Verifier Verifier = true
-is_side Prover Verifier = false
-is_side Verifier Prover = false
+-- whether a link is fresh, as a test
+abbrev pub is_fresh : LinkState → Bool
+is_fresh link =
+    is_unlogged link.log && is_unended link.ended && link.is_open && (link.sends == 0) && (link.receives == 0) && (link.faults == 0)
 
--- whether a link is fresh and of this side, as a test
-abbrev pub is_fresh_for : Side → Side → Option (List (Side × ℕ)) → Option Bool → Bool → ℕ → Bool
-is_fresh_for wanted side log ended is_open faults =
-    is_side wanted side && is_unlogged log && is_unended ended && is_open && faults == 0
+-- the same of a list that is told
+abbrev pub NotesText : List ℕ → List (List ℕ) → List (List ℕ) → Type 0
+NotesText address old new = (new ≡ old) ⊎ (new ≡ old ++ address ∷ [])

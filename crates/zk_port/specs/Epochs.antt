@@ -1,12 +1,13 @@
 -- What a crash may leave of a disk in memory, then and since a moment.
-use Rattle.std.specs.Prelude.{◌≡◌, ◌⊎◌, ℕ, ◌<◌, ◌≤◌, ◌+◌, ◌-◌, ◌/◌, List, [], ◌∷◌, ◌++◌, length, take, drop, get_or, max, replicate, Bool, true, false, not, ◌&&◌, ◌||◌, ◌==◌, nat_le, vec_len, if◌then◌else◌}
+use Rattle.std.specs.Prelude.{◌≡◌, ◌⊎◌, ℕ, ◌<◌, ◌≤◌, ◌+◌, ◌-◌, ◌/◌, List, [], ◌∷◌, ◌++◌, length, take, drop, get_or, max, replicate, Bool, true, false, not, ◌&&◌, ◌||◌, ◌==◌, nat_le, vec_len, if◌then◌else◌, Some, None}
 use Rattle.std.specs.Vec.{vec_capacity}
 use mathlib.Core.Logic.{inl, inr}
 use Rattle.zk_port.specs.Images.{IsOutside, written_at}
+use Rattle.zk_port.specs.Disks.{DiskState}
 use Rattle.zk_port.specs.declared.epoch.Epoch.{Epoch}
 use Rattle.zk_port.specs.declared.epoch.Pending.{Pending}
 use Rattle.zk_port.specs.declared.epoch.Turn.{Turn}
-use Rattle.zk_port.specs.declared.epoch.Turn.TheVariants.{Goes, Fails, Lost}
+use Rattle.zk_port.specs.declared.epoch.Turn.TheVariants.{Goes, Fails, Stopped, Lost}
 use Rattle.zk_port.specs.declared.epoch.Leftover.{Leftover}
 use Rattle.zk_port.specs.declared.epoch.Leftover.TheVariants.{Old, New, Filled}
 
@@ -40,6 +41,27 @@ HadLeft (epoch ∷ epochs) image = Leaves epoch image ⊎ HadLeft epochs image
 abbrev pub LeavesSince : List Epoch → Epoch → ℕ → List ℕ → Type 0
 LeavesSince past epoch t image = Leaves epoch image ⊎ HadLeft (drop t past) image
 
+-- the names that were chosen of a disk on which one may be
+abbrev pub chosen_names : Bool → List ℕ → List (List ℕ)
+chosen_names false name = []
+chosen_names true name = name ∷ []
+
+-- whether a name of so many bytes may be chosen: none was before, and there is room to note it
+abbrev pub may_choose : Bool → ℕ → Bool
+may_choose is_chosen size = not is_chosen && nat_le size 4096
+
+-- what a disk in memory tells of itself
+abbrev pub epoch_state : List (List ℕ) → List ℕ → List Epoch → Epoch → ℕ → DiskState
+epoch_state chosen bytes past epoch faults = record {
+  chosen = Some chosen;
+  content = Some bytes;
+  room = None;
+  images = Leaves epoch;
+  moment = length past;
+  images_since = LeavesSince past epoch;
+  faults = faults;
+}
+
 none_had : (past : List Epoch) (image : List ℕ) → HadLeft (drop (length past) past) image → ⊥
 none_had [] image had = had
 none_had (epoch ∷ past) image had = none_had past image had
@@ -70,7 +92,7 @@ left_by_all (leftover ∷ leftovers) (range ∷ ranges) content image =
 -- what becomes of a call: whether it fits, whether the run has stopped, how many calls there is room for, whether it is to fail
 abbrev pub turn_of : Bool → Bool → ℕ → Bool → Turn
 turn_of fits stopped calls fails =
-    if not fits || stopped || calls == 0 then Lost else (if fails then Fails else Goes)
+    if not fits || calls == 0 then Lost else (if stopped then Stopped else (if fails then Fails else Goes))
 
 -- the first half
 abbrev pub half_of : List ℕ → List ℕ
@@ -80,22 +102,26 @@ half_of bytes = take (length bytes / 2) bytes
 abbrev pub content_after : Turn → ℕ → List ℕ → List ℕ → List ℕ
 content_after Goes at bytes old = written_at at bytes old
 content_after Fails at bytes old = written_at at (half_of bytes) old
+content_after Stopped at bytes old = old
 content_after Lost at bytes old = old
 
 -- the ranges of writes behind a write of so many bytes
 abbrev pub ranges_after : Turn → ℕ → ℕ → List Pending → List Pending
 ranges_after Goes at count old = old ++ record { at = at; count = count } ∷ []
 ranges_after Fails at count old = old ++ record { at = at; count = count } ∷ []
+ranges_after Stopped at count old = old ++ record { at = at; count = count } ∷ []
 ranges_after Lost at count old = old
 
 -- whether a call is refused
 abbrev pub is_refused : Turn → Bool
 is_refused Goes = false
 is_refused Fails = true
+is_refused Stopped = true
 is_refused Lost = true
 
 -- how many further calls there is room for
 abbrev pub left_after : Turn → ℕ → ℕ
 left_after Goes calls = calls - 1
 left_after Fails calls = calls - 1
+left_after Stopped calls = calls - 1
 left_after Lost calls = calls

@@ -1,8 +1,7 @@
 -- What a sink has been given, and what has passed over a link.
-use Rattle.std.specs.Prelude.{◌≡◌, ℕ, List, ◌++◌, take, Option, Bool, ◌||◌, ◌&&◌, ◌==◌, nat_lt}
+use Rattle.std.specs.Prelude.{◌≡◌, ◌⊎◌, ℕ, List, [], ◌∷◌, ◌++◌, map, take, Option, Bool, ◌||◌, ◌&&◌, ◌==◌, nat_lt}
 use Rattle.std.specs.Option.{option_map}
-use Rattle.zk_model.specs.declared.Side.{Side}
-use Rattle.zk_model.specs.declared.Side.TheVariants.{Prover, Verifier}
+use Rattle.zk_port.specs.declared.way.Way.{Way}
 
 -- where the object tells, these come behind what was there
 abbrev pub appended : {T : Type 0} → List T → Option (List T) → Option (List T)
@@ -13,6 +12,10 @@ pub record AppendsPart {T : Type 0} (more : List T) (old new : Option (List T)) 
   pub count : ℕ
   pub part : new ≡ appended (take count more) old
 
+-- a name that a refused call was given is noted, or is not, where there was no memory for it
+abbrev pub NotesOnce : List ℕ → Option (List (List ℕ)) → Option (List (List ℕ)) → Type 0
+NotesOnce name old new = (new ≡ old) ⊎ (new ≡ appended (name ∷ []) old)
+
 -- where the object tells, these come before what is there
 abbrev pub put_before : {T : Type 0} → List T → Option (List T) → Option (List T)
 put_before more told = option_map (λ behind. more ++ behind) told
@@ -22,7 +25,6 @@ put_before more told = option_map (λ behind. more ++ behind) told
 abbrev pub ended_after : ℕ → ℕ → Bool → Bool
 ended_after size n before = before || (nat_lt 0 size && n == 0)
 
--- the other side
-abbrev pub peer_of : Side → Side
-peer_of Prover = Verifier
-peer_of Verifier = Prover
+-- the bytes as a log has them, with the way that they went
+abbrev pub bytes_of : Way → List ℕ → List (Way × ℕ)
+bytes_of way bytes = map (λ b. (way, b)) bytes

@@ -15,7 +15,7 @@ pub struct ClosedDisk {
 impl ClosedDisk {
     /// A disk of which no call has failed yet.
     pub fn new() -> Self
-        ensures { ⟦<ClosedDisk as Disk>⟧.faults result ≡ 0 }
+        ensures { (⟦<ClosedDisk as Disk>⟧.state result).faults ≡ 0 }
     {
         ClosedDisk { faults: 0 }
     }
@@ -32,17 +32,15 @@ impl ClosedDisk {
 impl Disk for ClosedDisk {
     ghost use Rattle.std.specs.Prelude.{None};
 
-    ghost content = { λ _. None };
-
-    ghost room = { λ _. None };
-
-    ghost images = { λ _ _. Unit {0} };
-
-    ghost moment = { λ _. 0 };
-
-    ghost images_since = { λ _ _ _. Unit {0} };
-
-    ghost faults = { λ d. d.faults };
+    ghost state = { λ d. record {
+      chosen = None;
+      content = None;
+      room = None;
+      images = λ _. Unit {0};
+      moment = 0;
+      images_since = λ _ _. Unit {0};
+      faults = d.faults;
+    } };
 
     ghost counts_now = { λ d t c le now. tt };
 

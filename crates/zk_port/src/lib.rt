@@ -1,5 +1,5 @@
 //! The outside: files, output, links, doors, disks and gates, each as a trait that says what its
-//! calls mean, with an implementation in memory.
+//! calls mean, over one record of what it tells (`state`), with an implementation in memory.
 #![tactic(auto)]
 
 mod closed_disk;
@@ -20,6 +20,7 @@ mod scripted_link;
 mod shelf;
 mod sink;
 mod sure_disk;
+mod way;
 
 pub use closed_disk::ClosedDisk;
 pub use disk::Disk;
@@ -38,4 +39,4 @@ pub use scripted_link::ScriptedLink;
 pub use shelf::Shelf;
 pub use sink::Sink;
 pub use sure_disk::SureDisk;
-pub use zk_model::Side;
+pub use way::Way;

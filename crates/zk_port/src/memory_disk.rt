@@ -3,8 +3,9 @@ ghost use Rattle.std.specs.Prelude.{◌≡◌, ◌<◌, ◌≤◌, ◌+◌, ◌-
 ghost use Rattle.std.specs.Vec.{vec_capacity};
 ghost use Rattle.std.specs.List.{list_all};
 ghost use Rattle.zk_port.specs.Counts.{counted};
-ghost use Rattle.zk_port.specs.Images.{written_at, IsTorn, Follows, Elapses, StepsBy, Only};
-ghost use Rattle.zk_port.specs.Epochs.{left_by, left_by_all, is_prepared, reach, AreOutside, Leaves, LeavesSince, turn_of, is_refused, left_after, content_after, ranges_after};
+ghost use Rattle.zk_port.specs.Images.{written_at, IsTorn, Follows, StepsBy, Only};
+ghost use Rattle.zk_port.specs.Disks.{Elapses};
+ghost use Rattle.zk_port.specs.Epochs.{left_by, left_by_all, is_prepared, reach, AreOutside, Leaves, chosen_names, may_choose, epoch_state, turn_of, is_refused, left_after, content_after, ranges_after};
 
 use crate::disk::Disk;
 use crate::epoch::{Epoch, Leftover, Pending, Turn, prepare};
@@ -14,10 +15,14 @@ use crate::plan::FaultPlan;
 use std::alloc::{AllocError, Global};
 use std::mem;
 
-/// A disk in memory, made for a number of bytes and a number of calls. It has one file, which every name chooses.
-/// Exactly these calls fail: those that the plan names, all behind those that it was made for or behind a stop, and
-/// writes that would end past its room. A write that the plan fails writes its first half, and a crash may leave
-/// anything in its range; the others of these calls leave all as it was.
+/// The most bytes that a name has.
+const NAME_ROOM: usize = 4096;
+
+/// A disk in memory, made for a number of bytes and a number of calls. It has one file, which any name chooses, once.
+/// Exactly these calls fail: those that the plan names, all behind those that it was made for or behind a stop, writes
+/// that would end past its room, and a choice behind the first or of a name of more than 4,096 bytes. A write that the
+/// plan fails writes its first half, one behind a stop nothing, and a crash may leave anything in the range of either;
+/// the others of these calls leave all as it was.
 #[derive(Drop)]
 pub struct MemoryDisk<P: FaultPlan> {
     bytes: Vec<u8>,
@@ -27,11 +32,14 @@ pub struct MemoryDisk<P: FaultPlan> {
     spare: Vec<Epoch>,
     calls: usize,
     most: usize,
+    name: Vec<u8>,
+    is_chosen: bool,
     plan: P,
     ghost strict: { P.forgiving ≡ false },
     ghost sized: { room ≤ 2 ^ 62 },
     ghost made: { room ≤ vec_capacity bytes },
     ghost inside: { vec_len bytes ≤ room },
+    ghost room_for_name: { is_chosen ≡ false → (name.items ≡ []) × (4096 ≤ vec_capacity name) },
     ghost calls_left: { calls ≤ most },
     ghost room_for_ranges: { vec_len epoch.ranges + calls ≤ vec_capacity epoch.ranges },
     ghost room_for_epochs: { vec_len past + calls ≤ vec_capacity past },
@@ -52,16 +60,21 @@ fn begin<P: FaultPlan>(plan: &mut P, calls: &mut usize, fits: bool) -> Turn
     ensures count { P.count plan.new ≡ counted (is_refused result) (P.count plan.old) }
     ensures later { P.count plan.old ≤ P.count plan.new }
 {
-    let lost = !fits || plan.has_stopped() || *calls == 0;
+    let lost = !fits || *calls == 0;
+    let stopped = plan.has_stopped();
     let fails = plan.fails();
+    if (lost || stopped) && !fails {
+        plan.fails_without();
+    }
     if lost {
-        if !fails {
-            plan.fails_without();
-        }
         return Turn::Lost;
     }
     *calls -= 1;
-    if fails { Turn::Fails } else { Turn::Goes }
+    match (stopped, fails) {
+        (true, _) => Turn::Stopped,
+        (false, true) => Turn::Fails,
+        (false, false) => Turn::Goes,
+    }
 }
 
 /// Whether so many bytes from this place on end within the room.
@@ -222,13 +235,13 @@ impl<P: FaultPlan + Drop> MemoryDisk<P> {
         plan: P,
     ) -> Result<Self, AllocError>
         requires strict { P.forgiving ≡ false }
-        ensures content { IfOk result (λ disk. ⟦<MemoryDisk<P> as Disk>⟧.content disk ≡ Some bytes.items) }
+        ensures content { IfOk result (λ disk. (⟦<MemoryDisk<P> as Disk>⟧.state disk).content ≡ Some bytes.items) }
         ensures images { IfOk result (λ disk. disk.epoch.ranges.items ≡ []) }
         ensures base { IfOk result (λ disk. disk.epoch.base.items ≡ bytes.items) }
         ensures room { IfOk result (λ disk. disk.room ≡ max room (length bytes.items)) }
         ensures calls { IfOk result (λ disk. disk.calls ≡ calls) }
         ensures plan { IfOk result (λ disk. disk.plan ≡ plan) }
-        ensures faults { IfOk result (λ disk. ⟦<MemoryDisk<P> as Disk>⟧.faults disk ≡ P.count plan) }
+        ensures faults { IfOk result (λ disk. (⟦<MemoryDisk<P> as Disk>⟧.state disk).faults ≡ P.count plan) }
     {
         let room = room.max(bytes.len());
         if room > MOST_ROOM {
@@ -246,13 +259,15 @@ impl<P: FaultPlan + Drop> MemoryDisk<P> {
             spare: prepare_all(alloc, room, calls)?,
             calls,
             most: calls,
+            name: Vec::with_capacity(alloc, NAME_ROOM)?,
+            is_chosen: false,
             plan,
         })
     }
 
     /// What a read of all would give.
     pub fn bytes(&self) -> &[u8]
-        ensures { ⟦<MemoryDisk<P> as Disk>⟧.content self.now ≡ Some result.now }
+        ensures { (⟦<MemoryDisk<P> as Disk>⟧.state self.now).content ≡ Some result.now }
     {
         &self.bytes
     }
@@ -271,7 +286,7 @@ impl<P: FaultPlan + Drop> MemoryDisk<P> {
     ///
     /// Only where memory runs out.
     pub fn image(&self, alloc: Global, leftovers: &[Leftover]) -> Result<Vec<u8>, AllocError>
-        ensures image { IfOk result (λ image. ⟦<MemoryDisk<P> as Disk>⟧.images self.now image.items) }
+        ensures image { IfOk result (λ image. (⟦<MemoryDisk<P> as Disk>⟧.state self.now).images image.items) }
         ensures chosen { IfOk result (λ image. image.items ≡ left_by_all leftovers.now
             self.now.epoch.ranges.items self.now.bytes.items self.now.epoch.base.items) }
     {
@@ -283,19 +298,10 @@ impl<P: FaultPlan + Drop> MemoryDisk<P> {
 impl<P: FaultPlan> Disk for MemoryDisk<P> {
     ghost use Rattle.std.specs.Prelude.{Some, None};
     ghost use Rattle.std.proofs.Common.{inl};
-    ghost use Rattle.zk_port.specs.Epochs.{Leaves, LeavesSince, leaves_only_now};
+    ghost use Rattle.zk_port.specs.Epochs.{chosen_names, epoch_state, leaves_only_now};
 
-    ghost content = { λ d. Some d.bytes.items };
-
-    ghost room = { λ _. None };
-
-    ghost images = { λ d c. Leaves d.epoch c };
-
-    ghost moment = { λ d. length d.past.items };
-
-    ghost images_since = { λ d t c. LeavesSince d.past.items d.epoch t c };
-
-    ghost faults = { λ d. P.count d.plan };
+    ghost state = { λ d. epoch_state (chosen_names d.is_chosen d.name.items) d.bytes.items
+        d.past.items d.epoch (P.count d.plan) };
 
     ghost counts_now = { λ d t c le now. inl now };
 
@@ -305,22 +311,31 @@ impl<P: FaultPlan> Disk for MemoryDisk<P> {
         self.plan.faults()
     }
 
-    fn choose(&mut self, _name: &str) -> Result<(), Failed>
-        ensures answer { is_err result ≡ is_refused (turn_of true
+    fn choose(&mut self, name: &str) -> Result<(), Failed>
+        ensures answer { is_err result ≡ is_refused (turn_of (may_choose self.old.is_chosen (length name.now))
             (P.stopped self.old.plan) self.old.calls (P.coming self.old.plan 0)) }
+        ensures chosen { OnOk result (chosen_names self.new.is_chosen self.new.name.items
+            ≡ chosen_names self.old.is_chosen self.old.name.items ++ name.now ∷ []) }
+        ensures refused { OnErr result ((self.new.is_chosen ≡ self.old.is_chosen)
+            × (self.new.name ≡ self.old.name)) }
         ensures bytes { self.new.bytes ≡ self.old.bytes }
         ensures epoch { self.new.epoch ≡ self.old.epoch }
         ensures past { self.new.past ≡ self.old.past }
         ensures room { self.new.room ≡ self.old.room }
-        ensures calls { self.new.calls ≡ left_after (turn_of true
+        ensures calls { self.new.calls ≡ left_after (turn_of (may_choose self.old.is_chosen (length name.now))
             (P.stopped self.old.plan) self.old.calls (P.coming self.old.plan 0)) self.old.calls }
         ensures onward { (n : ℕ) → P.coming self.new.plan n ≡ P.coming self.old.plan (n + 1) }
         ensures count { P.count self.new.plan ≡ counted (is_err result) (P.count self.old.plan) }
         ensures later { P.count self.old.plan ≤ P.count self.new.plan }
     {
-        match begin(&mut self.plan, &mut self.calls, true) {
-            Turn::Goes => Ok(()),
-            Turn::Fails | Turn::Lost => Err(Failed),
+        let fits = !self.is_chosen && name.len() <= NAME_ROOM;
+        match begin(&mut self.plan, &mut self.calls, fits) {
+            Turn::Goes => {
+                let _ = self.name.extend_from_slice(name.as_bytes());
+                self.is_chosen = true;
+                Ok(())
+            }
+            Turn::Fails | Turn::Stopped | Turn::Lost => Err(Failed),
         }
     }
 
@@ -333,6 +348,8 @@ impl<P: FaultPlan> Disk for MemoryDisk<P> {
         ensures bytes { self.new.bytes ≡ self.old.bytes }
         ensures epoch { self.new.epoch ≡ self.old.epoch }
         ensures past { self.new.past ≡ self.old.past }
+        ensures name { self.new.name ≡ self.old.name }
+        ensures is_chosen { self.new.is_chosen ≡ self.old.is_chosen }
         ensures room { self.new.room ≡ self.old.room }
         ensures calls { self.new.calls ≡ left_after (turn_of true
             (P.stopped self.old.plan) self.old.calls (P.coming self.old.plan 0)) self.old.calls }
@@ -342,7 +359,7 @@ impl<P: FaultPlan> Disk for MemoryDisk<P> {
     {
         match begin(&mut self.plan, &mut self.calls, true) {
             Turn::Goes => Ok(read_from(&self.bytes, at, buffer)),
-            Turn::Fails | Turn::Lost => Err(Failed),
+            Turn::Fails | Turn::Stopped | Turn::Lost => Err(Failed),
         }
     }
 
@@ -357,11 +374,15 @@ impl<P: FaultPlan> Disk for MemoryDisk<P> {
             (P.coming self.old.plan 0)) at (length bytes.now) self.old.epoch.ranges.items }
         ensures base { self.new.epoch.base ≡ self.old.epoch.base }
         ensures past { self.new.past ≡ self.old.past }
+        ensures name { self.new.name ≡ self.old.name }
+        ensures is_chosen { self.new.is_chosen ≡ self.old.is_chosen }
         ensures torn { OnErr result (IsTorn at (length bytes.now) self.old.bytes.items self.new.bytes.items) }
         ensures crash { Follows (IsTorn at (length bytes.now)) (Leaves self.old.epoch) (Leaves self.new.epoch) }
-        ensures time { Elapses (length self.old.past.items) (length self.new.past.items)
-            (LeavesSince self.old.past.items self.old.epoch)
-            (LeavesSince self.new.past.items self.new.epoch) (Leaves self.new.epoch) }
+        ensures time { Elapses
+            (epoch_state (chosen_names self.old.is_chosen self.old.name.items) self.old.bytes.items
+            self.old.past.items self.old.epoch (P.count self.old.plan))
+            (epoch_state (chosen_names self.new.is_chosen self.new.name.items) self.new.bytes.items
+            self.new.past.items self.new.epoch (P.count self.new.plan)) }
         ensures room { self.new.room ≡ self.old.room }
         ensures calls { self.new.calls ≡ left_after (turn_of
             (nat_le (at + length bytes.now) self.old.room) (P.stopped self.old.plan) self.old.calls
@@ -382,6 +403,10 @@ impl<P: FaultPlan> Disk for MemoryDisk<P> {
                 write_noted(&mut self.bytes, &mut self.epoch, at, bytes, half, self.room);
                 Err(Failed)
             }
+            Turn::Stopped => {
+                write_noted(&mut self.bytes, &mut self.epoch, at, bytes, 0, self.room);
+                Err(Failed)
+            }
             Turn::Lost => Err(Failed),
         }
     }
@@ -395,10 +420,14 @@ impl<P: FaultPlan> Disk for MemoryDisk<P> {
         ensures ended { OnOk result (self.new.past.items ≡ self.old.past.items ++ self.old.epoch ∷ []) }
         ensures epoch { OnErr result (self.new.epoch ≡ self.old.epoch) }
         ensures past { OnErr result (self.new.past ≡ self.old.past) }
+        ensures name { self.new.name ≡ self.old.name }
+        ensures is_chosen { self.new.is_chosen ≡ self.old.is_chosen }
         ensures crash { (c : List ℕ) → Leaves self.new.epoch c → Leaves self.old.epoch c }
-        ensures time { Elapses (length self.old.past.items) (length self.new.past.items)
-            (LeavesSince self.old.past.items self.old.epoch)
-            (LeavesSince self.new.past.items self.new.epoch) (Leaves self.new.epoch) }
+        ensures time { Elapses
+            (epoch_state (chosen_names self.old.is_chosen self.old.name.items) self.old.bytes.items
+            self.old.past.items self.old.epoch (P.count self.old.plan))
+            (epoch_state (chosen_names self.new.is_chosen self.new.name.items) self.new.bytes.items
+            self.new.past.items self.new.epoch (P.count self.new.plan)) }
         ensures room { self.new.room ≡ self.old.room }
         ensures calls { self.new.calls ≡ left_after (turn_of true
             (P.stopped self.old.plan) self.old.calls (P.coming self.old.plan 0)) self.old.calls }
@@ -418,7 +447,7 @@ impl<P: FaultPlan> Disk for MemoryDisk<P> {
                 );
                 Ok(())
             }
-            Turn::Fails | Turn::Lost => Err(Failed), // all stays pending
+            Turn::Fails | Turn::Stopped | Turn::Lost => Err(Failed), // all stays pending
         }
     }
 }

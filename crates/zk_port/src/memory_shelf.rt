@@ -1,5 +1,5 @@
 // Files in memory.
-ghost use Rattle.std.specs.Prelude.{◌≡◌, ◌≤◌, ◌+◌, ℕ, List, length, OnOk, OnErr, IfOk, IfErr, IsErrOf};
+ghost use Rattle.std.specs.Prelude.{Some, ◌≡◌, ◌≤◌, ◌+◌, ℕ, List, length, OnOk, OnErr, IfOk, IfErr, IsErrOf};
 ghost use Rattle.std.specs.Option.{option_map};
 ghost use Rattle.zk_port.specs.Counts.{HasCause, CountsNames, counted, is_failed, is_load_failed};
 ghost use Rattle.zk_port.specs.Files.{OthersStay, StandsAs, LoadCause, stored, without};
@@ -22,9 +22,11 @@ pub struct MemoryShelf<P> {
 impl<P: FaultPlan> MemoryShelf<P> {
     /// A shelf of these files. Under a plan by which nothing may fail, a missing file is read as empty.
     pub fn new(files: BTreeMap<String, Vec<u8>>, plan: P) -> Self
-        ensures told { ⟦<MemoryShelf<P> as Shelf>⟧.told result ≡ Some
-            (λ name. found P.forgiving (file_of files name)) }
-        ensures faults { ⟦<MemoryShelf<P> as Shelf>⟧.faults result ≡ P.count plan }
+        ensures state { ⟦<MemoryShelf<P> as Shelf>⟧.state result ≡ record {
+          told = Some (λ name. found P.forgiving (file_of files name));
+          faults = P.count plan;
+          faults_of = λ _. P.count plan;
+        } }
         ensures plan { result.plan ≡ plan }
     {
         MemoryShelf { files, plan }
@@ -60,11 +62,11 @@ impl<P: FaultPlan> Shelf for MemoryShelf<P> {
     ghost use Rattle.std.specs.Prelude.{Some};
     ghost use Rattle.zk_port.specs.Plans.{file_of, found};
 
-    ghost told = { λ s. Some (λ name. found P.forgiving (file_of s.files name)) };
-
-    ghost faults = { λ s. P.count s.plan };
-
-    ghost faults_of = { λ s _. P.count s.plan };
+    ghost state = { λ s. record {
+      told = Some (λ name. found P.forgiving (file_of s.files name));
+      faults = P.count s.plan;
+      faults_of = λ _. P.count s.plan;
+    } };
 
     fn faults(&self) -> u64 {
         self.plan.faults()

@@ -18,8 +18,7 @@ pub struct MemorySink<P> {
 impl<P: FaultPlan> MemorySink<P> {
     /// A sink that nothing has been written to.
     pub fn new(alloc: Global, plan: P) -> Self
-        ensures written { ⟦<MemorySink<P> as Sink>⟧.written result ≡ Some [] }
-        ensures faults { ⟦<MemorySink<P> as Sink>⟧.faults result ≡ P.count plan }
+        ensures state { ⟦<MemorySink<P> as Sink>⟧.state result ≡ record { written = Some []; faults = P.count plan } }
         ensures plan { result.plan ≡ plan }
     {
         MemorySink {
@@ -30,7 +29,7 @@ impl<P: FaultPlan> MemorySink<P> {
 
     /// All bytes that were written, in order.
     pub fn bytes(&self) -> &[u8]
-        ensures { ⟦<MemorySink<P> as Sink>⟧.written self.now ≡ Some result.now }
+        ensures { (⟦<MemorySink<P> as Sink>⟧.state self.now).written ≡ Some result.now }
     {
         &self.bytes
     }
@@ -39,9 +38,7 @@ impl<P: FaultPlan> MemorySink<P> {
 impl<P: FaultPlan> Sink for MemorySink<P> {
     ghost use Rattle.std.specs.Prelude.{Some};
 
-    ghost written = { λ s. Some s.bytes.items };
-
-    ghost faults = { λ s. P.count s.plan };
+    ghost state = { λ s. record { written = Some s.bytes.items; faults = P.count s.plan } };
 
     fn faults(&self) -> u64 {
         self.plan.faults()

@@ -9,7 +9,7 @@ use crate::file_bytes::{MOST_ROOM, read_from, write_into};
 use std::alloc::{AllocError, Global};
 
 /// A disk in memory that never fails, with room for a stated number of bytes. It has one file, which every name
-/// chooses. No crash comes, so none leaves anything.
+/// chooses, and tells no name. No crash comes, so none leaves anything.
 #[derive(Drop)]
 pub struct SureDisk {
     bytes: Vec<u8>,
@@ -25,8 +25,8 @@ impl SureDisk {
     ///
     /// Only where memory runs out, as it does for more than 2^62 bytes.
     pub fn new(bytes: Vec<u8>, room: usize) -> Result<Self, AllocError>
-        ensures content { IfOk result (λ disk. ⟦<SureDisk as Disk>⟧.content disk ≡ Some bytes.items) }
-        ensures room { IfOk result (λ disk. ⟦<SureDisk as Disk>⟧.room disk ≡ Some room) }
+        ensures content { IfOk result (λ disk. (⟦<SureDisk as Disk>⟧.state disk).content ≡ Some bytes.items) }
+        ensures room { IfOk result (λ disk. (⟦<SureDisk as Disk>⟧.state disk).room ≡ Some room) }
     {
         let mut bytes = bytes;
         if room > MOST_ROOM {
@@ -40,26 +40,24 @@ impl SureDisk {
 
     /// What a read of all would give.
     pub fn bytes(&self) -> &[u8]
-        ensures { ⟦<SureDisk as Disk>⟧.content self.now ≡ Some result.now }
+        ensures { (⟦<SureDisk as Disk>⟧.state self.now).content ≡ Some result.now }
     {
         &self.bytes
     }
 }
 
 impl Disk for SureDisk {
-    ghost use Rattle.std.specs.Prelude.{Some};
+    ghost use Rattle.std.specs.Prelude.{Some, None};
 
-    ghost content = { λ d. Some d.bytes.items };
-
-    ghost room = { λ d. Some d.room };
-
-    ghost images = { λ _ _. ⊥ };
-
-    ghost moment = { λ _. 0 };
-
-    ghost images_since = { λ _ _ _. ⊥ };
-
-    ghost faults = { λ _. 0 };
+    ghost state = { λ d. record {
+      chosen = None;
+      content = Some d.bytes.items;
+      room = Some d.room;
+      images = λ _. ⊥;
+      moment = 0;
+      images_since = λ _ _. ⊥;
+      faults = 0;
+    } };
 
     ghost counts_now = { λ d t c le none. none };
 
