@@ -1,4 +1,9 @@
 //! What a circuit gives at input bits.
+//!
+//! `eval` gives the outputs, `eval_wires` the bits of all wires. As the command `eval` calls it:
+//!
+//!     let circuit = read(alloc, &text)?;
+//!     let outputs = eval(alloc, &circuit, bits)?;
 #![tactic(auto)]
 
 ghost use Rattle.std.specs.Prelude.{◌≡◌, Bool, List, length, take, IfOk, IfErr, slice_set};
@@ -9,14 +14,17 @@ ghost use Rattle.bool_eval.specs.declared.EvalFault.TheVariants as fault;
 
 use bristol_reader::{Circuit, GateRow};
 use std::alloc::{AllocError, Global};
+use thiserror::Error;
 use zk_laws::one_outcome;
 
 /// Why a circuit is not evaluated.
-#[derive(Clone, Copy, Debug, PartialEq, Eq)]
+#[derive(Clone, Copy, Debug, PartialEq, Eq, Error)]
 pub enum EvalFault {
     /// The bits are not as many as the circuit's inputs: so many are needed, and so many were given.
+    #[error("{got} bits in place of {need}")]
     WrongLength { need: usize, got: usize },
     /// Memory ran out.
+    #[error("memory is missing")]
     NoMemory,
 }
 

@@ -3,14 +3,17 @@ ghost use Rattle.std.specs.Prelude.{◌≡◌};
 ghost use Rattle.bristol_reader.specs.declared.fault.ReadError.TheVariants as error;
 
 use std::alloc::{AllocError, AllocFailed};
+use thiserror::Error;
 use zk_model::ReadFault;
 
 /// Why a circuit's text is not read.
-#[derive(Clone, Copy, Debug, PartialEq, Eq)]
+#[derive(Clone, Copy, Debug, PartialEq, Eq, Error)]
 pub enum ReadError {
     /// The text is that of no circuit that is read, and this is its first fault.
+    #[error("{0}")]
     Fault(ReadFault),
     /// Memory ran out.
+    #[error("memory is missing")]
     NoMemory,
 }
 

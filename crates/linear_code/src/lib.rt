@@ -2,6 +2,13 @@
 //! chooses, and one entry of a noise vector (Yang, Weng, Lan, Zhang and Wang, Ferret, ACM CCS 2020; Weng, Yang, Katz and
 //! Wang, Wolverine, IEEE S&P 2021). Values, MACs and keys go through the same sums, so that keys fit afterwards as they
 //! did before.
+//!
+//! `code` has `Columns`, the columns of a code made once; `places` chooses base places from coins, `sums` adds up to eight
+//! elements before it reduces.
+//!
+//!     let columns = Columns::new(alloc, &code_seed, base.len() as u32, noise.len())?;
+//!     let keys = columns.apply(alloc, &base, &noise)?;
+//!     let pairs = columns.apply_pairs(alloc, &base_pairs, &noise_pairs)?;
 #![tactic(auto)]
 
 mod code;

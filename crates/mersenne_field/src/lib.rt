@@ -1,4 +1,10 @@
 //! Arithmetic in the field of the integers modulo the prime 2^61 - 1, and authenticated values over it.
+//!
+//! `Fe` is an element, `Pair` a value with its MAC. `laws` says that the prime is prime, that a product is 0 only where a
+//! factor is, and that the elements are a ring.
+//!
+//!     let key = pair.m + pair.x * global_key;
+//!     let read = Fe::from_le(&bytes)?; // none at the prime or more
 #![tactic(auto)]
 
 pub mod laws;

@@ -4,10 +4,12 @@ ghost use Rattle.zk_model.specs.Check.{AllOpeningsHold};
 ghost use Rattle.mult_check.specs.Checks.{opening_check, OpensFirst};
 
 use mersenne_field::Fe;
+use thiserror::Error;
 use wire_auth::VerifierWires;
 
 /// The equation of an opened wire fails: its number among them, from 0 on, and both sides.
-#[derive(Clone, Copy, Debug, PartialEq, Eq)]
+#[derive(Clone, Copy, Debug, PartialEq, Eq, Error)]
+#[error("the equation of opened wire {output} fails")]
 pub struct OpeningDiffers {
     pub output: u32,
     pub left: Fe,

@@ -7,10 +7,12 @@ ghost use Rattle.mult_check.specs.Checks.{product_check, DiffersFirst, products_
 use crate::sums::{ProverSums, VerifierSum};
 use mersenne_field::{Fe, Pair};
 use std::alloc::{AllocError, Global};
+use thiserror::Error;
 use wire_auth::{KeyTriple, ProverWires, Triple, VerifierWires};
 
 /// The equation of a section fails: its number, from 0 on, and both sides.
-#[derive(Clone, Copy, Debug, PartialEq, Eq)]
+#[derive(Clone, Copy, Debug, PartialEq, Eq, Error)]
+#[error("the equation of section {section} fails")]
 pub struct Differs {
     pub section: u32,
     pub left: Fe,

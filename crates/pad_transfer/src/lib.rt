@@ -2,6 +2,12 @@
 //! Precomputing Oblivious Transfer, 1995). The sender has two pads, and the receiver a bit and the pad that it names.
 //! The receiver asks for a message by `ask`, the sender answers by `reply`, and the receiver reads the answer by
 //! `unmask`: the message that it chose, while the other one stays under the pad that it does not have.
+//!
+//! `laws` says that the message is the chosen one.
+//!
+//!     let flip = ask(dealt, choice);
+//!     let masked = reply(left_pad, right_pad, flip, &left, &right);
+//!     let chosen = unmask(&pad, choice, &masked);
 #![tactic(auto)]
 
 mod laws;

@@ -1,5 +1,10 @@
 //! Polynomials over the field modulo 2^61 - 1. A polynomial is the slice of its coefficients, the constant first. Nothing
 //! here is refused, and nothing takes memory.
+//!
+//! `horner` is the value at a point, `power` a power, `is_zero_poly` whether all coefficients are 0, `degree` the last place
+//! that is not 0.
+//!
+//!     let is_root = horner(&errors, challenge) == Fe::ZERO && !is_zero_poly(&errors);
 #![tactic(auto)]
 
 ghost use Rattle.std.specs.Prelude.{◌≡◌, ◌%◌, ◌^◌, ◌↔◌, IsTrue, IsNone, IfSome};

@@ -8,11 +8,13 @@ use crate::whole::whole_frame;
 use mersenne_field::Fe;
 use std::alloc::{AllocError, Global};
 use std::marker::Model;
+use thiserror::Error;
 use zk_model::{Expect, FrameKind};
 
 /// A byte after which no frame that is expected can follow: its place among all bytes that were received, from 0, and the
 /// kind of frame that is expected there.
-#[derive(Clone, Copy, Debug, PartialEq, Eq)]
+#[derive(Clone, Copy, Debug, PartialEq, Eq, Error)]
+#[error("no frame that is expected has the byte at {place}")]
 pub struct BadFrame {
     pub place: u64,
     pub kind: FrameKind,

@@ -1,7 +1,15 @@
-//! The frames of a session, as bytes and back in pieces of any length, and the log of all that passed. A frame is a byte that
-//! says its kind, the length of its payload in 4 bytes, and the payload. Numbers have their low byte first, and an element of
+//! The frames of a session, as bytes and back in pieces of any length. A frame is a byte that says its kind, the length of its
+//! payload in 4 bytes, and the payload. Numbers have their low byte first, and an element of
 //! the field has 8 bytes. The messages are those of Wolverine (Weng, Yang, Katz and Wang, IEEE S&P 2021) and QuickSilver (Yang,
 //! Sarkar, Weng and Wang, ACM CCS 2021); how they are spelled is this format's own.
+//!
+//! `frame` has `Frame`, `Hello` and `Grant`, `encoding` has `encode` and encoders of single frames. `decoder` has `Decoder`; `held`
+//! and `shape` keep the bytes and elements of the frame under way and which frame they begin, `rooms` the room for them, `whole`
+//! and `trees` make the frame of them. `laws` says that bytes are one frame or have one first bad byte.
+//!
+//!     decoder.expect(Expect::Challenge)?;
+//!     let taken = decoder.feed(piece)?;       // or BadFrame { place, kind }
+//!     if let Some(frame) = decoder.next() { .. }
 #![tactic(auto)]
 
 mod decoder;

@@ -1,5 +1,9 @@
 //! SHA-256 (FIPS 180-4, 6.2) of messages of 16 bytes, four at a time: each word of the standard is a vector with one
 //! lane for each message, and each of its functions works on all lanes at once.
+//!
+//! `digests` has `digest_four`, `rounds` the schedule and the rounds of one block, `words` the standard's functions.
+//!
+//!     let digests = digest_four(&[a, b, c, d]); // 32 bytes of each
 #![tactic(auto)]
 
 mod digests;

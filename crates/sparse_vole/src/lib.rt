@@ -3,6 +3,12 @@
 //! Non-Interactive Secure Computation, 2019; Weng, Yang, Katz and Wang, Wolverine, IEEE S&P 2021). The verifier knows
 //! all leaves, and they become its keys. The prover knows all leaves but the one at a place that it chose: they become
 //! MACs of 0, and the dealt pair, corrected to a value that it chose, gives the MAC of that value at the place.
+//!
+//! `laws` says that at every place the verifier's leaf is the key of the prover's entry.
+//!
+//!     let e = prover_ask(noise, base.x);                                     // the prover sends it
+//!     let offset = verifier_reply(base_key, e, key, &leaves);                // the verifier answers
+//!     let entries = prover_finish(alloc, place, noise, base.m, offset, &found)?;
 #![tactic(auto)]
 
 mod laws;

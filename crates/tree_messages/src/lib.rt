@@ -1,6 +1,11 @@
 //! What both ends say of the trees of a unit when few dealt correlations become many (Boyle, Couteau, Gilboa, Ishai, Kohl,
 //! Rindal and Scholl, Efficient Two-Round OT Extension and Silent Non-Interactive Secure Computation, 2019; Weng, Yang, Katz
 //! and Wang, Wolverine, IEEE S&P 2021): the prover's ask for each tree, and the verifier's reply.
+//!
+//! `TreeAsk` has a flip for each level and the correction of the base value, `TreeReply` two masked messages for each level and the
+//! offset of the leaves. `vole_extend` makes them, `proof_frames` spells them.
+//!
+//!     let ask = TreeAsk { flips, base_correction };
 #![tactic(auto)]
 
 use mersenne_field::Fe;

@@ -3,6 +3,13 @@
 //! Computation, 2019; Weng, Yang, Katz and Wang, Wolverine, IEEE S&P 2021; the code is that of Yang, Weng, Lan, Zhang and
 //! Wang, Ferret, ACM CCS 2020). The prover asks for all trees of the unit, the verifier replies and has its keys, and the
 //! prover finds its pairs. Each end grows each tree once.
+//!
+//! `prover` has `ProverRound`, `verifier` has `VerifierRound`; `levels` has what is asked, masked and unmasked level by level, `columns` the
+//! code's columns, made once a session.
+//!
+//!     let asks = ProverRound::new(&file, unit).ask(alloc)?;
+//!     let reply = VerifierRound::new(&file, unit).reply(alloc, &columns, &asks)?; // replies, and the unit's keys
+//!     let pairs = ProverRound::new(&file, unit).finish(alloc, &columns, &reply.replies)?;
 #![tactic(auto)]
 
 mod columns;

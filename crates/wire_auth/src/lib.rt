@@ -1,5 +1,11 @@
 //! Authenticated wires: from the pairs, or the keys, of a program's given values those of all its wires (Weng, Yang, Katz
 //! and Wang, Wolverine, IEEE S&P 2021; Yang, Sarkar, Weng and Wang, QuickSilver, ACM CCS 2021).
+//!
+//! `pairs` has `ProverWires`, `keys` has `VerifierWires`; `carrying` is what steps make of values, MACs and keys alike, `corrections` what
+//! makes pairs of the products of bits; `correlations` are those that were dealt or made, `triples` the wires of a product.
+//!
+//!     let (wires, corrections) = ProverWires::run(alloc, program, public, bits, pairs)?;
+//!     let keys = VerifierWires::run(alloc, program, public, keys, key, &corrections)?;
 #![tactic(auto)]
 
 mod carrying;

@@ -1,4 +1,8 @@
 //! Coins: words of ChaCha20 under a key of 32 bytes, by stream and place.
+//!
+//! `CoinBox` has all. As a verifier takes the root of tree i of unit u:
+//!
+//!     let root = CoinBox::new(&coin_key).seed16(4 * u, i);
 #![tactic(auto)]
 
 ghost use Rattle.std.specs.Prelude.{◌≡◌, ◌+◌, ◌*◌, ◌^◌, ◌<◌, length};

@@ -4,7 +4,7 @@ use Rattle.std.proofs.Math.ListN.{length-take, length-drop}
 use Rattle.std.proofs.lemmas.List.{length-map, get_or-map, ext_get_or}
 use Rattle.mersenne_field.proofs.FieldLaws.{minus-eq-zero}
 use Rattle.zk_model.specs.Field.{IsElement, ◌-ₚ◌}
-use Rattle.zk_model.specs.Polynomial.{IsNonzero}
+use Rattle.zk_model.specs.Polynomial.{IsNonzero, IsNamedRoot}
 use Rattle.zk_model.specs.Program.{Program, opened_values}
 use Rattle.zk_model.specs.Statement.{Statement, IsStatement}
 use Rattle.zk_model.specs.Mac.{values_of, pair_at}
@@ -13,7 +13,7 @@ use Rattle.zk_model.specs.Transcript.{Commitment, Transcript}
 use Rattle.zk_model.specs.Check.{product_error, product_triple, section_of, section_triples, opened_pairs}
 use Rattle.zk_model.specs.View.{View, IsView, ChecksHold}
 use Rattle.zk_model.specs.Finding.{found_inputs, found_challenge_root, found_key_root, section_errors, IsSectionRoot, IsOpeningRoot, AllAsClaimed}
-use Rattle.zk_laws.specs.Extraction.{IsNamedRoot, FindingShows}
+use Rattle.zk_laws.specs.Extraction.{FindingShows}
 use Rattle.zk_laws.proofs.FirstFailures.{some_not_zero}
 use Rattle.zk_laws.proofs.Unique.{set_element, element_at}
 use Rattle.zk_laws.proofs.Views.{value_at_place}
@@ -51,7 +51,7 @@ opened_element prover statement commitment view o stated seen below =
     wire = slice_index statement.program.opened o
 
 -- opened wires that are as claimed have the claims as their values
-claims_are : (statement : Statement) (view : View) → IsStatement statement → AllAsClaimed statement view
+pub claims_are : (statement : Statement) (view : View) → IsStatement statement → AllAsClaimed statement view
     → opened_values statement.program (values_of view.carried.wires) ≡ statement.claims
 claims_are statement view stated claimed =
     ext_get_or 0 _ _ (count ∙ sym stated.claim_count)
@@ -70,9 +70,9 @@ claims_are statement view stated claimed =
 -- a section whose errors have no root at the challenge
 section_shows : (prover : ProverFile) (verifier : VerifierFile) (statement : Statement) (t : Transcript) (view : View) (polynomial : List ℕ)
     → (holds : ChecksHold verifier statement t) → AreBothEnds prover verifier statement t.commitment view holds.keys
-    → IsSectionRoot statement.program t view polynomial → IsNamedRoot 3 polynomial verifier.key
+    → IsSectionRoot statement.program t view polynomial → IsNamedRoot 2 polynomial verifier.key
 section_shows prover verifier statement t view polynomial holds both by =
-    subst (λ (p : List ℕ). IsNamedRoot 3 p verifier.key) (sym by.polynomial_is) (record {
+    subst (λ (p : List ℕ). IsNamedRoot 2 p verifier.key) (sym by.polynomial_is) (record {
       nonzero = (2, omega arith, by.unmet);
       coefficients = omega arith;
       root = held_section_has_root prover verifier statement t view holds.keys both by.section (holds.sections by.section by.first.below);
@@ -81,9 +81,9 @@ section_shows prover verifier statement t view polynomial holds both by =
 -- an opened wire that is not as claimed
 opening_shows : (prover : ProverFile) (verifier : VerifierFile) (statement : Statement) (t : Transcript) (view : View) (polynomial : List ℕ)
     → (holds : ChecksHold verifier statement t) → AreBothEnds prover verifier statement t.commitment view holds.keys
-    → IsOpeningRoot statement t view polynomial → IsNamedRoot 3 polynomial verifier.key
+    → IsOpeningRoot statement t view polynomial → IsNamedRoot 2 polynomial verifier.key
 opening_shows prover verifier statement t view polynomial holds both by =
-    subst (λ (p : List ℕ). IsNamedRoot 3 p verifier.key) (sym by.polynomial_is) (record {
+    subst (λ (p : List ℕ). IsNamedRoot 2 p verifier.key) (sym by.polynomial_is) (record {
       nonzero = (1, omega arith, λ none. by.first.fails (as_claimed none));
       coefficients = omega arith;
       root = held_opening_has_root prover verifier statement t view holds.keys both by.opened by.first.below

@@ -1,9 +1,9 @@
 -- What an accepted session shows (Weng, Yang, Katz and Wang, Wolverine, IEEE S&P 2021; Yang, Sarkar, Weng and Wang,
 -- QuickSilver, ACM CCS 2021).
-use Rattle.std.specs.Prelude.{ℕ, ◌+◌, ◌≤◌, min, Bool, List, [], length, map}
+use Rattle.std.specs.Prelude.{ℕ, min, Bool, List, [], length, map}
 use Rattle.zk_model.specs.Bits.{from_bit}
 use Rattle.zk_model.specs.Field.{IsElement}
-use Rattle.zk_model.specs.Polynomial.{IsNonzero, IsRoot}
+use Rattle.zk_model.specs.Polynomial.{IsNamedRoot}
 use Rattle.zk_model.specs.Circuit.{Circuit, IsWellFormed}
 use Rattle.zk_model.specs.Program.{Solves, IsSolvedBy}
 use Rattle.zk_model.specs.Statement.{Statement, IsStatement, circuit_statement}
@@ -23,20 +23,14 @@ NoErrorSolves = (file : ProverFile) (statement : Statement) (commitment : Commit
     → AllWithoutError statement.program commitment view
     → Solves statement.program statement.public (values_of view.carried.wires) (values_of view.carried.given)
 
--- a polynomial in the challenge: not zero, at most one coefficient more than a section has products, and a root
-pub record IsNamedRoot (most : ℕ) (polynomial : List ℕ) (point : ℕ) : Type 0 where
-  pub nonzero : IsNonzero polynomial
-  pub coefficients : length polynomial ≤ most
-  pub root : IsRoot polynomial point
-
 -- What a finding says of a statement, the length of sections, the challenge and the key: these inputs make the program
 -- give the claims; or a polynomial that is not zero has a root at the challenge, or one of degree two at most at the key.
 abbrev pub Shows : Statement → ℕ → ℕ → ℕ → Finding → Type 0
 Shows statement section_length challenge key (found_inputs inputs) =
     IsSolvedBy statement.program statement.public inputs statement.claims
 Shows statement section_length challenge key (found_challenge_root s polynomial) =
-    IsNamedRoot (min section_length (length statement.program.products) + 1) polynomial challenge
-Shows statement section_length challenge key (found_key_root polynomial) = IsNamedRoot 3 polynomial key
+    IsNamedRoot (min section_length (length statement.program.products)) polynomial challenge
+Shows statement section_length challenge key (found_key_root polynomial) = IsNamedRoot 2 polynomial key
 
 -- what the prover sees of a session gives a finding
 abbrev pub FindingExists : Type 0

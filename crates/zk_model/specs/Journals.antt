@@ -29,39 +29,51 @@ ceiling_slots total = part_count total 16
 abbrev pub claim_slots : ℕ → ℕ
 claim_slots total = min total 4096
 
--- ---- what stands in a journal: a byte past the end counts as 0, so that a slot is not open there
+-- ---- An area of a journal: slots of 32 bytes from a place on. A journal has one, at 64. A byte past the end counts as 0, so that a
+-- slot is not open there.
 
 -- the slot of this number, from 0, is open: its last byte is 0x5A
-abbrev pub IsOpen : List ℕ → ℕ → Type 0
-IsOpen bytes slot = get_or bytes (64 + 32 * slot + 31) 0 ≡ 90
+abbrev pub IsOpen : ℕ → List ℕ → ℕ → Type 0
+IsOpen at bytes slot = get_or bytes (at + 32 * slot + 31) 0 ≡ 90
 
 -- the number that 8 bytes from a place on say
 abbrev pub number_at : List ℕ → ℕ → ℕ
 number_at bytes place = from_le_bytes w64 (take 8 (drop place bytes))
 
 -- the body of a slot: the two numbers that its first 16 bytes say
-abbrev pub body_at : List ℕ → ℕ → ℕ × ℕ
-body_at bytes slot = (number_at bytes (64 + 32 * slot), number_at bytes (64 + 32 * slot + 8))
+abbrev pub body_at : ℕ → List ℕ → ℕ → ℕ × ℕ
+body_at at bytes slot = (number_at bytes (at + 32 * slot), number_at bytes (at + 32 * slot + 8))
 
 -- the bodies of the first slots, so many of them
-abbrev pub first_bodies : ℕ → List ℕ → List (ℕ × ℕ)
-first_bodies used bytes = map (body_at bytes) (range_with_len 0 used)
+abbrev pub first_bodies : ℕ → ℕ → List ℕ → List (ℕ × ℕ)
+first_bodies at used bytes = map (body_at at bytes) (range_with_len 0 used)
 
 -- the first slots are open, as many as there are bodies, and have these bodies; the next slot, if there is one, is not open
-pub record Recovers (slots : ℕ) (bytes : List ℕ) (bodies : List (ℕ × ℕ)) : Type 0 where
+pub record Recovers (at slots : ℕ) (bytes : List ℕ) (bodies : List (ℕ × ℕ)) : Type 0 where
   pub within : length bodies ≤ slots
-  pub opened : (slot : ℕ) → slot < length bodies → IsOpen bytes slot
-  pub closed : length bodies < slots → ¬ (IsOpen bytes (length bodies))
-  pub read : bodies ≡ first_bodies (length bodies) bytes
+  pub opened : (slot : ℕ) → slot < length bodies → IsOpen at bytes slot
+  pub closed : length bodies < slots → ¬ (IsOpen at bytes (length bodies))
+  pub read : bodies ≡ first_bodies at (length bodies) bytes
 
 -- no slot behind one that is not open is open
-abbrev pub IsTidy : ℕ → List ℕ → Type 0
-IsTidy slots bytes = (earlier later : ℕ) → earlier < later → later < slots → IsOpen bytes later → IsOpen bytes earlier
+abbrev pub IsTidy : ℕ → ℕ → List ℕ → Type 0
+IsTidy at slots bytes = (earlier later : ℕ) → earlier < later → later < slots → IsOpen at bytes later → IsOpen at bytes earlier
 
 -- it is tidy, and these bodies are recovered, or these and one more
-pub record IsOldOrNew (slots : ℕ) (bodies : List (ℕ × ℕ)) (body : ℕ × ℕ) (bytes : List ℕ) : Type 0 where
-  pub tidy : IsTidy slots bytes
-  pub recovered : Recovers slots bytes bodies ⊎ Recovers slots bytes (bodies ++ body ∷ [])
+pub record IsOldOrNew (at slots : ℕ) (bodies : List (ℕ × ℕ)) (body : ℕ × ℕ) (bytes : List ℕ) : Type 0 where
+  pub tidy : IsTidy at slots bytes
+  pub recovered : Recovers at slots bytes bodies ⊎ Recovers at slots bytes (bodies ++ body ∷ [])
+
+-- not shorter, and the same byte at each place that has P
+pub record SameWhere (P : ℕ → Type 0) (old new : List ℕ) : Type 0 where
+  pub longer : length old ≤ length new
+  pub same : (place : ℕ) → P place → get_or new place 0 ≡ get_or old place 0
+
+-- ---- the header
+
+-- a place in the header
+abbrev pub IsInHeader : ℕ → Type 0
+IsInHeader place = place < 64
 
 -- how many slots a header says
 abbrev pub slots_at : List ℕ → ℕ
@@ -91,38 +103,74 @@ pub record IsFirstWrong (kind : JournalKind) (id : List ℕ) (total : ℕ) (byte
   pub wrong : is_wrong_at kind id total bytes place ≡ true
   pub first : (earlier : ℕ) → earlier < place → is_wrong_at kind id total bytes earlier ≡ false
 
+-- the header is right, and says this number of slots
+pub record IsHeaded (kind : JournalKind) (id : List ℕ) (total slots : ℕ) (bytes : List ℕ) : Type 0 where
+  pub header : HasHeader kind id total bytes
+  pub says : slots_at bytes ≡ slots
+
+-- A journal of this kind, id and total and of so many slots stands in these bytes: its header is right and says this number of
+-- slots, and the file has its full length.
+pub record Stands (kind : JournalKind) (id : List ℕ) (total slots : ℕ) (bytes : List ℕ) : Type 0 where
+  pub header : HasHeader kind id total bytes
+  pub says : slots_at bytes ≡ slots
+  pub full : 64 + 32 * slots ≤ length bytes
+
+-- ---- bodies and their rules
+
 -- whether a body is as its kind asks for, behind one whose first number is `before` (0 where there is none): a claim is a span up
--- to the total; ceilings rise, up to the total, and are multiples of 16 or the total
+-- to the total; ceilings rise, up to the total, and are multiples of 16 or the total, and their second number is 0
 abbrev pub keeps_rule : JournalKind → ℕ → ℕ → ℕ × ℕ → Bool
 keeps_rule Claims total before body = nat_lt body.0 body.1 && nat_le body.1 total
 keeps_rule Ceilings total before body =
     body.1 == 0 && nat_lt before body.0 && nat_le body.0 total && (body.0 % 16 == 0 || body.0 == total)
 
+-- the body before this place of a list; zeros where there is none
+abbrev pub body_before : List (ℕ × ℕ) → ℕ → ℕ × ℕ
+body_before bodies zero = (0, 0)
+body_before bodies (suc place) = get_or bodies place (0, 0)
+
+-- each of these bodies keeps its rule behind the one before it
+abbrev pub AreSound : JournalKind → ℕ → List (ℕ × ℕ) → Type 0
+AreSound kind total bodies =
+    (place : ℕ) → place < length bodies → keeps_rule kind total (body_before bodies place).0 (get_or bodies place (0, 0)) ≡ true
+
 -- the last of the first bodies, so many of them; zeros where there is none
-abbrev pub last_body : List ℕ → ℕ → ℕ × ℕ
-last_body bytes zero = (0, 0)
-last_body bytes (suc slot) = body_at bytes slot
+abbrev pub last_body : ℕ → List ℕ → ℕ → ℕ × ℕ
+last_body at bytes zero = (0, 0)
+last_body at bytes (suc slot) = body_at at bytes slot
 
 -- whether the body in a slot keeps the rule
-abbrev pub is_sound_at : JournalKind → ℕ → List ℕ → ℕ → Bool
-is_sound_at kind total bytes slot = keeps_rule kind total (last_body bytes slot).0 (body_at bytes slot)
+abbrev pub is_sound_at : JournalKind → ℕ → ℕ → List ℕ → ℕ → Bool
+is_sound_at kind total at bytes slot = keeps_rule kind total (last_body at bytes slot).0 (body_at at bytes slot)
 
 -- the file ends inside a slot that is read: all before it are open
-pub record IsCut (slots : ℕ) (bytes : List ℕ) : Type 0 where
+pub record IsCut (at slots : ℕ) (bytes : List ℕ) : Type 0 where
   pub slot : ℕ
   pub within : slot < slots
-  pub opened : (earlier : ℕ) → earlier < slot → IsOpen bytes earlier
-  pub ends : length bytes < 64 + 32 * slot + 32
+  pub opened : (earlier : ℕ) → earlier < slot → IsOpen at bytes earlier
+  pub ends : length bytes < at + 32 * slot + 32
 
 -- the first slots are open, as many as are in use, and the next one, if there is one, is whole and is not
-pub record AreUsed (slots used : ℕ) (bytes : List ℕ) : Type 0 where
+pub record AreUsed (at slots used : ℕ) (bytes : List ℕ) : Type 0 where
   pub within : used ≤ slots
-  pub opened : (slot : ℕ) → slot < used → IsOpen bytes slot
-  pub whole : used < slots → 64 + 32 * used + 32 ≤ length bytes
-  pub closed : used < slots → ¬ (IsOpen bytes used)
+  pub opened : (slot : ℕ) → slot < used → IsOpen at bytes slot
+  pub whole : used < slots → at + 32 * used + 32 ≤ length bytes
+  pub closed : used < slots → ¬ (IsOpen at bytes used)
 
 -- the first slot in use whose body breaks its rule, where there is one
-abbrev pub IsFirstBad : JournalKind → ℕ → List ℕ → ℕ → Option ℕ → Type 0
-IsFirstBad kind total bytes used None = (slot : ℕ) → slot < used → is_sound_at kind total bytes slot ≡ true
-IsFirstBad kind total bytes used (Some bad) =
-    (bad < used) × (is_sound_at kind total bytes bad ≡ false) × ((slot : ℕ) → slot < bad → is_sound_at kind total bytes slot ≡ true)
+abbrev pub IsFirstBad : JournalKind → ℕ → ℕ → List ℕ → ℕ → Option ℕ → Type 0
+IsFirstBad kind total at bytes used None = (slot : ℕ) → slot < used → is_sound_at kind total at bytes slot ≡ true
+IsFirstBad kind total at bytes used (Some bad) =
+    (bad < used) × (is_sound_at kind total at bytes bad ≡ false)
+    × ((slot : ℕ) → slot < bad → is_sound_at kind total at bytes slot ≡ true)
+
+-- ---- what a journal says
+
+-- A journal of this kind, id and total and of so many slots has a right header, is tidy, and says these bodies, each of which keeps
+-- its rule.
+pub record SaysBodies (kind : JournalKind) (id : List ℕ) (total slots : ℕ) (bodies : List (ℕ × ℕ)) (bytes : List ℕ) : Type 0 where
+  pub header : HasHeader kind id total bytes
+  pub says : slots_at bytes ≡ slots
+  pub tidy : IsTidy 64 slots bytes
+  pub recovered : Recovers 64 slots bytes bodies
+  pub sound : AreSound kind total bodies
