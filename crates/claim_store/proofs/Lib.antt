@@ -1,5 +1,4 @@
 pub mod Meeting
 pub mod Slots
-pub mod Moments
 pub mod Starting
 pub mod Claiming

@@ -1,35 +1,44 @@
 -- Why a store of claims doesn't start, and why a span is not claimed.
-use Rattle.std.specs.Prelude.{◌≡◌, ◌≢◌, ◌⊎◌, ℕ, ◌+◌, ◌<◌, ◌≤◌, List, length, Some, None, false, Result, IsErrOf, OnOk}
+use Rattle.std.specs.Prelude.{◌≡◌, ◌≢◌, ◌⊎◌, ℕ, ◌+◌, ◌<◌, ◌≤◌, List, length, Some, None, true, false, Result, IsErrOf, OnOk}
 use Rattle.zk_port.specs.Counts.{Rose}
-use Rattle.zk_model.specs.Journals.{AreUsed, HasHeader, slots_at}
+use Rattle.zk_model.specs.Journals.{AreUsed, HasHeader, IsFirstBad, Stands, slots_at}
+use Rattle.zk_model.specs.declared.Span.{Span}
 use Rattle.zk_model.specs.declared.JournalKind.TheVariants.{Claims}
-use Rattle.lease_core.specs.Spans.{span}
+use Rattle.lease_core.specs.Spans.{meets_any, span}
 use Rattle.lease_journal.specs.Causes.{StartCause}
-use Rattle.lease_journal.specs.declared.fault.StartFault.{StartFault}
 use Rattle.lease_journal.specs.declared.fault.StartFault.TheVariants as start
 use Rattle.claim_store.specs.declared.ClaimFault.{ClaimFault}
 use Rattle.claim_store.specs.declared.ClaimFault.TheVariants.{Broken, OutOfRange, Overlap, Full, Device, NoMemory}
 use Rattle.claim_store.specs.declared.fault.StoreFault.{StoreFault}
 use Rattle.claim_store.specs.declared.fault.StoreFault.TheVariants as store
-use Rattle.claim_store.specs.Claims.{ClaimState, AreClaims, claim_at, first_claims, first_met, may_follow}
+use Rattle.claim_store.specs.Claims.{ClaimState, AreClaims, SaysClaims, claim_at, first_claims, first_met, may_follow}
 
--- the first open slot whose span may not stand behind those before it: it has no unit, ends above the total, or has a unit of an
--- earlier one
-pub record IsFirstBadSlot (id : List ℕ) (total : ℕ) (bytes : List ℕ) (slot : ℕ) : Type 0 where
+-- the first open slot whose span has a unit of an earlier one; each open slot has a span up to the total
+pub record IsFirstMeeting (id : List ℕ) (total : ℕ) (bytes : List ℕ) (slot : ℕ) : Type 0 where
   pub header : HasHeader Claims id total bytes
   pub used : ℕ
-  pub slots_used : AreUsed (slots_at bytes) used bytes
+  pub slots_used : AreUsed 64 (slots_at bytes) used bytes
+  pub sound : IsFirstBad Claims total 64 bytes used None
   pub inside : slot < used
   pub before : AreClaims total (first_claims slot bytes)
-  pub bad : may_follow total (first_claims slot bytes) (claim_at bytes slot) ≡ false
+  pub meets : meets_any (claim_at bytes slot) (first_claims slot bytes) ≡ true
 
--- why a store doesn't start on these bytes
+-- why a store doesn't start on these bytes: the journal's own reasons come first, the test for units in common last
 abbrev pub StoreCause : List ℕ → ℕ → List ℕ → StoreFault → Type 0
 StoreCause id total bytes store.NoMemory = Unit {0}
 StoreCause id total bytes (store.Journal start.Device) = Unit {0}
 StoreCause id total bytes (store.Journal (start.Short need got)) = StartCause Claims id total bytes (start.Short need got)
 StoreCause id total bytes (store.Journal (start.BadHeader place)) = StartCause Claims id total bytes (start.BadHeader place)
-StoreCause id total bytes (store.Journal (start.BadBody slot)) = IsFirstBadSlot id total bytes slot
+StoreCause id total bytes (store.Journal (start.BadBody slot)) =
+    StartCause Claims id total bytes (start.BadBody slot) ⊎ IsFirstMeeting id total bytes slot
+
+-- bytes in which a journal of claims stands, no two of which have a unit in common, are refused by no start but where the disk
+-- fails or memory runs out
+abbrev pub ClaimsStartAgain : Type 0
+ClaimsStartAgain =
+    (id : List ℕ) (total slots : ℕ) (claims : List Span) (bytes : List ℕ) (fault : StoreFault)
+    → Stands Claims id total slots bytes → SaysClaims slots claims bytes → AreClaims total claims
+    → StoreCause id total bytes fault → (fault ≡ store.Journal start.Device) ⊎ (fault ≡ store.NoMemory)
 
 -- why the slots in use are not read as claims: the first whose span may not stand behind those before it
 abbrev pub ReadCause : ℕ → ℕ → List ℕ → StoreFault → Type 0
@@ -39,14 +48,6 @@ ReadCause total used bytes (store.Journal (start.Short need got)) = ⊥
 ReadCause total used bytes (store.Journal (start.BadHeader place)) = ⊥
 ReadCause total used bytes (store.Journal (start.BadBody slot)) =
     (slot < used) × AreClaims total (first_claims slot bytes) × (may_follow total (first_claims slot bytes) (claim_at bytes slot) ≡ false)
-
--- how a refusal of the journal is told: as it is, where no slot before a bad one is bad as a claim
-abbrev pub IsToldAs : ℕ → List ℕ → StartFault → StoreFault → Type 0
-IsToldAs total bytes start.Device told = told ≡ store.Journal start.Device
-IsToldAs total bytes (start.Short need got) told = told ≡ store.Journal (start.Short need got)
-IsToldAs total bytes (start.BadHeader place) told = told ≡ store.Journal (start.BadHeader place)
-IsToldAs total bytes (start.BadBody slot) told =
-    ReadCause total slot bytes told ⊎ ((told ≡ store.Journal (start.BadBody slot)) × AreClaims total (first_claims slot bytes))
 
 -- the disk's count doesn't fall, rises where a fault of it is told, and stands still where all is well
 pub record HasReadCause {T : Type 0} (before now : ℕ) (result : Result T StoreFault) : Type 0 where

@@ -2,11 +2,12 @@
 use Rattle.std.specs.Prelude.{◌≡◌, ◌≢◌, ◌⊎◌, ℕ, ◌<◌, ◌≤◌, List, [], ◌∷◌, ◌++◌, length, map, Option, Some, IfSome, Bool, not, ◌&&◌, nat_lt, nat_le, All, refl}
 use Rattle.std.specs.List.{find}
 use Rattle.std.specs.Coded.{Coded, code_by, coded×, coded_ℕ, coded_list}
+use Rattle.zk_port.specs.Disks.{DiskState}
 use Rattle.zk_port.specs.Images.{Only}
 use Rattle.zk_model.specs.Journals.{body_at, first_bodies}
 use Rattle.zk_model.specs.declared.Span.{Span}
 use Rattle.lease_core.specs.Spans.{span, meets, meets_any, AreApart}
-use Rattle.lease_journal.specs.Causes.{KeptAt, Tells}
+use Rattle.lease_journal.specs.Causes.{KeptAt}
 
 -- A store of claims: its disk, how many units and slots there are, the disk's count of faults at the first call of it that
 -- failed, or 0, and the claims in the order of the slots
@@ -55,14 +56,14 @@ bodies_of claims = map (λ s. (s.start, s.end)) claims
 
 -- the claim in a slot, and those in the first slots
 abbrev pub claim_at : List ℕ → ℕ → Span
-claim_at bytes slot = span (body_at bytes slot).0 (body_at bytes slot).1
+claim_at bytes slot = span (body_at 64 bytes slot).0 (body_at 64 bytes slot).1
 
 abbrev pub first_claims : ℕ → List ℕ → List Span
-first_claims used bytes = map (λ b. span b.0 b.1) (first_bodies used bytes)
+first_claims used bytes = map (λ b. span b.0 b.1) (first_bodies 64 used bytes)
 
 -- the journal in these bytes says these claims, in the order of its slots; no slot behind them is open
 abbrev pub SaysClaims : ℕ → List Span → List ℕ → Type 0
-SaysClaims slots claims bytes = KeptAt slots (bodies_of claims) bytes
+SaysClaims slots claims bytes = KeptAt 64 slots (bodies_of claims) bytes
 
 -- it says these, or these and one more
 abbrev pub SaysOldOrNew : ℕ → List Span → Span → List ℕ → Type 0
@@ -71,24 +72,26 @@ SaysOldOrNew slots claims s bytes = SaysClaims slots claims bytes ⊎ SaysClaims
 -- ---- disks
 
 -- where the disk tells its content, that and every image says these claims
-abbrev pub AreDurable : {D : Type 0} → (D → Option (List ℕ)) → (D → List ℕ → Type 0) → ClaimState D → Type 0
-AreDurable content images state = IfSome (content state.disk) (λ bytes.
+abbrev pub AreDurable : {D : Type 0} → (D → DiskState) → ClaimState D → Type 0
+AreDurable disk_state state = IfSome (disk_state state.disk).content (λ bytes.
     SaysClaims state.slots state.claims bytes
-    × ((image : List ℕ) → images state.disk image → SaysClaims state.slots state.claims image))
+    × ((image : List ℕ) → (disk_state state.disk).images image → SaysClaims state.slots state.claims image))
 
--- every image says these claims, or these and one more, which is the same for all images and may stand behind them
-pub record AreUnsure {D : Type 0} (images : D → List ℕ → Type 0) (state : ClaimState D) : Type 0 where
+-- the content, which is these bytes, and every image says these claims, or these and one more, which is the same for all and may
+-- stand behind them
+pub record AreUnsure {D : Type 0} (disk_state : D → DiskState) (state : ClaimState D) (bytes : List ℕ) : Type 0 where
   pub under_way : Span
   pub sound : AreClaims state.total (state.claims ++ under_way ∷ [])
-  pub each : (image : List ℕ) → images state.disk image → SaysOldOrNew state.slots state.claims under_way image
+  pub read : SaysOldOrNew state.slots state.claims under_way bytes
+  pub each : (image : List ℕ) → (disk_state state.disk).images image → SaysOldOrNew state.slots state.claims under_way image
 
 -- what a store keeps
-pub record IsKept {D : Type 0} (content : D → Option (List ℕ)) (images : D → List ℕ → Type 0) (used : ℕ) (state : ClaimState D) : Type 0 where
+pub record IsKept {D : Type 0} (disk_state : D → DiskState) (used : ℕ) (state : ClaimState D) : Type 0 where
   pub count : length state.claims ≡ used
   pub sound : AreClaims state.total state.claims
-  pub stands : state.fault ≡ 0 → (bytes : List ℕ) → content state.disk ≡ Some bytes → SaysClaims state.slots state.claims bytes
-  pub only : state.fault ≡ 0 → Only (content state.disk) (images state.disk)
-  pub unsure : state.fault ≢ 0 → Tells content → AreUnsure images state
+  pub says : state.fault ≡ 0 → (bytes : List ℕ) → (disk_state state.disk).content ≡ Some bytes → SaysClaims state.slots state.claims bytes
+  pub only : state.fault ≡ 0 → Only (disk_state state.disk).content (disk_state state.disk).images
+  pub unsure : state.fault ≢ 0 → (bytes : List ℕ) → (disk_state state.disk).content ≡ Some bytes → AreUnsure disk_state state bytes
 
 -- bytes say one list of claims, so that a start on them finds that list
 abbrev pub BytesSayOneList : Type 0

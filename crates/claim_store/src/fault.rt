@@ -4,13 +4,16 @@ ghost use Rattle.std.specs.Prelude.{◌≡◌};
 
 use lease_journal::StartFault;
 use std::alloc::AllocFailed;
+use thiserror::Error;
 
 /// Why a store of claims doesn't start.
-#[derive(Clone, Copy, Debug, PartialEq, Eq)]
+#[derive(Clone, Copy, Debug, PartialEq, Eq, Error)]
 pub enum StoreFault {
     /// The journal is not opened, or the span in a slot has a unit of an earlier one, which is `BadBody` too.
+    #[error("{0}")]
     Journal(StartFault),
     /// No memory was left for the list of claims.
+    #[error("memory is missing")]
     NoMemory,
 }
 

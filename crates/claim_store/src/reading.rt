@@ -1,7 +1,7 @@
 // How claims are read from a journal, and found among others.
 ghost use Rattle.std.specs.Prelude.{◌≡◌, ◌<◌, ◌≤◌, ◌+◌, ℕ, List, length, Some, IfOk, IfErr, OnOk};
 ghost use Rattle.lease_core.specs.Spans.{meets};
-ghost use Rattle.lease_journal.specs.Causes.{Stays};
+ghost use Rattle.zk_port.specs.Disks.{Stays};
 ghost use Rattle.claim_store.specs.Claims.{AreClaims, claim_at, first_claims, first_met, may_follow};
 ghost use Rattle.claim_store.specs.Causes.{HasReadCause, ReadCause};
 ghost use Rattle.claim_store.specs.declared.fault.StoreFault.TheVariants as store;
@@ -45,15 +45,14 @@ pub fn may_follow(claims: &[Span], total: u64, span: Span) -> bool
 fn read_claim<B: Disk>(journal: &mut Journal<B>, slot: u64) -> Result<Span, StoreFault>
     requires whole { journal.old.fault ≡ 0 }
     requires used { slot < journal.old.used }
-    ensures claim { IfOk result (λ claim. (bytes : List ℕ) → B.content journal.old.disk ≡ Some bytes
+    ensures claim { IfOk result (λ claim. (bytes : List ℕ) → (B.state journal.old.disk).content ≡ Some bytes
         → claim ≡ claim_at bytes slot) }
-    ensures stays { Stays B.content B.room B.images B.moment B.images_since
-        journal.old.disk journal.new.disk }
+    ensures stays { Stays (B.state journal.old.disk) (B.state journal.new.disk) }
     ensures used { journal.new.used ≡ journal.old.used }
     ensures slots { journal.new.slots ≡ journal.old.slots }
     ensures fault { OnOk result (journal.new.fault ≡ 0) }
     ensures cause { IfErr result (λ e. e ≡ store.Journal start.Device) }
-    ensures count { HasReadCause (B.faults journal.old.disk) (B.faults journal.new.disk) result }
+    ensures count { HasReadCause (B.state journal.old.disk).faults (B.state journal.new.disk).faults result }
 {
     match journal.body(slot) {
         Ok((start, end)) => Ok(Span { start, end }),
@@ -75,16 +74,15 @@ pub fn read_claims<B: Disk>(
     requires { journal.old.fault ≡ 0 }
     ensures sound { IfOk result (λ claims. AreClaims total claims.items) }
     ensures count { IfOk result (λ claims. length claims.items ≡ journal.old.used) }
-    ensures read { IfOk result (λ claims. (bytes : List ℕ) → B.content journal.old.disk ≡ Some bytes
+    ensures read { IfOk result (λ claims. (bytes : List ℕ) → (B.state journal.old.disk).content ≡ Some bytes
         → claims.items ≡ first_claims journal.old.used bytes) }
-    ensures stays { Stays B.content B.room B.images B.moment B.images_since
-        journal.old.disk journal.new.disk }
+    ensures stays { Stays (B.state journal.old.disk) (B.state journal.new.disk) }
     ensures used { journal.new.used ≡ journal.old.used }
     ensures slots { journal.new.slots ≡ journal.old.slots }
     ensures fault { OnOk result (journal.new.fault ≡ 0) }
-    ensures cause { IfErr result (λ e. (bytes : List ℕ) → B.content journal.old.disk ≡ Some bytes
+    ensures cause { IfErr result (λ e. (bytes : List ℕ) → (B.state journal.old.disk).content ≡ Some bytes
         → ReadCause total journal.old.used bytes e) }
-    ensures faults { HasReadCause (B.faults journal.old.disk) (B.faults journal.new.disk) result }
+    ensures faults { HasReadCause (B.state journal.old.disk).faults (B.state journal.new.disk).faults result }
 {
     let mut claims = Vec::new(alloc);
     for slot in 0..journal.used() {

@@ -1,17 +1,19 @@
 // A store of claims.
-ghost use Rattle.std.specs.Prelude.{◌≡◌, ◌≢◌, ◌<◌, ◌≤◌, ◌+◌, ◌*◌, ◌++◌, ◌∷◌, [], ℕ, List, Some, IfOk, IfErr, OnOk, OnErr};
+ghost use Rattle.std.specs.Prelude.{◌≡◌, ◌≢◌, ◌<◌, ◌≤◌, ◌+◌, ◌*◌, ◌++◌, ◌∷◌, [], ℕ, List, length, Some, IfSome, IfOk, IfErr, OnOk, OnErr};
 ghost use Rattle.zk_port.specs.Counts.{Rose};
-ghost use Rattle.zk_port.specs.Images.{LeavesOnly};
-ghost use Rattle.zk_model.specs.Journals.{IsTidy, slots_at};
+ghost use Rattle.zk_port.specs.Disks.{LeavesOnly, Stays};
+ghost use Rattle.zk_port.specs.Images.{Only};
+ghost use Rattle.zk_model.specs.Journals.{HasHeader, IsHeaded, IsTidy, Stands, slots_at};
+ghost use Rattle.zk_model.specs.declared.JournalKind.TheVariants.{Claims};
 ghost use Rattle.lease_core.specs.Spans.{span};
-ghost use Rattle.lease_journal.specs.Causes.{SaysSlots, Stays, Tells};
+ghost use Rattle.lease_journal.specs.Causes.{SaysSlots};
+ghost use Rattle.lease_journal.specs.Keeps.{ChangesAt, Keeps};
 ghost use Rattle.claim_store.specs.Claims.{AreClaims, AreDurable, AreUnsure, SaysClaims, SaysOldOrNew};
 ghost use Rattle.claim_store.specs.Causes.{ClaimCause, IsFree, IsRefused, StoreCause};
 ghost use Rattle.claim_store.specs.declared.fault.StoreFault.TheVariants as store;
 ghost use Rattle.lease_journal.specs.declared.fault.StartFault.TheVariants as start;
 
 use crate::ClaimFault;
-use crate::checking::first_fault;
 use crate::fault::StoreFault;
 use crate::reading::{first_met, read_claims};
 use lease_core::Span;
@@ -39,7 +41,7 @@ impl<B: Disk> Model for ClaimStore<B> {
     ghost view = { λ s.
         model.state_of s.journal.disk s.total s.journal.slots s.journal.fault s.claims.items };
 
-    ghost invariant = { λ s. model.IsKept B.content B.images s.journal.used
+    ghost invariant = { λ s. model.IsKept B.state s.journal.used
         (model.state_of s.journal.disk s.total s.journal.slots s.journal.fault s.claims.items) };
 }
 
@@ -49,37 +51,37 @@ impl<B: Disk> ClaimStore<B> {
     ///
     /// # Errors
     ///
-    /// As the journal's start, where `BadBody` is the first open slot that has no span up to the total, or whose span has
-    /// a unit of an earlier one. `Device` where a call of the disk failed; `NoMemory` only where memory runs out.
+    /// As the journal's start; last `BadBody` of the first open slot whose span has a unit of an earlier one. `Device` where a call of the disk failed; `NoMemory` only where memory runs out.
     pub fn start(alloc: Global, disk: B, id: &[u8; 32], total: u64) -> Result<Self, (StoreFault, B)>
-        requires room { (size : ℕ) → B.room disk ≡ Some size
-            → (slots : ℕ) → SaysSlots (B.content disk) slots → 64 + 32 * slots ≤ size }
-        requires tidy { (bytes : List ℕ) → B.content disk ≡ Some bytes → IsTidy (slots_at bytes) bytes }
-        ensures slots { IfOk result (λ store. (bytes : List ℕ) → B.content disk ≡ Some bytes
+        requires room { (size : ℕ) → (B.state disk).room ≡ Some size
+            → (slots : ℕ) → SaysSlots (B.state disk).content slots → 64 + 32 * slots ≤ size }
+        requires tidy { (bytes : List ℕ) → (B.state disk).content ≡ Some bytes
+            → IsTidy 64 (slots_at bytes) bytes }
+        ensures header { IfOk result (λ store. (bytes : List ℕ) → (B.state disk).content ≡ Some bytes
+            → HasHeader Claims id.now total bytes) }
+        ensures slots { IfOk result (λ store. (bytes : List ℕ) → (B.state disk).content ≡ Some bytes
             → store.slots ≡ slots_at bytes) }
-        ensures recovered { IfOk result (λ store. (bytes : List ℕ) → B.content disk ≡ Some bytes
+        ensures recovered { IfOk result (λ store. (bytes : List ℕ) → (B.state disk).content ≡ Some bytes
             → SaysClaims store.slots store.claims bytes) }
-        ensures durable { IfOk result (λ store. AreDurable B.content B.images store) }
+        ensures durable { IfOk result (λ store. AreDurable B.state store) }
+        ensures only { IfOk result (λ store. Only (B.state store.disk).content (B.state store.disk).images) }
         ensures sound { IfOk result (λ store. AreClaims total store.claims) }
         ensures total { IfOk result (λ store. store.total ≡ total) }
         ensures whole { IfOk result (λ store. store.fault ≡ 0) }
         ensures stays { IfOk result (λ store.
-            Stays B.content B.room B.images B.moment B.images_since disk store.disk) }
-        ensures faults { IfOk result (λ store. B.faults store.disk ≡ B.faults disk) }
-        ensures cause { IfErr result (λ e. (bytes : List ℕ) → B.content disk ≡ Some bytes
+            Stays (B.state disk) (B.state store.disk)) }
+        ensures faults { IfOk result (λ store. (B.state store.disk).faults ≡ (B.state disk).faults) }
+        ensures cause { IfErr result (λ e. (bytes : List ℕ) → (B.state disk).content ≡ Some bytes
             → StoreCause id.now total bytes e.0) }
         ensures device { IfErr result (λ e. e.0 ≡ store.Journal start.Device
-            → Rose (B.faults disk) (B.faults e.1)) }
-        ensures later { IfErr result (λ e. B.faults disk ≤ B.faults e.1) }
+            → Rose (B.state disk).faults (B.state e.1).faults) }
+        ensures later { IfErr result (λ e. (B.state disk).faults ≤ (B.state e.1).faults) }
         ensures stays_refused { IfErr result (λ e.
-            Stays B.content B.room B.images B.moment B.images_since disk e.1) }
+            Stays (B.state disk) (B.state e.1)) }
     {
         let mut journal = match Journal::start(disk, JournalKind::Claims, id, total) {
             Ok(journal) => journal,
-            Err((fault, mut disk)) => {
-                let fault = first_fault(alloc, &mut disk, total, fault);
-                return Err((fault, disk));
-            }
+            Err((fault, disk)) => return Err((StoreFault::Journal(fault), disk)),
         };
         match read_claims(alloc, &mut journal, total) {
             Ok(claims) => Ok(ClaimStore {
@@ -95,8 +97,11 @@ impl<B: Disk> ClaimStore<B> {
     pub fn claims(&self) -> &[Span]
         ensures list { result.now ≡ self.now.claims }
         ensures sound { AreClaims self.now.total self.now.claims }
-        ensures durable { self.now.fault ≡ 0 → AreDurable B.content B.images self.now }
-        ensures unsure { self.now.fault ≢ 0 → Tells B.content → AreUnsure B.images self.now }
+        ensures durable { self.now.fault ≡ 0 → AreDurable B.state self.now }
+        ensures only { self.now.fault ≡ 0
+            → Only (B.state self.now.disk).content (B.state self.now.disk).images }
+        ensures unsure { self.now.fault ≢ 0 → (bytes : List ℕ)
+            → (B.state self.now.disk).content ≡ Some bytes → AreUnsure B.state self.now bytes }
     {
         &self.claims
     }
@@ -142,18 +147,30 @@ impl<B: Disk> ClaimStore<B> {
         ensures free { OnOk result (IsFree self.old start count) }
         ensures span { IfOk result (λ s. s ≡ span start (start + count)) }
         ensures claimed { IfOk result (λ s. self.new.claims ≡ self.old.claims ++ s ∷ []) }
-        ensures durable { OnOk result (AreDurable B.content B.images self.new) }
-        ensures any_moment { self.old.fault ≡ 0 → (bytes : List ℕ) → B.content self.old.disk ≡ Some bytes
-            → LeavesOnly B.moment B.images_since self.old.disk self.new.disk
+        ensures durable { OnOk result (AreDurable B.state self.new) }
+        ensures only { OnOk result (Only (B.state self.new.disk).content (B.state self.new.disk).images) }
+        ensures read { self.old.fault ≡ 0 → (bytes : List ℕ)
+            → (B.state self.old.disk).content ≡ Some bytes
+            → IfSome (B.state self.new.disk).content
             (SaysOldOrNew self.old.slots self.old.claims (span start (start + count))) }
+        ensures any_moment { self.old.fault ≡ 0 → (bytes : List ℕ)
+            → (B.state self.old.disk).content ≡ Some bytes
+            → LeavesOnly (B.state self.old.disk) (B.state self.new.disk)
+            (SaysOldOrNew self.old.slots self.old.claims (span start (start + count))) }
+        ensures changes { ChangesAt (64 + 32 * length self.old.claims) 32
+            (B.state self.old.disk) (B.state self.new.disk) }
+        ensures header { (id : List ℕ) (total slots : ℕ)
+            → Keeps (IsHeaded Claims id total slots) (B.state self.old.disk) (B.state self.new.disk) }
+        ensures stands { (id : List ℕ) (total : ℕ)
+            → Keeps (Stands Claims id total self.old.slots) (B.state self.old.disk) (B.state self.new.disk) }
         ensures cause { IfErr result (ClaimCause self.old start count self.new
-            (B.faults self.old.disk) (B.faults self.new.disk)) }
+            (B.state self.old.disk).faults (B.state self.new.disk).faults) }
         ensures kept { OnErr result (self.new.claims ≡ self.old.claims) }
         ensures total { self.new.total ≡ self.old.total }
         ensures slots { self.new.slots ≡ self.old.slots }
         ensures whole { OnOk result (self.new.fault ≡ self.old.fault) }
-        ensures faults { OnOk result (B.faults self.new.disk ≡ B.faults self.old.disk) }
-        ensures later { B.faults self.old.disk ≤ B.faults self.new.disk }
+        ensures faults { OnOk result ((B.state self.new.disk).faults ≡ (B.state self.old.disk).faults) }
+        ensures later { (B.state self.old.disk).faults ≤ (B.state self.new.disk).faults }
     {
         let span = match self.admit(start, count) {
             Ok(span) => span,
@@ -175,8 +192,10 @@ impl<B: Disk> ClaimStore<B> {
     pub fn close(self) -> B
         ensures disk { result ≡ self.disk }
         ensures sound { AreClaims self.total self.claims }
-        ensures durable { self.fault ≡ 0 → AreDurable B.content B.images self }
-        ensures unsure { self.fault ≢ 0 → Tells B.content → AreUnsure B.images self }
+        ensures durable { self.fault ≡ 0 → AreDurable B.state self }
+        ensures only { self.fault ≡ 0 → Only (B.state self.disk).content (B.state self.disk).images }
+        ensures unsure { self.fault ≢ 0 → (bytes : List ℕ)
+            → (B.state self.disk).content ≡ Some bytes → AreUnsure B.state self bytes }
     {
         self.journal.into_disk()
     }

@@ -1,5 +1,6 @@
 // Claims over disks in memory.
-ghost use Rattle.std.specs.Prelude.{◌≡◌, false};
+ghost use Rattle.std.specs.Prelude.{◌≡◌, ◌≤◌, ℕ, List, Some, None, false, IfOk};
+ghost use Rattle.zk_model.specs.Journals.{IsTidy, slots_at};
 
 use crate::{ClaimFault, ClaimStore, Span, StoreFault};
 use lease_journal::{JournalKind, StartFault, blank, blank_says_nothing};
@@ -18,17 +19,15 @@ struct QuietDisk<P: FaultPlan> {
 impl<P: FaultPlan> Disk for QuietDisk<P> {
     ghost use Rattle.std.specs.Prelude.{None};
 
-    ghost content = { λ _. None };
-
-    ghost room = { λ _. None };
-
-    ghost images = { λ _ _. ⊥ };
-
-    ghost moment = { λ _. 0 };
-
-    ghost images_since = { λ _ _ _. ⊥ };
-
-    ghost faults = { λ d. P.count d.disk.plan };
+    ghost state = { λ d. record {
+      chosen = None;
+      content = None;
+      room = None;
+      images = λ _. ⊥;
+      moment = 0;
+      images_since = λ _ _. ⊥;
+      faults = P.count d.disk.plan;
+    } };
 
     ghost counts_now = { λ d t c le none. none };
 
@@ -157,6 +156,18 @@ fn a_disk_that_fails_breaks_the_store(rt: HostRuntime) -> Result<(), Fail> {
     Ok(())
 }
 
+#[test]
+fn a_close_makes_no_call_of_the_disk(rt: HostRuntime) -> Result<(), Fail> {
+    let alloc: Global = rt.alloc();
+    // After the three calls of the start and the four of the claim the next one fails.
+    let mut store = store_on(alloc, new_journal(alloc, 10, 2)?, 10, failing(alloc, &[8])?)?;
+    assert!(rt; store.claim(alloc, 0, 4) == Ok(span(0, 4)));
+    let mut disk = store.close();
+    assert!(rt; disk.faults() == 0);
+    assert!(rt; disk.sync() == Err(Failed));
+    Ok(())
+}
+
 /// What a start finds after a stop in this call, from 1, of the second claim, where the crash leaves this.
 fn left(
     alloc: Global,
@@ -233,7 +244,7 @@ const DAMAGED: &[Damage] = &[
             (127, 0x5A),
             (159, 0x5A),
         ],
-        StartFault::BadBody { slot: 1 },
+        StartFault::BadBody { slot: 2 },
     ),
 ];
 
@@ -272,6 +283,65 @@ fn each_call_of_a_start_may_fail(rt: HostRuntime) -> Result<(), Fail> {
             Err(fault) => assert!(rt; fault == StoreFault::Journal(StartFault::Device)),
         }
     }
+    Ok(())
+}
+
+/// A disk in memory that tells, with a new journal of 4 slots.
+fn new_disk(alloc: Global) -> Result<MemoryDisk<FailAt>, Fail>
+    ensures room { IfOk result (λ disk. (⟦<MemoryDisk<FailAt> as Disk>⟧.state disk).room ≡ None) }
+    ensures tidy { IfOk result (λ disk. (bytes : List ℕ)
+        → (⟦<MemoryDisk<FailAt> as Disk>⟧.state disk).content ≡ Some bytes
+        → IsTidy 64 (slots_at bytes) bytes) }
+{
+    blank_says_nothing();
+    let bytes = blank(alloc, JournalKind::Claims, &ID, 10, 4)?;
+    Ok(MemoryDisk::new(alloc, bytes, 192, 60, failing(alloc, &[])?)?)
+}
+
+/// The disk behind a store that starts on this one, has these claims and claims two units from `start` on; a store may
+/// start on it again.
+fn claimed_on<B: Disk + Drop>(
+    alloc: Global,
+    disk: B,
+    wanted: &[Span],
+    start: u64,
+) -> Result<B, Fail>
+    requires start { start ≤ 10 }
+    requires room { (B.state disk).room ≡ None }
+    requires tidy { (bytes : List ℕ) → (B.state disk).content ≡ Some bytes
+        → IsTidy 64 (slots_at bytes) bytes }
+    ensures room { IfOk result (λ new. (B.state new).room ≡ None) }
+    ensures tidy { IfOk result (λ new. (first : List ℕ) → (B.state disk).content ≡ Some first
+        → (bytes : List ℕ) → (B.state new).content ≡ Some bytes → IsTidy 64 (slots_at bytes) bytes) }
+    ensures images { IfOk result (λ new. (first : List ℕ) → (B.state disk).content ≡ Some first
+        → (bytes : List ℕ) → (B.state new).content ≡ Some bytes
+        → (image : List ℕ) → (B.state new).images image → IsTidy 64 (slots_at image) image) }
+{
+    let Ok(mut store) = ClaimStore::start(alloc, disk, &ID, 10) else {
+        return Err(Fail::new("a store does not start"));
+    };
+    if store.claims() != wanted {
+        return Err(Fail::new("other claims than those before"));
+    }
+    let Ok(_span) = store.claim(alloc, start, 2) else {
+        return Err(Fail::new("free units are not claimed"));
+    };
+    Ok(store.close())
+}
+
+#[test]
+fn a_store_starts_where_the_last_one_closed(rt: HostRuntime) -> Result<(), Fail> {
+    let alloc: Global = rt.alloc();
+    let disk = claimed_on(alloc, new_disk(alloc)?, &[], 0)?;
+    let disk = claimed_on(alloc, disk, &[span(0, 2)], 4)?;
+    let disk = claimed_on(alloc, disk, &[span(0, 2), span(4, 6)], 2)?;
+    assert!(rt; disk.pending() == 0);
+    // After a crash the same as after a close.
+    let image = disk.image(alloc, &[])?;
+    let disk = MemoryDisk::new(alloc, image, 192, 60, failing(alloc, &[])?)?;
+    let wanted = [span(0, 2), span(4, 6), span(2, 4)];
+    let disk = claimed_on(alloc, disk, &wanted, 8)?;
+    assert!(rt; disk.pending() == 0);
     Ok(())
 }
 

@@ -2,3 +2,4 @@ pub mod Spans
 pub mod Machine
 pub mod Kept
 pub mod Limits
+pub mod Consistent

@@ -1,5 +1,5 @@
 -- Spans of units, and lists of them.
-use Rattle.std.specs.Prelude.{ℕ, ◌≤◌, ◌⊎◌, Bool, ◌&&◌, List, All, AllPairs, nat_eq, nat_lt}
+use Rattle.std.specs.Prelude.{ℕ, ◌<◌, ◌≤◌, ◌⊎◌, Bool, ◌&&◌, List, All, AllPairs, nat_eq, nat_lt}
 use Rattle.std.specs.List.{list_any}
 use Rattle.zk_model.specs.declared.Span.{Span}
 
@@ -30,3 +30,7 @@ AreApart spans = AllPairs IsApart spans
 -- each ends at or below a bound
 abbrev pub EndBy : ℕ → List Span → Type 0
 EndBy bound spans = All (λ s. s.end ≤ bound) spans
+
+-- it has a unit, and all its units lie from low up to high
+abbrev pub IsWithin : ℕ → ℕ → Span → Type 0
+IsWithin low high s = (low ≤ s.start) × (s.start < s.end) × (s.end ≤ high)

@@ -1,7 +1,9 @@
 // The state of the lease machine.
 ghost use Rattle.std.specs.Prelude.{◌≡◌, ◌^◌, ◌≤◌, false, IfOk, OnErr};
-ghost use Rattle.lease_core.specs.Machine.{machine_at_first};
-ghost use Rattle.lease_core.specs.Kept.{IsReached, IsTaken};
+ghost use Rattle.lease_core.specs.Machine.{machine_at_first, durable};
+ghost use Rattle.lease_core.specs.Spans.{EndBy};
+ghost use Rattle.lease_core.specs.Kept.{IsReached, IsSafe, IsTaken};
+ghost use Rattle.lease_core.specs.Consistent.{IsConsistent};
 
 use crate::event::{Drawn, Event};
 use std::alloc::{AllocError, Global};
@@ -61,7 +63,8 @@ impl State {
     pub fn new(alloc: Global, total: u64, passes: u32) -> Result<State, AllocError>
         requires total { total ≤ 2 ^ 40 }
         requires passes { passes ≤ 1024 }
-        ensures { IfOk result (λ s. s ≡ machine_at_first total passes) }
+        ensures first { IfOk result (λ s. s ≡ machine_at_first total passes) }
+        ensures reached { IfOk result (λ s. IsReached s) }
     {
         let known = Vec::from_elem(alloc, 0, passes as usize)?;
         Ok(State {
@@ -87,6 +90,16 @@ impl State {
     ///
     /// Only where memory runs out; the state is then as it was.
     pub fn step(&mut self, event: Event) -> Result<bool, AllocError>
+        ensures taken { IfOk result (λ b. IsTaken self.old event b self.new) }
+        ensures refused { OnErr result (self.new ≡ self.old) }
+        ensures safe { IsReached self.old → IsReached self.new × IsSafe self.new }
+        ensures consistent { IsReached self.old → IsConsistent self.new }
+        ensures later { IsReached self.old → EndBy (durable self.new) self.old.spent }
+    {
+        self.take(event)
+    }
+
+    fn take(&mut self, event: Event) -> Result<bool, AllocError>
         ensures taken { IfOk result (λ b. IsTaken self.old event b self.new) }
         ensures refused { OnErr result (self.new ≡ self.old) }
     {

@@ -1,42 +1,59 @@
 // Eras, crashes and claims.
 use crate::{Event, Moment, Span, State, run};
+use std::alloc::AllocError;
 use std::test::Fail;
+
+const OPEN: u8 = 0x5A;
 
 fn span(start: u64, end: u64) -> Span {
     Span { start, end }
 }
 
-/// A lease of 3 of 100 units, up to the put's last moment.
-#[test]
-fn an_era_ends_in_a_crash_and_the_next_begins_at_the_ceiling(rt: HostRuntime) -> Result<(), Fail> {
-    let mut state = State::new(rt.alloc(), 100, 2)?;
-    let first = [
-        Event::Begin,
-        Event::Draw { pass: 0, n: 3 },
-        Event::Put {
-            moment: Moment::Body { pass: 0 },
-        },
-        Event::Put {
-            moment: Moment::BodySync,
-        },
-        Event::Put {
-            moment: Moment::Gate,
-        },
-        Event::Crash {
-            body: [0; 16],
-            gate: 0x5A,
-        },
-        Event::Begin,
-        Event::Draw { pass: 1, n: 3 },
-    ];
-    assert!(rt; run(&mut state, &first)?);
-    // The ceiling of 16 was stored and never granted below.
+/// A lease of 3 of 100 units from unit 0 on.
+const LEASE: [Event; 9] = [
+    Event::Begin,
+    Event::Draw { pass: 0, n: 3 },
+    Event::Put {
+        moment: Moment::Body { pass: 0 },
+    },
+    Event::Put {
+        moment: Moment::BodySync,
+    },
+    Event::Put {
+        moment: Moment::Gate,
+    },
+    Event::Put {
+        moment: Moment::GateSync,
+    },
+    Event::Raise,
+    Event::Look { pass: 0 },
+    Event::Spend {
+        pass: 0,
+        span: Span { start: 0, end: 3 },
+    },
+];
+
+/// How many events of the lease took place before a crash, the gate that it left, and where the next era begins.
+const CRASHES: [(usize, u8, u64); 7] = [
+    (2, OPEN, 0),
+    (3, OPEN, 0),
+    (4, OPEN, 0),
+    (5, OPEN, 16),
+    (5, 0, 0),
+    (6, 0, 16),
+    (9, 0, 16),
+];
+
+/// Whether the next era's first lease, by another pass, is of this span, and is granted once and not before its ceiling
+/// is shown.
+fn leases_next(state: &mut State, granted: Span) -> Result<bool, AllocError> {
     let grant = Event::Spend {
         pass: 1,
-        span: span(16, 19),
+        span: granted,
     };
-    assert!(rt; !state.step(grant)?);
-    let second = [
+    let drawn = run(state, &[Event::Begin, Event::Draw { pass: 1, n: 3 }])?;
+    let early = state.step(grant)?;
+    let stored = [
         Event::Put {
             moment: Moment::Body { pass: 1 },
         },
@@ -50,11 +67,25 @@ fn an_era_ends_in_a_crash_and_the_next_begins_at_the_ceiling(rt: HostRuntime) ->
             moment: Moment::GateSync,
         },
         Event::Raise,
-        Event::Look { pass: 1 },
         grant,
     ];
-    assert!(rt; run(&mut state, &second)?);
-    assert!(rt; !state.step(grant)?);
+    let leased = run(state, &stored)?;
+    let again = state.step(grant)?;
+    Ok(drawn && !early && leased && !again)
+}
+
+#[test]
+fn an_era_begins_at_the_ceiling_that_a_crash_leaves(rt: HostRuntime) -> Result<(), Fail> {
+    for (count, gate, start) in CRASHES {
+        let mut state = State::new(rt.alloc(), 100, 2)?;
+        assert!(rt; run(&mut state, &LEASE[..count])?);
+        let crash = Event::Crash {
+            body: [0xFF; 16],
+            gate,
+        };
+        assert!(rt; state.step(crash)?);
+        assert!(rt; leases_next(&mut state, span(start, start + 3))?);
+    }
     Ok(())
 }
 

@@ -60,7 +60,7 @@ more_right kind id total header at so_far here place below = ⊎_elim
     (λ from. let is : place ≡ at = omega (arith, from, below) in subst (λ p. is_wrong_at kind id total header p ≡ false) (sym is) here)
     (cases_lt place at)
 
-fits_few : (kind : JournalKind) (total slots : ℕ) → not (are_slots kind total slots) ≡ false → slots ≤ 2 ^ 28
+pub fits_few : (kind : JournalKind) (total slots : ℕ) → not (are_slots kind total slots) ≡ false → slots ≤ 2 ^ 28
 fits_few Claims total slots fits = grind (arith, nat_tests)
 fits_few Ceilings total slots fits = grind (arith, nat_tests)
 

@@ -2,6 +2,8 @@ pub mod Moments
 pub mod Torn
 pub mod Putting
 pub mod SlotSteps
+pub mod Sound
+pub mod Keeping
 pub mod Reading
 pub mod Scanning
 pub mod Headers

@@ -35,8 +35,8 @@ read_word buffer bytes at size off place is fits there =
         ∙ take-take 8 (size - off) (drop off (drop at bytes)) (omega (arith, fits))
         ∙ ap (take 8) (drop-drop off at bytes)
 
-pub read_body_at : (buffer bytes : List ℕ) (slot size : ℕ) → IsRead buffer bytes (64 + 32 * slot) size → 16 ≤ size → ◌≡◌ {A = ℕ × ℕ} (number_at buffer 0, number_at buffer 8) (body_at bytes slot)
-read_body_at buffer bytes slot size is fits =
-    let first : number_at buffer 0 ≡ number_at bytes (64 + 32 * slot) = read_word buffer bytes (64 + 32 * slot) size 0 (64 + 32 * slot) is (omega (arith, fits)) (omega arith) in
-    let second : number_at buffer 8 ≡ number_at bytes (64 + 32 * slot + 8) = read_word buffer bytes (64 + 32 * slot) size 8 (64 + 32 * slot + 8) is (omega (arith, fits)) refl in
+pub read_body_at : (at : ℕ) (buffer bytes : List ℕ) (slot size : ℕ) → IsRead buffer bytes (at + 32 * slot) size → 16 ≤ size → ◌≡◌ {A = ℕ × ℕ} (number_at buffer 0, number_at buffer 8) (body_at at bytes slot)
+read_body_at at buffer bytes slot size is fits =
+    let first : number_at buffer 0 ≡ number_at bytes (at + 32 * slot) = read_word buffer bytes (at + 32 * slot) size 0 (at + 32 * slot) is (omega (arith, fits)) (omega arith) in
+    let second : number_at buffer 8 ≡ number_at bytes (at + 32 * slot + 8) = read_word buffer bytes (at + 32 * slot) size 8 (at + 32 * slot + 8) is (omega (arith, fits)) refl in
     λ i. (first i, second i)

@@ -13,89 +13,90 @@ use Rattle.lease_journal.proofs.Putting.{length-first, body_step, gate_step, gat
 told : (P : List ℕ → Type 0) (content : Option (List ℕ)) (bytes : List ℕ) → content ≡ Some bytes → P bytes → IfSome content P
 told P content bytes is p = subst (λ o. IfSome o P) (sym is) p
 
-module _ (slots slot : ℕ) (body : ℕ × ℕ) (low : body.0 < 2 ^ 64) (high : body.1 < 2 ^ 64) (c : List ℕ) (images : List ℕ → Type 0) (ready : IsReady slots slot c images) where
-  abbrev Q : List ℕ → Type 0
-  Q = IsOldOrNew slots (first_bodies slot c) body
+module _ (at : ℕ) where
+  module _ (slots slot : ℕ) (body : ℕ × ℕ) (low : body.0 < 2 ^ 64) (high : body.1 < 2 ^ 64) (c : List ℕ) (images : List ℕ → Type 0) (ready : IsReady at slots slot c images) where
+    abbrev Q : List ℕ → Type 0
+    Q = IsOldOrNew at slots (first_bodies at slot c) body
 
-  abbrev d : List ℕ
-  d = body_written slot body c
+    abbrev d : List ℕ
+    d = body_written at slot body c
 
-  -- the first step
-  pub torn_first : (image : List ℕ) → TornFrom (64 + 32 * slot) 16 images image → Q image
-  torn_first image torn =
-      body_step slots slot body c ready.within ready.opened ready.closed ready.tidy image
-      (subst (λ old. IsTorn (64 + 32 * slot) 16 old image) (ready.only torn.0 torn.1) torn.2)
+    -- the first step
+    pub torn_first : (image : List ℕ) → TornFrom (at + 32 * slot) 16 images image → Q image
+    torn_first image torn =
+        body_step at slots slot body c ready.within ready.opened ready.closed ready.tidy image
+        (subst (λ old. IsTorn (at + 32 * slot) 16 old image) (ready.only torn.0 torn.1) torn.2)
 
-  -- the second, where all images have the body
-  pub gate_torn : (image : List ℕ) → IsTorn (64 + 32 * slot + 31) 1 (body_written slot body c) image → Q image
-  gate_torn image torn =
-      gate_step slots slot body c ready.within ready.opened ready.closed ready.tidy (body_written slot body c) (written_torn slot body c)
-      (written_body slot body c low high) (written_whole slot body c) image torn
+    -- the second, where all images have the body
+    pub gate_torn : (image : List ℕ) → IsTorn (at + 32 * slot + 31) 1 (body_written at slot body c) image → Q image
+    gate_torn image torn =
+        gate_step at slots slot body c ready.within ready.opened ready.closed ready.tidy (body_written at slot body c) (written_torn at slot body c)
+        (written_body at slot body c low high) (written_whole at slot body c) image torn
 
-  pub torn_second : (later : List ℕ → Type 0) → ((image : List ℕ) → later image → image ≡ body_written slot body c) → (image : List ℕ)
-      → TornFrom (64 + 32 * slot + 31) 1 later image → Q image
-  torn_second later only image torn = gate_torn image (subst (λ old. IsTorn (64 + 32 * slot + 31) 1 old image) (only torn.0 torn.1) torn.2)
+    pub torn_second : (later : List ℕ → Type 0) → ((image : List ℕ) → later image → image ≡ body_written at slot body c) → (image : List ℕ)
+        → TornFrom (at + 32 * slot + 31) 1 later image → Q image
+    torn_second later only image torn = gate_torn image (subst (λ old. IsTorn (at + 32 * slot + 31) 1 old image) (only torn.0 torn.1) torn.2)
 
-  -- what is read once the first step is refused
-  pub read_first : (content new : Option (List ℕ)) → content ≡ Some c → StepsBy (IsTorn (64 + 32 * slot) 16) content new → IfSome new Q
-  read_first content new is steps = read_torn new (subst (λ o. StepsBy (IsTorn (64 + 32 * slot) 16) o new) is steps)
-    where
-      read_torn : (new : Option (List ℕ)) → StepsBy (IsTorn (64 + 32 * slot) 16) (Some c) new → IfSome new Q
-      read_torn None none = tt
-      read_torn (Some image) torn = body_step slots slot body c ready.within ready.opened ready.closed ready.tidy image torn
+    -- what is read once the first step is refused
+    pub read_first : (content new : Option (List ℕ)) → content ≡ Some c → StepsBy (IsTorn (at + 32 * slot) 16) content new → IfSome new Q
+    read_first content new is steps = read_torn new (subst (λ o. StepsBy (IsTorn (at + 32 * slot) 16) o new) is steps)
+      where
+        read_torn : (new : Option (List ℕ)) → StepsBy (IsTorn (at + 32 * slot) 16) (Some c) new → IfSome new Q
+        read_torn None none = tt
+        read_torn (Some image) torn = body_step at slots slot body c ready.within ready.opened ready.closed ready.tidy image torn
 
-  pub read_second : (content new : Option (List ℕ)) → content ≡ Some (body_written slot body c) → StepsBy (IsTorn (64 + 32 * slot + 31) 1) content new → IfSome new Q
-  read_second content new is steps = read_torn new (subst (λ o. StepsBy (IsTorn (64 + 32 * slot + 31) 1) o new) is steps)
-    where
-      read_torn : (new : Option (List ℕ)) → StepsBy (IsTorn (64 + 32 * slot + 31) 1) (Some (body_written slot body c)) new → IfSome new Q
-      read_torn None none = tt
-      read_torn (Some image) torn = gate_torn image torn
+    pub read_second : (content new : Option (List ℕ)) → content ≡ Some (body_written at slot body c) → StepsBy (IsTorn (at + 32 * slot + 31) 1) content new → IfSome new Q
+    read_second content new is steps = read_torn new (subst (λ o. StepsBy (IsTorn (at + 32 * slot + 31) 1) o new) is steps)
+      where
+        read_torn : (new : Option (List ℕ)) → StepsBy (IsTorn (at + 32 * slot + 31) 1) (Some (body_written at slot body c)) new → IfSome new Q
+        read_torn None none = tt
+        read_torn (Some image) torn = gate_torn image torn
 
-  pub read_done : (new : Option (List ℕ)) → new ≡ Some (slot_written slot body c) → IfSome new Q
-  read_done new is = told Q new (slot_written slot body c) is (gate_torn (slot_written slot body c) (opened_torn slot (body_written slot body c)))
+    pub read_done : (new : Option (List ℕ)) → new ≡ Some (slot_written at slot body c) → IfSome new Q
+    read_done new is = told Q new (slot_written at slot body c) is (gate_torn (slot_written at slot body c) (opened_torn at slot (body_written at slot body c)))
 
-  -- once both are done
-  pub done_new : Recovers slots (slot_written slot body c) (first_bodies slot c ++ body ∷ [])
-  done_new =
-      gate_new slots slot body c ready.within ready.opened ready.closed ready.tidy (body_written slot body c) (written_torn slot body c)
-      (written_body slot body c low high) (written_whole slot body c) (slot_written slot body c) (opened_torn slot (body_written slot body c)) (opened_open slot (body_written slot body c))
+    -- once both are done
+    pub done_new : Recovers at slots (slot_written at slot body c) (first_bodies at slot c ++ body ∷ [])
+    done_new =
+        gate_new at slots slot body c ready.within ready.opened ready.closed ready.tidy (body_written at slot body c) (written_torn at slot body c)
+        (written_body at slot body c low high) (written_whole at slot body c) (slot_written at slot body c) (opened_torn at slot (body_written at slot body c)) (opened_open at slot (body_written at slot body c))
 
-  pub done_tidy : IsTidy slots (slot_written slot body c)
-  done_tidy =
-      gate_tidy slots slot body c ready.within ready.opened ready.closed ready.tidy (body_written slot body c) (written_torn slot body c)
-      (written_body slot body c low high) (written_whole slot body c) (slot_written slot body c) (opened_torn slot (body_written slot body c))
+    pub done_tidy : IsTidy at slots (slot_written at slot body c)
+    done_tidy =
+        gate_tidy at slots slot body c ready.within ready.opened ready.closed ready.tidy (body_written at slot body c) (written_torn at slot body c)
+        (written_body at slot body c low high) (written_whole at slot body c) (slot_written at slot body c) (opened_torn at slot (body_written at slot body c))
 
--- a kept journal with a free slot is ready for a put
-pub ready_from : (slots used : ℕ) (bytes : List ℕ) (images : List ℕ → Type 0) → used < slots → KeptAt slots (first_bodies used bytes) bytes
-    → ((image : List ℕ) → images image → image ≡ bytes) → IsReady slots used bytes images
-ready_from slots used bytes images within kept only =
-    let size : length (first_bodies used bytes) ≡ used = length-first used bytes in
-    record {
-      within = within;
-      opened = λ slot below. kept.recovered.opened slot (omega (arith, below, size));
-      closed = λ is_open. kept.recovered.closed (omega (arith, size, within)) (subst (λ n. IsOpen bytes n) (sym size) is_open);
-      tidy = kept.tidy;
-      only = only;
-    }
+  -- a kept journal with a free slot is ready for a put
+  pub ready_from : (slots used : ℕ) (bytes : List ℕ) (images : List ℕ → Type 0) → used < slots → KeptAt at slots (first_bodies at used bytes) bytes
+      → ((image : List ℕ) → images image → image ≡ bytes) → IsReady at slots used bytes images
+  ready_from slots used bytes images within kept only =
+      let size : length (first_bodies at used bytes) ≡ used = length-first at used bytes in
+      record {
+        within = within;
+        opened = λ slot below. kept.recovered.opened slot (omega (arith, below, size));
+        closed = λ is_open. kept.recovered.closed (omega (arith, size, within)) (subst (λ n. IsOpen at bytes n) (sym size) is_open);
+        tidy = kept.tidy;
+        only = only;
+      }
 
--- the slots in use stay open, and the new one is
-pub written_opened : (used : ℕ) (body : ℕ × ℕ) (c : List ℕ) → ((slot : ℕ) → slot < used → IsOpen c slot)
-    → (slot : ℕ) → slot < used + 1 → IsOpen (slot_written used body c) slot
-written_opened used body c opened slot below = ⊎_elim
-    (λ ahead.
-    let d : List ℕ = body_written used body c in
-    let torn = written_torn used body c in
-    let inside : 64 + 32 * slot + 31 < length c = before_end c (64 + 32 * slot + 31) 90 (opened slot ahead) (omega arith) in
-    let still : IsOpen (body_written used body c) slot = torn.kept (64 + 32 * slot + 31) inside (inl (omega (arith, ahead))) ∙ opened slot ahead in
-    (opened_torn used d).kept (64 + 32 * slot + 31) (before_end d (64 + 32 * slot + 31) 90 still (omega arith)) (inl (omega (arith, ahead))) ∙ still)
-    (λ from.
-    let is : slot ≡ used = omega (arith, from, below) in
-    subst (λ n. IsOpen (slot_written used body c) n) (sym is) (opened_open used (body_written used body c)))
-    (cases_lt slot used)
+  -- the slots in use stay open, and the new one is
+  pub written_opened : (used : ℕ) (body : ℕ × ℕ) (c : List ℕ) → ((slot : ℕ) → slot < used → IsOpen at c slot)
+      → (slot : ℕ) → slot < used + 1 → IsOpen at (slot_written at used body c) slot
+  written_opened used body c opened slot below = ⊎_elim
+      (λ ahead.
+      let d : List ℕ = body_written at used body c in
+      let torn = written_torn at used body c in
+      let inside : at + 32 * slot + 31 < length c = before_end c (at + 32 * slot + 31) 90 (opened slot ahead) (omega arith) in
+      let still : IsOpen at (body_written at used body c) slot = torn.kept (at + 32 * slot + 31) inside (inl (omega (arith, ahead))) ∙ opened slot ahead in
+      (opened_torn at used d).kept (at + 32 * slot + 31) (before_end d (at + 32 * slot + 31) 90 still (omega arith)) (inl (omega (arith, ahead))) ∙ still)
+      (λ from.
+      let is : slot ≡ used = omega (arith, from, below) in
+      subst (λ n. IsOpen at (slot_written at used body c) n) (sym is) (opened_open at used (body_written at used body c)))
+      (cases_lt slot used)
 
--- a slot in use has its body inside the file
-pub body_inside : (bytes : List ℕ) (slot : ℕ) → IsOpen bytes slot → 64 + 32 * slot + 16 ≤ length bytes
-body_inside bytes slot is_open = omega (arith, before_end bytes (64 + 32 * slot + 31) 90 is_open (omega arith))
+  -- a slot in use has its body inside the file
+  pub body_inside : (bytes : List ℕ) (slot : ℕ) → IsOpen at bytes slot → at + 32 * slot + 16 ≤ length bytes
+  body_inside bytes slot is_open = omega (arith, before_end bytes (at + 32 * slot + 31) 90 is_open (omega arith))
 
 -- what a step makes of a content that is told
 pub record Mapped (f : List ℕ → List ℕ) (old : Option (List ℕ)) (new : List ℕ) : Type 0 where

@@ -1,7 +1,7 @@
 -- Why a journal refuses, and what stands in one that is kept.
 use Rattle.std.specs.Prelude.{◌≡◌, ◌⊎◌, ℕ, ◌+◌, ◌*◌, ◌^◌, ◌<◌, ◌≤◌, List, length, Option, Some, None, Result, OnOk, IsErrOf}
 use Rattle.zk_port.specs.Counts.{Rose}
-use Rattle.zk_port.specs.Images.{LeavesOnly}
+use Rattle.zk_port.specs.Disks.{DiskState}
 use Rattle.zk_model.specs.declared.JournalKind.{JournalKind}
 use Rattle.lease_journal.specs.declared.fault.StartFault.{StartFault}
 use Rattle.lease_journal.specs.declared.fault.StartFault.TheVariants as start
@@ -10,9 +10,9 @@ use Rattle.lease_journal.specs.declared.fault.JournalFault.{JournalFault}
 use Rattle.lease_journal.specs.declared.fault.JournalFault.TheVariants.{Device, Broken, Full}
 
 -- a tidy journal of these bodies
-pub record KeptAt (slots : ℕ) (bodies : List (ℕ × ℕ)) (bytes : List ℕ) : Type 0 where
-  pub tidy : IsTidy slots bytes
-  pub recovered : Recovers slots bytes bodies
+pub record KeptAt (at slots : ℕ) (bodies : List (ℕ × ℕ)) (bytes : List ℕ) : Type 0 where
+  pub tidy : IsTidy at slots bytes
+  pub recovered : Recovers at slots bytes bodies
 
 -- why a put is refused; only where the device failed is a fault kept in this call
 abbrev pub PutCause : ℕ → ℕ → ℕ → ℕ → ℕ → ℕ → JournalFault → Type 0
@@ -28,13 +28,6 @@ BodyCause fault fault_now before now Device = (fault ≡ 0) × Rose before now �
 BodyCause fault fault_now before now (Broken first) = (first ≡ fault) × (0 < fault) × (fault_now ≡ fault)
 BodyCause fault fault_now before now (Full count) = ⊥
 
--- nothing of the disk has changed, and at each moment a crash could leave only what it could before
-pub record Stays {D : Type 0} (content : D → Option (List ℕ)) (room : D → Option ℕ) (images : D → List ℕ → Type 0) (moment : D → ℕ) (images_since : D → ℕ → List ℕ → Type 0) (old new : D) : Type 0 where
-  pub same : content new ≡ content old
-  pub room_same : room new ≡ room old
-  pub crash : (image : List ℕ) → images new image → images old image
-  pub any_moment : LeavesOnly moment images_since old new (images old)
-
 -- the disk's count doesn't fall, rises where a fault of it is told, and stands still where all is well
 pub record HasStartCause {T : Type 0} (before now : ℕ) (result : Result T StartFault) : Type 0 where
   pub later : before ≤ now
@@ -42,30 +35,30 @@ pub record HasStartCause {T : Type 0} (before now : ℕ) (result : Result T Star
   pub done : OnOk result (now ≡ before)
 
 -- what was read of a slot: none where it is not open
-abbrev pub SlotSays : List ℕ → ℕ → Option (ℕ × ℕ) → Type 0
-SlotSays bytes slot None = (64 + 32 * slot + 32 ≤ length bytes) × ¬ (IsOpen bytes slot)
-SlotSays bytes slot (Some body) = IsOpen bytes slot × (body ≡ body_at bytes slot)
+abbrev pub SlotSays : ℕ → List ℕ → ℕ → Option (ℕ × ℕ) → Type 0
+SlotSays at bytes slot None = (at + 32 * slot + 32 ≤ length bytes) × ¬ (IsOpen at bytes slot)
+SlotSays at bytes slot (Some body) = IsOpen at bytes slot × (body ≡ body_at at bytes slot)
 
 -- why a slot is not read
-abbrev pub SlotCause : ℕ → ℕ → List ℕ → StartFault → Type 0
-SlotCause slots slot bytes start.Device = Unit {0}
-SlotCause slots slot bytes (start.Short need got) =
-    (need ≡ 64 + 32 * slots) × (got ≡ length bytes) × (length bytes < 64 + 32 * slot + 32)
-SlotCause slots slot bytes (start.BadHeader place) = ⊥
-SlotCause slots slot bytes (start.BadBody bad) = ⊥
+abbrev pub SlotCause : ℕ → ℕ → ℕ → List ℕ → StartFault → Type 0
+SlotCause at slots slot bytes start.Device = Unit {0}
+SlotCause at slots slot bytes (start.Short need got) =
+    (need ≡ at + 32 * slots) × (got ≡ length bytes) × (length bytes < at + 32 * slot + 32)
+SlotCause at slots slot bytes (start.BadHeader place) = ⊥
+SlotCause at slots slot bytes (start.BadBody bad) = ⊥
 
 -- what was read of the slots so far
-pub record IsScanned (kind : JournalKind) (total used : ℕ) (last : ℕ × ℕ) (bad : Option ℕ) (bytes : List ℕ) : Type 0 where
-  pub opened : (slot : ℕ) → slot < used → IsOpen bytes slot
-  pub last_is : last ≡ last_body bytes used
-  pub first_bad : IsFirstBad kind total bytes used bad
+pub record IsScanned (kind : JournalKind) (total at used : ℕ) (last : ℕ × ℕ) (bad : Option ℕ) (bytes : List ℕ) : Type 0 where
+  pub opened : (slot : ℕ) → slot < used → IsOpen at bytes slot
+  pub last_is : last ≡ last_body at bytes used
+  pub first_bad : IsFirstBad kind total at bytes used bad
 
 -- why the slots are not read to their end
-abbrev pub ScanCause : ℕ → List ℕ → StartFault → Type 0
-ScanCause slots bytes start.Device = Unit {0}
-ScanCause slots bytes (start.Short need got) = (need ≡ 64 + 32 * slots) × (got ≡ length bytes) × IsCut slots bytes
-ScanCause slots bytes (start.BadHeader place) = ⊥
-ScanCause slots bytes (start.BadBody bad) = ⊥
+abbrev pub ScanCause : ℕ → ℕ → List ℕ → StartFault → Type 0
+ScanCause at slots bytes start.Device = Unit {0}
+ScanCause at slots bytes (start.Short need got) = (need ≡ at + 32 * slots) × (got ≡ length bytes) × IsCut at slots bytes
+ScanCause at slots bytes (start.BadHeader place) = ⊥
+ScanCause at slots bytes (start.BadBody bad) = ⊥
 
 -- why there is no header
 abbrev pub HeaderCause : JournalKind → List ℕ → ℕ → List ℕ → StartFault → Type 0
@@ -79,19 +72,19 @@ abbrev pub StartCause : JournalKind → List ℕ → ℕ → List ℕ → StartF
 StartCause kind id total bytes start.Device = Unit {0}
 StartCause kind id total bytes (start.Short need got) =
     (got ≡ length bytes) × (((need ≡ 64) × (length bytes < 64))
-    ⊎ ((need ≡ 64 + 32 * slots_at bytes) × HasHeader kind id total bytes × IsCut (slots_at bytes) bytes))
+    ⊎ ((need ≡ 64 + 32 * slots_at bytes) × HasHeader kind id total bytes × IsCut 64 (slots_at bytes) bytes))
 StartCause kind id total bytes (start.BadHeader place) = IsFirstWrong kind id total bytes place
 StartCause kind id total bytes (start.BadBody bad) =
-    HasHeader kind id total bytes × (¬ (IsCut (slots_at bytes) bytes)) × (used : ℕ)
-    × AreUsed (slots_at bytes) used bytes × IsFirstBad kind total bytes used (Some bad)
+    HasHeader kind id total bytes × (¬ (IsCut 64 (slots_at bytes) bytes)) × (used : ℕ)
+    × AreUsed 64 (slots_at bytes) used bytes × IsFirstBad kind total 64 bytes used (Some bad)
 
 -- what an open journal says of the bytes: a right header, the slots in use, and bodies that all keep their rule
 pub record IsOpened (kind : JournalKind) (id : List ℕ) (total slots used : ℕ) (last : ℕ × ℕ) (bytes : List ℕ) : Type 0 where
   pub header : HasHeader kind id total bytes
   pub slots_are : slots ≡ slots_at bytes
-  pub slots_used : AreUsed slots used bytes
-  pub last_is : last ≡ last_body bytes used
-  pub sound : IsFirstBad kind total bytes used None
+  pub slots_used : AreUsed 64 slots used bytes
+  pub last_is : last ≡ last_body 64 bytes used
+  pub sound : IsFirstBad kind total 64 bytes used None
 
 -- a number of slots that a header may say, where the content is told
 abbrev pub SaysSlots : Option (List ℕ) → ℕ → Type 0
@@ -99,5 +92,5 @@ SaysSlots None slots = slots ≤ 2 ^ 28
 SaysSlots (Some bytes) slots = (slots ≡ slots_at bytes) × (slots ≤ 2 ^ 28)
 
 -- disks of this kind tell their content
-abbrev pub Tells : {D : Type 0} → (D → Option (List ℕ)) → Type 0
-Tells {D} content = (disk : D) → (bytes : List ℕ) × (content disk ≡ Some bytes)
+abbrev pub Tells : {D : Type 0} → (D → DiskState) → Type 0
+Tells {D} state = (disk : D) → (bytes : List ℕ) × ((state disk).content ≡ Some bytes)

@@ -3,3 +3,4 @@ pub mod Causes
 pub mod Scans
 pub mod New
 pub mod States
+pub mod Keeps

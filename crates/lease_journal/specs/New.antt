@@ -6,8 +6,8 @@ use Rattle.zk_model.specs.Journals.{IsTidy, Recovers, blank_journal_bytes, slots
 -- the header says so many slots; no slot is open, so that it is tidy and nothing is recovered
 pub record SaysNothing (slots : ℕ) (bytes : List ℕ) : Type 0 where
   pub says : slots_at bytes ≡ slots
-  pub tidy : IsTidy (slots_at bytes) bytes
-  pub empty : Recovers slots bytes []
+  pub tidy : IsTidy 64 (slots_at bytes) bytes
+  pub empty : Recovers 64 slots bytes []
 
 -- so it is of every new journal
 abbrev pub BlankSaysNothing : Type 0

@@ -1,7 +1,7 @@
 -- How the slots are gone through.
-use Rattle.std.specs.Prelude.{◌≡◌, ℕ, ◌<◌, List, [], ◌∷◌, length, Option, Some, None, Bool, true, false}
+use Rattle.std.specs.Prelude.{◌≡◌, ℕ, ◌<◌, List, length, Option, Some, None, Bool, true, false}
 use Rattle.zk_model.specs.declared.JournalKind.{JournalKind}
-use Rattle.zk_model.specs.Journals.{is_wrong_at, keeps_rule}
+use Rattle.zk_model.specs.Journals.{AreSound, body_before, is_wrong_at}
 
 -- the first bad slot, with one slot more
 abbrev pub next_bad : Option ℕ → Bool → ℕ → Option ℕ
@@ -16,19 +16,9 @@ IsFirstWrongOf kind id total bytes (Some wrong) =
     (wrong < 64) × (is_wrong_at kind id total bytes wrong ≡ true)
     × ((place : ℕ) → place < wrong → is_wrong_at kind id total bytes place ≡ false)
 
--- the first of these bodies, or zeros
-abbrev pub newest : List (ℕ × ℕ) → ℕ × ℕ
-newest [] = (0, 0)
-newest (body ∷ earlier) = body
-
--- bodies, the newest first, each of which keeps the rule behind the one before it
-abbrev pub AreSound : JournalKind → ℕ → List (ℕ × ℕ) → Type 0
-AreSound kind total [] = Unit {0}
-AreSound kind total (body ∷ earlier) = (keeps_rule kind total (newest earlier).0 body ≡ true) × AreSound kind total earlier
-
--- so many bodies were read, each of which keeps the rule, and this is the last; also of a disk that tells no content
+-- so many bodies were read, each of which keeps the rule, and this is the last, or zeros; also of a disk that tells no content
 pub record HasRead (kind : JournalKind) (total used : ℕ) (last : ℕ × ℕ) : Type 0 where
   pub bodies : List (ℕ × ℕ)
   pub count : length bodies ≡ used
   pub sound : AreSound kind total bodies
-  pub last_is : last ≡ newest bodies
+  pub last_is : last ≡ body_before bodies used

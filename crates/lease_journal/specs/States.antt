@@ -1,6 +1,7 @@
 -- What an open journal is, and what it keeps.
-use Rattle.std.specs.Prelude.{◌≡◌, ℕ, ◌+◌, ◌*◌, ◌^◌, ◌<◌, ◌≤◌, List, Option, Some, refl}
+use Rattle.std.specs.Prelude.{◌≡◌, ℕ, ◌+◌, ◌*◌, ◌^◌, ◌<◌, ◌≤◌, List, Some, refl}
 use Rattle.std.specs.Coded.{Coded, code_by, coded×, coded_ℕ}
+use Rattle.zk_port.specs.Disks.{DiskState}
 use Rattle.zk_model.specs.Journals.{IsOpen}
 
 -- An open journal: its disk, how many slots there are and are in use, the body in the last of these, or zeros, and the disk's count
@@ -21,9 +22,9 @@ state_code {D} disk =
     (λ _. refl)
 
 -- what an open journal keeps; of the content while no call of the disk has failed
-pub record IsJournal {D : Type 0} (content : D → Option (List ℕ)) (room : D → Option ℕ) (images : D → List ℕ → Type 0) (disk : D) (slots used fault : ℕ) : Type 0 where
+pub record IsJournal (disk : DiskState) (slots used fault : ℕ) : Type 0 where
   pub few : slots ≤ 2 ^ 28
   pub within : used ≤ slots
-  pub has_room : (size : ℕ) → room disk ≡ Some size → 64 + 32 * slots ≤ size
-  pub opened : (bytes : List ℕ) → fault ≡ 0 → content disk ≡ Some bytes → (slot : ℕ) → slot < used → IsOpen bytes slot
-  pub only : (bytes : List ℕ) → fault ≡ 0 → content disk ≡ Some bytes → (image : List ℕ) → images disk image → image ≡ bytes
+  pub has_room : (size : ℕ) → disk.room ≡ Some size → 64 + 32 * slots ≤ size
+  pub opened : (bytes : List ℕ) → fault ≡ 0 → disk.content ≡ Some bytes → (slot : ℕ) → slot < used → IsOpen 64 bytes slot
+  pub only : (bytes : List ℕ) → fault ≡ 0 → disk.content ≡ Some bytes → (image : List ℕ) → disk.images image → image ≡ bytes

@@ -13,17 +13,17 @@ abbrev pub body_bytes : ℕ × ℕ → List ℕ
 body_bytes body = to_le_bytes w64 body.0 ++ to_le_bytes w64 body.1
 
 -- the bytes with this body in a slot
-abbrev pub body_written : ℕ → ℕ × ℕ → List ℕ → List ℕ
-body_written slot body bytes = written_at (64 + 32 * slot) (body_bytes body) bytes
+abbrev pub body_written : ℕ → ℕ → ℕ × ℕ → List ℕ → List ℕ
+body_written at slot body bytes = written_at (at + 32 * slot) (body_bytes body) bytes
 
 -- and then with the slot open
-abbrev pub slot_written : ℕ → ℕ × ℕ → List ℕ → List ℕ
-slot_written slot body bytes = written_at (64 + 32 * slot + 31) (90 ∷ []) (body_written slot body bytes)
+abbrev pub slot_written : ℕ → ℕ → ℕ × ℕ → List ℕ → List ℕ
+slot_written at slot body bytes = written_at (at + 32 * slot + 31) (90 ∷ []) (body_written at slot body bytes)
 
 -- a tidy journal whose first slots are open and the next one not, all of it synced
-pub record IsReady (slots used : ℕ) (bytes : List ℕ) (images : List ℕ → Type 0) : Type 0 where
+pub record IsReady (at slots used : ℕ) (bytes : List ℕ) (images : List ℕ → Type 0) : Type 0 where
   pub within : used < slots
-  pub opened : (slot : ℕ) → slot < used → IsOpen bytes slot
-  pub closed : ¬ (IsOpen bytes used)
-  pub tidy : IsTidy slots bytes
+  pub opened : (slot : ℕ) → slot < used → IsOpen at bytes slot
+  pub closed : ¬ (IsOpen at bytes used)
+  pub tidy : IsTidy at slots bytes
   pub only : (image : List ℕ) → images image → image ≡ bytes

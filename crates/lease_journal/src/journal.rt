@@ -2,16 +2,18 @@
 ghost use Rattle.std.specs.Prelude.{◌≡◌, ◌<◌, ◌≤◌, ◌+◌, ◌-◌, ◌*◌, ◌^◌, ◌++◌, ◌∷◌, [], ℕ, List, Some, true, IfSome, IfOk, IfErr, OnOk, OnErr};
 ghost use Rattle.std.specs.Option.{option_map};
 ghost use Rattle.zk_port.specs.Counts.{Rose};
-ghost use Rattle.zk_port.specs.Images.{LeavesOnly, Only};
+ghost use Rattle.zk_port.specs.Disks.{LeavesOnly, Stays};
+ghost use Rattle.zk_port.specs.Images.{Only};
 ghost use Rattle.lease_journal.specs.declared.fault.StartFault.TheVariants as start;
-ghost use Rattle.zk_model.specs.Journals.{IsOldOrNew, Recovers, are_slots, body_at, first_bodies};
+ghost use Rattle.zk_model.specs.Journals.{IsHeaded, IsOldOrNew, Recovers, SameWhere, Stands, are_slots, body_at, first_bodies};
 ghost use Rattle.lease_journal.specs.Steps.{slot_written};
 ghost use Rattle.lease_journal.specs.Scans.{HasRead};
-ghost use Rattle.lease_journal.specs.Causes.{PutCause, BodyCause, KeptAt, SaysSlots, IsOpened, StartCause, Stays};
+ghost use Rattle.lease_journal.specs.Keeps.{ChangesAt, IsSpared, Keeps};
+ghost use Rattle.lease_journal.specs.Causes.{PutCause, BodyCause, KeptAt, SaysSlots, IsOpened, StartCause};
 
+use crate::area::{read_body, store_slot};
 use crate::fault::{JournalFault, StartFault};
-use crate::starting::{Opened, open};
-use crate::storing::{read_body, store_slot};
+use crate::starting::{Opened, SLOTS_AT, open};
 use std::marker::Model;
 use zk_model::JournalKind;
 use zk_port::{Disk, Failed};
@@ -44,7 +46,7 @@ impl<B: Disk> Model for Journal<B> {
       fault = j.fault;
     } };
 
-    ghost invariant = { λ j. model.IsJournal B.content B.room B.images j.disk j.slots j.used j.fault };
+    ghost invariant = { λ j. model.IsJournal (B.state j.disk) j.slots j.used j.fault };
 }
 
 impl<B: Disk> Journal<B> {
@@ -60,26 +62,28 @@ impl<B: Disk> Journal<B> {
         id: &[u8; 32],
         total: u64,
     ) -> Result<Self, (StartFault, B)>
-        requires room { (size : ℕ) → B.room disk ≡ Some size
-            → (slots : ℕ) → SaysSlots (B.content disk) slots → 64 + 32 * slots ≤ size }
-        ensures opened { IfOk result (λ journal. (bytes : List ℕ) → B.content disk ≡ Some bytes
+        requires room { (size : ℕ) → (B.state disk).room ≡ Some size
+            → (slots : ℕ) → SaysSlots (B.state disk).content slots → 64 + 32 * slots ≤ size }
+        ensures opened { IfOk result (λ journal. (bytes : List ℕ) → (B.state disk).content ≡ Some bytes
             → IsOpened kind id.now total journal.slots journal.used journal.last bytes) }
-        ensures recovers { IfOk result (λ journal. (bytes : List ℕ) → B.content disk ≡ Some bytes
-            → Recovers journal.slots bytes (first_bodies journal.used bytes)) }
-        ensures durable { IfOk result (λ journal. Only (B.content journal.disk) (B.images journal.disk)) }
+        ensures recovers { IfOk result (λ journal. (bytes : List ℕ) → (B.state disk).content ≡ Some bytes
+            → Recovers 64 journal.slots bytes (first_bodies 64 journal.used bytes)) }
+        ensures durable { IfOk result (λ journal. Only (B.state journal.disk).content
+            (B.state journal.disk).images) }
         ensures stays { IfOk result (λ journal.
-            Stays B.content B.room B.images B.moment B.images_since disk journal.disk) }
+            Stays (B.state disk) (B.state journal.disk)) }
         ensures fits { IfOk result (λ journal. are_slots kind total journal.slots ≡ true) }
         ensures read { IfOk result (λ journal. HasRead kind total journal.used journal.last) }
         ensures fault { IfOk result (λ journal. journal.fault ≡ 0) }
-        ensures faults { IfOk result (λ journal. B.faults journal.disk ≡ B.faults disk) }
-        ensures cause { IfErr result (λ e. (bytes : List ℕ) → B.content disk ≡ Some bytes
+        ensures faults { IfOk result (λ journal. (B.state journal.disk).faults ≡ (B.state disk).faults) }
+        ensures cause { IfErr result (λ e. (bytes : List ℕ) → (B.state disk).content ≡ Some bytes
             → StartCause kind id.now total bytes e.0) }
         ensures bad { IfErr result (λ e. (slot : ℕ) → e.0 ≡ start.BadBody slot → slot < 2 ^ 28) }
-        ensures device { IfErr result (λ e. e.0 ≡ start.Device → Rose (B.faults disk) (B.faults e.1)) }
-        ensures later { IfErr result (λ e. B.faults disk ≤ B.faults e.1) }
+        ensures device { IfErr result (λ e. e.0 ≡ start.Device → Rose (B.state disk).faults
+            (B.state e.1).faults) }
+        ensures later { IfErr result (λ e. (B.state disk).faults ≤ (B.state e.1).faults) }
         ensures stays_refused { IfErr result (λ e.
-            Stays B.content B.room B.images B.moment B.images_since disk e.1) }
+            Stays (B.state disk) (B.state e.1)) }
     {
         let mut disk = disk;
         match open(&mut disk, kind, id, total) {
@@ -131,7 +135,10 @@ impl<B: Disk> Journal<B> {
         self.disk
     }
 
-    /// Puts a body behind the others: writes it, syncs, opens its slot, and syncs.
+    /// Puts a body behind the others: writes it, syncs, opens its slot, and syncs. It writes 16 bytes and the gate.
+    ///
+    /// A file that has its full length keeps it. A start takes one that ends behind its first closed slot too; a put then
+    /// makes it longer, and as long as its slot needs.
     ///
     /// # Errors
     ///
@@ -139,34 +146,41 @@ impl<B: Disk> Journal<B> {
     /// nothing, and make no call of the disk. Last `Device`, where one of the four calls failed: a crash may then leave
     /// the journal with the body or without, and all further calls are `Broken`.
     pub fn put(&mut self, a: u64, b: u64) -> Result<(), JournalFault>
-        ensures any_moment { (bytes : List ℕ) → B.content self.old.disk ≡ Some bytes
+        ensures any_moment { (bytes : List ℕ) → (B.state self.old.disk).content ≡ Some bytes
             → self.old.fault ≡ 0 → self.old.used < self.old.slots
-            → KeptAt self.old.slots (first_bodies self.old.used bytes) bytes
-            → LeavesOnly B.moment B.images_since self.old.disk self.new.disk
-            (IsOldOrNew self.old.slots (first_bodies self.old.used bytes) (a, b)) }
-        ensures read { (bytes : List ℕ) → B.content self.old.disk ≡ Some bytes
+            → KeptAt 64 self.old.slots (first_bodies 64 self.old.used bytes) bytes
+            → LeavesOnly (B.state self.old.disk) (B.state self.new.disk)
+            (IsOldOrNew 64 self.old.slots (first_bodies 64 self.old.used bytes) (a, b)) }
+        ensures read { (bytes : List ℕ) → (B.state self.old.disk).content ≡ Some bytes
             → self.old.fault ≡ 0 → self.old.used < self.old.slots
-            → KeptAt self.old.slots (first_bodies self.old.used bytes) bytes
-            → IfSome (B.content self.new.disk)
-            (IsOldOrNew self.old.slots (first_bodies self.old.used bytes) (a, b)) }
-        ensures written { OnOk result (B.content self.new.disk
-            ≡ option_map (slot_written self.old.used (a, b)) (B.content self.old.disk)) }
-        ensures durable { OnOk result (Only (B.content self.new.disk) (B.images self.new.disk)) }
-        ensures recovered { OnOk result ((bytes : List ℕ) → B.content self.old.disk ≡ Some bytes
-            → KeptAt self.old.slots (first_bodies self.old.used bytes) bytes
-            → IfSome (B.content self.new.disk)
-            (KeptAt self.old.slots (first_bodies self.old.used bytes ++ (a, b) ∷ []))) }
+            → KeptAt 64 self.old.slots (first_bodies 64 self.old.used bytes) bytes
+            → IfSome (B.state self.new.disk).content
+            (IsOldOrNew 64 self.old.slots (first_bodies 64 self.old.used bytes) (a, b)) }
+        ensures written { OnOk result ((B.state self.new.disk).content
+            ≡ option_map (slot_written 64 self.old.used (a, b)) (B.state self.old.disk).content) }
+        ensures durable { OnOk result (Only (B.state self.new.disk).content (B.state self.new.disk).images) }
+        ensures recovered { OnOk result ((bytes : List ℕ) → (B.state self.old.disk).content ≡ Some bytes
+            → KeptAt 64 self.old.slots (first_bodies 64 self.old.used bytes) bytes
+            → IfSome (B.state self.new.disk).content
+            (KeptAt 64 self.old.slots (first_bodies 64 self.old.used bytes ++ (a, b) ∷ []))) }
         ensures used { OnOk result (self.new.used ≡ self.old.used + 1) }
         ensures last { OnOk result (self.new.last ≡ (a, b)) }
         ensures slots { self.new.slots ≡ self.old.slots }
         ensures used_kept { OnErr result (self.new.used ≡ self.old.used) }
         ensures last_kept { OnErr result (self.new.last ≡ self.old.last) }
         ensures fault_kept { OnOk result (self.new.fault ≡ self.old.fault) }
-        ensures room { B.room self.new.disk ≡ B.room self.old.disk }
-        ensures faults { OnOk result (B.faults self.new.disk ≡ B.faults self.old.disk) }
-        ensures later { B.faults self.old.disk ≤ B.faults self.new.disk }
+        ensures changes { ChangesAt (64 + 32 * self.old.used) 32 (B.state self.old.disk)
+            (B.state self.new.disk) }
+        ensures spared { (first : List ℕ) → Keeps (SameWhere (IsSpared first (64 + 32 * self.old.used)) first)
+            (B.state self.old.disk) (B.state self.new.disk) }
+        ensures header { (kind : JournalKind) (id : List ℕ) (total slots : ℕ)
+            → Keeps (IsHeaded kind id total slots) (B.state self.old.disk) (B.state self.new.disk) }
+        ensures stands { (kind : JournalKind) (id : List ℕ) (total : ℕ)
+            → Keeps (Stands kind id total self.old.slots) (B.state self.old.disk) (B.state self.new.disk) }
+        ensures faults { OnOk result ((B.state self.new.disk).faults ≡ (B.state self.old.disk).faults) }
+        ensures later { (B.state self.old.disk).faults ≤ (B.state self.new.disk).faults }
         ensures cause { IfErr result (PutCause self.old.slots self.old.used self.old.fault self.new.fault
-            (B.faults self.old.disk) (B.faults self.new.disk)) }
+            (B.state self.old.disk).faults (B.state self.new.disk).faults) }
         ensures unserved { OnErr result (self.new.fault ≡ self.old.fault → self.new.disk ≡ self.old.disk) }
         ensures served { OnOk result ((self.old.fault ≡ 0) × (self.old.used < self.old.slots)) }
     {
@@ -176,7 +190,7 @@ impl<B: Disk> Journal<B> {
         if self.used == self.slots {
             return Err(JournalFault::Full { slots: self.slots });
         }
-        if let Err(Failed) = store_slot(&mut self.disk, self.used, a, b) {
+        if let Err(Failed) = store_slot(&mut self.disk, SLOTS_AT, self.used, a, b) {
             self.fault = self.disk.faults();
             return Err(JournalFault::Device);
         }
@@ -193,28 +207,24 @@ impl<B: Disk> Journal<B> {
     /// failed: all further calls are then `Broken`.
     pub fn body(&mut self, slot: u64) -> Result<(u64, u64), JournalFault>
         requires { slot < self.old.used }
-        ensures body { IfOk result (λ body. (bytes : List ℕ) → B.content self.old.disk ≡ Some bytes
-            → body ≡ body_at bytes slot) }
-        ensures content { B.content self.new.disk ≡ B.content self.old.disk }
-        ensures crash { (c : List ℕ) → B.images self.new.disk c → B.images self.old.disk c }
-        ensures any_moment { LeavesOnly B.moment B.images_since self.old.disk self.new.disk
-            (B.images self.old.disk) }
-        ensures room { B.room self.new.disk ≡ B.room self.old.disk }
+        ensures body { IfOk result (λ body. (bytes : List ℕ) → (B.state self.old.disk).content ≡ Some bytes
+            → body ≡ body_at 64 bytes slot) }
+        ensures stays { Stays (B.state self.old.disk) (B.state self.new.disk) }
         ensures used { self.new.used ≡ self.old.used }
         ensures last { self.new.last ≡ self.old.last }
         ensures slots { self.new.slots ≡ self.old.slots }
         ensures fault_kept { OnOk result (self.new.fault ≡ self.old.fault) }
-        ensures faults { OnOk result (B.faults self.new.disk ≡ B.faults self.old.disk) }
-        ensures later { B.faults self.old.disk ≤ B.faults self.new.disk }
+        ensures faults { OnOk result ((B.state self.new.disk).faults ≡ (B.state self.old.disk).faults) }
+        ensures later { (B.state self.old.disk).faults ≤ (B.state self.new.disk).faults }
         ensures cause { IfErr result (BodyCause self.old.fault self.new.fault
-            (B.faults self.old.disk) (B.faults self.new.disk)) }
+            (B.state self.old.disk).faults (B.state self.new.disk).faults) }
         ensures unserved { OnErr result (self.new.fault ≡ self.old.fault → self.new.disk ≡ self.old.disk) }
         ensures served { OnOk result (self.old.fault ≡ 0) }
     {
         if self.fault != 0 {
             return Err(JournalFault::Broken { first: self.fault });
         }
-        match read_body(&mut self.disk, slot) {
+        match read_body(&mut self.disk, SLOTS_AT, slot) {
             Ok(body) => Ok(body),
             Err(Failed) => {
                 self.fault = self.disk.faults();

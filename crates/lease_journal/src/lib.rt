@@ -11,18 +11,21 @@
 #![tactic(auto)]
 
 ghost use Rattle.std.specs.Prelude.{◌≡◌, ◌^◌, ◌≤◌, ◌++◌, IfOk, OnOk};
-ghost use Rattle.zk_model.specs.Journals.{blank_journal_bytes, ceiling_slots, claim_slots, journal_code, journal_header};
+ghost use Rattle.zk_model.specs.Journals.{blank_journal_bytes, ceiling_slots, claim_slots};
+ghost use Rattle.lease_journal.specs.Keeps.{BlankStands, StartsAgain};
 ghost use Rattle.lease_journal.specs.New.{BlankSaysNothing};
 
+mod area;
 mod fault;
+mod header;
 mod journal;
 mod starting;
 mod storing;
 
 pub use fault::{JournalFault, StartFault};
+use header::push_header;
 pub use journal::Journal;
 use std::alloc::{AllocError, Global};
-pub use storing::read_body;
 pub use zk_model::JournalKind;
 
 /// A new journal of this many slots, in which all bytes behind the header are 0.
@@ -52,33 +55,15 @@ pub fn blank_says_nothing()
     ensures { BlankSaysNothing }
 {}
 
-/// Appends the first 64 bytes of a journal.
-fn push_header(
-    bytes: &mut Vec<u8>,
-    kind: JournalKind,
-    id: &[u8; 32],
-    total: u64,
-    slots: u64,
-) -> Result<(), AllocError>
-    ensures { OnOk result (bytes.new.items ≡ bytes.old.items ++ journal_header kind id.now total slots) }
-{
-    bytes.extend_from_slice(b"WQSJRNL1")?;
-    bytes.extend_from_slice(&[journal_code(kind), 0, 0, 0, 0, 0, 0, 0])?;
-    bytes.extend_from_slice(&total.to_le_bytes())?;
-    bytes.extend_from_slice(&slots.to_le_bytes())?;
-    bytes.extend_from_slice(id)?;
-    Ok(())
-}
+/// A new journal of a number of slots that it may have stands.
+pub fn blank_stands()
+    ensures { BlankStands }
+{}
 
-/// The byte of a kind.
-fn journal_code(kind: JournalKind) -> u8
-    ensures { result ≡ journal_code kind }
-{
-    match kind {
-        JournalKind::Claims => 0,
-        JournalKind::Ceilings => 1,
-    }
-}
+/// Bytes in which a journal stands, whose bodies keep their rules, are refused by no start but where the disk fails.
+pub fn starts_again()
+    ensures { StartsAgain }
+{}
 
 /// How many slots the verifier's journal has for this many units: one for each 16, rounded up.
 pub fn ceiling_slots(total: u64) -> u64

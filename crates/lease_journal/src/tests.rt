@@ -82,6 +82,7 @@ fn a_put_writes_its_slot(rt: HostRuntime) -> Result<(), Fail> {
     assert!(rt; disk.pending() == 0);
     assert!(rt; disk.bytes().get(64..72) == Some([16, 0, 0, 0, 0, 0, 0, 0].as_slice()));
     assert!(rt; disk.bytes().get(72..80) == Some([0; 8].as_slice()));
+    assert!(rt; disk.bytes().get(80..95) == Some([0; 15].as_slice()));
     assert!(rt; disk.bytes().get(95) == Some(&0x5A));
     Ok(())
 }

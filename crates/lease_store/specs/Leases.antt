@@ -1,14 +1,14 @@
 -- What leases do to a pass, and what holds once a store is closed.
-use Rattle.std.specs.Prelude.{◌≡◌, ◌≢◌, ◌⊎◌, ℕ, ◌+◌, ◌<◌, ◌≤◌, List, [], ◌∷◌, ◌++◌, Option, None, Result, Ok, Err}
+use Rattle.std.specs.Prelude.{◌≡◌, ◌≢◌, ◌⊎◌, ℕ, ◌+◌, ◌<◌, ◌≤◌, List, [], ◌∷◌, ◌++◌, Some, None, IfSome, IsSomeAnd, Result, Ok, Err}
 use Rattle.atomic_table.specs.Seated.{TableId}
 use Rattle.zk_port.specs.Counts.{Rose}
-use Rattle.zk_model.specs.Journals.{ceiling_slots}
+use Rattle.zk_port.specs.Disks.{DiskState, LeavesOnly}
+use Rattle.zk_port.specs.Images.{Only}
 use Rattle.zk_model.specs.declared.Span.{Span}
 use Rattle.lease_words.specs.Views.{entry, after_draw, after_look}
-use Rattle.lease_words.specs.Calls.{seen, entries_of, number_of, known_of, mark_of, Drew, AreGathered}
+use Rattle.lease_words.specs.Calls.{seen, entries_of, number_of, known_of, looks_of, mark_of, Drew, AreGathered}
 use Rattle.lease_words.specs.declared.pass.Pass.{Pass}
-use Rattle.lease_store.specs.Ceilings.{FindsAtLeast}
-use Rattle.lease_journal.specs.Causes.{Tells}
+use Rattle.lease_store.specs.Ceilings.{FindsCeiling, SaysCeiling}
 use Rattle.lease_store.specs.declared.LeaseFault.{LeaseFault}
 use Rattle.lease_store.specs.declared.LeaseFault.TheVariants as lease
 use Rattle.lease_store.specs.declared.fault.TryFault.{TryFault}
@@ -18,13 +18,15 @@ use Rattle.lease_store.specs.declared.fault.TryFault.TheVariants as attempt
 abbrev pub IsPassAt : TableId → ℕ → Pass → Type 0
 IsPassAt table total p = (p.seat.table_id ≡ table) × (p.total ≡ total)
 
--- what a pass doesn't lose: its place at the table, its number, the greatest ceiling that it knows, and a mark that it knows
+-- what a pass doesn't lose: its place at the table, its number, the greatest ceiling that it knows, its looks, and a mark that it
+-- knows
 pub record Goes (p q : Pass) : Type 0 where
   pub table : q.seat.table_id ≡ p.seat.table_id
   pub seat : q.seat.id ≡ p.seat.id
   pub total : q.total ≡ p.total
   pub number : number_of q ≡ number_of p
   pub known : known_of p ≤ known_of q
+  pub looks : looks_of p ≤ looks_of q
   pub mark : (mark_of p ≡ 0) ⊎ (mark_of q ≡ mark_of p)
 
 -- a pass that drew nothing in between
@@ -40,11 +42,13 @@ pub record HasDrawn (p : Pass) (start count : ℕ) (q : Pass) : Type 0 where
   pub entry_is : entries_of q ≡ entries_of p ++ entry (number_of p) start count ∷ []
   pub within : start + count ≤ p.total
 
--- the units from start on are burnt: the journal failed, the ceiling that was seen is below their end, and the pass knows the mark
+-- the units from start on are burnt: the journal failed, the pass looked since, the ceiling that it saw is below their end, and it
+-- knows the mark
 pub record IsBurnt (p : Pass) (start count : ℕ) (q : Pass) : Type 0 where
   pub drawn : HasDrawn p start count q
   pub above : known_of q < start + count
   pub marked : mark_of q ≢ 0
+  pub looked : looks_of p < looks_of q
 
 -- What a lease does: a span that ends where the pass knows that it may, or no units within the total, as a draw says; or a span
 -- that is burnt
@@ -72,12 +76,21 @@ Tried p count (Err (attempt.NeedsRoom end known)) q =
     (start : ℕ) × HasDrawn p start count q × (end ≡ start + count) × (known < end)
     × (seen q ≡ after_look (after_draw (seen p) start count) known)
 
--- What holds of all passes of a store and of its disk: what was drawn tiles, no pass knows a ceiling above this one, and none a
--- mark but 0 and this one; every image recovers the ceiling or a higher one; where there is a mark, the disk's count of faults
--- rose since the start
-pub record IsClosed {D : Type 0} (content : D → Option (List ℕ)) (images : D → List ℕ → Type 0) (faults : D → ℕ) (start base total : ℕ) (disk : D) (passes : List Pass) : Type 0 where
+-- What holds of all passes of a store and of its disk, which at first was as `start` says: what was drawn tiles, no pass knows a
+-- ceiling above this one, and none a mark but 0 and this one. It was known where the disk says its content now; where it was known, the content and each image say this
+-- ceiling or a higher one, and each image since the start the base or a higher one; with no mark the content says this very
+-- ceiling, a crash leaves the content, and no call of the disk failed. Where there is a mark, the count of faults rose.
+pub record IsClosed (start disk : DiskState) (id : List ℕ) (base total : ℕ) (passes : List Pass) : Type 0 where
   pub ceiling : ℕ
   pub mark : ℕ
   pub gathered : AreGathered base ceiling mark passes
-  pub durable : Tells content → (image : List ℕ) → images disk image → FindsAtLeast (ceiling_slots total) ceiling image
-  pub rose : mark ≢ 0 → Rose start (faults disk)
+  pub told : (bytes : List ℕ) → disk.content ≡ Some bytes → (first : List ℕ) × (start.content ≡ Some first)
+  pub read : (first : List ℕ) → start.content ≡ Some first → IsSomeAnd disk.content (FindsCeiling id total ceiling first)
+  pub durable : (first : List ℕ) → start.content ≡ Some first → (image : List ℕ) → disk.images image → FindsCeiling id total ceiling first image
+  pub any_moment : (first : List ℕ) → start.content ≡ Some first → LeavesOnly start disk (FindsCeiling id total base first)
+  pub exact : mark ≡ 0 → IfSome disk.content (SaysCeiling id total ceiling)
+  pub only : mark ≡ 0 → Only disk.content disk.images
+  pub still : mark ≡ 0 → disk.faults ≡ start.faults
+  pub rose : mark ≢ 0 → Rose start.faults disk.faults
+  pub chosen : disk.chosen ≡ start.chosen
+  pub room : disk.room ≡ start.room

@@ -1,9 +1,13 @@
 -- What contracts see of a store, of its parts, and of what stands behind its lock.
-use Rattle.std.specs.Prelude.{◌≡◌, ℕ, ◌^◌, ◌≤◌, List, Option, refl}
+use Rattle.std.specs.Prelude.{◌≡◌, ℕ, ◌^◌, ◌≤◌, List, Some, refl}
 use Rattle.std.specs.Coded.{Coded, code_by, coded×, coded_ℕ}
 use Rattle.atomic_table.specs.Seated.{TableId, table_id_coded}
+use Rattle.zk_port.specs.Disks.{DiskState}
 use Rattle.lease_journal.specs.States.{JournalState, state_code}
 use Rattle.lease_words.specs.declared.view.View.{View}
+use Rattle.zk_model.specs.declared.JournalKind.TheVariants.{Ceilings}
+use Rattle.zk_model.specs.Journals.{HasHeader}
+use Rattle.lease_store.specs.Ceilings.{NeverFails}
 use Rattle.lease_store.specs.Desks.{IsDesk}
 
 -- Parts of a store: its disk, the table of its words, the first unit of its era, the total of units, and how many passes there are
@@ -40,16 +44,22 @@ desk_code {D} disk =
     (λ p. record { journal = p.0; ceiling = p.1.0; mark = p.1.1 })
     (λ _. refl)
 
--- what parts keep: the seat is of these words, and the journal and the seat are a desk that has just started
-pub record AreParts {D : Type 0} (content : D → Option (List ℕ)) (images : D → List ℕ → Type 0) (faults : D → ℕ) (total : ℕ) (table seat : TableId) (journal : JournalState D) (v : View) : Type 0 where
+-- What parts keep: the seat is of these words, which begin at the journal's ceiling, and the journal and the seat are a desk that has
+-- just started, for each id that the header has.
+pub record AreParts {D : Type 0} (disk_state : D → DiskState) (total base : ℕ) (table seat : TableId) (journal : JournalState D) (v : View) : Type 0 where
   pub few : total ≤ 2 ^ 40
   pub own : seat ≡ table
-  pub kept : IsDesk content images faults (faults journal.disk) total journal.disk journal.slots journal.used journal.last.0 journal.fault v
+  pub base_is : base ≡ journal.last.0
+  pub kept : (id : List ℕ)
+      → ((bytes : List ℕ) → (disk_state journal.disk).content ≡ Some bytes → HasHeader Ceilings id total bytes)
+      → IsDesk (disk_state journal.disk) (disk_state journal.disk) id total base journal.slots journal.used journal.last.0 journal.fault v
+  pub whole : journal.fault ≡ 0
 
--- what the desk keeps, of the store that has this table, this total, so many passes, and this count of faults at its start
-pub record IsDeskOf {D : Type 0} (content : D → Option (List ℕ)) (images : D → List ℕ → Type 0) (faults : D → ℕ) (table : TableId) (total passes start : ℕ) (seat : TableId) (journal : JournalState D) (own_total : ℕ) (v : View) : Type 0 where
+-- what the desk keeps, of the store that has this table, total, number of passes, base, id, and disk at its start
+pub record IsDeskOf {D : Type 0} (disk_state : D → DiskState) (table : TableId) (total passes base : ℕ) (id : List ℕ) (start : DiskState) (seat : TableId) (journal : JournalState D) (own_total : ℕ) (v : View) : Type 0 where
   pub few : own_total ≤ 2 ^ 40
   pub total_is : own_total ≡ total
   pub own : seat ≡ table
   pub made : v.made ≡ passes
-  pub kept : IsDesk content images faults start total journal.disk journal.slots journal.used journal.last.0 journal.fault v
+  pub kept : IsDesk start (disk_state journal.disk) id total base journal.slots journal.used journal.last.0 journal.fault v
+  pub never : NeverFails disk_state → journal.fault ≡ 0

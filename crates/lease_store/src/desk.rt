@@ -1,9 +1,11 @@
 // What stands behind the lock.
-ghost use Rattle.std.specs.Prelude.{◌≡◌, ◌^◌, ◌<◌, ◌≤◌, is_ok, true, IfErr, OnOk, OnErr};
+ghost use Rattle.std.specs.Prelude.{◌≡◌, ◌^◌, ◌+◌, ◌<◌, ◌≤◌, ℕ, List, Some, is_ok, true, IfErr, OnOk, OnErr};
 ghost use Rattle.lease_core.specs.Machine.{ceiling_for};
-ghost use Rattle.lease_words.specs.Calls.{words_id};
-ghost use Rattle.lease_store.specs.Ceilings.{NeverFails};
-ghost use Rattle.lease_store.specs.Desks.{CoverCause};
+ghost use Rattle.lease_words.specs.Calls.{ceiling_of, made_of, own_mark_of, words_id};
+ghost use Rattle.zk_port.specs.Disks.{LeavesOnly};
+ghost use Rattle.lease_store.specs.Ceilings.{AreFound, FindsCeiling, NeverFails};
+ghost use Rattle.lease_store.specs.Desks.{CoverCause, IsDesk};
+ghost use Rattle.lease_store.specs.States.{IsDeskOf};
 
 use crate::name::LeaseName;
 use lease_journal::{Journal, JournalFault};
@@ -12,13 +14,13 @@ use std::marker::{Model, PhantomData};
 use zk_port::Disk;
 
 /// The journal, and the seat that raises the ceiling. The ceiling is that of the journal's slots in use, and every image
-/// of the disk recovers it or a higher one. Contracts see of it the journal, the ceiling and the mark (`DeskState`).
+/// of the disk is a sound journal that recovers it or a higher one. Contracts see of it the journal, the ceiling and the mark (`DeskState`).
 #[derive(Drop)]
 pub struct Desk<B: Disk, N: LeaseName> {
-    pub(crate) journal: Journal<B>,
-    pub(crate) seat: JournalSeat,
-    pub(crate) total: u64,
-    pub(crate) name: PhantomData<N>,
+    journal: Journal<B>,
+    seat: JournalSeat,
+    total: u64,
+    name: PhantomData<N>,
 }
 
 impl<B: Disk, N: LeaseName> Model for Desk<B, N> {
@@ -35,7 +37,7 @@ impl<B: Disk, N: LeaseName> Model for Desk<B, N> {
       mark = own_mark_of d.seat;
     } };
 
-    ghost invariant = { λ d. model.IsDeskOf B.content B.images B.faults N.table N.total N.passes N.faults
+    ghost invariant = { λ d. model.IsDeskOf B.state N.table N.total N.passes N.base N.id N.start
         d.seat.seat.table_id d.journal d.total d.seat.seat.me.0 };
 }
 
@@ -48,6 +50,33 @@ fn ceiling_for(total: u64, end: u64) -> u64
 }
 
 impl<B: Disk, N: LeaseName> Desk<B, N> {
+    /// The desk of the store that has this name.
+    pub fn new(journal: Journal<B>, seat: JournalSeat, total: u64) -> Self
+        requires { IsDeskOf B.state N.table N.total N.passes N.base N.id N.start
+            seat.seat.table_id journal total seat.seat.me.0 }
+        ensures journal { result.journal ≡ journal }
+        ensures ceiling { result.ceiling ≡ ceiling_of seat }
+        ensures mark { result.mark ≡ own_mark_of seat }
+    {
+        Desk {
+            journal,
+            seat,
+            total,
+            name: PhantomData,
+        }
+    }
+
+    /// The journal and the seat.
+    pub fn into_parts(self) -> (Journal<B>, JournalSeat)
+        ensures kept { IsDesk N.start (B.state result.0.disk) N.id N.total N.base result.0.slots result.0.used
+            result.0.last.0 result.0.fault result.1.seat.me.0 }
+        ensures own { result.1.seat.table_id ≡ N.table }
+        ensures made { made_of result.1 ≡ N.passes }
+    {
+        let Desk { journal, seat, .. } = self;
+        (journal, seat)
+    }
+
     /// Sees to it that the ceiling reaches this end. Where it doesn't yet, it puts the end, rounded up to a multiple of 16
     /// and at most the total, into the journal, and then shows it.
     ///
@@ -60,12 +89,20 @@ impl<B: Disk, N: LeaseName> Desk<B, N> {
         requires within { end ≤ N.total }
         ensures same { end ≤ self.old.ceiling → (is_ok result ≡ true) × (self.new ≡ self.old) }
         ensures raised { OnOk result (self.old.ceiling < end → self.new.ceiling ≡ ceiling_for N.total end) }
+        ensures written { OnOk result (self.old.ceiling < end
+            → self.new.journal.last ≡ (ceiling_for N.total end, 0)) }
+        ensures used { OnOk result (self.old.ceiling < end
+            → self.new.journal.used ≡ self.old.journal.used + 1) }
+        ensures found { AreFound N.start (B.state self.new.journal.disk) N.id N.total self.new.ceiling }
         ensures reached { OnOk result (end ≤ self.new.ceiling) }
         ensures refused { OnErr result (self.new.ceiling ≡ self.old.ceiling) }
         ensures marked { OnErr result (self.new.mark ≡ self.new.journal.fault) }
         ensures cause { IfErr result (CoverCause self.old.journal.fault self.new.journal.fault
-            (B.faults self.old.journal.disk) (B.faults self.new.journal.disk)) }
-        ensures never { OnErr result (NeverFails B.faults → ⊥) }
+            (B.state self.old.journal.disk).faults (B.state self.new.journal.disk).faults) }
+        ensures any_moment { (first : List ℕ) → N.start.content ≡ Some first
+            → LeavesOnly (B.state self.old.journal.disk) (B.state self.new.journal.disk)
+            (FindsCeiling N.id N.total self.old.ceiling first) }
+        ensures never { OnErr result (NeverFails B.state → ⊥) }
     {
         if end <= self.journal.last().0 {
             return Ok(());

@@ -29,7 +29,7 @@ impl<B: Disk, N: LeaseName> LeaseStore<B, N> {
         ensures own { IsPassAt N.table N.total pass.new }
         ensures goes { Goes pass.old pass.new }
         ensures leased { Leased pass.old count result pass.new }
-        ensures never { NeverFails B.faults → IsJournals result → ⊥ }
+        ensures never { NeverFails B.state → IsJournals result → ⊥ }
     {
         let span = match self.words.draw(pass, count) {
             Ok(span) => span,

@@ -19,15 +19,19 @@ pub use lease_core::Span;
 pub use name::LeaseName;
 pub use parts::LeaseParts;
 pub use store::LeaseStore;
+use thiserror::Error;
 
 /// Why units are not leased.
-#[derive(Clone, Copy, Debug, PartialEq, Eq)]
+#[derive(Clone, Copy, Debug, PartialEq, Eq, Error)]
 pub enum LeaseFault {
     /// So many units from here on would end above the total.
+    #[error("{count} units from unit {at} on end above the total {total}")]
     Exhausted { at: u64, count: u32, total: u64 },
     /// A call of the journal's disk failed.
+    #[error("a call of the journal's disk failed")]
     Device,
     /// A call of the journal's disk failed before: then its count of faults was this.
+    #[error("a call of the journal's disk failed before, as number {first}")]
     Broken { first: u64 },
 }
 

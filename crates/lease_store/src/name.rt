@@ -1,12 +1,13 @@
 // Which store it is.
-ghost use Rattle.std.specs.Prelude.{ℕ};
+ghost use Rattle.std.specs.Prelude.{ℕ, List, []};
 
 use std::marker::Brand;
 
-/// Names one store: the table of its words, its total of units, the number of its passes, and the disk's count of faults
-/// when it started. It ties what stands behind the lock to the words beside it.
+/// Names one store: the table of its words, its total of units, the number of its passes, the unit that it began at, the
+/// id of its files, and its disk as it was then. It ties what stands behind the lock to the words beside it.
 pub trait LeaseName {
     ghost use Rattle.atomic_table.specs.Seated.{TableId};
+    ghost use Rattle.zk_port.specs.Disks.{DiskState};
 
     ghost table: { TableId };
 
@@ -14,11 +15,15 @@ pub trait LeaseName {
 
     ghost passes: { ℕ };
 
-    ghost faults: { ℕ };
+    ghost base: { ℕ };
+
+    ghost id: { List ℕ };
+
+    ghost start: { DiskState };
 }
 
 impl LeaseName for Brand {
-    ghost use Rattle.lease_store.specs.Desks.{no_table};
+    ghost use Rattle.lease_store.specs.Desks.{no_disk, no_table};
 
     ghost table = { no_table };
 
@@ -26,5 +31,9 @@ impl LeaseName for Brand {
 
     ghost passes = { 0 };
 
-    ghost faults = { 0 };
+    ghost base = { 0 };
+
+    ghost id = { [] };
+
+    ghost start = { no_disk };
 }

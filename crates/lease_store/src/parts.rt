@@ -1,14 +1,15 @@
 // A store that has no name yet.
 ghost use Rattle.std.specs.Prelude.{◌≡◌, ◌*◌, ◌+◌, ◌^◌, ◌≤◌, ℕ, List, length, Some, IfOk, IfErr, All, nat_le, nat_eq, ◌&&◌, ◌||◌, ◌==◌};
 ghost use Rattle.zk_port.specs.Counts.{Rose};
+ghost use Rattle.zk_port.specs.Disks.{Stays};
 ghost use Rattle.zk_port.specs.Images.{Only};
-ghost use Rattle.zk_model.specs.Journals.{IsTidy, ceiling_slots, slots_at};
+ghost use Rattle.zk_model.specs.Journals.{HasHeader, IsTidy, ceiling_slots, slots_at};
 ghost use Rattle.zk_model.specs.declared.JournalKind.TheVariants as kind;
-ghost use Rattle.lease_journal.specs.Causes.{SaysSlots, StartCause, Stays};
+ghost use Rattle.lease_journal.specs.Causes.{SaysSlots, StartCause};
 ghost use Rattle.lease_journal.specs.declared.fault.StartFault.TheVariants as start;
 ghost use Rattle.lease_words.specs.Calls.{base_of, words_id, AreFresh};
-ghost use Rattle.lease_store.specs.Ceilings.{RecoversCeiling};
-ghost use Rattle.lease_store.specs.Desks.{IsDesk};
+ghost use Rattle.lease_store.specs.Ceilings.{SaysCeiling};
+ghost use Rattle.lease_store.specs.Desks.{Begins, IsDesk};
 ghost use Rattle.lease_store.specs.Leases.{IsPassAt};
 ghost use Rattle.lease_store.specs.declared.fault.StoreFault.TheVariants as store;
 
@@ -19,7 +20,7 @@ use crate::store::LeaseStore;
 use lease_journal::{Journal, JournalKind, StartFault, ceiling_slots};
 use lease_words::{JournalSeat, Pass, Words};
 use std::alloc::{AllocError, Global};
-use std::marker::{Model, PhantomData};
+use std::marker::Model;
 use std::sync::Mutex;
 use zk_port::Disk;
 
@@ -49,7 +50,7 @@ impl<B: Disk> Model for LeaseParts<B> {
       passes = p.seat.seat.me.0.made;
     } };
 
-    ghost invariant = { λ p. model.AreParts B.content B.images B.faults p.total (words_id p.words)
+    ghost invariant = { λ p. model.AreParts B.state p.total (base_of p.words) (words_id p.words)
         p.seat.seat.table_id p.journal p.seat.seat.me.0 };
 }
 
@@ -69,28 +70,32 @@ impl<B: Disk> LeaseParts<B> {
     ) -> Result<(Self, Vec<Pass>), (StoreFault, B)>
         requires total { total ≤ 2 ^ 40 }
         requires passes { (1 ≤ passes) × (passes ≤ 1024) }
-        requires room { (size : ℕ) → B.room disk ≡ Some size
-            → (slots : ℕ) → SaysSlots (B.content disk) slots → 64 + 32 * slots ≤ size }
-        requires tidy { (bytes : List ℕ) → B.content disk ≡ Some bytes → IsTidy (slots_at bytes) bytes }
-        ensures base { IfOk result (λ r. (bytes : List ℕ) → B.content disk ≡ Some bytes
-            → RecoversCeiling (ceiling_slots total) r.0.base bytes) }
+        requires room { (size : ℕ) → (B.state disk).room ≡ Some size
+            → (slots : ℕ) → SaysSlots (B.state disk).content slots → 64 + 32 * slots ≤ size }
+        requires tidy { (bytes : List ℕ) → (B.state disk).content ≡ Some bytes
+            → IsTidy 64 (slots_at bytes) bytes }
+        ensures base { IfOk result (λ r. (bytes : List ℕ) → (B.state disk).content ≡ Some bytes
+            → SaysCeiling id.now total r.0.base bytes) }
+        ensures header { IfOk result (λ r. (bytes : List ℕ) → (B.state r.0.disk).content ≡ Some bytes
+            → HasHeader kind.Ceilings id.now r.0.total bytes) }
+        ensures begins { IfOk result (λ r. Begins (B.state r.0.disk) (B.state r.0.disk)) }
         ensures total { IfOk result (λ r. r.0.total ≡ total) }
         ensures made { IfOk result (λ r. r.0.passes ≡ passes) }
-        ensures faults { IfOk result (λ r. B.faults r.0.disk ≡ B.faults disk) }
+        ensures faults { IfOk result (λ r. (B.state r.0.disk).faults ≡ (B.state disk).faults) }
         ensures stays { IfOk result (λ r.
-            Stays B.content B.room B.images B.moment B.images_since disk r.0.disk) }
-        ensures durable { IfOk result (λ r. Only (B.content r.0.disk) (B.images r.0.disk)) }
+            Stays (B.state disk) (B.state r.0.disk)) }
+        ensures durable { IfOk result (λ r. Only (B.state r.0.disk).content (B.state r.0.disk).images) }
         ensures count { IfOk result (λ r. length r.1.items ≡ passes) }
         ensures fresh { IfOk result (λ r. AreFresh r.0.table r.0.base total r.1.items) }
         ensures passes { IfOk result (λ r. All (IsPassAt r.0.table r.0.total) r.1.items) }
-        ensures cause { IfErr result (λ e. (bytes : List ℕ) → B.content disk ≡ Some bytes
+        ensures cause { IfErr result (λ e. (bytes : List ℕ) → (B.state disk).content ≡ Some bytes
             → (fault : StartFault) → e.0 ≡ store.Journal fault
             → StartCause kind.Ceilings id.now total bytes fault) }
         ensures device { IfErr result (λ e. e.0 ≡ store.Journal start.Device
-            → Rose (B.faults disk) (B.faults e.1)) }
-        ensures later { IfErr result (λ e. B.faults disk ≤ B.faults e.1) }
+            → Rose (B.state disk).faults (B.state e.1).faults) }
+        ensures later { IfErr result (λ e. (B.state disk).faults ≤ (B.state e.1).faults) }
         ensures stays_refused { IfErr result (λ e.
-            Stays B.content B.room B.images B.moment B.images_since disk e.1) }
+            Stays (B.state disk) (B.state e.1)) }
     {
         let journal = match Journal::start(disk, JournalKind::Ceilings, id, total) {
             Ok(journal) => journal,
@@ -116,7 +121,10 @@ impl<B: Disk> LeaseParts<B> {
         requires table { self.table ≡ N.table }
         requires total { self.total ≡ N.total }
         requires passes { self.passes ≡ N.passes }
-        requires faults { B.faults self.disk ≡ N.faults }
+        requires base { self.base ≡ N.base }
+        requires header { (bytes : List ℕ) → (B.state self.disk).content ≡ Some bytes
+            → HasHeader kind.Ceilings N.id N.total bytes }
+        requires begins { Begins N.start (B.state self.disk) }
         ensures base { result.base ≡ self.base }
     {
         let LeaseParts {
@@ -125,12 +133,7 @@ impl<B: Disk> LeaseParts<B> {
             seat,
             total,
         } = self;
-        let desk = Desk {
-            journal,
-            seat,
-            total,
-            name: PhantomData,
-        };
+        let desk = Desk::new(journal, seat, total);
         LeaseStore {
             words,
             desk: Mutex::new(desk),

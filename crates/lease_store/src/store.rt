@@ -26,7 +26,7 @@ impl<B: Disk, N: LeaseName> Model for LeaseStore<B, N> {
 
     ghost view = { λ s. record { base = base_of s.words } };
 
-    ghost invariant = { λ s. words_id s.words ≡ N.table };
+    ghost invariant = { λ s. (words_id s.words ≡ N.table) × (base_of s.words ≡ N.base) };
 }
 
 impl<B: Disk, N: LeaseName> LeaseStore<B, N> {
@@ -34,10 +34,10 @@ impl<B: Disk, N: LeaseName> LeaseStore<B, N> {
     pub fn close(self, passes: Vec<Pass>) -> B
         requires own { All (IsPassAt N.table N.total) passes.items }
         requires all { length passes.items ≡ N.passes }
-        ensures { IsClosed B.content B.images B.faults N.faults self.base N.total result passes.items }
+        ensures { IsClosed N.start (B.state result) N.id self.base N.total passes.items }
     {
         let LeaseStore { words, desk } = self;
-        let Desk { journal, seat, .. } = desk.into_inner();
+        let (journal, seat) = desk.into_inner().into_parts();
         words.gather(seat, passes);
         journal.into_disk()
     }

@@ -1,6 +1,11 @@
 // Leases over disks in memory.
-ghost use Rattle.std.specs.Prelude.{◌≡◌, ◌≤◌, false, All, IfOk};
-ghost use Rattle.lease_store.specs.Leases.{IsPassAt};
+ghost use Rattle.std.specs.Prelude.{◌≡◌, ◌≤◌, ◌+◌, ◌*◌, ◌^◌, ℕ, List, false, Some, None, IfOk, All};
+ghost use Rattle.zk_port.specs.Disks.{Stays};
+ghost use Rattle.zk_model.specs.Journals.{HasHeader, IsTidy, slots_at};
+ghost use Rattle.zk_model.specs.declared.JournalKind.TheVariants as kind;
+ghost use Rattle.lease_journal.specs.Causes.{SaysSlots};
+ghost use Rattle.lease_store.specs.Desks.{Begins};
+ghost use Rattle.lease_store.specs.Leases.{IsClosed, IsPassAt};
 
 use crate::{LeaseFault, LeaseName, LeaseParts, LeaseStore, Span, StoreFault, TryFault};
 use lease_journal::{JournalKind, StartFault, blank, blank_says_nothing};
@@ -23,17 +28,15 @@ struct QuietDisk<P: FaultPlan> {
 impl<P: FaultPlan> Disk for QuietDisk<P> {
     ghost use Rattle.std.specs.Prelude.{None};
 
-    ghost content = { λ _. None };
-
-    ghost room = { λ _. None };
-
-    ghost images = { λ _ _. ⊥ };
-
-    ghost moment = { λ _. 0 };
-
-    ghost images_since = { λ _ _ _. ⊥ };
-
-    ghost faults = { λ d. P.count d.disk.plan };
+    ghost state = { λ d. record {
+      chosen = None;
+      content = None;
+      room = None;
+      images = λ _. ⊥;
+      moment = 0;
+      images_since = λ _ _. ⊥;
+      faults = P.count d.disk.plan;
+    } };
 
     ghost counts_now = { λ d t c le none. none };
 
@@ -79,9 +82,9 @@ fn leased(start: u64, end: u64) -> Answer {
     Answer::Leased(Span { start, end })
 }
 
-fn answer_to<N: LeaseName, P: FaultPlan, R: Wait>(
+fn answer_to<N: LeaseName, B: Disk, R: Wait>(
     rt: &R,
-    store: &LeaseStore<QuietDisk<P>, N>,
+    store: &LeaseStore<B, N>,
     pass: &mut Pass,
     call: Call,
 ) -> Answer
@@ -101,18 +104,23 @@ fn answer_to<N: LeaseName, P: FaultPlan, R: Wait>(
 }
 
 /// What the calls of the one pass of a store answer, and the disk behind them.
-fn answers_of<N: LeaseName, P: FaultPlan + Drop, R: Wait>(
+fn answers_of<N: LeaseName, B: Disk + Drop, R: Wait>(
     rt: &R,
     alloc: Global,
-    parts: LeaseParts<QuietDisk<P>>,
+    parts: LeaseParts<B>,
     pass: Pass,
     calls: &[Call],
-) -> Result<(Vec<Answer>, QuietDisk<P>), AllocError>
+) -> Result<(Vec<Answer>, B), AllocError>
     requires table { parts.table ≡ N.table }
     requires total { parts.total ≡ N.total }
     requires passes { (parts.passes ≡ N.passes) × (N.passes ≡ 1) }
-    requires faults { P.count parts.disk.disk.plan ≡ N.faults }
+    requires base { parts.base ≡ N.base }
+    requires header { (bytes : List ℕ) → (B.state parts.disk).content ≡ Some bytes
+        → HasHeader kind.Ceilings N.id N.total bytes }
+    requires begins { Begins N.start (B.state parts.disk) }
     requires own { IsPassAt N.table N.total pass }
+    ensures { IfOk result (λ r. (passes : List Pass)
+        × IsClosed N.start (B.state r.1) N.id N.base N.total passes) }
 {
     let store = parts.named::<N>();
     let mut pass = pass;
@@ -135,6 +143,56 @@ fn failing(alloc: Global, numbers: &[u64]) -> Result<FailAt, Fail> {
     Ok(FailAt::new(numbers.to_vec(alloc)?))
 }
 
+/// A store that starts on this disk.
+fn started<B: Disk + Drop>(
+    alloc: Global,
+    disk: B,
+    total: u64,
+    passes: u32,
+) -> Result<(LeaseParts<B>, Vec<Pass>), Fail>
+    requires total { total ≤ 2 ^ 40 }
+    requires passes { (1 ≤ passes) × (passes ≤ 1024) }
+    requires room { (size : ℕ) → (B.state disk).room ≡ Some size
+        → (slots : ℕ) → SaysSlots (B.state disk).content slots → 64 + 32 * slots ≤ size }
+    requires tidy { (bytes : List ℕ) → (B.state disk).content ≡ Some bytes
+        → IsTidy 64 (slots_at bytes) bytes }
+    ensures own { IfOk result (λ r. All (IsPassAt r.0.table r.0.total) r.1.items) }
+    ensures made { IfOk result (λ r. r.0.passes ≡ passes) }
+    ensures header { IfOk result (λ r. (bytes : List ℕ) → (B.state r.0.disk).content ≡ Some bytes
+        → HasHeader kind.Ceilings ID r.0.total bytes) }
+    ensures begins { IfOk result (λ r. Begins (B.state r.0.disk) (B.state r.0.disk)) }
+    ensures stays { IfOk result (λ r. Stays (B.state disk) (B.state r.0.disk)) }
+{
+    match LeaseParts::start(alloc, disk, &ID, total, passes) {
+        Ok(started) => Ok(started),
+        Err(_) => Err(Fail::new("a store does not start")),
+    }
+}
+
+/// What calls of a store of 100 units with one pass answer, and the disk behind them, on which a store may start again.
+fn played_on<B: Disk + Drop, R: Wait>(
+    rt: &R,
+    alloc: Global,
+    disk: B,
+    calls: &[Call],
+) -> Result<(Vec<Answer>, B), Fail>
+    requires room { (B.state disk).room ≡ None }
+    requires tidy { (bytes : List ℕ) → (B.state disk).content ≡ Some bytes
+        → IsTidy 64 (slots_at bytes) bytes }
+    ensures room { IfOk result (λ r. (B.state r.1).room ≡ None) }
+    ensures tidy { IfOk result (λ r. (bytes : List ℕ) → (B.state r.1).content ≡ Some bytes
+        → IsTidy 64 (slots_at bytes) bytes) }
+    ensures images { IfOk result (λ r. (bytes : List ℕ) → (B.state r.1).content ≡ Some bytes
+        → (image : List ℕ) → (B.state r.1).images image → IsTidy 64 (slots_at image) image) }
+{
+    let (parts, mut passes) = started(alloc, disk, 100, 1)?;
+    let Some(pass) = passes.pop() else {
+        return Err(Fail::new("there is no pass"));
+    };
+    let (answers, disk) = answers_of::<Brand, B, R>(rt, alloc, parts, pass, calls)?;
+    Ok((answers, disk))
+}
+
 /// What calls of a store with one pass over these bytes answer, and the disk behind them.
 fn played<P: FaultPlan + Drop, R: Wait>(
     rt: &R,
@@ -148,13 +206,7 @@ fn played<P: FaultPlan + Drop, R: Wait>(
     let disk = QuietDisk {
         disk: MemoryDisk::new(alloc, bytes, 0, 60, plan)?,
     };
-    let Ok((parts, mut passes)) = LeaseParts::start(alloc, disk, &ID, 100, 1) else {
-        return Err(Fail::new("a store does not start"));
-    };
-    let Some(pass) = passes.pop() else {
-        return Err(Fail::new("there is no pass"));
-    };
-    let (answers, disk) = answers_of::<Brand, P, R>(rt, alloc, parts, pass, calls)?;
+    let (answers, disk) = played_on(rt, alloc, disk, calls)?;
     Ok((answers, disk.disk))
 }
 
@@ -224,6 +276,19 @@ fn a_disk_that_fails_breaks_the_store(rt: HostRuntime) -> Result<(), Fail> {
 }
 
 #[test]
+fn a_close_makes_no_call_of_the_disk(rt: HostRuntime) -> Result<(), Fail> {
+    let alloc: Global = rt.alloc();
+    // After the three calls of the start and the four of the put the next one fails.
+    let plan = failing(alloc, &[8])?;
+    let (answers, mut disk) = played(&rt, alloc, new_journal(alloc)?, plan, &[Call::Lease(3)])?;
+    assert!(rt; answers.as_slice() == [leased(0, 3)].as_slice());
+    assert!(rt; disk.faults() == 0);
+    assert!(rt; disk.bytes().get(80..95) == Some([0; 15].as_slice()));
+    assert!(rt; disk.sync() == Err(Failed));
+    Ok(())
+}
+
+#[test]
 fn a_stop_leaves_the_old_ceiling_or_the_new(rt: HostRuntime) -> Result<(), Fail> {
     let alloc: Global = rt.alloc();
     // A stop in this call, after the three of the start, what the crash leaves, and what is leased then.
@@ -267,6 +332,36 @@ fn the_next_start_leases_above_the_ceiling(rt: HostRuntime) -> Result<(), Fail> 
     Ok(())
 }
 
+/// A disk in memory that tells, with a new journal.
+fn new_disk(alloc: Global) -> Result<MemoryDisk<FailAt>, Fail>
+    ensures room { IfOk result (λ disk. (⟦<MemoryDisk<FailAt> as Disk>⟧.state disk).room ≡ None) }
+    ensures tidy { IfOk result (λ disk. (bytes : List ℕ)
+        → (⟦<MemoryDisk<FailAt> as Disk>⟧.state disk).content ≡ Some bytes
+        → IsTidy 64 (slots_at bytes) bytes) }
+{
+    blank_says_nothing();
+    let bytes = blank(alloc, JournalKind::Ceilings, &ID, 100, 7)?;
+    Ok(MemoryDisk::new(alloc, bytes, 288, 60, failing(alloc, &[])?)?)
+}
+
+#[test]
+fn a_store_starts_where_the_last_one_closed(rt: HostRuntime) -> Result<(), Fail> {
+    let alloc: Global = rt.alloc();
+    let (answers, disk) = played_on(&rt, alloc, new_disk(alloc)?, &[Call::Lease(3)])?;
+    assert!(rt; answers.as_slice() == [leased(0, 3)].as_slice());
+    // The ceiling is 16, and its second number is 0.
+    assert!(rt; disk.bytes().get(64..72) == Some([16, 0, 0, 0, 0, 0, 0, 0].as_slice()));
+    assert!(rt; disk.bytes().get(72..80) == Some([0; 8].as_slice()));
+    let (answers, disk) = played_on(&rt, alloc, disk, &[Call::Lease(3), Call::Lease(20)])?;
+    assert!(rt; answers.as_slice() == [leased(16, 19), leased(19, 39)].as_slice());
+    // After a crash the same as after a close.
+    let image = disk.image(alloc, &[])?;
+    let disk = MemoryDisk::new(alloc, image, 288, 60, failing(alloc, &[])?)?;
+    let (answers, _disk) = played_on(&rt, alloc, disk, &[Call::Lease(1)])?;
+    assert!(rt; answers.as_slice() == [leased(48, 49)].as_slice());
+    Ok(())
+}
+
 #[test]
 fn a_journal_of_another_kind_is_refused(rt: HostRuntime) -> Result<(), Fail> {
     let alloc: Global = rt.alloc();
@@ -289,10 +384,10 @@ fn a_journal_of_another_kind_is_refused(rt: HostRuntime) -> Result<(), Fail> {
 }
 
 /// Leases 500 times, as long as it is answered a span.
-fn lease_often<N: LeaseName, R: Wait>(
+fn lease_often<N: LeaseName, B: Disk, R: Wait>(
     rt: &R,
     alloc: Global,
-    store: &LeaseStore<SureDisk, N>,
+    store: &LeaseStore<B, N>,
     mut pass: Pass,
     count: u32,
 ) -> Result<(Pass, Vec<Span>), AllocError>
@@ -311,9 +406,9 @@ fn lease_often<N: LeaseName, R: Wait>(
 }
 
 /// Ends a store that has two passes.
-fn close_two<N: LeaseName>(
+fn close_two<N: LeaseName, B: Disk + Drop>(
     alloc: Global,
-    store: LeaseStore<SureDisk, N>,
+    store: LeaseStore<B, N>,
     first: Pass,
     second: Pass,
 ) -> Result<(), AllocError>
@@ -328,17 +423,20 @@ fn close_two<N: LeaseName>(
 }
 
 /// What two threads lease, 3 and 5 units at a time.
-fn lease_by_two<N: LeaseName + Send, R: Threads + Wait + Sync>(
+fn lease_by_two<N: LeaseName + Send, B: Disk + Drop + Send, R: Threads + Wait + Sync>(
     rt: &R,
     alloc: Global,
-    parts: LeaseParts<SureDisk>,
+    parts: LeaseParts<B>,
     first: Pass,
     second: Pass,
 ) -> Result<Vec<Span>, AllocError>
     requires table { parts.table ≡ N.table }
     requires total { parts.total ≡ N.total }
     requires passes { (parts.passes ≡ N.passes) × (N.passes ≡ 2) }
-    requires faults { 0 ≡ N.faults }
+    requires base { parts.base ≡ N.base }
+    requires header { (bytes : List ℕ) → (B.state parts.disk).content ≡ Some bytes
+        → HasHeader kind.Ceilings N.id N.total bytes }
+    requires begins { Begins N.start (B.state parts.disk) }
     requires own { IsPassAt N.table N.total first × IsPassAt N.table N.total second }
 {
     let store = parts.named::<N>();
@@ -361,31 +459,43 @@ fn lease_by_two<N: LeaseName + Send, R: Threads + Wait + Sync>(
     Ok(spans)
 }
 
-/// A store of 4,000 units with two passes over a disk that never fails.
-fn sure_parts(alloc: Global) -> Result<(LeaseParts<SureDisk>, Vec<Pass>), Fail>
-    ensures passes { IfOk result (λ r. All (IsPassAt r.0.table r.0.total) r.1.items) }
-    ensures made { IfOk result (λ r. r.0.passes ≡ 2) }
+/// What two threads lease of 4,000 units over this disk.
+fn leased_by_two<B: Disk + Drop + Send, R: Threads + Wait + Sync>(
+    rt: &R,
+    alloc: Global,
+    disk: B,
+) -> Result<Vec<Span>, Fail>
+    requires room { (size : ℕ) → (B.state disk).room ≡ Some size
+        → (slots : ℕ) → SaysSlots (B.state disk).content slots → 64 + 32 * slots ≤ size }
+    requires tidy { (bytes : List ℕ) → (B.state disk).content ≡ Some bytes
+        → IsTidy 64 (slots_at bytes) bytes }
 {
-    blank_says_nothing();
-    let bytes = blank(alloc, JournalKind::Ceilings, &ID, 4000, 250)?;
-    let disk = SureDisk::new(bytes, 64 + 32 * 250)?;
-    match LeaseParts::start(alloc, disk, &ID, 4000, 2) {
-        Ok(started) => Ok(started),
-        Err(_) => Err(Fail::new("a store does not start")),
-    }
-}
-
-#[test]
-fn what_two_threads_lease_tiles(rt: HostRuntime) -> Result<(), Fail> {
-    let alloc: Global = rt.alloc();
-    let (parts, mut passes) = sure_parts(alloc)?;
+    let (parts, mut passes) = started(alloc, disk, 4000, 2)?;
     let Some(second) = passes.pop() else {
         return Err(Fail::new("there is no pass"));
     };
     let Some(first) = passes.pop() else {
         return Err(Fail::new("there is one pass"));
     };
-    let mut spans = lease_by_two::<Brand, _>(&rt, alloc, parts, first, second)?;
+    Ok(lease_by_two::<Brand, B, _>(rt, alloc, parts, first, second)?)
+}
+
+/// A disk that never fails, with a new journal of 4,000 units.
+fn sure_disk(alloc: Global) -> Result<SureDisk, Fail>
+    ensures room { IfOk result (λ disk. (size : ℕ) → (⟦<SureDisk as Disk>⟧.state disk).room ≡ Some size
+        → (slots : ℕ) → SaysSlots (⟦<SureDisk as Disk>⟧.state disk).content slots → 64 + 32 * slots ≤ size) }
+    ensures tidy { IfOk result (λ disk. (bytes : List ℕ)
+        → (⟦<SureDisk as Disk>⟧.state disk).content ≡ Some bytes → IsTidy 64 (slots_at bytes) bytes) }
+{
+    blank_says_nothing();
+    let bytes = blank(alloc, JournalKind::Ceilings, &ID, 4000, 250)?;
+    Ok(SureDisk::new(bytes, 64 + 32 * 250)?)
+}
+
+#[test]
+fn what_two_threads_lease_tiles(rt: HostRuntime) -> Result<(), Fail> {
+    let alloc: Global = rt.alloc();
+    let mut spans = leased_by_two(&rt, alloc, sure_disk(alloc)?)?;
     assert!(rt; spans.len() == 1000);
     spans.sort_by_key(|span| span.start)?;
     let mut at = 0;

@@ -37,12 +37,12 @@ is_one false h = absurd (omega arith)
 one_is : (b : Bool) → b ≡ true → cond {A = ℕ} b 1 0 ≡ 1
 one_is b e = ap (λ (x : Bool). cond {A = ℕ} x 1 0) e
 
-own_reported : (v : View) → IsPassView v → reports_of (own v).number v.reports ≡ 1
+pub own_reported : (v : View) → IsPassView v → reports_of (own v).number v.reports ≡ 1
 own_reported v p =
     let h : reports_of (own v).number v.reports ≡ 0 + cond {A = ℕ} (nat_eq (own v).number (own v).number) 1 0 = ap (reports_of (own v).number) p.1 in
     let o = one_is (nat_eq (own v).number (own v).number) (eq-eqb (own v).number (own v).number refl) in omega arith
 
-same_seat : (b : Bounds) (next shown mark : ℕ) (views : List View) → IsKept b next shown mark views → (i j : ℕ) (u v : View) (number : ℕ) → Sits views i u → Sits views j v
+pub same_seat : (b : Bounds) (next shown mark : ℕ) (views : List View) → IsKept b next shown mark views → (i j : ℕ) (u v : View) (number : ℕ) → Sits views i u → Sits views j v
     → 0 < reports_of number u.reports → 0 < reports_of number v.reports → i ≡ j
 same_seat b next shown mark views k i j u v number at at' h g = ⊎_elim (λ (x : j ≡ i). sym x)
     (λ (x : j ≡ i → ⊥). let t = total_two (named_by number) views i j u v at at' x in let n = k.numbered number in let o = at_most_one 0 (passes_made views) number in absurd (omega arith)) (cases_eq j i)
@@ -58,7 +58,7 @@ named_made : (b : Bounds) (next shown mark : ℕ) (views : List View) → IsKept
 named_made b next shown mark views k seat v number at h =
     let t = total_at (named_by number) views seat v at in let n = k.numbered number in (within 0 (passes_made views) number (omega arith)).1
 
-reported_at : (rs : List Report) (i : ℕ) (d : Report) → i < length rs → 0 < reports_of (get_or rs i d).number rs
+pub reported_at : (rs : List Report) (i : ℕ) (d : Report) → i < length rs → 0 < reports_of (get_or rs i d).number rs
 reported_at rs i d l =
     let n : ℕ = (get_or rs i d).number in
     let a = get_or-le-sum_by (λ (r : Report). cond {A = ℕ} (nat_eq r.number n) 1 0) rs i d l in

@@ -1,15 +1,16 @@
 -- The steps on the words as events of the lease machine.
-use Rattle.std.specs.Prelude.{◌≡◌, ℕ, ◌+◌, ◌<◌, ◌≤◌, true, false, cond, List, [], ◌∷◌, map, length, nat_eq, slice_index, slice_set}
+use Rattle.std.specs.Prelude.{◌≡◌, ℕ, ◌+◌, ◌<◌, ◌≤◌, true, false, cond, List, [], ◌∷◌, map, length, nat_eq, slice_index, slice_set, All, filter}
 use Rattle.lease_core.specs.Spans.{span}
 use Rattle.lease_core.specs.Machine.{Machine, durable, is_possible, after}
 use Rattle.zk_model.specs.declared.Span.{Span}
 use Rattle.lease_core.specs.declared.event.Drawn.{Drawn}
 use Rattle.lease_core.specs.declared.event.Event.TheVariants.{Begin, Draw, Look, Raise}
-use Rattle.lease_words.specs.Views.{end_of, overshoots, own, IsPassView, after_draw, after_look, after_raise}
+use Rattle.lease_words.specs.Views.{end_of, overshoots, own, spent_view, IsPassView, after_draw, after_look, after_marked, after_raise, after_mark, after_join}
 use Rattle.lease_words.specs.Rule.{IsKept, passes_made}
 use Rattle.lease_words.specs.Leased.{Sits}
 use Rattle.lease_words.specs.declared.view.Bounds.{Bounds}
 use Rattle.lease_words.specs.declared.view.Entry.{Entry}
+use Rattle.lease_words.specs.declared.view.Report.{Report}
 use Rattle.lease_words.specs.declared.view.View.{View}
 
 -- the span of a draw
@@ -98,3 +99,49 @@ RaiseIsEvent =
     → Mirrors b next shown views m
     → (is_possible m Raise ≡ true)
     × Mirrors b next to (slice_set views seat (after_raise v to)) (after m Raise)
+
+-- ---- steps that are no events: the machine stays as it is
+
+-- what the machine holds of a pass that was taken in is its report, and its entries among these
+abbrev pub HasTakenIn : Machine → List Entry → Report → Type 0
+HasTakenIn m entries r =
+    (drawn_by r.number m.drawn ≡ map span_of (filter (λ e. nat_eq e.pass r.number) entries))
+    × (slice_index m.known r.number ≡ r.known)
+
+-- what the machine holds of each pass that the journal's seat took in is what that pass knew
+abbrev pub MirrorsTakenIn : List View → Machine → Type 0
+MirrorsTakenIn views m =
+    (seat : ℕ) (v : View) → Sits views seat v → v.journal ≡ true → All (HasTakenIn m v.entries) v.reports
+
+-- setting the mark is no event
+abbrev pub MarkIsNoEvent : Type 0
+MarkIsNoEvent =
+    (b : Bounds) (next shown : ℕ) (views : List View) (seat : ℕ) (v : View) (first : ℕ) (m : Machine)
+    → Sits views seat v
+    → v.journal ≡ true
+    → Mirrors b next shown views m
+    → Mirrors b next shown (slice_set views seat (after_mark v first)) m
+
+-- looking at the mark is no event, whatever is found
+abbrev pub MarkedIsNoEvent : Type 0
+MarkedIsNoEvent =
+    (b : Bounds) (next shown : ℕ) (views : List View) (seat : ℕ) (v : View) (found : ℕ) (m : Machine)
+    → Sits views seat v
+    → IsPassView v
+    → Mirrors b next shown views m
+    → Mirrors b next shown (slice_set views seat (after_marked v found)) m
+
+-- taking in a pass is no event; and where the machine mirrors the passes taken in before, it mirrors this one among them
+abbrev pub JoinIsNoEvent : Type 0
+JoinIsNoEvent =
+    (b : Bounds) (next shown mark : ℕ) (views : List View)
+    → (seat other : ℕ) (v w : View) (m : Machine)
+    → IsKept b next shown mark views
+    → Sits views seat v
+    → v.journal ≡ true
+    → Sits views other w
+    → IsPassView w
+    → Mirrors b next shown views m
+    → Mirrors b next shown (slice_set (slice_set views seat (after_join v w)) other spent_view) m
+    × (MirrorsTakenIn views m
+    → MirrorsTakenIn (slice_set (slice_set views seat (after_join v w)) other spent_view) m)

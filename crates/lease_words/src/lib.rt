@@ -16,7 +16,10 @@ mod view;
 mod words;
 
 pub use fault::Exhausted;
-pub use laws::{rule_is_leased, steps_are_events};
+pub use laws::{
+    grants_are_events, other_steps_are_no_events, puts_are_events, rule_is_leased,
+    steps_are_events, stops_are_events,
+};
 pub use making::start;
 pub use pass::{JournalSeat, Pass};
 pub use rule::Leases;

@@ -9,4 +9,4 @@ start-requires-clause-tidy c = λ bytes is.
     let told : Some bytes ≡ Some c.in_ok-bytes.bytes.items = sym is ∙ c.in_ok-disk.ensures.content in
     let same : bytes ≡ c.in_ok-bytes.bytes.items = cc in
     let blank = c.blank_says_nothing.ensures Claims ID 10000 4096 refl (lit≤ tt) in
-    subst (λ b. IsTidy (slots_at b) b) (sym (same ∙ c.in_ok-bytes.ensures)) blank.tidy
+    subst (λ b. IsTidy 64 (slots_at b) b) (sym (same ∙ c.in_ok-bytes.ensures)) blank.tidy

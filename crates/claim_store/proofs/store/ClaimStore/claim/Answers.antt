@@ -1,16 +1,17 @@
-use Rattle.std.proofs.Common.{sym, ◌∙◌, subst}
+use Rattle.std.proofs.Common.{◌+◌, ◌*◌, length, sym, ◌∙◌, subst}
 use Rattle.claim_store.specs.Claims.{ClaimState}
 use Rattle.claim_store.specs.Causes.{IsFree}
-use Rattle.claim_store.proofs.Claiming.{claimed, durable_of, leaves, may_stand, put_failed, refused, room_left, still}
+use Rattle.claim_store.proofs.Claiming.{claimed, durable_of, leaves, may_stand, put_failed, reads, reads_still, refused, room_left, still}
+use Rattle.lease_journal.proofs.Keeping.{changes_none}
 use Rattle.claim_store.proofs.store.ClaimStore.claim.Goals as goal
 
 pub returns-in-Err-clause-any_moment : goal.returns-in-Err-clause-any_moment
 returns-in-Err-clause-any_moment g c = rw (← c.self.view_is)
-    (still g.B.Disk.content g.B.Disk.images g.B.Disk.moment g.B.Disk.images_since c.self.inside.journal.used _ _ c.self.invariant (g.met.B.Disk.only_now c.self.inside.journal.disk))
+    (still g.B.Disk.state c.self.inside.journal.used _ _ c.self.invariant (g.met.B.Disk.only_now c.self.inside.journal.disk))
 
 pub returns-then-is_err-clause-any_moment : goal.returns-then-is_err-clause-any_moment
 returns-then-is_err-clause-any_moment g c = rw (← c.self.view_is)
-    (still g.B.Disk.content g.B.Disk.images g.B.Disk.moment g.B.Disk.images_since c.self.inside.journal.used _ _ c.self.invariant (g.met.B.Disk.only_now c.self.inside.journal.disk))
+    (still g.B.Disk.state c.self.inside.journal.used _ _ c.self.invariant (g.met.B.Disk.only_now c.self.inside.journal.disk))
 
 pub invariant_of-self-in-Ok-put : goal.invariant_of-self-in-Ok-put
 invariant_of-self-in-Ok-put g c =
@@ -21,21 +22,21 @@ invariant_of-self-in-Ok-put g c =
     let may = may_stand _ c.args.start c.args.count s c.in-Ok.ensures.free.0 c.requires free in
     let e = c.in-Ok-put.ensures in
     rw (e.used, e.slots, e.fault_kept, c.push_reserved.ensures.items, c.reserve.ensures.items)
-    (claimed g.B.Disk.content g.B.Disk.images g.B.Disk.moment g.B.Disk.images_since j.used was.total j.slots j.fault was.claims.items s j.disk c.put.new.self.disk
-    c.self.invariant free.whole may e.recovered e.written e.durable)
+    (claimed g.B.Disk.state j.used was.total j.slots j.fault was.claims.items s j.disk c.put.new.self.disk
+    c.self.invariant free.whole e.changes.content may e.recovered e.durable)
 
 pub returns-in-Ok-put-clause-durable : goal.returns-in-Ok-put-clause-durable
 returns-in-Ok-put-clause-durable g c =
     let free = subst (λ (state : ClaimState g.row.B.Denot). IsFree state c.args.start c.args.count) (sym c.self.view_is) c.in-Ok.ensures.free.1 in
-    durable_of g.B.Disk.content g.B.Disk.images c.put.new.self.used _ (invariant_of-self-in-Ok-put g c) (c.in-Ok-put.ensures.fault_kept ∙ free.whole)
+    durable_of g.B.Disk.state c.put.new.self.used _ (invariant_of-self-in-Ok-put g c) (c.in-Ok-put.ensures.fault_kept ∙ free.whole)
 
 pub returns-in-Ok-put-clause-any_moment : goal.returns-in-Ok-put-clause-any_moment
 returns-in-Ok-put-clause-any_moment g c = rw (← c.self.view_is, ← c.in-Ok.ensures.free.0) (λ whole bytes is.
     let was = c.self.inside in
     let j = was.journal in
     let e = c.in-Ok-put.ensures in
-    leaves g.B.Disk.content g.B.Disk.images g.B.Disk.moment g.B.Disk.images_since j.used was.total j.slots j.fault was.claims.items c.in-Ok.span j.disk c.put.new.self.disk
-    c.self.invariant whole bytes is (e.any_moment bytes is whole e.served.1))
+    leaves g.B.Disk.state j.used was.total j.slots j.fault was.claims.items c.in-Ok.span j.disk c.put.new.self.disk
+    c.self.invariant whole e.changes.content bytes is (e.any_moment bytes is whole e.served.1))
 
 pub invariant_of-self-in-Err-put : goal.invariant_of-self-in-Err-put
 invariant_of-self-in-Err-put g c =
@@ -48,8 +49,9 @@ invariant_of-self-in-Err-put g c =
     let room = room_left was.claims.items j.used j.slots c.self.invariant.count free.room in
     let failed = put_failed j.slots j.used j.fault c.put.new.self.fault _ _ c.in-Err-put.field-0 e.cause free.whole room in
     rw (e.used_kept, e.slots, c.reserve.ensures.items)
-    (refused g.B.Disk.content g.B.Disk.images g.B.Disk.moment g.B.Disk.images_since j.used was.total j.slots j.fault was.claims.items s j.disk c.put.new.self.disk
-    c.self.invariant free.whole may c.put.new.self.fault failed.2 (λ bytes is. e.any_moment bytes is free.whole room) g.met.B.Disk.counts_now)
+    (refused g.B.Disk.state j.used was.total j.slots j.fault was.claims.items s j.disk c.put.new.self.disk
+    c.self.invariant free.whole e.changes.content may c.put.new.self.fault failed.2 (λ bytes is. e.any_moment bytes is free.whole room)
+    (λ bytes is. e.read bytes is free.whole room) (g.met.B.Disk.counts_now c.put.new.self.disk))
 
 pub returns-in-Err-put-clause-any_moment : goal.returns-in-Err-put-clause-any_moment
 returns-in-Err-put-clause-any_moment g c = rw (← c.self.view_is, ← c.in-Ok.ensures.free.0) (λ whole bytes is.
@@ -57,5 +59,32 @@ returns-in-Err-put-clause-any_moment g c = rw (← c.self.view_is, ← c.in-Ok.e
     let j = was.journal in
     let free = subst (λ (state : ClaimState g.row.B.Denot). IsFree state c.args.start c.args.count) (sym c.self.view_is) c.in-Ok.ensures.free.1 in
     let room = room_left was.claims.items j.used j.slots c.self.invariant.count free.room in
-    leaves g.B.Disk.content g.B.Disk.images g.B.Disk.moment g.B.Disk.images_since j.used was.total j.slots j.fault was.claims.items c.in-Ok.span j.disk c.put.new.self.disk
-    c.self.invariant whole bytes is (c.in-Err-put.ensures.any_moment bytes is whole room))
+    leaves g.B.Disk.state j.used was.total j.slots j.fault was.claims.items c.in-Ok.span j.disk c.put.new.self.disk
+    c.self.invariant whole c.in-Err-put.ensures.changes.content bytes is (c.in-Err-put.ensures.any_moment bytes is whole room))
+
+pub returns-then-is_err-clause-changes : goal.returns-then-is_err-clause-changes
+returns-then-is_err-clause-changes g c = rw (← c.self.view_is)
+    (changes_none (64 + 32 * length c.self.inside.claims.items) 32 (g.B.Disk.state c.self.inside.journal.disk) (g.met.B.Disk.only_now c.self.inside.journal.disk))
+
+pub returns-in-Ok-put-clause-read : goal.returns-in-Ok-put-clause-read
+returns-in-Ok-put-clause-read g c = rw (← c.self.view_is, ← c.in-Ok.ensures.free.0) (λ whole bytes is.
+    let was = c.self.inside in
+    let j = was.journal in
+    let e = c.in-Ok-put.ensures in
+    reads g.B.Disk.state j.used was.total j.slots j.fault was.claims.items c.in-Ok.span j.disk c.put.new.self.disk
+    c.self.invariant whole e.changes.content bytes is (e.read bytes is whole e.served.1))
+
+pub returns-in-Err-put-clause-read : goal.returns-in-Err-put-clause-read
+returns-in-Err-put-clause-read g c = rw (← c.self.view_is, ← c.in-Ok.ensures.free.0) (λ whole bytes is.
+    let was = c.self.inside in
+    let j = was.journal in
+    let free = subst (λ (state : ClaimState g.row.B.Denot). IsFree state c.args.start c.args.count) (sym c.self.view_is) c.in-Ok.ensures.free.1 in
+    let room = room_left was.claims.items j.used j.slots c.self.invariant.count free.room in
+    reads g.B.Disk.state j.used was.total j.slots j.fault was.claims.items c.in-Ok.span j.disk c.put.new.self.disk
+    c.self.invariant whole c.in-Err-put.ensures.changes.content bytes is (c.in-Err-put.ensures.read bytes is whole room))
+
+pub returns-in-Err-clause-read : goal.returns-in-Err-clause-read
+returns-in-Err-clause-read g c = rw (← c.self.view_is) (reads_still g.B.Disk.state c.self.inside.journal.used _ _ c.self.invariant)
+
+pub returns-then-is_err-clause-read : goal.returns-then-is_err-clause-read
+returns-then-is_err-clause-read g c = rw (← c.self.view_is) (reads_still g.B.Disk.state c.self.inside.journal.used _ _ c.self.invariant)
