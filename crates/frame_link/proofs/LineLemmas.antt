@@ -1,10 +1,12 @@
 -- What a receive that brings nothing, or a bad byte, makes of a line.
 use Rattle.std.proofs.Common.{◌≡◌, ◌⊎◌, ℕ, ◌+◌, ◌≤◌, ◌<◌, List, [], ◌∷◌, ◌++◌, length, take, Option, Some, None, Bool, true, refl, ap, sym, ◌∙◌, subst, arith, append-nil, append_assoc}
-use Rattle.std.proofs.Common.{Result, Ok, Err, IfErr, inl, inr, false, if◌then◌else◌, nat_eq, length-append}
+use Rattle.std.proofs.Common.{Result, Ok, Err, IfErr, OnOk, inl, inr, false, if◌then◌else◌, nat_eq, length-append}
 use Rattle.std.specs.Result.{IsErrAnd}
 use Rattle.std.proofs.lemmas.List.{take_all, map-append}
-use Rattle.zk_model.specs.Frames.{IsFirstBad}
-use Rattle.proof_frames.specs.Readings.{Reading, IsIdle, wanted, Refuses}
+use Rattle.zk_model.specs.Frames.{CanGoOn, IsFirstBad}
+use Rattle.proof_frames.proofs.Begun.{held_goes_on}
+use Rattle.proof_frames.proofs.Steps.{nothing_held}
+use Rattle.proof_frames.specs.Readings.{Reading, IsIdle, wanted, Refuses, Takes}
 use Rattle.proof_frames.specs.declared.decoder.BadFrame.{BadFrame}
 use Rattle.frame_link.specs.declared.fault.LineFault.{LineFault}
 use Rattle.frame_link.specs.declared.fault.LineFault.TheVariants as fault
@@ -14,10 +16,11 @@ use Rattle.zk_model.specs.declared.Expect.{Expect}
 use Rattle.zk_model.specs.declared.Expect.TheVariants as expect
 use Rattle.zk_model.specs.declared.Side.{Side}
 use Rattle.zk_port.specs.Counts.{Rose}
-use Rattle.zk_port.specs.Logs.{appended, put_before, peer_of}
+use Rattle.zk_port.specs.Logs.{appended, put_before}
 use Rattle.zk_port.specs.declared.fault.PortFault.{PortFault}
 use Rattle.zk_port.specs.declared.fault.PortFault.TheVariants as port
-use Rattle.frame_link.specs.Lines.{LineState, Came, Breaks, PiecesBegin, Fails, PieceFails, CountsFault, port_fault, longest}
+use Rattle.frame_link.specs.Sides.{peer_of}
+use Rattle.frame_link.specs.Lines.{LineState, Came, Breaks, PieceComes, PiecesBegin, Fails, PieceFails, CountsFault, IsCutShort, port_fault, longest}
 use Rattle.frame_link.specs.declared.fault.LineFault.TheVariants.{Link, NoMemory}
 
 pub appended_none : {T : Type 0} (told : Option (List T)) → told ≡ appended [] told
@@ -30,13 +33,15 @@ before_none (Some told) = refl
 
 -- nothing came
 pub came_none : (old new : LineState) → new.log ≡ old.log → new.told ≡ old.told → new.to_come ≡ old.to_come → new.side ≡ old.side
-    → new.is_open ≡ old.is_open → Came [] old new
-came_none old new log told to_come side is_open = record {
+    → new.is_open ≡ old.is_open → new.sends ≡ old.sends → new.room ≡ old.room → Came [] old new
+came_none old new log told to_come side is_open sends room = record {
   logged = log ∙ sym (append-nil old.log);
   told = told ∙ appended_none old.told;
   came = sym to_come ∙ before_none new.to_come;
   side = side;
   is_open = is_open;
+  sends = sends;
+  room = room;
 }
 
 breaks_by : (place : Expect) (bytes : List ℕ) (old new : LineState) (fault : PortFault)
@@ -44,23 +49,24 @@ breaks_by : (place : Expect) (bytes : List ℕ) (old new : LineState) (fault : P
 breaks_by place bytes old new port.Failed rose = rose refl
 breaks_by place bytes old new port.NoMemory rose = tt
 
-counts_by : (old new : LineState) (fault : PortFault) → old.faults ≤ new.faults → (fault ≡ port.NoMemory → new.faults ≡ old.faults)
+pub counts_by : (old new : LineState) (fault : PortFault) → old.faults ≤ new.faults → (fault ≡ port.NoMemory → new.faults ≡ old.faults)
     → CountsFault (port_fault fault) old new
 counts_by old new port.Failed later same = record { later = later; unfailed = λ no. absurd no }
 counts_by old new port.NoMemory later same = record { later = later; unfailed = λ _. same refl }
 
 -- a receive was refused
-pub unreceived : (place : Expect) (old new : LineState) (fault : PortFault) → Came [] old new
+pub unreceived : (place : Expect) (old new : LineState) (fault : PortFault) → Came [] old new → CanGoOn place old.reading.taken
     → length old.reading.taken ≤ longest place → length old.reading.taken < frame_length place old.reading.taken
     → new.receives ≤ old.receives + 1 → old.faults ≤ new.faults
     → (fault ≡ port.Failed → Rose old.faults new.faults) → (fault ≡ port.NoMemory → new.faults ≡ old.faults)
     → PieceFails place (port_fault fault) old new
-unreceived place old new fault came few wanting receives later rose same =
+unreceived place old new fault came goes few wanting receives later rose same =
     let none : old.reading.taken ≡ old.reading.taken ++ [] = sym (append-nil old.reading.taken) in
     record {
       bytes = [];
       few = subst (λ (l : List ℕ). length l ≤ longest place) none few;
       unfinished = inl (subst (λ (l : List ℕ). length l < frame_length place l) none wanting);
+      cut = λ _. subst (IsCutShort place) none (record { goes_on = goes; short = wanting });
       came = came;
       broken = subst (λ (l : List ℕ). Breaks place l old new (port_fault fault)) none (breaks_by place old.reading.taken old new fault rose);
       receives = receives;
@@ -95,6 +101,12 @@ fails_as P result fault is holds = subst (λ r. IfErr r P) (sym is) holds
 pub fails_not : {T E : Type 0} (P : E → Type 0) (result : Result T E) (value : T) → result ≡ Ok value → IfErr result P
 fails_not P result value is = subst (λ r. IfErr r P) (sym is) tt
 
+pub done_as : {T E : Type 0} (P : Type 0) (result : Result T E) (value : T) → result ≡ Ok value → P → OnOk result P
+done_as P result value is holds = subst (λ r. OnOk r P) (sym is) holds
+
+pub done_not : {T E : Type 0} (P : Type 0) (result : Result T E) (fault : E) → result ≡ Err fault → OnOk result P
+done_not P result fault is = subst (λ r. OnOk r P) (sym is) tt
+
 same_place : (some other : Expect) → Some some ≡ Some other → some ≡ other
 same_place some other same = ap (λ (o : Option Expect). or_else o) same
   where
@@ -128,6 +140,7 @@ fed_badly place old new piece bad came fine expected few within (inr turns) rece
       bytes = piece;
       few = omega (arith, length-append old.reading.taken piece, few, within, most);
       unfinished = inr (turns.n, first);
+      cut = λ bad. absurd bad;
       came = came;
       broken = (turns.n, first, turns.at);
       receives = receives;
@@ -137,6 +150,20 @@ fed_badly place old new piece bad came fine expected few within (inr turns) rece
 -- what a decoder wants that is fine and expects a frame
 pub wanted_is : (reading : Reading) (place : Expect) → reading.bad ≡ None → reading.expected ≡ Some place → wanted reading ≡ bytes_wanted place reading.taken
 wanted_is reading place fine expected i = wanted (record { received = reading.received; expected = expected i; taken = reading.taken; bad = fine i })
+
+-- bytes of a frame came
+pub comes_by : (place : Expect) (old new : LineState) (piece : List ℕ) (count : ℕ) → Came piece old new → 1 ≤ length piece
+    → old.reading.expected ≡ Some place → length piece ≤ wanted old.reading → Takes old.reading piece count new.reading
+    → new.receives ≤ old.receives + 1 → new.faults ≡ old.faults → PieceComes place old new
+comes_by place old new piece count came some expected few takes receives unfailed = record {
+  bytes = piece;
+  some = some;
+  came = came;
+  read = takes.becomes ∙ ap (λ l. record old.reading { taken = old.reading.taken ++ l }) (take_all count piece (omega (arith, takes.counted)));
+  goes_on = takes.goes_on place expected;
+  receives = receives;
+  unfailed = unfailed;
+}
 
 pub appended_more : {T : Type 0} (a b : List T) (told : Option (List T)) → appended b (appended a told) ≡ appended (a ++ b) told
 appended_more a b None = refl
@@ -157,6 +184,8 @@ came_more a b old mid new first second =
       came = first.came ∙ ap (put_before a) second.came ∙ before_more a b new.to_come;
       side = second.side ∙ first.side;
       is_open = second.is_open ∙ first.is_open;
+      sends = second.sends ∙ first.sends;
+      room = second.room ∙ first.room;
     }
 
 breaks_from : (place : Expect) (bytes : List ℕ) (old mid new : LineState) (f : LineFault) → mid.reading.received ≡ old.reading.received
@@ -174,6 +203,7 @@ fails_more place old mid new f begun fails = record {
   bytes = mid.reading.taken ++ fails.bytes;
   few = fails.few;
   unfinished = fails.unfinished;
+  cut = fails.cut;
   came = came_more mid.reading.taken fails.bytes old mid new begun.came fails.came;
   broken = breaks_from place (mid.reading.taken ++ fails.bytes) old mid new f (ap (λ (r : Reading). r.received) begun.read) begun.unfailed fails.broken;
   receives = omega (arith, begun.receives, fails.receives, length-append mid.reading.taken fails.bytes);
@@ -182,6 +212,22 @@ fails_more place old mid new f begun fails = record {
     unfailed = λ no. fails.count.unfailed no ∙ begun.unfailed;
   };
 }
+
+-- a line on which a frame is expected fails as the line did before
+pub fails_since : (place : Expect) (old : LineState) (reading : Reading) (new : LineState) (f : LineFault) → reading.received ≡ old.reading.received
+    → Fails place f (record old { reading = reading }) new → Fails place f old new
+fails_since place old reading new f received fails =
+    let mid : LineState = record old { reading = reading } in
+    record {
+      bytes = fails.bytes;
+      few = fails.few;
+      unfinished = fails.unfinished;
+      cut = fails.cut;
+      came = came_more [] fails.bytes old mid new (came_none old mid refl refl refl refl refl refl refl) fails.came;
+      broken = breaks_from place fails.bytes old mid new f received refl fails.broken;
+      receives = fails.receives;
+      count = record { later = fails.count.later; unfailed = fails.count.unfailed };
+    }
 
 -- every frame has a byte
 wants_some : (place : Expect) → length {A = ℕ} [] < frame_length place []
@@ -202,6 +248,7 @@ none_fails place old new came receives faults = record {
   bytes = [];
   few = omega arith;
   unfinished = inl (wants_some place);
+  cut = λ _. record { goes_on = held_goes_on place [] [] [] (nothing_held place); short = wants_some place };
   came = came;
   broken = tt;
   receives = omega (arith, receives);

@@ -1,43 +1,117 @@
 -- One end of a session's stream: what is logged, what its link tells, and why a frame does not pass.
-use Rattle.std.specs.Prelude.{◌≡◌, ◌⊎◌, ℕ, ◌+◌, ◌≤◌, ◌<◌, List, [], ◌++◌, length, Bool, true, Option, None, IfSome}
+use Rattle.std.specs.Prelude.{◌≡◌, ◌⊎◌, ℕ, zero, suc, ◌+◌, ◌≤◌, ◌<◌, List, [], ◌++◌, length, Bool, true, Option, None, IfSome}
+use Rattle.std.specs.Option.{option_map}
 use Rattle.zk_model.specs.Transcript.{bytes_from}
 use Rattle.zk_model.specs.Frames.{Frame, CanGoOn, IsWhole, IsFirstBad, frame_length}
 use Rattle.zk_model.specs.declared.Expect.{Expect}
 use Rattle.zk_model.specs.declared.Expect.TheVariants as expect
 use Rattle.zk_model.specs.declared.Side.{Side}
-use Rattle.zk_port.specs.Counts.{Rose}
-use Rattle.zk_port.specs.Logs.{appended, put_before, peer_of, AppendsPart}
+use Rattle.zk_port.specs.Counts.{Rose, counted}
+use Rattle.zk_port.specs.Links.{LinkState}
+use Rattle.zk_port.specs.Logs.{appended, put_before, AppendsPart}
 use Rattle.zk_port.specs.declared.fault.PortFault.{PortFault}
 use Rattle.zk_port.specs.declared.fault.PortFault.TheVariants as port
 use Rattle.proof_frames.specs.Readings.{Reading, wanted}
+use Rattle.frame_link.specs.Sides.{peer_of, seen_by}
 use Rattle.frame_link.specs.declared.fault.LineFault.{LineFault}
 use Rattle.frame_link.specs.declared.fault.LineFault.TheVariants.{PeerEnded, BadFrame, Link, NoMemory}
+
+-- a receive that was refused, or not made: only the counts of receives and of failed calls differ, that of receives by one at most
+pub record RefusesReceive (old new : LinkState) : Type 0 where
+  pub untaken : new ≡ record old { receives = new.receives; faults = new.faults }
+  pub receives : new.receives ≤ old.receives + 1
 
 -- what a refusal of the link's is called
 abbrev pub port_fault : PortFault → LineFault
 port_fault port.Failed = Link
 port_fault port.NoMemory = NoMemory
 
--- One end of a stream: whose end it is, what is logged, what was read of the peer's bytes, and what the link tells: its log,
--- what is to come, whether the peer has ended, whether it is open, how many receives there were, and how many calls failed.
+-- a count of calls behind so many more; at the end of its type it stays there
+abbrev pub counted_times : ℕ → ℕ → ℕ
+counted_times zero before = before
+counted_times (suc n) before = counted true (counted_times n before)
+
+-- What is logged at one end of a stream, and what its link tells then: its log, seen from this side, what is to come, whether the
+-- peer has ended, and how many sends, receives and failed calls there were.
+pub record LinkSnapshot : Type 0 where
+  pub log : List (Side × ℕ)
+  pub told : Option (List (Side × ℕ))
+  pub to_come : Option (List ℕ)
+  pub ended : Option Bool
+  pub sends : ℕ
+  pub receives : ℕ
+  pub faults : ℕ
+
+-- by the side, what is logged, and what the link tells
+abbrev pub snapshot : Side → List (Side × ℕ) → LinkState → LinkSnapshot
+snapshot side log link = record {
+  log = log;
+  told = option_map (seen_by side) link.log;
+  to_come = link.to_come;
+  ended = link.ended;
+  sends = link.sends;
+  receives = link.receives;
+  faults = link.faults;
+}
+
+-- One end of a stream: whose end it is, what is logged, what was read of the peer's bytes, for how many bytes of one send there is
+-- room in the log, and what the link tells: its log, seen from this side, what is to come, whether the peer has ended, whether it
+-- is open, and how many sends, receives and failed calls there were.
 pub record LineState : Type 0 where
   pub side : Side
   pub log : List (Side × ℕ)
   pub reading : Reading
+  pub room : ℕ
   pub told : Option (List (Side × ℕ))
   pub to_come : Option (List ℕ)
   pub ended : Option Bool
   pub is_open : Bool
+  pub sends : ℕ
   pub receives : ℕ
   pub faults : ℕ
 
--- these bytes of the peer's have come: they are logged, the link tells them, and they are no longer to come
+-- by the side, what is logged, what was read, the room, and what the link tells
+abbrev pub line_state : Side → List (Side × ℕ) → Reading → ℕ → LinkState → LineState
+line_state side log reading room link = record {
+  side = side;
+  log = log;
+  reading = reading;
+  room = room;
+  told = option_map (seen_by side) link.log;
+  to_come = link.to_come;
+  ended = link.ended;
+  is_open = link.is_open;
+  sends = link.sends;
+  receives = link.receives;
+  faults = link.faults;
+}
+
+-- a line of this side over which nothing is logged or read yet
+abbrev pub fresh_line : Side → LinkState → LineState
+fresh_line side link = line_state side [] (record { received = 0; expected = None; taken = []; bad = None }) 0 link
+
+-- what is logged on a line, and what its link tells
+abbrev pub snapshot_of : LineState → LinkSnapshot
+snapshot_of line = record {
+  log = line.log;
+  told = line.told;
+  to_come = line.to_come;
+  ended = line.ended;
+  sends = line.sends;
+  receives = line.receives;
+  faults = line.faults;
+}
+
+-- These bytes of the peer's have come: they are logged, the link tells them, and they are no longer to come; nothing is sent, and
+-- the room in the log stays.
 pub record Came (bytes : List ℕ) (old new : LineState) : Type 0 where
   pub logged : new.log ≡ old.log ++ bytes_from (peer_of old.side) bytes
   pub told : new.told ≡ appended (bytes_from (peer_of old.side) bytes) old.told
   pub came : old.to_come ≡ put_before bytes new.to_come
   pub side : new.side ≡ old.side
   pub is_open : new.is_open ≡ old.is_open
+  pub sends : new.sends ≡ old.sends
+  pub room : new.room ≡ old.room
 
 -- some more bytes of the frame that is expected have come, by one receive
 pub record PieceComes (place : Expect) (old new : LineState) : Type 0 where
@@ -83,7 +157,7 @@ longest (expect.Openings count) = frame_length (expect.Openings count) []
 longest expect.Verdict = 10
 
 -- Why no frame came, where these are all bytes of it that came: the peer has ended, with bytes still wanted; one of them is
--- bad; the link failed; memory was wanting.
+-- bad; the link failed; memory was missing.
 abbrev pub Breaks : Expect → List ℕ → LineState → LineState → LineFault → Type 0
 Breaks place bytes old new (PeerEnded at) =
     (at ≡ old.reading.received + length bytes)
@@ -107,6 +181,18 @@ pub record CountsFault (fault : LineFault) (old new : LineState) : Type 0 where
   pub later : old.faults ≤ new.faults
   pub unfailed : IsNoLink fault → new.faults ≡ old.faults
 
+-- these bytes begin a frame that the place allows, and more of it are missing
+pub record IsCutShort (place : Expect) (bytes : List ℕ) : Type 0 where
+  pub goes_on : CanGoOn place bytes
+  pub short : length bytes < frame_length place bytes
+
+-- it is no bad byte for which no frame came
+abbrev pub IsNoBadByte : LineFault → Type 0
+IsNoBadByte (PeerEnded at) = Unit {0}
+IsNoBadByte (BadFrame at) = ⊥
+IsNoBadByte Link = Unit {0}
+IsNoBadByte NoMemory = Unit {0}
+
 -- these bytes are no whole frame: more are wanted, or one is bad
 abbrev pub IsUnfinished : Expect → List ℕ → Type 0
 IsUnfinished place bytes = (length bytes < frame_length place bytes) ⊎ ((n : ℕ) × IsFirstBad place bytes n)
@@ -116,23 +202,25 @@ pub record PieceFails (place : Expect) (fault : LineFault) (old new : LineState)
   pub bytes : List ℕ
   pub few : length (old.reading.taken ++ bytes) ≤ longest place
   pub unfinished : IsUnfinished place (old.reading.taken ++ bytes)
+  pub cut : IsNoBadByte fault → IsCutShort place (old.reading.taken ++ bytes)
   pub came : Came bytes old new
   pub broken : Breaks place (old.reading.taken ++ bytes) old new fault
   pub receives : new.receives ≤ old.receives + 1
   pub count : CountsFault fault old new
 
 -- No whole frame has come, but bytes that are no more than one has, by at most one receive more than there are bytes; and the
--- cause.
+-- cause. Where none of them is bad, they begin a frame of which more are missing: also where the link failed, or memory was missing.
 pub record Fails (place : Expect) (fault : LineFault) (old new : LineState) : Type 0 where
   pub bytes : List ℕ
   pub few : length bytes ≤ longest place
   pub unfinished : IsUnfinished place bytes
+  pub cut : IsNoBadByte fault → IsCutShort place bytes
   pub came : Came bytes old new
   pub broken : Breaks place bytes old new fault
   pub receives : new.receives ≤ old.receives + length bytes + 1
   pub count : CountsFault fault old new
 
--- all but the log, and what the link tells of it, is as it was
+-- all but the log, the room in it, what the link tells of it, and the count of sends, is as it was
 pub record OnlySends (old new : LineState) : Type 0 where
   pub side : new.side ≡ old.side
   pub reading : new.reading ≡ old.reading
@@ -141,24 +229,30 @@ pub record OnlySends (old new : LineState) : Type 0 where
   pub is_open : new.is_open ≡ old.is_open
   pub receives : new.receives ≡ old.receives
 
--- bytes were sent: they are logged, and the link tells them
+-- bytes were sent, by one send: they are logged, and the link tells them
 pub record Sends (bytes : List ℕ) (old new : LineState) : Type 0 where
   pub logged : new.log ≡ old.log ++ bytes_from old.side bytes
   pub told : new.told ≡ appended (bytes_from old.side bytes) old.told
+  pub sends : new.sends ≡ counted true old.sends
   pub others : OnlySends old new
   pub unfailed : new.faults ≡ old.faults
 
--- why a send is refused: the link failed, or memory was wanting
+-- why a send is refused: the link failed, or memory was missing
 abbrev pub IsSendCause : LineState → LineState → LineFault → Type 0
 IsSendCause old new (PeerEnded at) = ⊥
 IsSendCause old new (BadFrame at) = ⊥
 IsSendCause old new Link = Rose old.faults new.faults
 IsSendCause old new NoMemory = Unit {0}
 
--- A send is refused: nothing of it is logged, and the link tells a first part, maybe none or all.
-pub record SendFails (bytes : List ℕ) (fault : LineFault) (old new : LineState) : Type 0 where
+-- The one send of these bytes was refused: nothing of it is logged, and the link tells a first part, maybe none or all.
+pub record IsSendRefused (bytes : List ℕ) (fault : LineFault) (old new : LineState) : Type 0 where
   pub logged : new.log ≡ old.log
   pub told : AppendsPart (bytes_from old.side bytes) old.told new.told
+  pub sends : new.sends ≡ counted true old.sends
   pub others : OnlySends old new
   pub cause : IsSendCause old new fault
   pub count : CountsFault fault old new
+
+-- These bytes are not sent: memory was missing before, and there was no send; or their one send was refused.
+abbrev pub SendFails : List ℕ → LineFault → LineState → LineState → Type 0
+SendFails bytes fault old new = ((fault ≡ NoMemory) × (new ≡ old)) ⊎ IsSendRefused bytes fault old new

@@ -6,6 +6,7 @@
 mod fault;
 mod line;
 mod log;
+mod writer;
 
 pub use fault::LineFault;
 pub use line::Line;

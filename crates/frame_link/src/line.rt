@@ -1,13 +1,14 @@
 // One end of a session's stream: frames over a link.
-ghost use Rattle.std.specs.Prelude.{◌≡◌, ◌+◌, ◌<◌, ◌≤◌, ◌^◌, None, Some, [], length, map, flat_map, false, All, IfOk, IfErr, OnOk, IsTrue};
+ghost use Rattle.std.specs.Prelude.{◌≡◌, ◌+◌, ◌<◌, ◌≤◌, ◌^◌, None, Some, [], length, map, max, flat_map, false, All, IfOk, IfErr, OnOk, OnErr, IsTrue};
 ghost use Rattle.zk_model.specs.Frames.{frame_spelling};
-ghost use Rattle.zk_port.specs.Logs.{peer_of};
 ghost use Rattle.proof_frames.specs.Frames.{said, IsShort};
 ghost use Rattle.proof_frames.specs.Readings.{IsShortPlace, wanted};
-ghost use Rattle.frame_link.specs.Lines.{PieceComes, PiecesCome, PieceFails, Arrives, Fails, Sends, SendFails};
+ghost use Rattle.frame_link.specs.Lines.{PieceComes, PiecesCome, PieceFails, Arrives, Fails, Sends, IsSendRefused, SendFails, fresh_line, snapshot, snapshot_of};
+ghost use Rattle.frame_link.specs.Sides.{peer_of};
 
 use crate::fault::LineFault;
 use crate::log::Log;
+use crate::writer::LogWriter;
 use proof_frames::{Decoder, Expect, Frame, encode};
 use std::alloc::{AllocError, Global};
 use std::marker::Model;
@@ -23,29 +24,16 @@ const PIECE: usize = 4096;
 pub struct Line<L: Link> {
     link: L,
     side: Side,
-    log: Log,
+    log: LogWriter,
     decoder: Decoder,
 }
 
 impl<L: Link> Model for Line<L> {
-    ghost use Rattle.std.specs.Prelude.{◌≡◌};
     ghost use Rattle.frame_link.specs.Lines as lines;
 
     ghost Value = { lines.LineState };
 
-    ghost view = { λ l. record {
-      side = l.side;
-      log = l.log;
-      reading = l.decoder;
-      told = L.log l.link;
-      to_come = L.to_come l.link;
-      ended = L.ended l.link;
-      is_open = L.is_open l.link;
-      receives = L.receives l.link;
-      faults = L.faults l.link;
-    } };
-
-    ghost invariant = { λ l. L.side l.link ≡ l.side };
+    ghost view = { λ l. lines.line_state l.side l.log.entries l.decoder l.log.room (L.state l.link) };
 }
 
 /// The other side.
@@ -72,25 +60,14 @@ fn encode_frames(alloc: Global, frames: &[Frame]) -> Result<Vec<u8>, AllocError>
 }
 
 impl<L: Link> Line<L> {
-    /// This side's end of a stream over which nothing is logged or read yet.
+    /// An end of a stream over which nothing is logged or read yet, of this side.
     pub fn new(alloc: Global, link: L, side: Side) -> Self
-        requires { L.side link ≡ side }
-        ensures { result ≡ record {
-          side = side;
-          log = [];
-          reading = record { received = 0; expected = None; taken = []; bad = None };
-          told = L.log link;
-          to_come = L.to_come link;
-          ended = L.ended link;
-          is_open = L.is_open link;
-          receives = L.receives link;
-          faults = L.faults link;
-        } }
+        ensures { result ≡ fresh_line side (L.state link) }
     {
         Line {
             link,
             side,
-            log: Log::new(alloc),
+            log: LogWriter::new(alloc),
             decoder: Decoder::new(alloc),
         }
     }
@@ -114,7 +91,7 @@ impl<L: Link> Line<L> {
         self.take_pieces(alloc, place)?;
         match self.decoder.next() {
             Some(frame) => Ok(frame),
-            None => Err(LineFault::NoMemory),
+            None => unreachable!(),
         }
     }
 
@@ -164,6 +141,51 @@ impl<L: Link> Line<L> {
         }
     }
 
+    /// Keeps room in the log for at least so many bytes, which are sent later by one send.
+    ///
+    /// # Errors
+    ///
+    /// Only where memory runs out; then nothing changes.
+    pub fn reserve(&mut self, count: usize) -> Result<(), AllocError>
+        ensures kept { OnOk result (self.new ≡ record self.old { room = max self.old.room count }) }
+        ensures refused { OnErr result (self.new ≡ self.old) }
+    {
+        self.log.reserve(count)?;
+        Ok(())
+    }
+
+    /// The bytes of a frame, once there is room for them in the log. The link is not called.
+    ///
+    /// # Errors
+    ///
+    /// Only where memory runs out; then nothing changes.
+    pub fn prepare(&mut self, alloc: Global, frame: &Frame) -> Result<Vec<u8>, AllocError>
+        requires short { IsShort (said frame.now) }
+        ensures bytes { IfOk result (λ bytes. bytes.items ≡ frame_spelling (said frame.now)) }
+        ensures kept { IfOk result (λ bytes.
+            self.new ≡ record self.old { room = max self.old.room (length bytes.items) }) }
+        ensures refused { OnErr result (self.new ≡ self.old) }
+    {
+        let bytes = encode(alloc, frame)?;
+        self.reserve(bytes.len())?;
+        Ok(bytes)
+    }
+
+    /// Sends bytes for which there is room in the log, by one call of the link.
+    ///
+    /// # Errors
+    ///
+    /// `Link` where the link failed, `NoMemory` where it lacked memory; then a part of them may have gone out.
+    pub fn send_prepared(&mut self, alloc: Global, bytes: &[u8]) -> Result<(), LineFault>
+        requires open { IsTrue self.old.is_open }
+        requires room { length bytes.now ≤ self.old.room }
+        ensures sends { OnOk result (Sends bytes.now self.old self.new) }
+        ensures fails { IfErr result (λ fault. IsSendRefused bytes.now fault self.old self.new) }
+    {
+        self.log.send(alloc, &mut self.link, self.side, bytes)?;
+        Ok(())
+    }
+
     /// Sends a frame.
     ///
     /// # Errors
@@ -176,8 +198,8 @@ impl<L: Link> Line<L> {
         ensures fails { IfErr result (λ fault.
             SendFails (frame_spelling (said frame.now)) fault self.old self.new) }
     {
-        let bytes = encode(alloc, frame)?;
-        self.log.send(alloc, &mut self.link, self.side, &bytes)?;
+        let bytes = self.prepare(alloc, frame)?;
+        self.send_prepared(alloc, &bytes)?;
         Ok(())
     }
 
@@ -194,24 +216,19 @@ impl<L: Link> Line<L> {
             SendFails (flat_map frame_spelling (map said frames.now)) fault self.old self.new) }
     {
         let bytes = encode_frames(alloc, frames)?;
-        self.log.send(alloc, &mut self.link, self.side, &bytes)?;
+        self.reserve(bytes.len())?;
+        self.send_prepared(alloc, &bytes)?;
         Ok(())
     }
 
     /// Ends the stream from this side, and hands back the link and the log.
     pub fn end(self) -> (L, Log)
         requires open { IsTrue self.is_open }
-        ensures log { result.1 ≡ self.log }
-        ensures told { L.log result.0 ≡ self.told }
-        ensures to_come { L.to_come result.0 ≡ self.to_come }
-        ensures ended { L.ended result.0 ≡ self.ended }
-        ensures receives { L.receives result.0 ≡ self.receives }
-        ensures faults { L.faults result.0 ≡ self.faults }
-        ensures is_open { L.is_open result.0 ≡ false }
-        ensures side { L.side result.0 ≡ self.side }
+        ensures passed { snapshot self.side result.1 (L.state result.0) ≡ snapshot_of self }
+        ensures ended { (L.state result.0).is_open ≡ false }
     {
         let Line { mut link, log, .. } = self;
         link.end();
-        (link, log)
+        (link, log.end())
     }
 }

@@ -1,15 +1,11 @@
 // What passed between both ends of a session.
-ghost use Rattle.std.specs.Prelude.{◌≡◌, ◌↔◌, ◌++◌, ◌+◌, ◌^◌, ◌<◌, ◌≤◌, [], ℕ, List, true, length, map, take, sum_by, vec_len, vec_capacity, OnOk, OnErr, IfOk, IfSome, IsTrue};
-ghost use Rattle.std.specs.Option.{option_map};
+ghost use Rattle.std.specs.Prelude.{◌≡◌, ◌++◌, ◌+◌, ◌^◌, ◌<◌, ◌≤◌, [], ℕ, List, length, map, sum_by, vec_len, vec_capacity, OnOk, OnErr};
 ghost use Rattle.zk_model.specs.Transcript.{bytes_from};
-ghost use Rattle.zk_port.specs.Counts.{HasCause};
-ghost use Rattle.zk_port.specs.Logs.{appended, AppendsPart, put_before, ended_after, peer_of};
 ghost use Rattle.frame_link.specs.Runs.{entries, run_count};
 
 use std::alloc::{AllocError, Global};
 use std::marker::Model;
 use zk_model::Side;
-use zk_port::{Link, PortFault};
 
 /// Bytes in a row that one side sent.
 #[derive(Clone, Copy, Debug, PartialEq, Eq)]
@@ -48,6 +44,8 @@ fn note_run(runs: &mut Vec<Run>, run: Run)
         → run.count ≡ length more
         → entries runs.new.items (bytes ++ more) ≡ entries runs.old.items bytes ++ bytes_from run.side more }
     ensures counted { sum_by run_count runs.new.items ≡ sum_by run_count runs.old.items + run.count }
+    ensures len { vec_len runs.new ≤ vec_len runs.old + 1 }
+    ensures capacity { vec_capacity runs.new ≡ vec_capacity runs.old }
 {
     match runs.pop() {
         Some(last) if last.side == run.side => runs.push_reserved(Run {
@@ -62,37 +60,38 @@ fn note_run(runs: &mut Vec<Run>, run: Run)
     }
 }
 
-/// Takes the next bytes of a link's peer, at most so many, into the front of a buffer.
-fn receive_front<L: Link>(
-    alloc: Global,
-    link: &mut L,
-    buffer: &mut [u8],
-    most: usize,
-) -> Result<usize, PortFault>
-    requires open { IsTrue (L.is_open link.old) }
-    requires fits { most ≤ length buffer.old }
-    ensures within { IfOk result (λ n. n ≤ most) }
-    ensures length { length buffer.new ≡ length buffer.old }
-    ensures taken { IfOk result (λ n. L.log link.new ≡ appended
-        (bytes_from (peer_of (L.side link.old)) (take n buffer.new)) (L.log link.old)) }
-    ensures next { IfOk result (λ n. L.to_come link.old ≡ put_before (take n buffer.new)
-        (L.to_come link.new)) }
-    ensures none { IfOk result (λ n. 0 < most
-        → IfSome (L.to_come link.old) (λ rest. (n ≡ 0) ↔ (rest ≡ []))) }
-    ensures ended { IfOk result (λ n. L.ended link.new ≡ option_map (ended_after most n) (L.ended link.old)) }
-    ensures untold { OnErr result (L.log link.new ≡ L.log link.old) }
-    ensures still_to_come { OnErr result (L.to_come link.new ≡ L.to_come link.old) }
-    ensures side { L.side link.new ≡ L.side link.old }
-    ensures is_open { L.is_open link.new ≡ L.is_open link.old }
-    ensures receives { L.receives link.new ≤ L.receives link.old + 1 }
-    ensures cause { HasCause (L.faults link.old) (L.faults link.new) result }
+/// Notes that a side sent these bytes, for which there is room.
+pub(crate) fn note_bytes(bytes: &mut Vec<u8>, runs: &mut Vec<Run>, side: Side, more: &[u8])
+    requires counted { sum_by run_count runs.old.items ≡ vec_len bytes.old }
+    requires bytes_fit { vec_len bytes.old + length more.now ≤ vec_capacity bytes.old }
+    requires run_fits { 0 < length more.now → vec_len runs.old < vec_capacity runs.old }
+    ensures noted { entries runs.new.items bytes.new.items
+        ≡ entries runs.old.items bytes.old.items ++ bytes_from side more.now }
+    ensures counted { sum_by run_count runs.new.items ≡ vec_len bytes.new }
+    ensures bytes { vec_len bytes.new ≡ vec_len bytes.old + length more.now }
+    ensures runs { vec_len runs.new ≤ vec_len runs.old + 1 }
+    ensures bytes_capacity { vec_capacity bytes.old ≤ vec_capacity bytes.new }
+    ensures runs_capacity { vec_capacity runs.new ≡ vec_capacity runs.old }
 {
-    let (front, _) = buffer.split_at_mut(most);
-    let count = link.receive(alloc, front)?;
-    Ok(count)
+    if more.is_empty() {
+        return;
+    }
+    if bytes.extend_from_slice(more).is_err() {
+        unreachable!();
+    }
+    let count = more.len();
+    note_run(runs, Run { side, count });
 }
 
 impl Log {
+    /// The log of these bytes, by these runs.
+    pub(crate) fn of(bytes: Vec<u8>, runs: Vec<Run>) -> Self
+        requires { sum_by run_count runs.items ≡ length bytes.items }
+        ensures { result ≡ entries runs.items bytes.items }
+    {
+        Log { bytes, runs }
+    }
+
     /// A log of nothing.
     pub fn new(alloc: Global) -> Self
         ensures { result ≡ [] }
@@ -128,92 +127,8 @@ impl Log {
         ensures refused { OnErr result (self.new ≡ self.old) }
     {
         self.runs.reserve(1)?;
-        self.bytes.extend_from_slice(bytes)?;
-        note_run(
-            &mut self.runs,
-            Run {
-                side,
-                count: bytes.len(),
-            },
-        );
-        Ok(())
-    }
-
-    /// Sends these bytes over a link, whose side this is, and notes them.
-    ///
-    /// # Errors
-    ///
-    /// As the link's send, or where memory runs out; then nothing is noted.
-    pub(crate) fn send<L: Link>(
-        &mut self,
-        alloc: Global,
-        link: &mut L,
-        side: Side,
-        bytes: &[u8],
-    ) -> Result<(), PortFault>
-        requires open { IsTrue (L.is_open link.old) }
-        requires side { side ≡ L.side link.old }
-        ensures noted { OnOk result (self.new ≡ self.old ++ bytes_from side bytes.now) }
-        ensures told { OnOk result (L.log link.new
-            ≡ appended (bytes_from side bytes.now) (L.log link.old)) }
-        ensures refused { OnErr result (self.new ≡ self.old) }
-        ensures part { OnErr result (AppendsPart (bytes_from side bytes.now) (L.log link.old) (L.log link.new)) }
-        ensures to_come { L.to_come link.new ≡ L.to_come link.old }
-        ensures ended { L.ended link.new ≡ L.ended link.old }
-        ensures side_stays { L.side link.new ≡ L.side link.old }
-        ensures is_open { L.is_open link.new ≡ L.is_open link.old }
-        ensures receives { L.receives link.new ≡ L.receives link.old }
-        ensures cause { HasCause (L.faults link.old) (L.faults link.new) result }
-    {
-        self.runs.reserve(1)?;
         self.bytes.reserve(bytes.len())?;
-        link.send(alloc, bytes)?;
-        self.bytes.extend_from_slice(bytes)?;
-        let count = bytes.len();
-        note_run(&mut self.runs, Run { side, count });
+        note_bytes(&mut self.bytes, &mut self.runs, side, bytes);
         Ok(())
-    }
-
-    /// Takes the next bytes of the peer, whose side this is, over a link into the front of a buffer, at most so many, and
-    /// notes them.
-    ///
-    /// # Errors
-    ///
-    /// As the link's receive, or where memory runs out; then nothing is noted.
-    pub(crate) fn receive<L: Link>(
-        &mut self,
-        alloc: Global,
-        link: &mut L,
-        peer: Side,
-        buffer: &mut [u8],
-        most: usize,
-    ) -> Result<usize, PortFault>
-        requires open { IsTrue (L.is_open link.old) }
-        requires peer { peer ≡ peer_of (L.side link.old) }
-        requires some { 1 ≤ most }
-        requires fits { most ≤ length buffer.old }
-        ensures within { IfOk result (λ n. n ≤ most) }
-        ensures length { length buffer.new ≡ length buffer.old }
-        ensures noted { IfOk result (λ n. self.new ≡ self.old ++ bytes_from peer (take n buffer.new)) }
-        ensures told { IfOk result (λ n. L.log link.new
-            ≡ appended (bytes_from peer (take n buffer.new)) (L.log link.old)) }
-        ensures came { IfOk result (λ n. L.to_come link.old
-            ≡ put_before (take n buffer.new) (L.to_come link.new)) }
-        ensures none { IfOk result (λ n. IfSome (L.to_come link.old) (λ rest. (n ≡ 0) ↔ (rest ≡ []))) }
-        ensures ended { IfOk result (λ n. n ≡ 0 → IfSome (L.ended link.new) (λ ended. ended ≡ true)) }
-        ensures refused { OnErr result (self.new ≡ self.old) }
-        ensures untold { OnErr result (L.log link.new ≡ L.log link.old) }
-        ensures still_to_come { OnErr result (L.to_come link.new ≡ L.to_come link.old) }
-        ensures side { L.side link.new ≡ L.side link.old }
-        ensures is_open { L.is_open link.new ≡ L.is_open link.old }
-        ensures receives { L.receives link.new ≤ L.receives link.old + 1 }
-        ensures cause { HasCause (L.faults link.old) (L.faults link.new) result }
-    {
-        self.runs.reserve(1)?;
-        self.bytes.reserve(most)?;
-        let count = receive_front(alloc, link, buffer, most)?;
-        self.bytes.extend_from_slice(&buffer[..count])?;
-        note_run(&mut self.runs, Run { side: peer, count });
-        Ok(count)
     }
 }

@@ -19,8 +19,12 @@ use Rattle.session_core.specs.Jobs.{VerifierJob, ProverJob, Suits, units_of_job,
 use Rattle.session_core.specs.Judgements.{verdict_in, Finds}
 use Rattle.session_core.specs.declared.fault.HelloDiffers.{HelloDiffers}
 use Rattle.session_core.specs.declared.fault.HelloDiffers.TheVariants.{Id, Circuit, Outputs, Version}
-use Rattle.session_core.specs.declared.fault.SessionFault.{SessionFault}
-use Rattle.session_core.specs.declared.fault.SessionFault.TheVariants.{BadHello, BadGrant, PeerRefused, NoMemory}
+use Rattle.session_core.specs.declared.fault.ProverFault.{ProverFault}
+use Rattle.session_core.specs.declared.fault.ProverFault.TheVariants.{BadGrant, PeerRefused}
+use Rattle.session_core.specs.declared.fault.ProverFault.TheVariants as prover
+use Rattle.session_core.specs.declared.fault.VerifierFault.{VerifierFault}
+use Rattle.session_core.specs.declared.fault.VerifierFault.TheVariants.{BadHello}
+use Rattle.session_core.specs.declared.fault.VerifierFault.TheVariants as verifier
 use Rattle.session_core.specs.declared.judgement.Judgement.{Judgement}
 
 -- ---- the verifier
@@ -141,13 +145,11 @@ DiffersFirst wanted other (Version want got) =
     × (want ≡ wanted.version) × (got ≡ other.version) × (want ≢ got)
 
 -- why a verifier refuses a frame: a hello that differs
-abbrev pub VerifierRefuses : VerifierJob → VerifierPlace → Frame → SessionFault → Type 0
+abbrev pub VerifierRefuses : VerifierJob → VerifierPlace → Frame → VerifierFault → Type 0
 VerifierRefuses job place frame (BadHello differs) = (other : Hello)
     × (place ≡ awaits_hello) × (frame ≡ hello other)
     × DiffersFirst (wanted_hello job.task.file.id job.task.statement) other differs
-VerifierRefuses job place frame BadGrant = ⊥
-VerifierRefuses job place frame (PeerRefused code) = ⊥
-VerifierRefuses job place frame NoMemory = Unit {0}
+VerifierRefuses job place frame verifier.NoMemory = Unit {0}
 
 -- ---- the prover
 
@@ -230,9 +232,8 @@ StaysWithin job frame = (given : Grant) → frame ≡ grant given → Suits job.
     → given.start + given.count ≤ job.file.params.total
 
 -- why a prover refuses a frame: a grant that does not suit the program, or a refusal
-abbrev pub ProverRefuses : ProverJob → ProverPlace → Frame → SessionFault → Type 0
-ProverRefuses job place frame (BadHello differs) = ⊥
+abbrev pub ProverRefuses : ProverJob → ProverPlace → Frame → ProverFault → Type 0
 ProverRefuses job place frame BadGrant = (given : Grant)
     × (place ≡ awaits_grant) × (frame ≡ grant given) × ¬ Suits job.file.params job.statement.program given
 ProverRefuses job place frame (PeerRefused code) = (place ≡ awaits_grant) × (frame ≡ refuse code)
-ProverRefuses job place frame NoMemory = Unit {0}
+ProverRefuses job place frame prover.NoMemory = Unit {0}

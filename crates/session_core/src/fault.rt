@@ -1,8 +1,10 @@
 // Why an end of a session refuses a frame.
 ghost use Rattle.std.specs.Prelude.{◌≡◌};
-ghost use Rattle.session_core.specs.declared.fault.SessionFault.TheVariants.{NoMemory};
+ghost use Rattle.session_core.specs.declared.fault.VerifierFault.TheVariants as verifier;
+ghost use Rattle.session_core.specs.declared.fault.ProverFault.TheVariants as prover;
 
-use std::alloc::{AllocError, AllocFailed};
+use std::alloc::AllocError;
+use thiserror::Error;
 
 /// The first field of a hello that is not the wanted one, with what was wanted and what came.
 #[derive(Clone, Copy, Debug, PartialEq, Eq)]
@@ -17,31 +19,43 @@ pub enum HelloDiffers {
     Version { want: u8, got: u8 },
 }
 
-/// Why an end of a session refuses a frame, or does not answer it.
-#[derive(Clone, Copy, Debug, PartialEq, Eq)]
-pub enum SessionFault {
-    /// The verifier: the hello is not the one that its files and its statement want.
+/// Why a verifier refuses a frame, or does not answer it.
+#[derive(Clone, Copy, Debug, PartialEq, Eq, Error)]
+pub enum VerifierFault {
+    /// The hello is not the one that the verifier's file and statement want.
+    #[error("the hello differs from the wanted one")]
     BadHello(HelloDiffers),
-    /// The prover: the grant's sections or units are not those of a session about its statement.
-    BadGrant,
-    /// The prover: the verifier refused, with this code, in place of a grant.
-    PeerRefused { code: u8 },
-    /// Memory was wanting.
+    /// Memory is missing.
+    #[error("memory is missing")]
     NoMemory,
 }
 
-impl From<AllocError> for SessionFault {
-    ghost from_gives = { λ _ e. e ≡ NoMemory };
+/// Why a prover refuses a frame, or does not answer it.
+#[derive(Clone, Copy, Debug, PartialEq, Eq, Error)]
+pub enum ProverFault {
+    /// The grant's sections or units are not those of a session about the prover's statement.
+    #[error("the grant is not one of a session about the statement")]
+    BadGrant,
+    /// The verifier refused, with this code, in place of a grant.
+    #[error("the verifier refused with code {code}")]
+    PeerRefused { code: u8 },
+    /// Memory is missing.
+    #[error("memory is missing")]
+    NoMemory,
+}
+
+impl From<AllocError> for VerifierFault {
+    ghost from_gives = { λ _ e. e ≡ verifier.NoMemory };
 
     fn from(_: AllocError) -> Self {
-        SessionFault::NoMemory
+        VerifierFault::NoMemory
     }
 }
 
-impl<T: Drop> From<AllocFailed<T>> for SessionFault {
-    ghost from_gives = { λ _ e. e ≡ NoMemory };
+impl From<AllocError> for ProverFault {
+    ghost from_gives = { λ _ e. e ≡ prover.NoMemory };
 
-    fn from(_: AllocFailed<T>) -> Self {
-        SessionFault::NoMemory
+    fn from(_: AllocError) -> Self {
+        ProverFault::NoMemory
     }
 }

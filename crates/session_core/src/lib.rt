@@ -1,5 +1,16 @@
 //! A session: both ends, turn by turn (Weng, Yang, Katz and Wang, Wolverine, IEEE S&P 2021; Yang, Sarkar, Weng and Wang,
 //! QuickSilver, ACM CCS 2021).
+//!
+//! `statement` has what a session is about, `circuit_claim` the claim that some inputs make a circuit give outputs. `prover_job` and
+//! `verifier_job` have what either end is to do, and its turns as calls; `prover_core` and `verifier_core` take frames one by one
+//! and take these turns. `extending` has the asks, replies, pairs and keys of all units of a grant, `judgement` what the checks
+//! found, `fault` why a core stops.
+//!
+//!     let claim = CircuitClaim::new(alloc, &circuit, digest, outputs)?;
+//!     let statement = claim.statement();
+//!     let job = VerifierJob::fit(&statement, &file, section)?;
+//!     let mut core = VerifierCore::new(&job);
+//!     let answer = core.step(alloc, frame)?; // a frame that core.expects() allows
 #![tactic(auto)]
 
 mod circuit_claim;
@@ -14,7 +25,7 @@ mod verifier_job;
 
 pub use circuit_claim::{CircuitClaim, wire_bits_are_values};
 pub use extending::{Replied, ask_units, finish_units, reply_units};
-pub use fault::{HelloDiffers, SessionFault};
+pub use fault::{HelloDiffers, ProverFault, VerifierFault};
 pub use judgement::Judgement;
 pub use prover_core::ProverCore;
 pub use prover_job::{Committed, Opened, ProverJob};

@@ -12,17 +12,16 @@ ghost use Rattle.wire_auth.specs.Held.{held_in};
 ghost use Rattle.vole_extend.specs.Rounds.{unit_code};
 ghost use Rattle.session_core.specs.Fixing.{IsFixedUnder, IsGrowing};
 ghost use Rattle.session_core.specs.Cores.{AnswersGrant, Commits, GoesOn, ProverAnswers, ProverRefuses, StaysWithin, awaits_grant, awaits_replies, awaits_challenge, awaits_verdict, has_ended, prover_expects};
-ghost use Rattle.session_core.specs.declared.fault.SessionFault.TheVariants.{NoMemory};
 
 use crate::extending::{ask_units, finish_unit};
-use crate::fault::SessionFault;
+use crate::fault::ProverFault;
 use crate::prover_job::ProverJob;
 use crate::verifier_core::one_frame;
 use dealer_files::{Kind, Params};
 use linear_code::Columns;
 use mersenne_field::Pair;
 use proof_frames::{Frame, Grant};
-use std::alloc::{AllocFailed, Global};
+use std::alloc::{AllocError, Global};
 use std::marker::Model;
 use std::mem;
 use vole_extend::columns_of;
@@ -67,7 +66,7 @@ impl<'a> Model for ProverCore<'a> {
 }
 
 /// A list of two frames.
-fn two_frames(alloc: Global, first: Frame, second: Frame) -> Result<Vec<Frame>, AllocFailed<Frame>>
+fn two_frames(alloc: Global, first: Frame, second: Frame) -> Result<Vec<Frame>, AllocError>
     ensures { IfOk result (λ frames. frames.items ≡ first ∷ second ∷ []) }
 {
     let mut frames = Vec::new(alloc);
@@ -83,20 +82,19 @@ fn opened<'a>(
     grant: Grant,
     wires: &ProverWires<'a>,
     frame: Frame,
-) -> Result<Vec<Frame>, SessionFault>
+) -> Result<Vec<Frame>, AllocError>
     requires held { IsFixedUnder job.now grant wires.now }
     requires expected { Allows expect.Challenge (said frame) }
     ensures answered { IfOk result (λ answer. ProverAnswers job.now
         (awaits_challenge grant wires.now.dealt wires.now.pairs)
         (said frame) (map said answer.items) awaits_verdict) }
-    ensures memory { IfErr result (λ fault. fault ≡ NoMemory) }
 {
     let Frame::Challenge(challenge) = frame else {
-        return Ok(Vec::new(alloc));
+        unreachable!();
     };
     let opened = job.open(alloc, grant, wires, challenge)?;
     let sums = Frame::Sums(opened.sums);
-    Ok(two_frames(alloc, sums, Frame::Openings(opened.openings))?)
+    two_frames(alloc, sums, Frame::Openings(opened.openings))
 }
 
 impl<'a> ProverCore<'a> {
@@ -137,7 +135,7 @@ impl<'a> ProverCore<'a> {
     ///
     /// `BadGrant` where a grant does not suit, `PeerRefused` where a refusal comes in its place, `NoMemory`. It then has
     /// ended.
-    pub fn step(&mut self, alloc: Global, frame: Frame) -> Result<Vec<Frame>, SessionFault>
+    pub fn step(&mut self, alloc: Global, frame: Frame) -> Result<Vec<Frame>, ProverFault>
         requires expected { IsSomeAnd (prover_expects self.old.job self.old.place)
             (λ place. Allows place (said frame)) }
         requires within { StaysWithin self.old.job (said frame) }
@@ -154,14 +152,17 @@ impl<'a> ProverCore<'a> {
                 done,
                 pairs,
                 columns,
-            } => self.take_replies(alloc, grant, done, pairs, columns, frame),
-            Place::Challenge { grant, wires } => self.take_challenge(alloc, grant, wires, frame),
-            Place::Verdict | Place::Ended => Ok(Vec::new(alloc)),
+            } => Ok(self.take_replies(alloc, grant, done, pairs, columns, frame)?),
+            Place::Challenge { grant, wires } => {
+                Ok(self.take_challenge(alloc, grant, wires, frame)?)
+            }
+            Place::Verdict => Ok(Vec::new(alloc)),
+            Place::Ended => unreachable!(),
         }
     }
 
     /// Takes a grant, and answers by the corrections, or in kind extended by the asks for all units.
-    fn take_grant(&mut self, alloc: Global, frame: Frame) -> Result<Vec<Frame>, SessionFault>
+    fn take_grant(&mut self, alloc: Global, frame: Frame) -> Result<Vec<Frame>, ProverFault>
         requires expected { Allows expect.Grant (said frame) }
         requires within { StaysWithin self.old.job (said frame) }
         ensures answered { IfOk result (λ answer. ProverAnswers self.old.job awaits_grant
@@ -173,21 +174,20 @@ impl<'a> ProverCore<'a> {
         match frame {
             Frame::Grant(grant) => {
                 if !self.job.suits(grant) {
-                    return Err(SessionFault::BadGrant);
+                    return Err(ProverFault::BadGrant);
                 }
                 Ok(self.answer_grant(alloc, grant)?)
             }
-            Frame::Refuse { code } => Err(SessionFault::PeerRefused { code }),
-            _ => Ok(Vec::new(alloc)),
+            Frame::Refuse { code } => Err(ProverFault::PeerRefused { code }),
+            _ => unreachable!(),
         }
     }
 
     /// Answers a grant that suits.
-    fn answer_grant(&mut self, alloc: Global, grant: Grant) -> Result<Vec<Frame>, SessionFault>
+    fn answer_grant(&mut self, alloc: Global, grant: Grant) -> Result<Vec<Frame>, AllocError>
         requires granted { IsGrant self.old.job.file.params self.old.job.statement.program grant }
         ensures answered { IfOk result (λ answer.
             AnswersGrant self.old.job grant (map said answer.items) self.new.place) }
-        ensures memory { IfErr result (λ fault. fault ≡ NoMemory) }
         ensures over { OnErr result (self.new.place ≡ self.old.place) }
         ensures job { self.new.job ≡ self.old.job }
     {
@@ -221,19 +221,18 @@ impl<'a> ProverCore<'a> {
         pairs: Vec<Pair>,
         columns: Columns,
         frame: Frame,
-    ) -> Result<Vec<Frame>, SessionFault>
+    ) -> Result<Vec<Frame>, AllocError>
         requires growing { IsGrowing self.old.job grant done pairs.items columns }
         requires expected { (left : ℕ) × Allows (expect.Reply self.old.job.file.params.height
             self.old.job.file.params.trees left) (said frame) }
         ensures answered { IfOk result (λ answer. ProverAnswers self.old.job
             (awaits_replies grant done pairs.items)
             (said frame) (map said answer.items) self.new.place) }
-        ensures memory { IfErr result (λ fault. fault ≡ NoMemory) }
         ensures over { OnErr result (self.new.place ≡ self.old.place) }
         ensures job { self.new.job ≡ self.old.job }
     {
         let Frame::ExtendReply(trees) = frame else {
-            return Ok(Vec::new(alloc));
+            unreachable!();
         };
         let file = self.job.file();
         let _total = file.total();
@@ -252,7 +251,7 @@ impl<'a> ProverCore<'a> {
         done: u32,
         pairs: Vec<Pair>,
         columns: Columns,
-    ) -> Result<Vec<Frame>, SessionFault>
+    ) -> Result<Vec<Frame>, AllocError>
         requires extended { self.old.job.file.params.kind ≡ Extended }
         requires granted { IsGrant self.old.job.file.params self.old.job.statement.program grant }
         requires few { done ≤ grant.count }
@@ -260,7 +259,6 @@ impl<'a> ProverCore<'a> {
         requires code { columns ≡ unit_code self.old.job.file.params self.old.job.file.code_seed }
         ensures answered { IfOk result (λ answer.
             GoesOn self.old.job grant done pairs.items (map said answer.items) self.new.place) }
-        ensures memory { IfErr result (λ fault. fault ≡ NoMemory) }
         ensures over { OnErr result (self.new.place ≡ self.old.place) }
         ensures job { self.new.job ≡ self.old.job }
     {
@@ -283,13 +281,12 @@ impl<'a> ProverCore<'a> {
         grant: Grant,
         wires: ProverWires<'a>,
         frame: Frame,
-    ) -> Result<Vec<Frame>, SessionFault>
+    ) -> Result<Vec<Frame>, AllocError>
         requires held { IsFixedUnder self.old.job grant wires }
         requires expected { Allows expect.Challenge (said frame) }
         ensures answered { IfOk result (λ answer. ProverAnswers self.old.job
             (awaits_challenge grant wires.entry.dealt wires.entry.pairs)
             (said frame) (map said answer.items) self.new.place) }
-        ensures memory { IfErr result (λ fault. fault ≡ NoMemory) }
         ensures over { OnErr result (self.new.place ≡ self.old.place) }
         ensures job { self.new.job ≡ self.old.job }
     {
@@ -304,12 +301,11 @@ impl<'a> ProverCore<'a> {
         alloc: Global,
         grant: Grant,
         pairs: Correlations<'a, Pair>,
-    ) -> Result<Vec<Frame>, SessionFault>
+    ) -> Result<Vec<Frame>, AllocError>
         requires granted { IsGrant self.old.job.file.params self.old.job.statement.program grant }
         requires count { length (held_in pairs) ≡ grant.count * correlations_per_unit self.old.job.file.params }
         ensures answered { IfOk result (λ answer.
             Commits self.old.job grant (held_in pairs.entry) (map said answer.items) self.new.place) }
-        ensures memory { IfErr result (λ fault. fault ≡ NoMemory) }
         ensures over { OnErr result (self.new.place ≡ self.old.place) }
         ensures job { self.new.job ≡ self.old.job }
     {

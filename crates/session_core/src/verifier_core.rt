@@ -8,7 +8,6 @@ ghost use Rattle.wire_auth.specs.Held.{held_in};
 ghost use Rattle.proof_frames.specs.Readings.{IsShortPlace};
 ghost use Rattle.session_core.specs.Jobs.{units_of_job, granted_from};
 ghost use Rattle.session_core.specs.Judgements.{verdict_in};
-ghost use Rattle.session_core.specs.declared.fault.SessionFault.TheVariants.{NoMemory};
 ghost use Rattle.zk_model.specs.declared.Expect.TheVariants as expect;
 ghost use Rattle.zk_model.specs.declared.Kind.TheVariants.{Extended};
 ghost use Rattle.zk_model.specs.Program.{section_count};
@@ -17,13 +16,13 @@ ghost use Rattle.session_core.specs.Fixing.{HoldsKeys};
 ghost use Rattle.session_core.specs.Cores.{AnswersAsks, VerifierAnswers, VerifierRefuses, IsVerifierPlace, awaits_hello, owes_grant, behind_grant, awaits_asks, awaits_corrections, awaits_sums, awaits_openings, has_refused, verifier_expects, judgement_at, DiffersFirst};
 
 use crate::extending::reply_units;
-use crate::fault::{HelloDiffers, SessionFault};
+use crate::fault::{HelloDiffers, VerifierFault};
 use crate::judgement::Judgement;
 use crate::verifier_job::VerifierJob;
 use dealer_files::{Kind, Params};
 use mersenne_field::Fe;
 use proof_frames::{Frame, Hello};
-use std::alloc::{AllocFailed, Global};
+use std::alloc::{AllocError, Global};
 use std::marker::Model;
 use std::mem;
 use vole_extend::columns_of;
@@ -133,7 +132,7 @@ fn verdict_frame(judgement: &Judgement) -> Frame
 }
 
 /// A list of one frame.
-pub(crate) fn one_frame(alloc: Global, frame: Frame) -> Result<Vec<Frame>, AllocFailed<Frame>>
+pub(crate) fn one_frame(alloc: Global, frame: Frame) -> Result<Vec<Frame>, AllocError>
     ensures { IfOk result (λ frames. frames.items ≡ frame ∷ []) }
 {
     let mut frames = Vec::new(alloc);
@@ -220,7 +219,7 @@ impl<'a> VerifierCore<'a> {
     ///
     /// `BadHello` where a hello is not the wanted one, with the first field that differs; `NoMemory`. It then expects
     /// nothing more. That a check fails is no error: the verdict says it.
-    pub fn step(&mut self, alloc: Global, frame: Frame) -> Result<Vec<Frame>, SessionFault>
+    pub fn step(&mut self, alloc: Global, frame: Frame) -> Result<Vec<Frame>, VerifierFault>
         requires expected { IsSomeAnd (verifier_expects self.old.job self.old.place)
             (λ place. Allows place (said frame)) }
         ensures answered { IfOk result (λ answer. VerifierAnswers self.old.job self.old.place
@@ -231,25 +230,27 @@ impl<'a> VerifierCore<'a> {
     {
         match mem::replace(&mut self.place, Place::Refused) {
             Place::Hello => self.meet(alloc, frame),
-            Place::Asks { start, asked } => self.take_asks(alloc, start, asked, frame),
-            Place::Corrections { start, keys } => self.take_corrections(alloc, start, keys, frame),
+            Place::Asks { start, asked } => Ok(self.take_asks(alloc, start, asked, frame)?),
+            Place::Corrections { start, keys } => {
+                Ok(self.take_corrections(alloc, start, keys, frame)?)
+            }
             Place::Sums {
                 start,
                 keys,
                 corrections,
-            } => self.take_sums(alloc, start, keys, corrections, frame),
+            } => Ok(self.take_sums(alloc, start, keys, corrections, frame)),
             Place::Openings {
                 start,
                 keys,
                 corrections,
                 sums,
-            } => self.take_openings(alloc, start, keys, corrections, sums, frame),
-            Place::Grant | Place::Judged { .. } | Place::Refused => Ok(Vec::new(alloc)),
+            } => Ok(self.take_openings(alloc, start, keys, corrections, sums, frame)?),
+            Place::Grant | Place::Judged { .. } | Place::Refused => unreachable!(),
         }
     }
 
     /// Meets a hello: the wanted one leaves its grant due.
-    fn meet(&mut self, alloc: Global, frame: Frame) -> Result<Vec<Frame>, SessionFault>
+    fn meet(&mut self, alloc: Global, frame: Frame) -> Result<Vec<Frame>, VerifierFault>
         requires expected { Allows expect.Hello (said frame) }
         ensures answered { IfOk result (λ answer. VerifierAnswers self.old.job awaits_hello
             (said frame) (map said answer.items) self.new.place) }
@@ -257,13 +258,14 @@ impl<'a> VerifierCore<'a> {
         ensures over { OnErr result (self.new.place ≡ self.old.place) }
         ensures job { self.new.job ≡ self.old.job }
     {
-        if let Frame::Hello(hello) = frame {
-            let wanted = self.job.statement().hello(self.job.file().id());
-            if let Some(differs) = difference(&wanted, &hello) {
-                return Err(SessionFault::BadHello(differs));
-            }
-            self.place = Place::Grant;
+        let Frame::Hello(hello) = frame else {
+            unreachable!();
+        };
+        let wanted = self.job.statement().hello(self.job.file().id());
+        if let Some(differs) = difference(&wanted, &hello) {
+            return Err(VerifierFault::BadHello(differs));
         }
+        self.place = Place::Grant;
         Ok(Vec::new(alloc))
     }
 
@@ -274,14 +276,13 @@ impl<'a> VerifierCore<'a> {
         start: u64,
         asked: Vec<Frame>,
         frame: Frame,
-    ) -> Result<Vec<Frame>, SessionFault>
+    ) -> Result<Vec<Frame>, AllocError>
         requires held { IsVerifierPlace self.old.job (awaits_asks start (asks_of asked.items)) }
         requires expected { (left : ℕ) × Allows (expect.Ask self.old.job.task.file.params.height
             self.old.job.task.file.params.trees left) (said frame) }
         ensures answered { IfOk result (λ answer. VerifierAnswers self.old.job
             (awaits_asks start (asks_of asked.items))
             (said frame) (map said answer.items) self.new.place) }
-        ensures memory { IfErr result (λ fault. fault ≡ NoMemory) }
         ensures over { OnErr result (self.new.place ≡ self.old.place) }
         ensures job { self.new.job ≡ self.old.job }
     {
@@ -296,7 +297,7 @@ impl<'a> VerifierCore<'a> {
         alloc: Global,
         start: u64,
         asked: Vec<Frame>,
-    ) -> Result<Vec<Frame>, SessionFault>
+    ) -> Result<Vec<Frame>, AllocError>
         requires extended { self.old.job.task.file.params.kind ≡ Extended }
         requires within { start + units_of_job self.old.job ≤ self.old.job.task.file.params.total }
         requires few { length asked.items ≤ units_of_job self.old.job }
@@ -304,7 +305,6 @@ impl<'a> VerifierCore<'a> {
             self.old.job.task.file.params.trees) (asks_of asked.items) }
         ensures answered { IfOk result (λ answer. AnswersAsks self.old.job start
             (asks_of asked.items) (map said answer.items) self.new.place) }
-        ensures memory { IfErr result (λ fault. fault ≡ NoMemory) }
         ensures over { OnErr result (self.new.place ≡ self.old.place) }
         ensures job { self.new.job ≡ self.old.job }
     {
@@ -327,26 +327,26 @@ impl<'a> VerifierCore<'a> {
         start: u64,
         keys: Correlations<'a, Fe>,
         frame: Frame,
-    ) -> Result<Vec<Frame>, SessionFault>
+    ) -> Result<Vec<Frame>, AllocError>
         requires within { start + units_of_job self.old.job ≤ self.old.job.task.file.params.total }
         requires keys { HoldsKeys self.old.job start (held_in keys) }
         requires expected { Allows (expect.Corrections self.old.job.task.statement.program.givens)
             (said frame) }
         ensures answered { IfOk result (λ answer. VerifierAnswers self.old.job (awaits_corrections start)
             (said frame) (map said answer.items) self.new.place) }
-        ensures memory { IfErr result (λ fault. fault ≡ NoMemory) }
         ensures over { OnErr result (self.new.place ≡ self.old.place) }
         ensures job { self.new.job ≡ self.old.job }
     {
+        let Frame::Corrections(corrections) = frame else {
+            unreachable!();
+        };
         let _total = self.job.file().total();
         let challenge = one_frame(alloc, Frame::Challenge(self.job.challenge(start)))?;
-        if let Frame::Corrections(corrections) = frame {
-            self.place = Place::Sums {
-                start,
-                keys,
-                corrections,
-            };
-        }
+        self.place = Place::Sums {
+            start,
+            keys,
+            corrections,
+        };
         Ok(challenge)
     }
 
@@ -358,27 +358,26 @@ impl<'a> VerifierCore<'a> {
         keys: Correlations<'a, Fe>,
         corrections: Vec<Fe>,
         frame: Frame,
-    ) -> Result<Vec<Frame>, SessionFault>
+    ) -> Vec<Frame>
         requires held { IsVerifierPlace self.old.job (awaits_sums start corrections.items) }
         requires keys { HoldsKeys self.old.job start (held_in keys) }
         requires expected { Allows (expect.Sums (section_count self.old.job.task.statement.program
             self.old.job.section_length)) (said frame) }
-        ensures answered { IfOk result (λ answer. VerifierAnswers self.old.job
+        ensures answered { VerifierAnswers self.old.job
             (awaits_sums start corrections.items)
-            (said frame) (map said answer.items) self.new.place) }
-        ensures memory { IfErr result (λ fault. fault ≡ NoMemory) }
-        ensures over { OnErr result (self.new.place ≡ self.old.place) }
+            (said frame) (map said result.items) self.new.place }
         ensures job { self.new.job ≡ self.old.job }
     {
-        if let Frame::Sums(sums) = frame {
-            self.place = Place::Openings {
-                start,
-                keys,
-                corrections,
-                sums,
-            };
-        }
-        Ok(Vec::new(alloc))
+        let Frame::Sums(sums) = frame else {
+            unreachable!();
+        };
+        self.place = Place::Openings {
+            start,
+            keys,
+            corrections,
+            sums,
+        };
+        Vec::new(alloc)
     }
 
     /// Takes openings, and answers by its verdict.
@@ -390,7 +389,7 @@ impl<'a> VerifierCore<'a> {
         corrections: Vec<Fe>,
         sums: Vec<(Fe, Fe)>,
         frame: Frame,
-    ) -> Result<Vec<Frame>, SessionFault>
+    ) -> Result<Vec<Frame>, AllocError>
         requires held { IsVerifierPlace self.old.job (awaits_openings start corrections.items sums.items) }
         requires keys { HoldsKeys self.old.job start (held_in keys) }
         requires expected { Allows (expect.Openings (length self.old.job.task.statement.program.opened))
@@ -398,12 +397,11 @@ impl<'a> VerifierCore<'a> {
         ensures answered { IfOk result (λ answer. VerifierAnswers self.old.job
             (awaits_openings start corrections.items sums.items)
             (said frame) (map said answer.items) self.new.place) }
-        ensures memory { IfErr result (λ fault. fault ≡ NoMemory) }
         ensures over { OnErr result (self.new.place ≡ self.old.place) }
         ensures job { self.new.job ≡ self.old.job }
     {
         let Frame::Openings(openings) = frame else {
-            return Ok(Vec::new(alloc));
+            unreachable!();
         };
         let keys = keys.as_slice();
         let judgement = self

@@ -20,6 +20,7 @@ use mult_check::{check, check_openings};
 use proof_frames::Grant;
 use std::alloc::{AllocError, Global};
 use std::marker::Model;
+use thiserror::Error;
 use wire_auth::VerifierWires;
 
 /// The most units of a session.
@@ -54,7 +55,8 @@ pub fn units_for(params: &Params, need: u64) -> u64
 }
 
 /// A session needs so many correlations, and units of them above 4,096.
-#[derive(Clone, Copy, Debug, PartialEq, Eq)]
+#[derive(Clone, Copy, Debug, PartialEq, Eq, Error)]
+#[error("the session takes {need} correlations in {units} units")]
 pub struct TooManyUnits {
     pub need: u64,
     pub units: u64,

@@ -1,21 +1,19 @@
--- What one session takes from a door.
+-- What is taken from a door.
 use Rattle.std.specs.Prelude.{◌≡◌, ◌⊎◌, ◌+◌, ◌≤◌, ℕ, Bool, true, false}
-use Rattle.zk_port.specs.Counts.{Rose}
+use Rattle.zk_port.specs.Counts.{Rose, counted}
+use Rattle.zk_port.specs.Doors.{DoorState}
 
--- how many links a door has left, and how often a call of it has failed
-pub record DoorState : Type 0 where
-  pub left : ℕ
-  pub faults : ℕ
-
-abbrev pub door_state : ℕ → ℕ → DoorState
-door_state left faults = record { left = left; faults = faults }
-
--- So many notes are made of the links that a door gave: one at most; and just one where a link was left, unless the door's count
--- rose or memory was wanting.
+-- As many notes are made as links left the door, one at most. The door is asked for the next link once and for nothing else, or, where
+-- memory was missing first, for nothing. It failed exactly where its count of such calls rose. Where it failed, or memory was missing,
+-- there is no note; and elsewhere there is one unless no link was left.
 pub record TakesOneAtMost (notes : ℕ) (door_failed memory_failed : Bool) (old new : DoorState) : Type 0 where
   pub most : notes ≤ 1
-  pub failed : door_failed ≡ true → Rose old.faults new.faults
-  pub later : old.faults ≤ new.faults
-  pub calm : door_failed ≡ false → new.faults ≡ old.faults
-  pub all : door_failed ≡ false → memory_failed ≡ false
-      → ((notes ≡ 0) × (old.left ≡ 0) × (new.left ≡ 0)) ⊎ ((notes ≡ 1) × (old.left ≡ new.left + 1))
+  pub taken : old.left ≡ new.left + notes
+  pub rest : new ≡ record old { left = new.left; offers = new.offers; nexts = new.nexts; next_faults = new.next_faults }
+  pub asked : (new.nexts ≡ counted true old.nexts) ⊎ ((memory_failed ≡ true) × (new ≡ old))
+  pub failed : door_failed ≡ true → Rose old.next_faults new.next_faults
+  pub failed_none : door_failed ≡ true → notes ≡ 0
+  pub calm : door_failed ≡ false → new.next_faults ≡ old.next_faults
+  pub later : old.next_faults ≤ new.next_faults
+  pub memory_none : memory_failed ≡ true → notes ≡ 0
+  pub all : door_failed ≡ false → memory_failed ≡ false → notes ≡ 0 → old.left ≡ 0

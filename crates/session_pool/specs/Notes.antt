@@ -1,10 +1,15 @@
 -- What a note of a served session says of it.
-use Rattle.std.specs.Prelude.{◌≡◌, ◌⊎◌, [], false, Option, None, Some, IfSome, Result}
+use Rattle.std.specs.Prelude.{◌≡◌, ◌⊎◌, ℕ, List, [], false, Option, None, Some, Result}
+use Rattle.zk_model.specs.declared.Side.{Side}
+use Rattle.zk_model.specs.declared.Side.TheVariants.{Verifier}
 use Rattle.zk_model.specs.declared.Span.{Span}
+use Rattle.zk_port.specs.Doors.{IsFresh}
+use Rattle.zk_port.specs.Links.{LinkState}
+use Rattle.frame_link.specs.Lines.{snapshot}
 use Rattle.lease_store.specs.declared.LeaseFault.{LeaseFault}
 use Rattle.session_core.specs.Jobs.{VerifierJob, units_of_job}
-use Rattle.session_verifier.specs.Notes.{granted_by, JudgesRightly, AcceptsExactly, IsShown, SendsRightly, KeepsKeys, EndsBecause, IsTold, ReceivesFew, Completes}
-use Rattle.session_verifier.specs.Stages.{Moment}
+use Rattle.session_verifier.specs.Notes.{granted_by, JudgesRightly, AcceptsExactly, IsShown, SendsRightly, KeepsKeys, EndsBecause, LeasesBehindHello, IsTold, CountsFaults, ReceivesFew, Completes}
+use Rattle.session_verifier.specs.declared.note.SessionNote.{SessionNote}
 use Rattle.session_verifier.specs.declared.note.VerifierOutcome.{VerifierOutcome}
 use Rattle.session_verifier.specs.declared.note.VerifierOutcome.TheVariants.{Accepted}
 use Rattle.session_pool.specs.FirstUnits.{first_units}
@@ -14,28 +19,31 @@ abbrev pub IsLeaseOf : VerifierJob → Option (Result Span LeaseFault) → Type 
 IsLeaseOf job answer =
     (answer ≡ None) ⊎ (answer ≡ Some (first_units (units_of_job job) job.task.file.params.total))
 
--- nothing has passed over a link, its peer has not ended, and nothing has failed
-pub record IsFreshMoment (first : Moment) : Type 0 where
-  pub log : first.log ≡ []
-  pub unlogged : IfSome first.told (λ log. log ≡ [])
-  pub unended : IfSome first.ended (λ ended. ended ≡ false)
-  pub unfailed : first.faults ≡ 0
-
--- What a note says: which units were leased; that an outcome which judges is the verdict of the checks on a whole session, and
--- that an accepted log has no other; what acceptance shows; what the verifier sent; that its keys fit the pairs of whatever prover;
--- why the session ended; and that with an honest peer it is accepted, unless memory was wanting.
-pub record IsNote (job : VerifierJob) (granted : Option Span) (outcome : VerifierOutcome) (now : Moment) : Type 0 where
+-- A session about the job over a link that was fresh, and now tells this: which units were leased, and that the wanted hello came
+-- before; that an outcome which judges is the verdict of the checks on a whole session, and that an accepted log has no other; what
+-- acceptance shows; what the verifier sent; that its keys fit the pairs of whatever prover; why the session ended; what the link
+-- tells beside the log; how often it failed; that it is ended; and that with an honest peer the session is accepted, unless memory
+-- was missing.
+pub record IsSessionOf (job : VerifierJob) (granted : Option Span) (outcome : VerifierOutcome) (log : List (Side × ℕ)) (link : LinkState)
+    : Type 0 where
   pub answer : Option (Result Span LeaseFault)
   pub leased : IsLeaseOf job answer
   pub granted_is : granted ≡ granted_by answer
-  pub verdict : JudgesRightly job granted outcome now.log
-  pub accepted : AcceptsExactly job outcome now.log
-  pub shown : outcome ≡ Accepted → IsShown job granted now.log
-  pub sends : SendsRightly job granted outcome now.log
-  pub related : KeepsKeys job now.log
-  pub first : Moment
-  pub fresh : IsFreshMoment first
-  pub cause : EndsBecause job answer outcome first now
-  pub told : IsTold outcome first now
-  pub receives : ReceivesFew first now
-  pub complete : Completes job answer outcome first now
+  pub behind_hello : LeasesBehindHello job answer log
+  pub verdict : JudgesRightly job granted outcome log
+  pub accepted : AcceptsExactly job outcome log
+  pub shown : outcome ≡ Accepted → IsShown job granted log
+  pub sends : SendsRightly job granted outcome log
+  pub related : KeepsKeys job log
+  pub first : LinkState
+  pub fresh : IsFresh first
+  pub cause : EndsBecause job answer outcome (snapshot Verifier [] first) (snapshot Verifier log link)
+  pub told : IsTold job granted outcome (snapshot Verifier [] first) (snapshot Verifier log link)
+  pub faults : CountsFaults outcome (snapshot Verifier [] first) (snapshot Verifier log link)
+  pub receives : ReceivesFew (snapshot Verifier [] first) (snapshot Verifier log link)
+  pub complete : Completes job answer outcome (snapshot Verifier [] first) (snapshot Verifier log link)
+  pub ended : link.is_open ≡ false
+
+-- a note is one of such a session
+abbrev pub IsNote : {L : Type 0} → (L → LinkState) → VerifierJob → SessionNote L → Type 0
+IsNote link_tells job note = IsSessionOf job note.granted note.outcome note.log (link_tells note.link)

@@ -1,10 +1,8 @@
 // The session with the first peer that calls.
 ghost use Rattle.std.specs.Prelude.{◌≡◌, ◌≤◌, All, IsTrue, length};
-ghost use Rattle.zk_model.specs.declared.Side.TheVariants.{Verifier};
 ghost use Rattle.zk_port.specs.Doors.{IsFresh};
-ghost use Rattle.session_verifier.specs.Stages.{moment_at};
 ghost use Rattle.session_pool.specs.Notes.{IsNote};
-ghost use Rattle.session_pool.specs.Doors.{TakesOneAtMost, door_state};
+ghost use Rattle.session_pool.specs.Doors.{TakesOneAtMost};
 
 use crate::first_units::FirstUnits;
 use crate::served::Served;
@@ -20,18 +18,16 @@ fn serve_link<L: Link, G: Gate>(
     link: L,
     gate: &G,
 ) -> SessionNote<L>
-    requires fresh { IsFresh (L.log link) (L.ended link) (L.is_open link) (L.faults link) }
-    requires side { L.side link ≡ Verifier }
-    ensures { IsNote job.now result.granted result.outcome
-        (moment_at result.log (L.log result.link) (L.to_come result.link)
-        (L.ended result.link) (L.receives result.link) (L.faults result.link)) }
+    requires fresh { IsFresh (L.state link) }
+    ensures { IsNote L.state job.now result }
 {
     let mut first = FirstUnits::new(job.file().total());
     verify_session(alloc, job, &mut first, link, gate)
 }
 
 /// Leads a session with the first peer that calls at the door, if one is left, about the job, and with the units from the first
-/// on. Where no link is left there is no note.
+/// on. Room for its note is taken before the link, so that no session is led whose note is lost. Where no link is left there is no
+/// note.
 pub fn serve_first<D: Door, G: Gate>(
     alloc: Global,
     job: &VerifierJob<'_>,
@@ -40,25 +36,26 @@ pub fn serve_first<D: Door, G: Gate>(
 ) -> Served<D::Link>
 where
     D::Link: Drop,
-    ensures notes { All (λ note. IsNote job.now note.granted note.outcome
-        (moment_at note.log (D.Link.log note.link) (D.Link.to_come note.link)
-        (D.Link.ended note.link) (D.Link.receives note.link) (D.Link.faults note.link))) result.notes.items }
+    ensures notes { All (IsNote D.Link.state job.now) result.notes.items }
     ensures taken { TakesOneAtMost (length result.notes.items) result.door_failed result.memory_failed
-        (door_state (D.left door.old) (D.faults door.old)) (door_state (D.left door.new) (D.faults door.new)) }
-    ensures offers { D.left door.new ≤ D.left door.old }
+        (D.state door.old) (D.state door.new) }
 {
     let mut served = Served {
         notes: Vec::new(alloc),
         door_failed: false,
         memory_failed: false,
     };
+    if served.notes.reserve(1).is_err() {
+        served.memory_failed = true;
+        return served;
+    }
     match door.next(alloc) {
         Err(PortFault::Failed) => served.door_failed = true,
         Err(PortFault::NoMemory) => served.memory_failed = true,
         Ok(None) => {}
         Ok(Some(link)) => {
             let note = serve_link(alloc, job, link, gate);
-            served.memory_failed = served.notes.push(note).is_err();
+            served.notes.push_reserved(note);
         }
     }
     served

@@ -1,11 +1,11 @@
 -- With an honest verifier no other outcome is left.
-use Rattle.std.proofs.Common.{◌≡◌, inl, inr, ℕ, zero, suc, ◌+◌, ◌<◌, ◌≤◌, List, [], ◌∷◌, ◌++◌, take, drop, length, Option, Some, None, refl, ap, sym, ◌∙◌, subst, append_assoc, append-nil, length-append, arith}
-use Rattle.std.proofs.lemmas.List.{take_all, take-append-drop}
+use Rattle.std.proofs.Common.{◌≡◌, inl, inr, ℕ, suc, ◌+◌, ◌<◌, ◌≤◌, List, [], ◌∷◌, ◌++◌, take, length, Option, Some, None, refl, ap, sym, ◌∙◌, subst, append_assoc, append-nil, length-append, arith}
+use Rattle.std.proofs.lemmas.List.{take_all}
 use Rattle.session_laws.proofs.Turns.{answered, fewer_answered}
 use Rattle.session_laws.proofs.Sizes.{count_is}
 use Rattle.zk_model.specs.Files.{rounds_of}
 use Rattle.zk_model.specs.Transcript.{Grant, Transcript, IsTranscript, bytes_from, sent_by, session_turns, refuse_frame}
-use Rattle.zk_model.specs.Frames.{Frame, Allows, IsFirstBad, frame_length, frame_spelling}
+use Rattle.zk_model.specs.Frames.{IsFirstBad, frame_length, frame_spelling}
 use Rattle.zk_model.specs.Program.{Program}
 use Rattle.zk_model.specs.Statement.{Statement}
 use Rattle.zk_laws.specs.Rehearsing.{AreCounterparts}
@@ -29,28 +29,9 @@ use Rattle.session_prover.specs.Turns.{IsSound}
 use Rattle.session_prover.proofs.Sides.{verifier_says}
 use Rattle.session_prover.proofs.Heard.{IsNextFrame}
 use Rattle.session_prover.proofs.Unheard.{same_bytes_grant}
+use Rattle.session_prover.proofs.GrantPlace.{none_bad}
 use Rattle.session_prover.proofs.Waiting.{turns_at, next_frame, greeted_heard, granted_heard}
 use Rattle.session_prover.proofs.Related.{suits_is}
-
-take_of_front : (k : ℕ) (a b : List ℕ) → k ≤ length a → take k (a ++ b) ≡ take k a
-take_of_front zero a b few = refl
-take_of_front (suc k) [] b few = absurd (omega (arith, few))
-take_of_front (suc k) (x ∷ a) b few = ap (λ l. x ∷ l) (take_of_front k a b (omega (arith, few)))
-
--- bytes that a frame of the place begins with have none that is bad
-none_bad : (place : Expect) (frame : Frame) (rest more tail : List ℕ) (n : ℕ) → Allows place frame
-    → length rest ≤ length (frame_spelling frame) → rest ++ more ≡ frame_spelling frame ++ tail → IsFirstBad place rest n → ⊥
-none_bad place frame rest more tail n allowed few is bad =
-    bad.ends (record { frame = frame; allowed = allowed; begun = (drop (n + 1) (frame_spelling frame), same) })
-  where
-    fronts : take (n + 1) rest ≡ take (n + 1) (frame_spelling frame)
-    fronts =
-        let within = bad.within in
-        sym (take_of_front (n + 1) rest more (omega (arith, within))) ∙ ap (take (n + 1)) is
-        ∙ take_of_front (n + 1) (frame_spelling frame) tail (omega (arith, within, few))
-
-    same : frame_spelling frame ≡ take (n + 1) rest ++ drop (n + 1) (frame_spelling frame)
-    same = sym (take-append-drop (n + 1) (frame_spelling frame)) ∙ ap (λ l. l ++ drop (n + 1) (frame_spelling frame)) (sym fronts)
 
 -- ---- what an honest verifier says
 
@@ -208,5 +189,5 @@ completes job claim granted log told (outcome.Full slots) law sound is (given, s
     absurd (not_refused claim given _ granted span refused is some)
 completes job claim granted log told outcome.Device law sound is (given, suits, refused, logged) inputs verifier span peer some calm =
     absurd (not_refused claim given _ granted span refused is some)
-completes job claim granted log told outcome.Link law sound is caused inputs verifier span peer some calm = absurd (calm caused)
+completes job claim granted log told outcome.Link law sound is (rose, where_failed) inputs verifier span peer some calm = absurd (calm rose)
 completes job claim granted log told outcome.NoMemory law sound is caused inputs verifier span peer some calm = inr refl

@@ -1,15 +1,18 @@
 -- Why a session ends where it does.
 use Rattle.std.proofs.Common.{◌≡◌, ◌⊎◌, inl, inr, ℕ, ◌+◌, ◌≤◌, List, [], ◌++◌, flat_map, length, true, Option, Some, None, refl, ap, sym, ◌∙◌, subst, append_assoc, append-nil, length-append, arith}
-use Rattle.zk_model.specs.Transcript.{Grant, bytes_from, turn_bytes, sent_by, reply_frame, corrections_frame, challenge_frame, sums_frame, openings_frame}
+use Rattle.zk_model.specs.Transcript.{Grant, IsGrant, bytes_from, turn_bytes, sent_by, reply_frame, corrections_frame, challenge_frame, sums_frame, openings_frame}
 use Rattle.zk_model.specs.Frames.{Frame}
 use Rattle.zk_model.specs.HonestProver.{IsWitness}
 use Rattle.zk_model.specs.Peers.{IsFromHonestProver, HasEndedHonestly}
 use Rattle.zk_model.specs.declared.Expect.{Expect}
+use Rattle.zk_model.specs.declared.Expect.TheVariants as expect
 use Rattle.zk_model.specs.declared.Side.{Side}
 use Rattle.zk_model.specs.declared.Side.TheVariants.{Prover, Verifier}
 use Rattle.zk_port.specs.Counts.{Rose}
-use Rattle.zk_port.specs.Logs.{appended, put_before, peer_of}
-use Rattle.frame_link.specs.Lines.{LineState, Came, Arrives, Fails, longest, IsUnfinished}
+use Rattle.zk_port.specs.Logs.{appended, put_before}
+use Rattle.frame_link.specs.Sides.{peer_of}
+use Rattle.session_prover.proofs.Heard.{Hears}
+use Rattle.frame_link.specs.Lines.{LineState, counted_times, Came, Arrives, Fails, longest, IsUnfinished, IsCutShort, snapshot_of}
 use Rattle.frame_link.specs.Lines as lines
 use Rattle.frame_link.specs.declared.fault.LineFault.{LineFault}
 use Rattle.frame_link.specs.declared.fault.LineFault.TheVariants as fault
@@ -19,45 +22,52 @@ use Rattle.session_core.specs.Rounds.{round_turns}
 use Rattle.session_core.specs.Cores.{ProverPlace, awaits_grant, awaits_replies, awaits_challenge, awaits_verdict, has_ended, prover_expects}
 use Rattle.session_prover.specs.declared.note.ProverOutcome.{ProverOutcome}
 use Rattle.session_prover.specs.Outcomes.{line_outcome}
-use Rattle.session_prover.specs.Stages.{Claim, ClaimedFor, Course, IsLogAt, GoesWell, IsLineAt, greeted_log, granted_log, all_asks, sums_for, openings_for}
-use Rattle.session_prover.specs.Notes.{task_of, IsGrantRead, IsAskedRight, SendsOnceClaimed, IsRelated, IsOutcome, CountsOutcome, SendsHonestly, IsLogged, Ends}
-use Rattle.session_prover.specs.Turns.{IsSound, Comes}
+use Rattle.session_prover.specs.Stages.{answers_in, Claim, ClaimedFor, Course, IsLogAt, GoesWell, IsLineAt, greeted_log, granted_log, all_asks, sums_for, openings_for}
+use Rattle.session_prover.specs.Notes.{task_of, IsGrantRead, IsAskedRight, SendsOnceClaimed, IsRelated, StopsBehind, told_by, IsOutcome, CountsOutcome, SendsHonestly, AnswersGrantPlace, IsLogged, Ends}
+use Rattle.session_prover.specs.Turns.{IsSound, IsBehindGrant, Comes}
 use Rattle.session_prover.proofs.Sides.{prover_hears, verifier_says, appended_more, before_more}
 use Rattle.session_prover.proofs.Related.{read_is, related_at}
-use Rattle.session_prover.proofs.Waiting.{greeted_sent, has_answered, from_ended}
+use Rattle.session_prover.proofs.Waiting.{same_place, turns_at, greeted_sent, greeted_heard, not_heard, has_answered, from_ended}
+use Rattle.session_prover.proofs.Counting.{answers_heard}
+use Rattle.session_prover.proofs.GrantPlace.{whole_is_finished, answers_unread, answers_claimed}
+use Rattle.session_prover.proofs.Unread.{unread}
 
 -- ---- the claim
 
 -- the grant of a place that was claimed was read
 record IsClaimRead (job : ProverJob) (claim : Claim) (log : List (Side × ℕ)) : Type 0 where
   given : Grant
+  granted : IsGrant job.file.params job.statement.program given
   read : IsGrantRead job log given
   claimed : ClaimedFor claim given
 
-read_at : (job : ProverJob) (claim : Claim) (place : ProverPlace) (before more : List (Side × ℕ)) → IsLogAt job claim place before
-    → (claim.answer ≡ None) × (before ≡ greeted_log job) ⊎ IsClaimRead job claim (before ++ more)
-read_at job claim awaits_grant before more at = inl at
-read_at job claim (awaits_replies given done pairs) before more (came, claimed, some, at) = inr (record {
+claim_read : (job : ProverJob) (claim : Claim) (place : ProverPlace) (before more : List (Side × ℕ)) → IsBehindGrant place → IsLogAt job claim place before
+    → IsClaimRead job claim (before ++ more)
+claim_read job claim awaits_grant before more behind at = absurd behind
+claim_read job claim (awaits_replies given done pairs) before more behind (came, claimed, some, at) = record {
   given = given;
+  granted = some.granted;
   read = read_is job given (before ++ more) (bytes_from Prover (all_asks job given) ++ (bytes_from Verifier (flat_map reply_frame came) ++ more)) some.granted
       (ap (λ l. l ++ more) at ∙ append_assoc (granted_log job given ++ bytes_from Prover (all_asks job given)) (bytes_from Verifier (flat_map reply_frame came)) more
       ∙ append_assoc (granted_log job given) (bytes_from Prover (all_asks job given)) (bytes_from Verifier (flat_map reply_frame came) ++ more));
   claimed = claimed;
-})
-read_at job claim (awaits_challenge given pairs wires) before more (rounds, d, claimed, fixes, at) = inr (record {
+}
+claim_read job claim (awaits_challenge given pairs wires) before more behind (rounds, d, claimed, fixes, at) = record {
   given = given;
+  granted = fixes.granted;
   read = read_is job given (before ++ more) (turn_bytes (round_turns rounds) ++ (bytes_from Prover (corrections_frame d) ++ more)) fixes.granted
       (ap (λ l. l ++ more) at ∙ append_assoc (granted_log job given ++ turn_bytes (round_turns rounds)) (bytes_from Prover (corrections_frame d)) more
       ∙ append_assoc (granted_log job given) (turn_bytes (round_turns rounds)) (bytes_from Prover (corrections_frame d) ++ more));
   claimed = claimed;
-})
-read_at job claim awaits_verdict before more opened = inr (record {
+}
+claim_read job claim awaits_verdict before more behind opened = record {
   given = opened.given;
+  granted = opened.fixes.granted;
   read = read_is job opened.given (before ++ more) (r ++ (c ++ (b ++ (s ++ (o ++ more))))) opened.fixes.granted
       (ap (λ l. l ++ more) opened.logged ∙ append_assoc (g ++ r ++ c ++ b ++ s) o more ∙ append_assoc (g ++ r ++ c ++ b) s (o ++ more)
       ∙ append_assoc (g ++ r ++ c) b (s ++ (o ++ more)) ∙ append_assoc (g ++ r) c (b ++ (s ++ (o ++ more))) ∙ append_assoc g r (c ++ (b ++ (s ++ (o ++ more)))));
   claimed = opened.claimed;
-})
+}
   where
     g : List (Side × ℕ)
     g = granted_log job opened.given
@@ -76,6 +86,14 @@ read_at job claim awaits_verdict before more opened = inr (record {
 
     o : List (Side × ℕ)
     o = bytes_from Prover (openings_frame (openings_for job opened.wires))
+claim_read job claim has_ended before more behind at = absurd at
+
+read_at : (job : ProverJob) (claim : Claim) (place : ProverPlace) (before more : List (Side × ℕ)) → IsLogAt job claim place before
+    → (claim.answer ≡ None) × (before ≡ greeted_log job) ⊎ IsClaimRead job claim (before ++ more)
+read_at job claim awaits_grant before more at = inl at
+read_at job claim (awaits_replies given done pairs) before more at = inr (claim_read job claim (awaits_replies given done pairs) before more tt at)
+read_at job claim (awaits_challenge given pairs wires) before more at = inr (claim_read job claim (awaits_challenge given pairs wires) before more tt at)
+read_at job claim awaits_verdict before more at = inr (claim_read job claim awaits_verdict before more tt at)
 read_at job claim has_ended before more at = absurd at
 
 -- where the prover waits, the claimant was asked right
@@ -97,6 +115,30 @@ once_claimed job claim place before rest at = elim (read_at job claim place befo
   )
   | inr read ↦ inr (read.given, read.read, read.claimed)
 ]
+
+-- what is in the grant's place is answered, where the prover waits behind it
+pub answers_behind_claim : (job : ProverJob) (claim : Claim) (place : ProverPlace) (before more : List (Side × ℕ)) (outcome : ProverOutcome)
+    → IsSound job → IsBehindGrant place → IsLogAt job claim place before → AnswersGrantPlace job claim outcome (before ++ more)
+answers_behind_claim job claim place before more outcome sound behind at =
+    let read = claim_read job claim place before more behind at in
+    answers_claimed job claim read.given outcome (before ++ more) sound read.claimed read.granted read.read.begun
+
+-- what is in the grant's place is answered: no whole frame is there yet, or its units were claimed
+pub answers_at : (job : ProverJob) (claim : Claim) (place : ProverPlace) (awaited : Expect) (before : List (Side × ℕ)) (bytes : List ℕ) (outcome : ProverOutcome)
+    → IsSound job → IsLogAt job claim place before → prover_expects job place ≡ Some awaited → IsUnfinished awaited bytes
+    → AnswersGrantPlace job claim outcome (before ++ bytes_from Verifier bytes)
+answers_at job claim awaits_grant awaited before bytes outcome sound at expected unfinished =
+    answers_unread job claim outcome (before ++ bytes_from Verifier bytes) at.0
+    (λ frame allowed is. whole_is_finished expect.Grant frame bytes allowed
+    (ap (λ l. l ++ bytes) (sym (ap (sent_by Verifier) at.1 ∙ greeted_heard job)) ∙ sym (verifier_says before bytes) ∙ is)
+    (subst (λ (e : Expect). IsUnfinished e bytes) (same_place expect.Grant awaited expected) unfinished))
+answers_at job claim (awaits_replies given done pairs) awaited before bytes outcome sound at expected unfinished =
+    answers_behind_claim job claim (awaits_replies given done pairs) before (bytes_from Verifier bytes) outcome sound tt at
+answers_at job claim (awaits_challenge given pairs wires) awaited before bytes outcome sound at expected unfinished =
+    answers_behind_claim job claim (awaits_challenge given pairs wires) before (bytes_from Verifier bytes) outcome sound tt at
+answers_at job claim awaits_verdict awaited before bytes outcome sound at expected unfinished =
+    answers_behind_claim job claim awaits_verdict before (bytes_from Verifier bytes) outcome sound tt at
+answers_at job claim has_ended awaited before bytes outcome sound at expected unfinished = absurd at
 
 -- ---- what the link tells
 
@@ -123,6 +165,7 @@ pub record CameWell (first old new : LineState) (bytes : List ℕ) : Type 0 wher
   pub count : length (sent_by Verifier new.log) ≡ length (sent_by Verifier old.log) + length bytes
   pub told : new.told ≡ appended new.log first.told
   pub came : first.to_come ≡ put_before (sent_by Verifier new.log) new.to_come
+  pub sends : new.sends ≡ counted_times (answers_in new.log) first.sends
   pub side : new.side ≡ Prover
   pub is_open : new.is_open ≡ true
 
@@ -135,6 +178,7 @@ came_well first old new bytes well came = record {
       ∙ appended_more old.log (bytes_from Verifier bytes) first.told ∙ ap (λ l. appended l first.told) (sym logged);
   came = well.came ∙ ap (put_before (sent_by Verifier old.log)) came.came ∙ before_more (sent_by Verifier old.log) bytes new.to_come
       ∙ ap (λ l. put_before l new.to_come) (sym heard);
+  sends = came.sends ∙ well.sends ∙ ap (λ (k : ℕ). counted_times k first.sends) (sym (ap answers_in logged ∙ answers_heard old.log bytes));
   side = came.side ∙ well.side;
   is_open = came.is_open ∙ well.is_open;
 }
@@ -158,6 +202,7 @@ comes job course place awaited frame old new at arrives = record {
     received = arrives.read ∙ ap idle (ap (λ n. n + length arrives.bytes) (ap (λ (r : Reading). r.received) at.well.received) ∙ sym well.count);
     told = well.told;
     came = well.came;
+    sends = well.sends;
     side = well.side;
     is_open = well.is_open;
     receives = omega (arith, arrives.receives, at.well.receives, well.count);
@@ -193,16 +238,25 @@ pub stops_taking : (job : ProverJob) (course : Course) (place : ProverPlace) (aw
     → IsSound job → IsLineAt job course place old → prover_expects job place ≡ Some awaited → Fails awaited f old new
     → Ends job course (line_outcome f) new
 stops_taking job course place awaited f old new sound at expected fails = record {
-  outcome_is = by_fault f fails.broken;
+  outcome_is = by_fault f fails.broken fails.cut;
   asked = subst (λ l. IsAskedRight job course.claim l) (sym well.logged) (asked_at job course.claim place old.log (bytes_from Verifier fails.bytes) at.log);
   honest = sent_line f job new.log ended;
   claimed = claimed;
   related = subst (IsRelated job) (sym well.logged) (related_at job course.claim place old.log fails.bytes sound at.log);
+  answers = subst (AnswersGrantPlace job course.claim (line_outcome f)) (sym well.logged)
+      (answers_at job course.claim place awaited old.log fails.bytes (line_outcome f) sound at.log expected fails.unfinished);
+  verdict = unread job (line_outcome f) new.log (record {
+    turn = turns_at job place;
+    unheard = λ heard. not_heard job course.claim place awaited old.log fails.bytes [] sound at.log expected fails.few fails.unfinished
+        (subst (λ l. Hears (task_of job []) l (turns_at job place)) well.heard heard);
+  });
+  sends = inl well.sends;
   logged = logged_whole job course.claim (line_outcome f) new.log course.first.told new.told well.told
       (λ inputs wires witness. from_ended job inputs new.log (ended inputs wires witness)) claimed;
   came = well.came;
   receives = omega (arith, fails.receives, at.well.receives, well.count);
   count = counts_line f course.first.faults old.faults new.faults at.well.faults fails.count.later fails.count.unfailed;
+  side = well.side;
   is_open = well.is_open;
 }
   where
@@ -219,10 +273,23 @@ stops_taking job course place awaited f old new sound at expected fails = record
     received : old.reading.received ≡ length (sent_by Verifier old.log)
     received = ap (λ (r : Reading). r.received) at.well.received
 
-    by_fault : (f : LineFault) → lines.Breaks awaited fails.bytes old new f
+    stops_short : IsCutShort awaited fails.bytes → StopsBehind job course.claim new.log IsCutShort
+    stops_short cut = record {
+      place = place;
+      before = old.log;
+      waited = at.log;
+      expect = awaited;
+      expected = expected;
+      rest = fails.bytes;
+      few = fails.few;
+      logged = well.logged;
+      cause = cut;
+    }
+
+    by_fault : (f : LineFault) → lines.Breaks awaited fails.bytes old new f → (lines.IsNoBadByte f → IsCutShort awaited fails.bytes)
         → IsOutcome job course.claim new.log
-        (record { ended = new.ended; to_come = new.to_come; before = course.first.faults; after = new.faults }) (line_outcome f)
-    by_fault (fault.PeerEnded place_at) broken = (
+        (told_by (snapshot_of course.first) (snapshot_of new)) (line_outcome f)
+    by_fault (fault.PeerEnded place_at) broken cut = (
       record {
         place = place;
         before = old.log;
@@ -238,7 +305,7 @@ stops_taking job course place awaited f old new sound at expected fails = record
       broken.3,
       broken.4,
     )
-    by_fault (fault.BadFrame place_at) broken = (
+    by_fault (fault.BadFrame place_at) broken cut = (
       broken.0,
       record {
         place = place;
@@ -252,5 +319,5 @@ stops_taking job course place awaited f old new sound at expected fails = record
         cause = (broken.1, (let is = broken.2 in omega (arith, is, received, well.count)));
       },
     )
-    by_fault fault.Link broken = subst (λ n. Rose n new.faults) at.well.faults broken
-    by_fault fault.NoMemory broken = tt
+    by_fault fault.Link broken cut = (subst (λ n. Rose n new.faults) at.well.faults broken, inl (stops_short (cut tt), well.sends))
+    by_fault fault.NoMemory broken cut = inl (stops_short (cut tt))

@@ -1,11 +1,11 @@
 -- A greeting, and what comes in the grant's place.
-use Rattle.std.proofs.Common.{◌≡◌, inl, inr, ℕ, ◌+◌, ◌≤◌, List, [], ◌++◌, flat_map, length, Bool, true, false, nat_lt, Some, None, Result, Ok, Err, IfErr, refl, ap, sym, ◌∙◌, subst, append_assoc, append-nil, arith}
+use Rattle.std.proofs.Common.{◌≡◌, inl, inr, ℕ, ◌+◌, ◌≤◌, List, [], ◌++◌, flat_map, length, Bool, true, false, nat_lt, Some, None, Result, Ok, Err, IfErr, refl, ap, sym, ◌∙◌, subst, append-nil, arith}
 use Rattle.std.proofs.lemmas.Bool.{ltb-true, ltb-false}
 use Rattle.std.specs.Prelude.{IfOk}
 use Rattle.zk_model.specs.declared.Span.{Span}
 use Rattle.zk_model.specs.Transcript.{Grant, IsGrant, bytes_from, sent_by, grant_frame, refuse_frame}
 use Rattle.zk_model.specs.View.{span_of}
-use Rattle.zk_model.specs.Frames.{Frame, grant, refuse, Allows, FitsGrant, FitsRefusal, frame_spelling}
+use Rattle.zk_model.specs.Frames.{Frame, grant, Allows, FitsGrant, FitsRefusal, frame_spelling}
 use Rattle.zk_model.specs.HonestProver.{ProverTask, IsWitness, AreHonestBytes}
 use Rattle.zk_model.specs.Peers.{IsFromHonestProver, HasEndedHonestly}
 use Rattle.zk_model.specs.declared.Expect.TheVariants as expect
@@ -13,7 +13,8 @@ use Rattle.zk_model.specs.declared.Side.TheVariants.{Prover, Verifier}
 use Rattle.zk_port.specs.Logs.{appended, put_before}
 use Rattle.claim_store.specs.declared.ClaimFault.{ClaimFault}
 use Rattle.claim_store.specs.declared.ClaimFault.TheVariants as refusal
-use Rattle.frame_link.specs.Lines.{LineState, Sends}
+use Rattle.zk_model.specs.declared.Side.{Side}
+use Rattle.frame_link.specs.Lines.{LineState, Sends, counted_times, snapshot_of}
 use Rattle.frame_link.specs.declared.fault.LineFault.{LineFault}
 use Rattle.proof_frames.specs.Readings.{Reading}
 use Rattle.session_core.specs.Jobs.{ProverJob, Suits}
@@ -21,17 +22,20 @@ use Rattle.session_core.specs.Cores.{ProverPlace, awaits_grant}
 use Rattle.session_prover.specs.declared.note.ProverOutcome.{ProverOutcome}
 use Rattle.session_prover.specs.declared.note.ProverOutcome.TheVariants as outcome
 use Rattle.session_prover.specs.Outcomes.{line_outcome, claim_outcome}
-use Rattle.session_prover.specs.Stages.{Claim, ClaimedFor, RefusedFor, Course, IsLogTaken, GoesWell, IsLineAt, IsLineTaken, greeting, greeted_log, granted_log}
-use Rattle.session_prover.specs.Notes.{task_of, IsRelated, IsOutcome, SendsHonestly, Ends}
+use Rattle.session_prover.specs.Stages.{answers_in, Claim, ClaimedFor, RefusedFor, Course, IsLogTaken, GoesWell, IsLineAt, IsLineTaken, greeting, greeted_log, granted_log}
+use Rattle.session_prover.specs.Notes.{task_of, IsRelated, IsOutcome, told_by, SendsHonestly, AnswersGrantPlace, Ends}
 use Rattle.session_prover.specs.Turns.{IsSound, SendStops, IsFresh, Comes, IsGrantTaken, IsNoGrant}
-use Rattle.session_prover.proofs.Sides.{own_bytes, appended_none, before_none, verifier_says, prover_hears}
+use Rattle.session_prover.proofs.Sides.{own_bytes, appended_none, before_none, prover_hears}
 use Rattle.session_prover.proofs.Heard.{Hears, honest_bytes}
 use Rattle.session_prover.proofs.Unheard.{one_grant}
 use Rattle.session_prover.proofs.Waiting.{greeted_sent, greeted_heard, granted_sent, granted_heard, from_ended}
 use Rattle.session_prover.proofs.Ending.{logged_whole}
 use Rattle.session_prover.proofs.Related.{suits_is, related_greeting, related_part}
 use Rattle.session_prover.proofs.Answering.{same_grant, no_refusal_is_grant, answer_exists, answer_is_honest}
-use Rattle.session_prover.proofs.Stopping.{IsDue, stops_sending_at}
+use Rattle.session_prover.proofs.GrantPlace.{refused_heard, same_code, answers_unread, answers_unsuited, answers_refusal, answers_unclaimed}
+use Rattle.session_prover.proofs.Stopping.{IsDue, stops_sending_at, taken_unheard}
+use Rattle.session_prover.proofs.Unread.{IsUnheard, unread}
+use Rattle.session_prover.proofs.Counting.{answers_first, frame_is_some, one_send_more}
 
 -- ---- the greeting
 
@@ -41,6 +45,7 @@ fresh_well line fresh = record {
   received = fresh.reading ∙ ap idle (ap length (ap (sent_by Verifier) (sym fresh.log)));
   told = appended_none line.told ∙ ap (λ l. appended l line.told) (sym fresh.log);
   came = before_none line.to_come ∙ ap (λ l. put_before (sent_by Verifier l) line.to_come) (sym fresh.log);
+  sends = ap (λ (l : List (Side × ℕ)). counted_times (answers_in l) line.sends) (sym fresh.log);
   side = fresh.side;
   is_open = fresh.is_open;
   receives = omega arith;
@@ -65,6 +70,8 @@ greeting_due job claim sound unasked = record {
   honest = λ inputs wires witness. greets job inputs [] (no_bytes (task_of job inputs));
   asked = λ more. inl unasked;
   claimed = λ more rest is. inl (rest, is ∙ ap (λ l. l ++ rest) (sym (own_bytes Prover more)));
+  answers = λ result. answers_unread job claim result [] unasked
+      (λ frame allowed none. let some = frame_is_some frame in let count = ap length none in absurd (omega (arith, some, count)));
 }
 
 -- it is sent
@@ -76,6 +83,8 @@ greeted job course old new first unasked fresh sends = record {
     received = sends.others.reading ∙ fresh.reading ∙ ap idle (ap length (sym heard));
     told = sends.told ∙ ap (λ side. appended (bytes_from side (greeting job)) old.told) fresh.side ∙ ap (λ l. appended l old.told) (sym logged);
     came = before_none old.to_come ∙ (λ i. put_before (sym heard i) (sym sends.others.to_come i));
+    sends = one_send_more 0 old.sends new.sends sends.sends
+        ∙ ap (λ (k : ℕ). counted_times k old.sends) (sym (ap answers_in logged ∙ answers_first (greeting job) (omega arith)));
     side = sends.others.side ∙ fresh.side;
     is_open = sends.others.is_open ∙ fresh.is_open;
     receives = (let same = sends.others.receives in omega (arith, same));
@@ -97,14 +106,11 @@ pub stops_greeting : (job : ProverJob) (course : Course) (f : LineFault) (old ne
     → course.claim.answer ≡ None → IsFresh old → SendStops (greeting job) f old new → Ends job course (line_outcome f) new
 stops_greeting job course f old new sound first unasked fresh stops =
     stops_sending_at job course (greeting job) f old new (subst (λ (s : LineState). GoesWell s old) (sym first) (fresh_well old fresh))
-    (subst (λ l. IsDue job course.claim l (greeting job)) (sym fresh.log) (greeting_due job course.claim sound unasked)) stops
-    (subst (λ l. IsRelated job (l ++ bytes_from Prover stops.done)) (sym fresh.log)
-    (related_part job stops.done (stops.part ++ stops.begun.0) (stops.begun.1 ∙ append_assoc stops.done stops.part stops.begun.0)))
+    (subst (λ l. IsDue job course.claim l (greeting job)) (sym fresh.log) (greeting_due job course.claim sound unasked)) (inl (unasked, fresh.log)) stops
+    (subst (IsRelated job) (sym fresh.log) (related_part job [] (greeting job) refl))
+    (subst (IsUnheard job) (sym fresh.log) (record { turn = 0; unheard = no_bytes (task_of job []) }))
 
 -- ---- what comes
-
-refused_heard : (job : ProverJob) (code : ℕ) → sent_by Verifier (greeted_log job ++ bytes_from Verifier (refuse_frame code)) ≡ refuse_frame code
-refused_heard job code = verifier_says (greeted_log job) (refuse_frame code) ∙ ap (λ l. l ++ refuse_frame code) (greeted_heard job)
 
 refused_sent : (job : ProverJob) (code : ℕ) → sent_by Prover (greeted_log job ++ bytes_from Verifier (refuse_frame code)) ≡ greeting job
 refused_sent job code = prover_hears (greeted_log job) (refuse_frame code) ∙ greeted_sent job
@@ -113,21 +119,27 @@ refused_sent job code = prover_hears (greeted_log job) (refuse_frame code) ∙ g
 ends_greeted : (job : ProverJob) (course : Course) (result : ProverOutcome) (new : LineState) → GoesWell course.first new
     → course.claim.answer ≡ None → sent_by Prover new.log ≡ greeting job
     → ((inputs wires : List ℕ) → IsWitness job.statement inputs wires job.given → HasEndedHonestly (task_of job inputs) new.log)
+    → IsUnheard job new.log
     → SendsHonestly job new.log result
-    → IsOutcome job course.claim new.log (record { ended = new.ended; to_come = new.to_come; before = course.first.faults; after = new.faults }) result
+    → AnswersGrantPlace job course.claim result new.log
+    → IsOutcome job course.claim new.log (told_by (snapshot_of course.first) (snapshot_of new)) result
     → Ends job course result new
-ends_greeted job course result new well unasked sent ended honest is = record {
+ends_greeted job course result new well unasked sent ended unheard honest answers is = record {
   outcome_is = is;
+  answers = answers;
   asked = inl unasked;
   honest = honest;
   claimed = inl ([], sym (append-nil (sent_by Prover new.log) ∙ sent));
   related = related_greeting job new.log sent;
+  verdict = unread job result new.log unheard;
+  sends = inl well.sends;
   logged = logged_whole job course.claim result new.log course.first.told new.told well.told
       (λ inputs wires witness. from_ended job inputs new.log (ended inputs wires witness))
       (inl ([], sym (append-nil (sent_by Prover new.log) ∙ sent)));
   came = well.came;
   receives = (let few = well.receives in omega (arith, few));
   count = (let same = well.faults in record { later = omega (arith, same); unfailed = λ _. same });
+  side = well.side;
   is_open = well.is_open;
 }
 
@@ -144,23 +156,20 @@ grant_taken job course frame given new come allowed is = record {
     fits (inl (other, is_too, ranged)) = subst FitsGrant (same_grant other given (sym is_too ∙ is)) ranged
     fits (inr (code, is_too, ranged)) = absurd (no_refusal_is_grant code given (sym is_too ∙ is))
 
-code_or : ℕ → Frame → ℕ
-code_or other (refuse code) = code
-code_or other frame = other
-
-same_code : (one other : ℕ) → refuse one ≡ refuse other → one ≡ other
-unfolding code_or
-same_code one other is = ap (code_or one) is
-
 -- no grant that suits has come
 pub ends_ungranted : (job : ProverJob) (course : Course) (frame : Frame) (result : ProverOutcome) (new : LineState) → IsSound job
     → Comes job course awaits_grant frame new → Allows expect.Grant frame → IsNoGrant job frame result → Ends job course result new
 ends_ungranted job course frame outcome.BadGrant new sound come allowed (given, is, unsuited) =
-    ends_greeted job course outcome.BadGrant new come.well come.waited.0 sent ended (λ inputs wires witness. (ended inputs wires witness, sent))
+    ends_greeted job course outcome.BadGrant new come.well come.waited.0 sent ended unheard (λ inputs wires witness. (ended inputs wires witness, sent))
+    (answers_unsuited job course.claim given new.log come.waited.0 taken.fits unsuited taken.log)
     (given, taken.fits, unsuited, taken.log)
   where
     taken : IsGrantTaken job course.first given new
     taken = grant_taken job course frame given new come allowed is
+
+    unmet : (inputs : List ℕ) → Hears (task_of job inputs) (grant_frame given) 0 → ⊥
+    unmet inputs heard = unsuited (suits_is job.file.params job.statement.program given
+        (one_grant (task_of job inputs) given sound.file.params.total taken.fits heard))
 
     sent : sent_by Prover new.log ≡ greeting job
     sent = ap (sent_by Prover) taken.log ∙ granted_sent job given
@@ -169,11 +178,16 @@ ends_ungranted job course frame outcome.BadGrant new sound come allowed (given, 
     ended inputs wires witness =
         subst (λ (q : List ℕ × List ℕ). AreHonestBytes (task_of job inputs) q.0 q.1)
         (λ i. (sym (ap (sent_by Verifier) taken.log ∙ granted_heard job given) i, sym sent i))
-        (greets job inputs (grant_frame given)
-        (λ heard. unsuited (suits_is job.file.params job.statement.program given
-        (one_grant (task_of job inputs) given sound.file.params.total taken.fits heard))))
+        (greets job inputs (grant_frame given) (unmet inputs))
+
+    unheard : IsUnheard job new.log
+    unheard = record {
+      turn = 0;
+      unheard = λ h. unmet [] (subst (λ l. Hears (task_of job []) l 0) (ap (sent_by Verifier) taken.log ∙ granted_heard job given) h);
+    }
 ends_ungranted job course frame (outcome.PeerRefused code) new sound come allowed is =
-    ends_greeted job course (outcome.PeerRefused code) new come.well come.waited.0 sent ended (λ inputs wires witness. (ended inputs wires witness, sent))
+    ends_greeted job course (outcome.PeerRefused code) new come.well come.waited.0 sent ended unheard (λ inputs wires witness. (ended inputs wires witness, sent))
+    (answers_refusal job course.claim code new.log come.waited.0 (fits allowed) logged)
     (fits allowed, logged)
   where
     logged : new.log ≡ greeted_log job ++ bytes_from Verifier (refuse_frame code)
@@ -181,6 +195,9 @@ ends_ungranted job course frame (outcome.PeerRefused code) new sound come allowe
 
     sent : sent_by Prover new.log ≡ greeting job
     sent = ap (sent_by Prover) logged ∙ refused_sent job code
+
+    too_short : (inputs : List ℕ) → Hears (task_of job inputs) (refuse_frame code) 0 → ⊥
+    too_short inputs heard = let whole = ap length heard.begun in absurd (omega (arith, whole))
 
     fits : Allows expect.Grant frame → FitsRefusal code
     fits (inl (given, is_too, ranged)) = absurd (no_refusal_is_grant code given (sym is ∙ is_too))
@@ -190,7 +207,13 @@ ends_ungranted job course frame (outcome.PeerRefused code) new sound come allowe
     ended inputs wires witness =
         subst (λ (q : List ℕ × List ℕ). AreHonestBytes (task_of job inputs) q.0 q.1)
         (λ i. (sym (ap (sent_by Verifier) logged ∙ refused_heard job code) i, sym sent i))
-        (greets job inputs (refuse_frame code) (λ heard. let whole = ap length heard.begun in absurd (omega (arith, whole))))
+        (greets job inputs (refuse_frame code) (too_short inputs))
+
+    unheard : IsUnheard job new.log
+    unheard = record {
+      turn = 0;
+      unheard = λ h. too_short [] (subst (λ l. Hears (task_of job []) l 0) (ap (sent_by Verifier) logged ∙ refused_heard job code) h);
+    }
 ends_ungranted job course frame outcome.Accepted new sound come allowed is = absurd is
 ends_ungranted job course frame (outcome.Rejected code number) new sound come allowed is = absurd is
 ends_ungranted job course frame (outcome.PeerEnded at) new sound come allowed is = absurd is
@@ -233,15 +256,19 @@ pub ends_unclaimed : (job : ProverJob) (course : Course) (given : Grant) (f : Cl
     → Ends job course (claim_outcome f) line
 ends_unclaimed job course given f line sound suits taken refused = record {
   outcome_is = caused f refused;
+  answers = answers_unclaimed job course.claim given f line.log taken.fits suits refused taken.log;
   asked = inr (given, record { suits = suits; begun = ([], taken.log ∙ sym (append-nil (granted_log job given))) }, inr (f, refused));
   honest = honest f;
   claimed = inl ([], sym (append-nil (sent_by Prover line.log) ∙ sent));
   related = related_greeting job line.log sent;
+  verdict = unread job (claim_outcome f) line.log unheard;
+  sends = inl taken.well.sends;
   logged = logged_whole job course.claim (claim_outcome f) line.log course.first.told line.told taken.well.told from
       (inl ([], sym (append-nil (sent_by Prover line.log) ∙ sent)));
   came = taken.well.came;
   receives = (let few = taken.well.receives in omega (arith, few));
   count = (let same = taken.well.faults in record { later = omega (arith, same); unfailed = λ _. same });
+  side = taken.well.side;
   is_open = taken.well.is_open;
 }
   where
@@ -250,6 +277,23 @@ ends_unclaimed job course given f line sound suits taken refused = record {
 
     heard : sent_by Verifier line.log ≡ grant_frame given
     heard = ap (sent_by Verifier) taken.log ∙ granted_heard job given
+
+    -- a session is not over with its grant
+    unheard : IsUnheard job line.log
+    unheard = by_range (nat_lt job.file.params.total (given.start + given.count)) refl
+      where
+        by_range : (b : Bool) → nat_lt job.file.params.total (given.start + given.count) ≡ b → IsUnheard job line.log
+        by_range true past = record {
+          turn = 0;
+          unheard = λ h.
+              let within = (one_grant (task_of job []) given sound.file.params.total taken.fits (subst (λ l. Hears (task_of job []) l 0) heard h)).within in
+              let over = ltb-true job.file.params.total (given.start + given.count) past in
+              absurd (omega (arith, within, over));
+        }
+        by_range false within =
+            let granted = granted_is job given suits (ltb-false job.file.params.total (given.start + given.count) within) in
+            let other : Claim = record { asked = Some (given.start, given.count); answer = Some (Ok (span_of given)) } in
+            taken_unheard job other awaits_grant (grant given) line.log sound (given, refl, record { asked = refl; answer = refl }, granted, taken.log)
 
     -- an honest prover would answer it where it lies in the file
     from : (inputs wires : List ℕ) → IsWitness job.statement inputs wires job.given → IsFromHonestProver (task_of job inputs) line.log
@@ -276,13 +320,13 @@ ends_unclaimed job course given f line sound suits taken refused = record {
             )
 
     caused : (f : ClaimFault) → RefusedFor course.claim given f → IsOutcome job course.claim line.log
-        (record { ended = line.ended; to_come = line.to_come; before = course.first.faults; after = line.faults }) (claim_outcome f)
+        (told_by (snapshot_of course.first) (snapshot_of line)) (claim_outcome f)
     caused (refusal.Broken first) refused = (given, suits, refused, taken.log)
     caused (refusal.OutOfRange total) refused = (given, suits, refused, taken.log)
     caused (refusal.Overlap earlier) refused = (given, suits, refused, taken.log)
     caused (refusal.Full slots) refused = (given, suits, refused, taken.log)
     caused refusal.Device refused = (given, suits, refused, taken.log)
-    caused refusal.NoMemory refused = tt
+    caused refusal.NoMemory refused = inr (inr (given, suits, refused, taken.log))
 
     honest : (f : ClaimFault) → SendsHonestly job line.log (claim_outcome f)
     honest (refusal.Broken first) inputs wires witness = (from inputs wires witness, sent)

@@ -1,10 +1,10 @@
 -- A verdict has come.
-use Rattle.std.proofs.Common.{◌≡◌, ℕ, ◌-◌, List, [], ◌∷◌, ◌++◌, flat_map, Result, Ok, Err, IfErr, OnOk, refl, ap, sym, ◌∙◌, subst, append_assoc, append-nil, arith}
+use Rattle.std.proofs.Common.{◌≡◌, inl, ℕ, zero, suc, ◌≤◌, ◌-◌, List, [], ◌∷◌, ◌++◌, Result, Ok, Err, IfErr, OnOk, refl, ap, sym, ◌∙◌, subst, append_assoc, append-nil, arith}
 use Rattle.std.specs.Prelude.{IsSomeAnd}
 use Rattle.std.proofs.lemmas.Grind.{flat_map-append}
 use Rattle.session_laws.proofs.Turns.{answered}
 use Rattle.zk_model.specs.Mac.{Pair}
-use Rattle.zk_model.specs.Transcript.{Grant, TreeReply, Round, bytes_from, turn_bytes, sent_by, spelling, grant_frame, reply_frame, corrections_frame, challenge_frame, sums_frame, openings_frame, verdict_frame}
+use Rattle.zk_model.specs.Transcript.{Grant, Round, bytes_from, turn_bytes, sent_by, spelling, grant_frame, corrections_frame, challenge_frame, sums_frame, openings_frame, verdict_frame}
 use Rattle.zk_model.specs.Frames.{Frame, verdict, Allows, FitsVerdict, frame_spelling}
 use Rattle.zk_model.specs.HonestProver.{IsWitness, AreHonestBytes}
 use Rattle.zk_model.specs.Peers.{HasEndedHonestly}
@@ -17,24 +17,17 @@ use Rattle.session_core.specs.Rounds.{round_turns}
 use Rattle.session_core.specs.Cores.{ProverPlace, awaits_grant, awaits_replies, awaits_challenge, awaits_verdict, has_ended, prover_expects}
 use Rattle.session_prover.specs.declared.note.ProverOutcome.{ProverOutcome}
 use Rattle.session_prover.specs.declared.note.ProverOutcome.TheVariants as outcome
-use Rattle.session_prover.specs.Stages.{Course, IsOpenedLog, IsLineTaken, granted_log, asked_log, replied_log, opened_log, sums_for, openings_for}
-use Rattle.session_prover.specs.Notes.{task_of, ReadsVerdict, IsAskedRight, SendsOnceClaimed, IsRelated, Ends}
+use Rattle.session_prover.specs.Outcomes.{verdict_outcome}
+use Rattle.session_prover.specs.Stages.{Course, IsOpenedLog, IsLineTaken, granted_log, opened_log, sums_for, openings_for}
+use Rattle.session_prover.specs.Notes.{task_of, ReadsVerdict, IsAskedRight, SendsOnceClaimed, IsRelated, AnswersGrantPlace, Ends}
 use Rattle.session_prover.specs.Turns.{IsSound, Expects, IsToAnswer, Comes, IsRejection}
 use Rattle.session_prover.proofs.Sides.{bytes_more, prover_hears, verifier_says}
 use Rattle.session_prover.proofs.Honest.{made, made_is, made_honest, finishes, all_sent}
 use Rattle.session_prover.proofs.Waiting.{opened_sent, opened_heard, from_ended}
 use Rattle.session_prover.proofs.Related.{related_at}
-use Rattle.session_prover.proofs.Ending.{asked_at, once_claimed, logged_whole}
-
--- replies behind replies
-replied_on : (job : ProverJob) (given : Grant) (came : List (List TreeReply)) (trees : List TreeReply)
-    → replied_log job given came ++ bytes_from Verifier (reply_frame trees) ≡ replied_log job given (came ++ trees ∷ [])
-replied_on job given came trees =
-    append_assoc (asked_log job given) (bytes_from Verifier (flat_map reply_frame came)) (bytes_from Verifier (reply_frame trees))
-    ∙ ap (λ l. asked_log job given ++ l)
-    (sym (bytes_more Verifier (flat_map reply_frame came) (reply_frame trees))
-    ∙ ap (λ l. bytes_from Verifier (flat_map reply_frame came ++ l)) (sym (append-nil (reply_frame trees)))
-    ∙ ap (bytes_from Verifier) (sym (flat_map-append reply_frame came (trees ∷ []))))
+use Rattle.session_prover.proofs.Ending.{answers_behind_claim, asked_at, once_claimed, logged_whole}
+use Rattle.session_prover.proofs.Replies.{replied_on}
+use Rattle.session_prover.proofs.Unread.{read_so}
 
 -- replies or a challenge have come
 pub frame_taken : (job : ProverJob) (course : Course) (place : ProverPlace) (frame : Frame) (line : LineState) → IsToAnswer place
@@ -112,6 +105,7 @@ record IsRead (job : ProverJob) (course : Course) (code number : ℕ) (line : Li
   asked : IsAskedRight job course.claim line.log
   claimed : SendsOnceClaimed job course.claim line.log
   related : IsRelated job line.log
+  answers : (result : ProverOutcome) → AnswersGrantPlace job course.claim result line.log
 
 is_read : (job : ProverJob) (course : Course) (frame : Frame) (code number : ℕ) (line : LineState) → IsSound job
     → Comes job course awaits_verdict frame line → FitsVerdict code number → frame ≡ verdict code number → IsRead job course code number line
@@ -136,6 +130,8 @@ is_read job course frame code number line sound come fits is = record {
   claimed = subst (λ l. SendsOnceClaimed job course.claim l) (sym come.logged)
       (once_claimed job course.claim awaits_verdict come.before (frame_spelling frame) opened);
   related = subst (IsRelated job) (sym come.logged) (related_at job course.claim awaits_verdict come.before (frame_spelling frame) sound opened);
+  answers = λ result. subst (AnswersGrantPlace job course.claim result) (sym come.logged)
+      (answers_behind_claim job course.claim awaits_verdict come.before (bytes_from Verifier (frame_spelling frame)) result sound tt opened);
 }
   where
     opened : IsOpenedLog job course.claim come.before
@@ -176,16 +172,24 @@ ends_accepted job course frame number line sound come allowed is = record {
   honest = read.ended;
   claimed = read.claimed;
   related = read.related;
+  answers = read.answers outcome.Accepted;
+  verdict = read_so job outcome.Accepted line.log 0 number sound read.reads refl;
+  sends = inl come.well.sends;
   logged = logged_whole job course.claim outcome.Accepted line.log course.first.told line.told come.well.told
       (λ inputs wires witness. from_ended job inputs line.log (read.ended inputs wires witness)) read.claimed;
   came = come.well.came;
   receives = (let few = come.well.receives in omega (arith, few));
   count = (let same = come.well.faults in record { later = omega (arith, same); unfailed = λ _. same });
+  side = come.well.side;
   is_open = come.well.is_open;
 }
   where
     read : IsRead job course 0 number line
     read = is_read job course frame 0 number line sound come (fits_of frame 0 number allowed is) is
+
+is_rejected : (code number : ℕ) → 1 ≤ code → outcome.Rejected code number ≡ verdict_outcome code number
+is_rejected zero number some = absurd (omega (arith, some))
+is_rejected (suc code) number some = refl
 
 -- or that one does not
 pub ends_rejected : (job : ProverJob) (course : Course) (frame : Frame) (result : ProverOutcome) (line : LineState) → IsSound job
@@ -196,11 +200,15 @@ ends_rejected job course frame (outcome.Rejected code number) line sound come al
   honest = read.ended;
   claimed = read.claimed;
   related = read.related;
+  answers = read.answers (outcome.Rejected code number);
+  verdict = read_so job (outcome.Rejected code number) line.log code number sound read.reads (is_rejected code number some);
+  sends = inl come.well.sends;
   logged = logged_whole job course.claim (outcome.Rejected code number) line.log course.first.told line.told come.well.told
       (λ inputs wires witness. from_ended job inputs line.log (read.ended inputs wires witness)) read.claimed;
   came = come.well.came;
   receives = (let few = come.well.receives in omega (arith, few));
   count = (let same = come.well.faults in record { later = omega (arith, same); unfailed = λ _. same });
+  side = come.well.side;
   is_open = come.well.is_open;
 }
   where

@@ -9,9 +9,13 @@ mod Related
 mod Ending
 mod Sending
 mod Answering
+mod GrantPlace
 mod RelatedAnswers
 mod Stopping
 mod Short
 mod Granting
 mod Judging
 mod Completed
+mod Counting
+mod Unread
+mod Replies

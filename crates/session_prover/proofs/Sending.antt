@@ -1,119 +1,83 @@
--- Frames that are sent one behind another, and where that stops.
-use Rattle.std.proofs.Common.{◌≡◌, ℕ, zero, suc, ◌<◌, List, [], ◌∷◌, ◌++◌, map, flat_map, take, drop, get_or, length, refl, ap, sym, ◌∙◌, subst, append_assoc, append-nil, arith}
-use Rattle.std.specs.Prelude.{All}
-use Rattle.std.proofs.Math.ListN.{get_or-map}
-use Rattle.std.proofs.lemmas.List.{take-map, take-append-drop, length-map}
-use Rattle.zk_model.specs.Transcript.{BeginsWith, bytes_from}
-use Rattle.zk_model.specs.Frames.{frame_spelling}
-use Rattle.zk_model.specs.Frames as model
-use Rattle.zk_port.specs.Counts.{Rose}
+-- Answers that are sent, or not.
+use Rattle.std.proofs.Common.{◌≡◌, ◌⊎◌, inl, inr, ℕ, ◌≤◌, List, [], ◌++◌, flat_map, take, drop, length, true, Result, Ok, Err, IfErr, refl, ap, sym, ◌∙◌, subst, append-nil, arith}
+use Rattle.std.proofs.lemmas.List.{take-map, take-append-drop}
+use Rattle.zk_model.specs.Transcript.{bytes_from}
+use Rattle.zk_model.specs.Frames.{Frame, frame_spelling}
+use Rattle.zk_port.specs.Counts.{counted}
 use Rattle.zk_port.specs.Logs.{appended}
-use Rattle.proof_frames.specs.Frames.{said, IsShort}
-use Rattle.proof_frames.specs.declared.frame.Frame.{Frame}
-use Rattle.frame_link.specs.Lines.{LineState, Sends, SendFails, IsSendCause}
+use Rattle.frame_link.specs.Lines.{LineState, SendFails, IsSendRefused, OnlySends}
 use Rattle.frame_link.specs.declared.fault.LineFault.{LineFault}
 use Rattle.frame_link.specs.declared.fault.LineFault.TheVariants as fault
-use Rattle.session_prover.specs.Turns.{SendStops, FramesStop}
-use Rattle.session_prover.proofs.Sides.{bytes_more, appended_more, appended_none}
-
-pub short_at : (frames : List Frame) (i : ℕ) (frame : Frame) → frame ≡ get_or frames i frame → i < length frames → All IsShort (map said frames)
-    → IsShort (said frame)
-short_at frames i frame is below all =
-    let count = length-map frames said in
-    subst IsShort (get_or-map said frames i frame ∙ ap said (sym is)) (all i (said frame) (omega (arith, below, count)))
-
-abbrev pub spelled : List Frame → List ℕ
-spelled frames = flat_map frame_spelling (map said frames)
-
--- the frames before one, and a first part of it, are a beginning of all
-pub begins_at : (frames : List Frame) (i : ℕ) (frame : Frame) → frame ≡ get_or frames i frame → i < length frames
-    → (part rest : List ℕ) → frame_spelling (said frame) ≡ part ++ rest → BeginsWith (spelled frames) (spelled (take i frames) ++ part)
-begins_at [] i frame is below part rest split = absurd (omega (arith, below))
-begins_at (f ∷ frames) zero frame is below part rest split = (
-  rest ++ spelled frames,
-  ap (λ (g : Frame). frame_spelling (said g) ++ spelled frames) (sym is) ∙ ap (λ l. l ++ spelled frames) split ∙ append_assoc part rest (spelled frames),
-)
-begins_at (f ∷ frames) (suc i) frame is below part rest split =
-    let later = begins_at frames i frame is (omega (arith, below)) part rest split in (
-      later.0,
-      ap (λ l. frame_spelling (said f) ++ l) later.1
-          ∙ sym (append_assoc (frame_spelling (said f)) (spelled (take i frames) ++ part) later.0)
-          ∙ ap (λ l. l ++ later.0) (sym (append_assoc (frame_spelling (said f)) (spelled (take i frames)) part)),
-    )
-
-cause_from : (f : LineFault) (old mid new : LineState) → mid.faults ≡ old.faults → IsSendCause mid new f → IsSendCause old new f
-cause_from (fault.PeerEnded at) old mid new same cause = cause
-cause_from (fault.BadFrame at) old mid new same cause = cause
-cause_from fault.Link old mid new same cause = subst (λ n. Rose n new.faults) same cause
-cause_from fault.NoMemory old mid new same cause = tt
-
--- some bytes were sent, and then a send is refused
-pub stops_sending : (bytes done frame : List ℕ) (f : LineFault) (old mid new : LineState) → Sends done old mid → SendFails frame f mid new
-    → ((part rest : List ℕ) → frame ≡ part ++ rest → BeginsWith bytes (done ++ part)) → SendStops bytes f old new
-stops_sending bytes done frame f old mid new sends fails begins = record {
-  done = done;
-  part = part;
-  begun = begins part (drop fails.told.count frame) (sym (take-append-drop fails.told.count frame));
-  logged = fails.logged ∙ sends.logged;
-  told = fails.told.part
-      ∙ (λ i. appended (take-map (λ (byte : ℕ). (mid.side, byte)) fails.told.count frame i) mid.told)
-      ∙ (λ i. appended (bytes_from (sends.others.side i) part) (sends.told i))
-      ∙ appended_more (bytes_from old.side done) (bytes_from old.side part) old.told
-      ∙ ap (λ l. appended l old.told) (sym (bytes_more old.side done part));
-  others = record {
-    side = fails.others.side ∙ sends.others.side;
-    reading = fails.others.reading ∙ sends.others.reading;
-    to_come = fails.others.to_come ∙ sends.others.to_come;
-    ended = fails.others.ended ∙ sends.others.ended;
-    is_open = fails.others.is_open ∙ sends.others.is_open;
-    receives = fails.others.receives ∙ sends.others.receives;
-  };
-  cause = cause_from f old mid new sends.unfailed fails.cause;
-  count = record {
-    later = omega (arith, fails.count.later, sends.unfailed);
-    unfailed = λ no. fails.count.unfailed no ∙ sends.unfailed;
-  };
-}
-  where
-    part : List ℕ
-    part = take fails.told.count frame
-
--- nothing was sent
-pub sends_none : (line : LineState) → Sends [] line line
-sends_none line = record {
-  logged = sym (append-nil line.log);
-  told = appended_none line.told;
-  others = record { side = refl; reading = refl; to_come = refl; ended = refl; is_open = refl; receives = refl };
-  unfailed = refl;
-}
-
--- a send is refused at once
-pub stops_first : (frame : List ℕ) (f : LineFault) (old new : LineState) → SendFails frame f old new → SendStops frame f old new
-stops_first frame f old new fails = stops_sending frame [] frame f old old new (sends_none old) fails (λ part rest is. (rest, is))
+use Rattle.session_prover.specs.Turns.{SendsAnswer, SendStops}
+use Rattle.session_prover.proofs.Sides.{appended_none}
 
 -- want of memory before any send
-pub stops_before : (frames : List model.Frame) (line : LineState) → FramesStop frames fault.NoMemory line line
-stops_before frames line = record {
-  stops = record {
-    done = [];
-    part = [];
-    begun = (flat_map frame_spelling frames, refl);
-    logged = sym (append-nil line.log);
-    told = appended_none line.told;
-    others = record { side = refl; reading = refl; to_come = refl; ended = refl; is_open = refl; receives = refl };
-    cause = tt;
-    count = record { later = omega arith; unfailed = λ _. refl };
-  };
-  sent = 0;
-  done_are = refl;
+pub stops_before : (bytes : List ℕ) (line : LineState) → SendStops bytes fault.NoMemory line line
+stops_before bytes line = record {
+  part = [];
+  begun = (bytes, refl);
+  logged = refl;
+  told = appended_none line.told;
+  sends = inl (refl, refl, refl);
+  others = record { side = refl; reading = refl; to_come = refl; ended = refl; is_open = refl; receives = refl };
+  cause = tt;
+  count = record { later = omega arith; unfailed = λ _. refl };
 }
 
--- frames were sent, and then one is refused
-pub frames_stop : (frames : List Frame) (i : ℕ) (frame : Frame) (f : LineFault) (old mid new : LineState) → frame ≡ get_or frames i frame → i < length frames
-    → Sends (spelled (take i frames)) old mid → SendFails (frame_spelling (said frame)) f mid new → FramesStop (map said frames) f old new
-unfolding stops_sending
-frames_stop frames i frame f old mid new is below sends fails = record {
-  stops = stops_sending (spelled frames) (spelled (take i frames)) (frame_spelling (said frame)) f old mid new sends fails (begins_at frames i frame is below);
-  sent = i;
-  done_are = ap (flat_map frame_spelling) (sym (take-map said i frames));
+-- the send was refused
+stops_refused : (bytes : List ℕ) (f : LineFault) (old new : LineState) → IsSendRefused bytes f old new → SendStops bytes f old new
+stops_refused bytes f old new refused = record {
+  part = take refused.told.count bytes;
+  begun = (drop refused.told.count bytes, sym (take-append-drop refused.told.count bytes));
+  logged = refused.logged;
+  told = refused.told.part ∙ ap (λ l. appended l old.told) (take-map (λ (byte : ℕ). (old.side, byte)) refused.told.count bytes);
+  sends = inr refused.sends;
+  others = refused.others;
+  cause = refused.cause;
+  count = refused.count;
 }
+
+pub stops_sending : (bytes : List ℕ) (f : LineFault) (old new : LineState) → SendFails bytes f old new → SendStops bytes f old new
+stops_sending bytes f old new (inl none) =
+    subst (λ (q : LineFault × LineState). SendStops bytes q.0 old q.1) (λ i. (sym none.0 i, sym none.1 i)) (stops_before bytes old)
+stops_sending bytes f old new (inr refused) = stops_refused bytes f old new refused
+
+-- what an answer makes of a line, whether it has frames or none
+pub record IsAnswered (answer : List Frame) (old new : LineState) : Type 0 where
+  pub logged : new.log ≡ old.log ++ bytes_from old.side (flat_map frame_spelling answer)
+  pub told : new.told ≡ appended (bytes_from old.side (flat_map frame_spelling answer)) old.told
+  pub sends : ((answer ≡ []) × (new.sends ≡ old.sends)) ⊎ ((1 ≤ length answer) × (new.sends ≡ counted true old.sends))
+  pub others : OnlySends old new
+  pub unfailed : new.faults ≡ old.faults
+
+nothing_sent : (old new : LineState) → new ≡ old → IsAnswered [] old new
+nothing_sent old new same = record {
+  logged = ap (λ (l : LineState). l.log) same ∙ sym (append-nil old.log);
+  told = ap (λ (l : LineState). l.told) same ∙ appended_none old.told;
+  sends = inl (refl, ap (λ (l : LineState). l.sends) same);
+  others = record {
+    side = ap (λ (l : LineState). l.side) same;
+    reading = ap (λ (l : LineState). l.reading) same;
+    to_come = ap (λ (l : LineState). l.to_come) same;
+    ended = ap (λ (l : LineState). l.ended) same;
+    is_open = ap (λ (l : LineState). l.is_open) same;
+    receives = ap (λ (l : LineState). l.receives) same;
+  };
+  unfailed = ap (λ (l : LineState). l.faults) same;
+}
+
+pub is_answered : (answer : List Frame) (old new : LineState) → SendsAnswer answer old new → IsAnswered answer old new
+is_answered answer old new (inl none) = subst (λ a. IsAnswered a old new) (sym none.0) (nothing_sent old new none.1)
+is_answered answer old new (inr some) = record {
+  logged = some.1.logged;
+  told = some.1.told;
+  sends = inr (some.0, some.1.sends);
+  others = some.1.others;
+  unfailed = some.1.unfailed;
+}
+
+-- by what the send answered
+pub stops_by : {T : Type 0} (bytes : List ℕ) (result : Result T LineFault) (old new : LineState) → IfErr result (λ f. SendFails bytes f old new)
+    → IfErr result (λ f. SendStops bytes f old new)
+stops_by bytes (Ok value) old new fails = tt
+stops_by bytes (Err f) old new fails = stops_sending bytes f old new fails

@@ -1,34 +1,43 @@
 -- Where a prover's answers stop.
-use Rattle.std.proofs.Common.{◌≡◌, inl, inr, ℕ, ◌<◌, List, [], ◌∷◌, ◌++◌, flat_map, length, None, ap, sym, ◌∙◌, subst, append_assoc, append-nil, arith}
-use Rattle.zk_model.specs.Transcript.{Grant, IsGrant, bytes_from, turn_bytes, sent_by, reply_frame, corrections_frame, challenge_frame}
-use Rattle.zk_model.specs.Frames.{Frame, grant, refuse, frame_spelling}
+use Rattle.std.proofs.Common.{◌≡◌, ◌⊎◌, inl, inr, ℕ, ◌+◌, ◌-◌, ◌<◌, ◌≤◌, List, [], ◌∷◌, ◌++◌, flat_map, length, true, Some, None, refl, ap, sym, ◌∙◌, subst, append_assoc, append-nil, length-append, arith}
+use Rattle.zk_model.specs.Transcript.{Grant, IsGrant, bytes_from, turn_bytes, sent_by, grant_frame, reply_frame, corrections_frame, challenge_frame}
+use Rattle.zk_model.specs.Frames.{Frame, grant, replies, challenge, refuse, frame_spelling}
+use Rattle.zk_model.specs.declared.Expect.{Expect}
+use Rattle.zk_model.specs.declared.Expect.TheVariants as expect
 use Rattle.zk_model.specs.HonestProver.{IsWitness, AreHonestBytes}
 use Rattle.zk_model.specs.Peers.{IsFromHonestProver}
 use Rattle.zk_model.specs.declared.Side.{Side}
 use Rattle.zk_model.specs.declared.Side.TheVariants.{Prover, Verifier}
-use Rattle.zk_port.specs.Counts.{Rose}
+use Rattle.zk_port.specs.Counts.{Rose, counted}
 use Rattle.zk_port.specs.Logs.{appended, put_before}
-use Rattle.frame_link.specs.Lines.{LineState, Sends, IsUnfinished}
+use Rattle.frame_link.specs.Lines.{LineState, counted_times, snapshot_of}
 use Rattle.frame_link.specs.Lines as lines
 use Rattle.frame_link.specs.declared.fault.LineFault.{LineFault}
 use Rattle.frame_link.specs.declared.fault.LineFault.TheVariants as fault
 use Rattle.proof_frames.specs.Readings.{Reading}
 use Rattle.session_core.specs.Jobs.{ProverJob, Suits}
 use Rattle.session_core.specs.Rounds.{round_turns}
-use Rattle.session_core.specs.Cores.{ProverPlace, awaits_grant, awaits_replies, awaits_challenge, awaits_verdict, has_ended, ProverAnswers, ProverRefuses}
-use Rattle.session_core.specs.declared.fault.SessionFault.{SessionFault}
-use Rattle.session_core.specs.declared.fault.SessionFault.TheVariants as session
+use Rattle.session_core.specs.Cores.{ProverPlace, awaits_grant, awaits_replies, awaits_challenge, awaits_verdict, has_ended, ProverAnswers, ProverRefuses, prover_expects}
+use Rattle.session_core.specs.declared.fault.ProverFault.{ProverFault}
+use Rattle.session_core.specs.declared.fault.ProverFault.TheVariants as session
+use Rattle.session_prover.specs.declared.note.ProverOutcome.{ProverOutcome}
 use Rattle.session_prover.specs.declared.note.ProverOutcome.TheVariants.{NoMemory}
 use Rattle.session_prover.specs.Outcomes.{line_outcome, session_outcome}
-use Rattle.session_prover.specs.Stages.{Claim, ClaimedFor, Course, IsLogAt, IsLogTaken, GoesWell, IsLineAt, IsLineTaken, all_asks, granted_log}
-use Rattle.session_prover.specs.Notes.{task_of, IsGrantRead, IsAskedRight, SendsOnceClaimed, IsRelated, IsOutcome, CountsOutcome, SendsHonestly, IsLogged, Ends}
+use Rattle.session_prover.specs.Stages.{answers_in, Claim, ClaimedFor, Course, IsLogAt, IsLogTaken, GoesWell, IsLineAt, IsLineTaken, all_asks, greeted_log, granted_log, replied_log, fixed_log}
+use Rattle.session_prover.specs.Notes.{task_of, IsGrantRead, IsAskedRight, SendsOnceClaimed, IsRelated, IsAnswerDue, told_by, IsOutcome, CountsOutcome, SendsHonestly, SendsEach, AnswersGrantPlace, AnswersVerdict, IsLogged, Ends}
 use Rattle.session_prover.specs.Notes as notes
-use Rattle.session_prover.specs.Turns.{IsSound, IsBehindGrant, answers_left, Follows, SendStops, FramesStop}
-use Rattle.session_prover.proofs.Sides.{bytes_more, prover_says, verifier_hears, appended_more}
+use Rattle.session_prover.specs.Turns.{IsSound, IsBehindGrant, answers_left, Follows, SendsAnswer, SendStops}
+use Rattle.session_prover.proofs.Sides.{prover_says, verifier_hears, appended_more}
 use Rattle.session_prover.proofs.Related.{suits_is, read_is}
 use Rattle.session_prover.proofs.RelatedAnswers.{related_answer}
 use Rattle.session_prover.proofs.Answering.{same_grant, no_challenge_is_grant, no_replies_is_grant, no_refusal_is_grant, no_refusal_is_replies, no_refusal_is_challenge, IsGrantAnswer, grant_answer, answered, answer_exists, answer_is_honest}
-use Rattle.session_prover.proofs.Sending.{stops_before}
+use Rattle.session_prover.proofs.GrantPlace.{answers_claimed}
+use Rattle.session_prover.proofs.Sending.{stops_before, IsAnswered, is_answered}
+use Rattle.session_prover.proofs.Counting.{EndsHeard, answers_more, frame_is_some, frames_some, one_send_more}
+use Rattle.session_prover.proofs.Unread.{IsUnheard, unread}
+use Rattle.session_prover.proofs.Heard.{Hears}
+use Rattle.session_prover.proofs.Waiting.{turns_at, next_frame}
+use Rattle.session_prover.proofs.Replies.{replied_on}
 
 -- ---- where sending stops
 
@@ -38,6 +47,7 @@ pub record IsDue (job : ProverJob) (claim : Claim) (log : List (Side × ℕ)) (b
       → AreHonestBytes (task_of job inputs) (sent_by Verifier log) (sent_by Prover log ++ bytes)
   pub asked : (more : List (Side × ℕ)) → IsAskedRight job claim (log ++ more)
   pub claimed : (more rest : List ℕ) → bytes ≡ more ++ rest → SendsOnceClaimed job claim (log ++ bytes_from Prover more)
+  pub answers : (outcome : ProverOutcome) → AnswersGrantPlace job claim outcome log
 
 counts_send : (f : LineFault) (old new : LineState) → lines.IsSendCause old new f → (first : ℕ) → old.faults ≡ first → lines.CountsFault f old new
     → CountsOutcome (line_outcome f) first new.faults
@@ -48,41 +58,50 @@ counts_send fault.Link old new cause first same count =
 counts_send fault.NoMemory old new cause first same count =
     let later = count.later in record { later = omega (arith, same, later); unfailed = λ no. count.unfailed tt ∙ same }
 
+-- how many frames an answer has at the least whose send fails so
+abbrev pub least_for : LineFault → ℕ
+least_for (fault.PeerEnded at) = 0
+least_for (fault.BadFrame at) = 0
+least_for fault.Link = 1
+least_for fault.NoMemory = 0
+
+pub some_for : (f : LineFault) (count : ℕ) → 1 ≤ count → least_for f ≤ count
+some_for (fault.PeerEnded at) count some = omega arith
+some_for (fault.BadFrame at) count some = omega arith
+some_for fault.Link count some = some
+some_for fault.NoMemory count some = omega arith
+
 pub stops_sending_at : (job : ProverJob) (course : Course) (bytes : List ℕ) (f : LineFault) (old new : LineState)
-    → GoesWell course.first old → IsDue job course.claim old.log bytes → (stops : SendStops bytes f old new)
-    → IsRelated job (old.log ++ bytes_from Prover stops.done)
+    → GoesWell course.first old → IsDue job course.claim old.log bytes → IsAnswerDue job course.claim (least_for f) old.log
+    → SendStops bytes f old new → IsRelated job old.log → IsUnheard job old.log
     → Ends job course (line_outcome f) new
-stops_sending_at job course bytes f old new well due stops related = record {
-  outcome_is = caused f stops.cause;
-  asked = subst (λ l. IsAskedRight job course.claim l) (sym logged) (due.asked (bytes_from Prover stops.done));
+stops_sending_at job course bytes f old new well due owed stops related unheard = record {
+  outcome_is = caused f stops.cause owed stops.sends;
+  asked = subst (λ l. IsAskedRight job course.claim l) (append-nil old.log ∙ sym stops.logged) (due.asked []);
   honest = sent f stops.cause;
-  claimed = subst (λ l. SendsOnceClaimed job course.claim l) (sym logged)
-      (due.claimed stops.done (stops.part ++ stops.begun.0) (stops.begun.1 ∙ append_assoc stops.done stops.part stops.begun.0));
-  related = subst (IsRelated job) (sym logged) related;
+  claimed = subst (λ l. SendsOnceClaimed job course.claim l) (append-nil old.log ∙ sym stops.logged) (due.claimed [] bytes refl);
+  related = subst (IsRelated job) (sym stops.logged) related;
+  answers = subst (AnswersGrantPlace job course.claim (line_outcome f)) (sym stops.logged) (due.answers (line_outcome f));
+  verdict = subst (AnswersVerdict job (line_outcome f)) (sym stops.logged) (unread job (line_outcome f) old.log unheard);
+  sends = sent_each stops.sends;
   logged = record {
     part = stops.part;
-    told = stops.told ∙ (λ i. appended (bytes_from (well.side i) (stops.done ++ stops.part)) (well.told i))
-        ∙ appended_more old.log (bytes_from Prover (stops.done ++ stops.part)) course.first.told ∙ ap (λ l. appended l course.first.told) (sym passed);
+    told = stops.told ∙ (λ i. appended (bytes_from (well.side i) stops.part) (well.told i))
+        ∙ appended_more old.log (bytes_from Prover stops.part) course.first.told ∙ ap (λ l. appended (l ++ bytes_from Prover stops.part) course.first.told) (sym stops.logged);
     none = none f stops.cause;
-    honest = λ inputs wires witness. subst (λ l. IsFromHonestProver (task_of job inputs) l) (sym passed)
-        (from_due inputs wires witness (stops.done ++ stops.part) stops.begun.0 stops.begun.1);
-    claimed = subst (λ l. SendsOnceClaimed job course.claim l) (sym passed) (due.claimed (stops.done ++ stops.part) stops.begun.0 stops.begun.1);
+    honest = λ inputs wires witness. subst (λ l. IsFromHonestProver (task_of job inputs) (l ++ bytes_from Prover stops.part)) (sym stops.logged)
+        (from_due inputs wires witness stops.part stops.begun.0 stops.begun.1);
+    claimed = subst (λ l. SendsOnceClaimed job course.claim (l ++ bytes_from Prover stops.part)) (sym stops.logged) (due.claimed stops.part stops.begun.0 stops.begun.1);
   };
   came = well.came ∙ (λ i. put_before (sym heard i) (sym stops.others.to_come i));
   receives = (let same = stops.others.receives in let before = well.receives in let count = ap length heard in omega (arith, same, before, count));
   count = counts_send f old new stops.cause course.first.faults well.faults stops.count;
+  side = stops.others.side ∙ well.side;
   is_open = stops.others.is_open ∙ well.is_open;
 }
   where
-    logged : new.log ≡ old.log ++ bytes_from Prover stops.done
-    logged = stops.logged ∙ ap (λ side. old.log ++ bytes_from side stops.done) well.side
-
-    passed : new.log ++ bytes_from Prover stops.part ≡ old.log ++ bytes_from Prover (stops.done ++ stops.part)
-    passed = ap (λ l. l ++ bytes_from Prover stops.part) logged ∙ append_assoc old.log (bytes_from Prover stops.done) (bytes_from Prover stops.part)
-        ∙ ap (λ l. old.log ++ l) (sym (bytes_more Prover stops.done stops.part))
-
     heard : sent_by Verifier new.log ≡ sent_by Verifier old.log
-    heard = ap (sent_by Verifier) logged ∙ verifier_hears old.log stops.done
+    heard = ap (sent_by Verifier) stops.logged
 
     from_due : (inputs wires : List ℕ) → IsWitness job.statement inputs wires job.given → (more rest : List ℕ) → bytes ≡ more ++ rest
         → IsFromHonestProver (task_of job inputs) (old.log ++ bytes_from Prover more)
@@ -92,22 +111,45 @@ stops_sending_at job course bytes f old new well due stops related = record {
       (rest, ap (λ l. sent_by Prover old.log ++ l) is ∙ sym (append_assoc (sent_by Prover old.log) more rest) ∙ ap (λ l. l ++ rest) (sym (prover_says old.log more))),
     )
 
-    from_done : (inputs wires : List ℕ) → IsWitness job.statement inputs wires job.given → IsFromHonestProver (task_of job inputs) new.log
-    from_done inputs wires witness = subst (λ l. IsFromHonestProver (task_of job inputs) l) (sym logged)
-        (from_due inputs wires witness stops.done (stops.part ++ stops.begun.0) (stops.begun.1 ∙ append_assoc stops.done stops.part stops.begun.0))
+    from_log : (inputs wires : List ℕ) → IsWitness job.statement inputs wires job.given → IsFromHonestProver (task_of job inputs) new.log
+    from_log inputs wires witness = subst (λ l. IsFromHonestProver (task_of job inputs) l) (append-nil old.log ∙ sym stops.logged)
+        (from_due inputs wires witness [] bytes refl)
 
-    caused : (f : LineFault) → lines.IsSendCause old new f → IsOutcome job course.claim new.log
-        (record { ended = new.ended; to_come = new.to_come; before = course.first.faults; after = new.faults }) (line_outcome f)
-    caused (fault.PeerEnded at) cause = absurd cause
-    caused (fault.BadFrame at) cause = absurd cause
-    caused fault.Link cause = subst (λ n. Rose n new.faults) well.faults cause
-    caused fault.NoMemory cause = tt
+    one_more : new.sends ≡ counted true old.sends → new.sends ≡ counted_times (answers_in new.log + 1) course.first.sends
+    one_more one = one_send_more (answers_in old.log) course.first.sends new.sends (one ∙ ap (counted true) well.sends)
+        ∙ ap (λ (l : List (Side × ℕ)). counted_times (answers_in l + 1) course.first.sends) (sym stops.logged)
+
+    sent_each : (((f ≡ fault.NoMemory) × (stops.part ≡ []) × (new.sends ≡ old.sends)) ⊎ (new.sends ≡ counted true old.sends))
+        → SendsEach (line_outcome f) new.log course.first.sends new.sends
+    sent_each (inl none) = inl (none.2 ∙ well.sends ∙ ap (λ (l : List (Side × ℕ)). counted_times (answers_in l) course.first.sends) (sym stops.logged))
+    sent_each (inr one) = inr (send_fault f stops.cause, one_more one)
+      where
+        send_fault : (f : LineFault) → lines.IsSendCause old new f → notes.IsFault (line_outcome f)
+        send_fault (fault.PeerEnded at) cause = absurd cause
+        send_fault (fault.BadFrame at) cause = absurd cause
+        send_fault fault.Link cause = tt
+        send_fault fault.NoMemory cause = tt
+
+    no_link : fault.Link ≡ fault.NoMemory → ⊥
+    no_link same = subst lines.IsNoLink (sym same) tt
+
+    owes : (least : ℕ) → IsAnswerDue job course.claim least old.log → IsAnswerDue job course.claim least new.log
+    owes least owed = subst (IsAnswerDue job course.claim least) (sym stops.logged) owed
+
+    caused : (f : LineFault) → lines.IsSendCause old new f → IsAnswerDue job course.claim (least_for f) old.log
+        → ((f ≡ fault.NoMemory) × (stops.part ≡ []) × (new.sends ≡ old.sends)) ⊎ (new.sends ≡ counted true old.sends)
+        → IsOutcome job course.claim new.log (told_by (snapshot_of course.first) (snapshot_of new)) (line_outcome f)
+    caused (fault.PeerEnded at) cause owed sends = absurd cause
+    caused (fault.BadFrame at) cause owed sends = absurd cause
+    caused fault.Link cause owed (inl none) = absurd (no_link none.0)
+    caused fault.Link cause owed (inr one) = (subst (λ n. Rose n new.faults) well.faults cause, inr (owes 1 owed, one_more one))
+    caused fault.NoMemory cause owed sends = inr (inl (owes 0 owed))
 
     sent : (f : LineFault) → lines.IsSendCause old new f → SendsHonestly job new.log (line_outcome f)
     sent (fault.PeerEnded at) cause = absurd cause
     sent (fault.BadFrame at) cause = absurd cause
-    sent fault.Link cause = from_done
-    sent fault.NoMemory cause = from_done
+    sent fault.Link cause = from_log
+    sent fault.NoMemory cause = from_log
 
     none : (f : LineFault) → lines.IsSendCause old new f → notes.IsNoFault (line_outcome f) → stops.part ≡ []
     none (fault.PeerEnded at) cause fine = absurd cause
@@ -155,6 +197,7 @@ answer_due job claim place frame answer now log sound taken answers = record {
   honest = λ inputs wires witness. answer_is_honest job claim place frame answer now log inputs wires sound taken answers witness;
   asked = λ more. inr (u.given, read more, inl u.claimed);
   claimed = λ more rest is. inr (u.given, read (bytes_from Prover more), u.claimed);
+  answers = λ outcome. answers_claimed job claim u.given outcome log sound u.claimed u.granted (u.more, u.logged);
 }
   where
     u : IsUnder job claim log
@@ -164,17 +207,45 @@ answer_due job claim place frame answer now log sound taken answers = record {
     read more = read_is job u.given (log ++ more) (u.more ++ more) u.granted
         (ap (λ l. l ++ more) u.logged ∙ append_assoc (granted_log job u.given) u.more more)
 
+-- a log with a frame that is to be answered ends with it
+ends_heard : (job : ProverJob) (claim : Claim) (place : ProverPlace) (frame : Frame) (log : List (Side × ℕ)) → IsLogTaken job claim place frame log → EndsHeard log
+ends_heard job claim awaits_grant frame log (given, is, claimed, granted, at) =
+    record { before = greeted_log job; heard = grant_frame given; some = frame_is_some (grant given); is = at }
+ends_heard job claim (awaits_replies given done pairs) frame log (trees, came, is, are, claimed, some, at) = record {
+  before = replied_log job given came;
+  heard = reply_frame trees;
+  some = frame_is_some (replies trees);
+  is = at ∙ sym (replied_on job given came trees);
+}
+ends_heard job claim (awaits_challenge given pairs wires) frame log (element, rounds, d, is, ranged, claimed, fixes, at) =
+    record { before = fixed_log job given rounds d; heard = challenge_frame element; some = frame_is_some (challenge element); is = at }
+ends_heard job claim awaits_verdict frame log taken = absurd taken
+ends_heard job claim has_ended frame log taken = absurd taken
+
+-- as many sends as answers
+sends_on : (log : List (Side × ℕ)) (answer : List Frame) (first old new : ℕ) → EndsHeard log → old ≡ counted_times (answers_in log) first
+    → ((answer ≡ []) × (new ≡ old)) ⊎ ((1 ≤ length answer) × (new ≡ counted true old))
+    → new ≡ counted_times (answers_in (log ++ bytes_from Prover (flat_map frame_spelling answer))) first
+sends_on log answer first old new heard counts (inl none) =
+    none.1 ∙ counts ∙ ap (λ (l : List (Side × ℕ)). counted_times (answers_in l) first)
+    (sym (ap (λ (a : List Frame). log ++ bytes_from Prover (flat_map frame_spelling a)) none.0 ∙ append-nil log))
+sends_on log answer first old new heard counts (inr some) =
+    one_send_more (answers_in log) first new (some.1 ∙ ap (counted true) counts)
+    ∙ ap (λ (k : ℕ). counted_times k first) (sym (answers_more log (flat_map frame_spelling answer) heard (frames_some answer some.0)))
+
 -- an answer is sent
 pub goes_on : (job : ProverJob) (course : Course) (place : ProverPlace) (frame : Frame) (answer : List Frame) (now : ProverPlace) (old new : LineState)
-    → IsSound job → IsLineTaken job course place frame old → ProverAnswers job place frame answer now → Sends (flat_map frame_spelling answer) old new
+    → IsSound job → IsLineTaken job course place frame old → ProverAnswers job place frame answer now → SendsAnswer answer old new
     → IsLineAt job course now new
-goes_on job course place frame answer now old new sound taken answers sends = record {
+goes_on job course place frame answer now old new sound taken answers by = record {
   log = subst (λ l. IsLogAt job course.claim now l) (sym logged) (answered job course.claim place frame answer now old.log sound taken.log answers);
   well = record {
     received = sends.others.reading ∙ taken.well.received ∙ ap idle (ap length (sym heard));
     told = sends.told ∙ (λ i. appended (bytes_from (taken.well.side i) bytes) (taken.well.told i))
         ∙ appended_more old.log (bytes_from Prover bytes) course.first.told ∙ ap (λ l. appended l course.first.told) (sym logged);
     came = taken.well.came ∙ (λ i. put_before (sym heard i) (sym sends.others.to_come i));
+    sends = sends_on old.log answer course.first.sends old.sends new.sends (ends_heard job course.claim place frame old.log taken.log) taken.well.sends sends.sends
+        ∙ ap (λ (l : List (Side × ℕ)). counted_times (answers_in l) course.first.sends) (sym logged);
     side = sends.others.side ∙ taken.well.side;
     is_open = sends.others.is_open ∙ taken.well.is_open;
     receives = (let same = sends.others.receives in let before = taken.well.receives in let count = ap length heard in omega (arith, same, before, count));
@@ -184,6 +255,9 @@ goes_on job course place frame answer now old new sound taken answers sends = re
   where
     bytes : List ℕ
     bytes = flat_map frame_spelling answer
+
+    sends : IsAnswered answer old new
+    sends = is_answered answer old new by
 
     logged : new.log ≡ old.log ++ bytes_from Prover bytes
     logged = sends.logged ∙ ap (λ side. old.log ++ bytes_from side bytes) taken.well.side
@@ -214,27 +288,55 @@ follows job claim (awaits_challenge given pairs wires) frame answer now log take
 follows job claim awaits_verdict frame answer now log taken answers = absurd taken
 follows job claim has_ended frame answer now log taken answers = absurd taken
 
+-- behind a grant a frame is expected
+expects_behind : (job : ProverJob) (place : ProverPlace) → IsBehindGrant place → (expect : Expect) × (prover_expects job place ≡ Some expect)
+expects_behind job awaits_grant behind = absurd behind
+expects_behind job (awaits_replies given done pairs) behind = (expect.Reply job.file.params.height job.file.params.trees (given.count - done), refl)
+expects_behind job (awaits_challenge given pairs wires) behind = (expect.Challenge, refl)
+expects_behind job awaits_verdict behind = (expect.Verdict, refl)
+expects_behind job has_ended behind = absurd behind
+
+-- where a frame is to be answered, what comes behind it was not heard
+pub taken_unheard : (job : ProverJob) (claim : Claim) (place : ProverPlace) (frame : Frame) (log : List (Side × ℕ)) → IsSound job
+    → IsLogTaken job claim place frame log → IsUnheard job log
+taken_unheard job claim place frame log sound taken =
+    let found = answer_exists job claim place frame log sound taken in
+    let bytes = flat_map frame_spelling found.0 in
+    let at = answered job claim place frame found.0 found.1 log sound taken found.2 in
+    let next = expects_behind job found.1 (follows job claim place frame found.0 found.1 log taken found.2).behind in
+    record {
+      turn = turns_at job found.1;
+      unheard = λ heard.
+          let coming = next_frame job claim found.1 next.0 (log ++ bytes_from Prover bytes) [] [] sound at next.1
+          (subst (λ l. Hears (task_of job []) l (turns_at job found.1))
+          (sym (append-nil (sent_by Verifier (log ++ bytes_from Prover bytes)) ∙ verifier_hears log bytes)) heard) in
+          let some = frame_is_some coming.frame in
+          let none = ap length coming.begun in
+          let both = length-append (frame_spelling coming.frame) coming.tail in
+          omega (arith, some, none, both);
+    }
+
 -- an answer is not sent
 pub stops_answering : (job : ProverJob) (course : Course) (place : ProverPlace) (frame : Frame) (answer : List Frame) (now : ProverPlace) (f : LineFault) (old new : LineState)
-    → IsSound job → IsLineTaken job course place frame old → ProverAnswers job place frame answer now
-    → FramesStop answer f old new → Ends job course (line_outcome f) new
-stops_answering job course place frame answer now f old new sound taken answers stop =
+    → IsSound job → IsLineTaken job course place frame old → ProverAnswers job place frame answer now → least_for f ≤ length answer
+    → SendStops (flat_map frame_spelling answer) f old new → Ends job course (line_outcome f) new
+stops_answering job course place frame answer now f old new sound taken answers some stop =
     stops_sending_at job course (flat_map frame_spelling answer) f old new taken.well
-    (answer_due job course.claim place frame answer now old.log sound taken.log answers) stop.stops
-    (subst (λ l. IsRelated job (old.log ++ bytes_from Prover l)) (sym stop.done_are)
-    (related_answer job course.claim place frame answer now old.log stop.sent sound taken.log answers))
+    (answer_due job course.claim place frame answer now old.log sound taken.log answers)
+    (inr (record { place = place; frame = frame; taken = taken.log; answer = answer; next = now; answers = answers; some = some })) stop
+    (subst (IsRelated job) (append-nil old.log) (related_answer job course.claim place frame answer now old.log 0 sound taken.log answers))
+    (taken_unheard job course.claim place frame old.log sound taken.log)
 
 -- no answer is found
 pub stops_unanswered : (job : ProverJob) (course : Course) (place : ProverPlace) (frame : Frame) (line : LineState)
     → IsSound job → IsLineTaken job course place frame line → Ends job course NoMemory line
 stops_unanswered job course place frame line sound taken =
     let found = answer_exists job course.claim place frame line.log sound taken.log in
-    stops_answering job course place frame found.0 found.1 fault.NoMemory line line sound taken found.2 (stops_before found.0 line)
+    stops_answering job course place frame found.0 found.1 fault.NoMemory line line sound taken found.2 (omega arith) (stops_before (flat_map frame_spelling found.0) line)
 
 -- the prover refuses to answer: only for want of memory
-pub refuses_nothing : (job : ProverJob) (course : Course) (place : ProverPlace) (frame : Frame) (f : SessionFault) (line : LineState)
+pub refuses_nothing : (job : ProverJob) (course : Course) (place : ProverPlace) (frame : Frame) (f : ProverFault) (line : LineState)
     → IsSound job → IsLineTaken job course place frame line → ProverRefuses job place frame f → Ends job course (session_outcome f) line
-refuses_nothing job course place frame (session.BadHello differs) line sound taken refused = absurd refused
 refuses_nothing job course place frame session.BadGrant line sound taken (given, there, is, unsuited) =
     absurd (elsewhere place frame taken.log is unsuited)
   where

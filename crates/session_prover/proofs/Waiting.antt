@@ -231,6 +231,15 @@ sent_after job claim awaits_verdict before rest inputs values sound opened witne
     (openings_after job opened.given opened.rounds opened.pairs opened.d opened.wires opened.element inputs values rest sound opened.fixes opened.is witness)
 sent_after job claim has_ended before rest inputs values sound at witness = absurd at
 
+-- Where a prover waits, and what came since is no whole frame, the next turn was not heard.
+pub not_heard : (job : ProverJob) (claim : Claim) (place : ProverPlace) (awaited : Expect) (before : List (Side × ℕ)) (rest : List ℕ) (inputs : List ℕ)
+    → IsSound job → IsLogAt job claim place before → prover_expects job place ≡ Some awaited
+    → length rest ≤ longest awaited → IsUnfinished awaited rest
+    → Hears (task_of job inputs) (sent_by Verifier before ++ rest) (turns_at job place) → ⊥
+not_heard job claim place awaited before rest inputs sound at is few unfinished heard =
+    let next = next_frame job claim place awaited before rest inputs sound at is heard in
+    unstarted awaited rest next.frame next.tail next.allowed next.long few unfinished next.begun
+
 -- Where a prover waits, and what came since is no whole frame, it has sent all that an honest prover sends.
 pub has_answered : (job : ProverJob) (claim : Claim) (place : ProverPlace) (awaited : Expect) (before : List (Side × ℕ)) (rest : List ℕ) (inputs values : List ℕ)
     → IsSound job → IsLogAt job claim place before → prover_expects job place ≡ Some awaited
@@ -239,12 +248,8 @@ pub has_answered : (job : ProverJob) (claim : Claim) (place : ProverPlace) (awai
 has_answered job claim place awaited before rest inputs values sound at is few unfinished witness =
     subst (λ (q : List ℕ × List ℕ). AreHonestBytes (task_of job inputs) q.0 q.1) (λ i. (sym (verifier_says before rest) i, sym (prover_hears before rest) i))
     (honest_bytes (task_of job inputs) (sent_by Verifier before ++ rest) (sent_by Prover before) (turns_at job place)
-    (sent_after job claim place before rest inputs values sound at witness) unheard)
-  where
-    unheard : Hears (task_of job inputs) (sent_by Verifier before ++ rest) (turns_at job place) → ⊥
-    unheard heard =
-        let next = next_frame job claim place awaited before rest inputs sound at is heard in
-        unstarted awaited rest next.frame next.tail next.allowed next.long few unfinished next.begun
+    (sent_after job claim place before rest inputs values sound at witness)
+    (not_heard job claim place awaited before rest inputs sound at is few unfinished))
 
 -- where it ended so, it sent a beginning of it
 pub from_ended : (job : ProverJob) (inputs : List ℕ) (log : List (Side × ℕ)) → HasEndedHonestly (task_of job inputs) log

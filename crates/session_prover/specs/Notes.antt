@@ -6,7 +6,7 @@ use Rattle.zk_model.specs.Correlations.{IsProverView, span_keys}
 use Rattle.zk_model.specs.View.{span_of}
 use Rattle.zk_model.specs.ServedVerifier.{VerifierTask, RepliesAre}
 use Rattle.zk_model.specs.Transcript.{Grant, Round, Transcript, IsInOrder, BeginsWith, refuse_frame, bytes_from, sent_by}
-use Rattle.zk_model.specs.Frames.{CanGoOn, IsFirstBad, FitsGrant, FitsRefusal, frame_length}
+use Rattle.zk_model.specs.Frames.{Frame, CanGoOn, IsFirstBad, FitsGrant, FitsRefusal, frame_length}
 use Rattle.zk_model.specs.HonestProver.{ProverTask, IsWitness, IsHonest, honest_corrections}
 use Rattle.zk_model.specs.Peers.{IsFromHonestProver, IsFromHonestVerifier, HasEndedHonestly}
 use Rattle.zk_model.specs.declared.Expect.{Expect}
@@ -18,10 +18,11 @@ use Rattle.zk_port.specs.Counts.{Rose}
 use Rattle.zk_port.specs.Logs.{appended, put_before}
 use Rattle.claim_store.specs.declared.ClaimFault.{ClaimFault}
 use Rattle.claim_store.specs.declared.ClaimFault.TheVariants as refusal
-use Rattle.frame_link.specs.Lines.{LineState, longest}
+use Rattle.frame_link.specs.Lines.{LineState, LinkSnapshot, IsCutShort, counted_times, longest, snapshot_of}
 use Rattle.session_core.specs.Jobs.{ProverJob, Suits}
-use Rattle.session_core.specs.Cores.{ProverPlace, prover_expects}
-use Rattle.session_prover.specs.Stages.{Claim, ClaimedFor, RefusedFor, Course, AreAskedRounds, greeting, all_asks, greeted_log, granted_log, fixed_log, setup_for, IsLogAt}
+use Rattle.session_core.specs.Cores.{ProverPlace, ProverAnswers, prover_expects}
+use Rattle.session_prover.specs.Outcomes.{claim_outcome, verdict_outcome}
+use Rattle.session_prover.specs.Stages.{answers_in, Claim, ClaimedFor, RefusedFor, Course, AreAskedRounds, greeting, all_asks, greeted_log, granted_log, fixed_log, setup_for, IsLogAt, IsLogTaken}
 use Rattle.session_prover.specs.declared.note.ProverOutcome.{ProverOutcome}
 use Rattle.session_prover.specs.declared.note.ProverOutcome.TheVariants.{Accepted, Rejected, PeerEnded, BadFrame, BadGrant, PeerRefused, Broken, OutOfRange, Overlap, Full, Device, Link, NoMemory}
 
@@ -94,17 +95,56 @@ abbrev pub IsRefused : ProverJob → Claim → List (Side × ℕ) → ClaimFault
 IsRefused job claim log fault = (given : Grant)
     × Suits job.file.params job.statement.program given × RefusedFor claim given fault × (log ≡ granted_log job given)
 
--- what the link tells in the end: whether the peer was seen to have ended, what is to come, and how often a call has failed,
--- before and after
+-- what the link tells in the end: whether the peer was seen to have ended, what is to come, and how often a call has failed and how
+-- many sends there were, before and after
 pub record Told : Type 0 where
   pub ended : Option Bool
   pub to_come : Option (List ℕ)
   pub before : ℕ
   pub after : ℕ
+  pub sends_before : ℕ
+  pub sends_after : ℕ
+
+-- by a moment before and one after
+abbrev pub told_by : LinkSnapshot → LinkSnapshot → Told
+told_by first now = record {
+  ended = now.ended;
+  to_come = now.to_come;
+  before = first.faults;
+  after = now.faults;
+  sends_before = first.sends;
+  sends_after = now.sends;
+}
+
+-- a frame was read that is to be answered, by at least so many frames
+pub record OwesAnswer (job : ProverJob) (claim : Claim) (least : ℕ) (log : List (Side × ℕ)) : Type 0 where
+  pub place : ProverPlace
+  pub frame : Frame
+  pub taken : IsLogTaken job claim place frame log
+  pub answer : List Frame
+  pub next : ProverPlace
+  pub answers : ProverAnswers job place frame answer next
+  pub some : least ≤ length answer
+
+-- the greeting is due, before the claimant is asked; or the answer to a frame, with at least so many frames
+abbrev pub IsAnswerDue : ProverJob → Claim → ℕ → List (Side × ℕ) → Type 0
+IsAnswerDue job claim least log = ((claim.answer ≡ None) × (log ≡ [])) ⊎ OwesAnswer job claim least log
+
+-- Where the link failed: where a frame was expected of which bytes are missing, with no send but those of the answers that are logged;
+-- or in the one send of an answer that was due.
+abbrev pub FailsLink : ProverJob → Claim → List (Side × ℕ) → Told → Type 0
+FailsLink job claim log told =
+    (StopsBehind job claim log IsCutShort × (told.sends_after ≡ counted_times (answers_in log) told.sends_before))
+    ⊎ (IsAnswerDue job claim 1 log × (told.sends_after ≡ counted_times (answers_in log + 1) told.sends_before))
+
+-- where memory was missing: for a frame of which bytes are missing, for an answer that was due, or for the claim
+abbrev pub LacksMemory : ProverJob → Claim → List (Side × ℕ) → Type 0
+LacksMemory job claim log =
+    StopsBehind job claim log IsCutShort ⊎ (IsAnswerDue job claim 0 log ⊎ IsRefused job claim log refusal.NoMemory)
 
 -- Why a session ended so. A verdict, a refusal or a grant was read; the peer has ended, with bytes still wanted, when so many
--- bytes had come; a byte at this place of all that came is the first bad one; the claimant refused; the link failed; memory
--- was wanting.
+-- bytes had come; a byte at this place of all that came is the first bad one; the claimant refused; the link failed, or memory
+-- was missing, where a frame or an answer was due.
 abbrev pub IsOutcome : ProverJob → Claim → List (Side × ℕ) → Told → ProverOutcome → Type 0
 IsOutcome job claim log told Accepted = (number : ℕ) × ReadsVerdict job log 0 number
 IsOutcome job claim log told (Rejected code number) = (1 ≤ code) × ReadsVerdict job log code number
@@ -125,10 +165,10 @@ IsOutcome job claim log told (OutOfRange total) = IsRefused job claim log (refus
 IsOutcome job claim log told (Overlap earlier) = IsRefused job claim log (refusal.Overlap earlier)
 IsOutcome job claim log told (Full slots) = IsRefused job claim log (refusal.Full slots)
 IsOutcome job claim log told Device = IsRefused job claim log refusal.Device
-IsOutcome job claim log told Link = Rose told.before told.after
-IsOutcome job claim log told NoMemory = Unit {0}
+IsOutcome job claim log told Link = Rose told.before told.after × FailsLink job claim log told
+IsOutcome job claim log told NoMemory = LacksMemory job claim log
 
--- the link did not fail, and memory was not wanting
+-- the link did not fail, and memory was not missing
 abbrev pub IsNoFault : ProverOutcome → Type 0
 IsNoFault Link = ⊥
 IsNoFault NoMemory = ⊥
@@ -144,10 +184,40 @@ pub record CountsOutcome (outcome : ProverOutcome) (before after : ℕ) : Type 0
   pub later : before ≤ after
   pub unfailed : IsNoLink outcome → after ≡ before
 
+-- A verdict that was read is answered: where the log is that of a whole session in order about the job's statement, the outcome is
+-- what its verdict says.
+abbrev pub AnswersVerdict : ProverJob → ProverOutcome → List (Side × ℕ) → Type 0
+AnswersVerdict job outcome log = (t : Transcript) → IsInOrder job.file.params job.file.id job.statement t log
+    → outcome ≡ verdict_outcome t.code t.number
+
+-- What was read in the grant's place, and what the claimant answered, is answered: its refusal is the outcome, with nothing behind
+-- the grant that it refused; so are a grant that does not suit, and a refusal of the peer's; and behind a grant that suits the
+-- claimant is asked.
+pub record AnswersGrantPlace (job : ProverJob) (claim : Claim) (outcome : ProverOutcome) (log : List (Side × ℕ)) : Type 0 where
+  pub refused : (fault : ClaimFault) → claim.answer ≡ Some (Err fault) → (outcome ≡ claim_outcome fault) × IsRefused job claim log fault
+  pub unsuited : (given : Grant) → FitsGrant given → ¬ Suits job.file.params job.statement.program given
+      → log ≡ granted_log job given → outcome ≡ BadGrant
+  pub turned_away : (code : ℕ) → FitsRefusal code → log ≡ greeted_log job ++ bytes_from Verifier (refuse_frame code)
+      → outcome ≡ PeerRefused code
+  pub asked : (given : Grant) → FitsGrant given → Suits job.file.params job.statement.program given
+      → log ≡ granted_log job given → ¬ (claim.answer ≡ None)
+
 -- ---- what was sent
 
+-- the link failed, or memory was missing
+abbrev pub IsFault : ProverOutcome → Type 0
+IsFault Link = Unit {0}
+IsFault NoMemory = Unit {0}
+IsFault outcome = ⊥
+
+-- Each answer that is logged was sent by one send, and there was no other; or one more, which was refused, where the link failed or
+-- memory was missing.
+abbrev pub SendsEach : ProverOutcome → List (Side × ℕ) → ℕ → ℕ → Type 0
+SendsEach outcome log before after = (after ≡ counted_times (answers_in log) before)
+    ⊎ (IsFault outcome × (after ≡ counted_times (answers_in log + 1) before))
+
 -- What was sent of a log in a session that ended so, by an honest prover for what it received: all of it; the greeting alone
--- where the grant is refused by either end; a beginning where the link failed or memory was wanting.
+-- where the grant is refused by either end; a beginning where the link failed or memory was missing.
 abbrev pub IsSentFor : ProverTask → List ℕ → List (Side × ℕ) → ProverOutcome → Type 0
 IsSentFor task hello log BadGrant = HasEndedHonestly task log × (sent_by Prover log ≡ hello)
 IsSentFor task hello log (PeerRefused code) = HasEndedHonestly task log × (sent_by Prover log ≡ hello)
@@ -165,7 +235,7 @@ abbrev pub SendsHonestly : ProverJob → List (Side × ℕ) → ProverOutcome �
 SendsHonestly job log outcome = (inputs wires : List ℕ) → IsWitness job.statement inputs wires job.given
     → IsSentFor (task_of job inputs) (greeting job) log outcome
 
--- What the link tells is what it told before and the log; where a send was refused, a first part of one frame more, which an
+-- What the link tells is what it told before and the log; where a send was refused, a first part of one answer more, which an
 -- honest prover would send too, and none before the units are claimed.
 pub record IsLogged
     (job : ProverJob)
@@ -215,13 +285,17 @@ IsRelated job log = SendsNoCorrections job log ⊎ SendsCorrections job log
 -- a session over a line that ended so
 pub record Ends (job : ProverJob) (course : Course) (outcome : ProverOutcome) (now : LineState) : Type 0 where
   pub outcome_is : IsOutcome job course.claim now.log
-      (record { ended = now.ended; to_come = now.to_come; before = course.first.faults; after = now.faults }) outcome
+      (told_by (snapshot_of course.first) (snapshot_of now)) outcome
   pub asked : IsAskedRight job course.claim now.log
   pub honest : SendsHonestly job now.log outcome
   pub claimed : SendsOnceClaimed job course.claim now.log
   pub related : IsRelated job now.log
+  pub answers : AnswersGrantPlace job course.claim outcome now.log
+  pub verdict : AnswersVerdict job outcome now.log
+  pub sends : SendsEach outcome now.log course.first.sends now.sends
   pub logged : IsLogged job course.claim outcome now.log course.first.told now.told
   pub came : course.first.to_come ≡ put_before (sent_by Verifier now.log) now.to_come
   pub receives : now.receives ≤ course.first.receives + length (sent_by Verifier now.log) + 1
   pub count : CountsOutcome outcome course.first.faults now.faults
+  pub side : now.side ≡ Prover
   pub is_open : now.is_open ≡ true

@@ -1,12 +1,13 @@
--- How a session ended for the prover, as faults say it.
+-- How a session ended for the prover, as faults and a verdict say it.
+use Rattle.std.specs.Prelude.{ℕ, zero, suc}
 use Rattle.claim_store.specs.declared.ClaimFault.{ClaimFault}
 use Rattle.claim_store.specs.declared.ClaimFault.TheVariants as claim
 use Rattle.frame_link.specs.declared.fault.LineFault.{LineFault}
 use Rattle.frame_link.specs.declared.fault.LineFault.TheVariants as line
-use Rattle.session_core.specs.declared.fault.SessionFault.{SessionFault}
-use Rattle.session_core.specs.declared.fault.SessionFault.TheVariants as session
+use Rattle.session_core.specs.declared.fault.ProverFault.{ProverFault}
+use Rattle.session_core.specs.declared.fault.ProverFault.TheVariants as session
 use Rattle.session_prover.specs.declared.note.ProverOutcome.{ProverOutcome}
-use Rattle.session_prover.specs.declared.note.ProverOutcome.TheVariants.{PeerEnded, BadFrame, BadGrant, PeerRefused, Broken, OutOfRange, Overlap, Full, Device, Link, NoMemory}
+use Rattle.session_prover.specs.declared.note.ProverOutcome.TheVariants.{Accepted, Rejected, PeerEnded, BadFrame, BadGrant, PeerRefused, Broken, OutOfRange, Overlap, Full, Device, Link, NoMemory}
 
 -- of a claim that was refused
 abbrev pub claim_outcome : ClaimFault → ProverOutcome
@@ -24,9 +25,13 @@ line_outcome (line.BadFrame place) = BadFrame place
 line_outcome line.Link = Link
 line_outcome line.NoMemory = NoMemory
 
--- of a frame that the prover refused; the fault of a verifier does not come
-abbrev pub session_outcome : SessionFault → ProverOutcome
-session_outcome (session.BadHello differs) = NoMemory
+-- of a frame that the prover refused
+abbrev pub session_outcome : ProverFault → ProverOutcome
 session_outcome session.BadGrant = BadGrant
 session_outcome (session.PeerRefused code) = PeerRefused code
 session_outcome session.NoMemory = NoMemory
+
+-- of a verdict that was read, by its code and its number
+abbrev pub verdict_outcome : ℕ → ℕ → ProverOutcome
+verdict_outcome zero number = Accepted
+verdict_outcome (suc code) number = Rejected (suc code) number

@@ -15,7 +15,7 @@ use Rattle.zk_model.specs.declared.Side.TheVariants.{Prover, Verifier}
 use Rattle.zk_model.specs.declared.Span.{Span}
 use Rattle.zk_port.specs.Logs.{appended, put_before}
 use Rattle.claim_store.specs.declared.ClaimFault.{ClaimFault}
-use Rattle.frame_link.specs.Lines.{LineState}
+use Rattle.frame_link.specs.Lines.{LineState, counted_times}
 use Rattle.session_core.specs.Ends.{IsFixed}
 use Rattle.session_core.specs.Jobs.{ProverJob}
 use Rattle.session_core.specs.Rounds.{round_turns}
@@ -170,6 +170,23 @@ IsLogTaken job claim (awaits_challenge given pairs wires) frame log = (element :
 IsLogTaken job claim awaits_verdict frame log = ⊥
 IsLogTaken job claim has_ended frame log = ⊥
 
+-- ---- the answers
+
+-- what is said behind a byte of this side is a new answer of the prover's
+abbrev pub new_answer : Side → Side → ℕ
+new_answer Verifier Prover = 1
+new_answer Prover Prover = 0
+new_answer last Verifier = 0
+
+-- how many answers of the prover's a log has behind a byte of this side: runs of its bytes
+abbrev pub answers_behind : Side → List (Side × ℕ) → ℕ
+answers_behind last [] = 0
+answers_behind last (entry ∷ log) = new_answer last entry.0 + answers_behind entry.0 log
+
+-- how many answers of the prover's a log has, its greeting too
+abbrev pub answers_in : List (Side × ℕ) → ℕ
+answers_in log = answers_behind Verifier log
+
 -- ---- the line
 
 -- where a session began, and what became of its claim
@@ -177,12 +194,13 @@ pub record Course : Type 0 where
   pub first : LineState
   pub claim : Claim
 
--- All that passed since a first moment is logged, no frame is under way, and there were at most as many receives as bytes
--- came; nothing failed.
+-- All that passed since a first moment is logged, each answer was sent by one send, no frame is under way, and there were at most
+-- as many receives as bytes came; nothing failed.
 pub record GoesWell (first now : LineState) : Type 0 where
   pub received : now.reading ≡ record { received = length (sent_by Verifier now.log); expected = None; taken = []; bad = None }
   pub told : now.told ≡ appended now.log first.told
   pub came : first.to_come ≡ put_before (sent_by Verifier now.log) now.to_come
+  pub sends : now.sends ≡ counted_times (answers_in now.log) first.sends
   pub side : now.side ≡ Prover
   pub is_open : now.is_open ≡ true
   pub receives : now.receives ≤ first.receives + length (sent_by Verifier now.log)

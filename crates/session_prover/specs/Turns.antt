@@ -1,5 +1,5 @@
 -- What a prover's calls over a line require and make of it.
-use Rattle.std.specs.Prelude.{◌≡◌, ℕ, ◌+◌, ◌-◌, ◌^◌, ◌≤◌, ◌<◌, List, [], ◌++◌, flat_map, take, length, true, Some, None}
+use Rattle.std.specs.Prelude.{◌≡◌, ◌⊎◌, ℕ, ◌+◌, ◌-◌, ◌^◌, ◌≤◌, ◌<◌, List, [], ◌++◌, flat_map, length, true, Some, None}
 use Rattle.zk_model.specs.Files.{IsProverFile}
 use Rattle.zk_model.specs.Statement.{IsStatement}
 use Rattle.zk_model.specs.Transcript.{Grant, BeginsWith, bytes_from}
@@ -7,9 +7,11 @@ use Rattle.zk_model.specs.Frames.{Frame, grant, verdict, refuse, FitsGrant, fram
 use Rattle.zk_model.specs.declared.Expect.{Expect}
 use Rattle.zk_model.specs.declared.Side.{Side}
 use Rattle.zk_model.specs.declared.Side.TheVariants.{Prover, Verifier}
+use Rattle.zk_port.specs.Counts.{counted}
 use Rattle.zk_port.specs.Logs.{appended}
-use Rattle.frame_link.specs.Lines.{LineState, OnlySends, IsSendCause, CountsFault}
+use Rattle.frame_link.specs.Lines.{LineState, Sends, OnlySends, IsSendCause, CountsFault}
 use Rattle.frame_link.specs.declared.fault.LineFault.{LineFault}
+use Rattle.frame_link.specs.declared.fault.LineFault.TheVariants.{NoMemory}
 use Rattle.session_core.specs.Jobs.{ProverJob, IsProverJob, Suits}
 use Rattle.session_core.specs.Cores.{ProverPlace, awaits_grant, awaits_replies, awaits_challenge, awaits_verdict, has_ended, prover_expects}
 use Rattle.session_prover.specs.declared.note.ProverOutcome.{ProverOutcome}
@@ -58,22 +60,22 @@ pub record Follows (place now : ProverPlace) : Type 0 where
   pub behind : IsBehindGrant now
   pub fewer : answers_left now < answers_left place
 
--- bytes were not all sent: a first part of them is logged, the link tells that and a first part of what is left
+-- an answer was sent by one send, or has no frames
+abbrev pub SendsAnswer : List Frame → LineState → LineState → Type 0
+SendsAnswer answer old new =
+    ((answer ≡ []) × (new ≡ old)) ⊎ ((1 ≤ length answer) × Sends (flat_map frame_spelling answer) old new)
+
+-- These bytes were not sent: nothing of them is logged, and the link tells a first part of them, which is none where memory was
+-- missing before any send.
 pub record SendStops (bytes : List ℕ) (fault : LineFault) (old new : LineState) : Type 0 where
-  pub done : List ℕ
   pub part : List ℕ
-  pub begun : BeginsWith bytes (done ++ part)
-  pub logged : new.log ≡ old.log ++ bytes_from old.side done
-  pub told : new.told ≡ appended (bytes_from old.side (done ++ part)) old.told
+  pub begun : BeginsWith bytes part
+  pub logged : new.log ≡ old.log
+  pub told : new.told ≡ appended (bytes_from old.side part) old.told
+  pub sends : ((fault ≡ NoMemory) × (part ≡ []) × (new.sends ≡ old.sends)) ⊎ (new.sends ≡ counted true old.sends)
   pub others : OnlySends old new
   pub cause : IsSendCause old new fault
   pub count : CountsFault fault old new
-
--- frames were not all sent: the first of them are logged
-pub record FramesStop (frames : List Frame) (fault : LineFault) (old new : LineState) : Type 0 where
-  pub stops : SendStops (flat_map frame_spelling frames) fault old new
-  pub sent : ℕ
-  pub done_are : stops.done ≡ flat_map frame_spelling (take sent frames)
 
 -- a line over which nothing has passed yet
 pub record IsFresh (now : LineState) : Type 0 where

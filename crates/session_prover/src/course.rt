@@ -5,12 +5,11 @@ ghost use Rattle.zk_model.specs.Frames as model;
 ghost use Rattle.zk_model.specs.declared.Expect.TheVariants as expect;
 ghost use Rattle.zk_model.specs.Transcript.{wanted_hello};
 ghost use Rattle.proof_frames.specs.Frames.{said, IsShort};
-ghost use Rattle.frame_link.specs.Lines.{LineState, Sends};
 ghost use Rattle.session_core.specs.Cores.{awaits_grant, awaits_verdict, prover_expects, StaysWithin};
 ghost use Rattle.session_core.specs.Jobs.{Suits};
 ghost use Rattle.session_prover.specs.Stages.{Course, ClaimedFor, IsLineAt, IsLineTaken};
 ghost use Rattle.session_prover.specs.Notes.{Ends};
-ghost use Rattle.session_prover.specs.Turns.{IsSound, Expects, IsBehindGrant, IsToAnswer, Follows, FramesStop, IsFresh, Comes, IsGrantTaken, IsNoGrant, IsRejection};
+ghost use Rattle.session_prover.specs.Turns.{IsSound, Expects, IsBehindGrant, IsToAnswer, Follows, SendsAnswer, SendStops, IsFresh, Comes, IsGrantTaken, IsNoGrant, IsRejection};
 ghost use Rattle.session_prover.specs.declared.note.ProverOutcome.TheVariants.{Accepted};
 
 use crate::note::ProverOutcome;
@@ -21,18 +20,23 @@ use std::alloc::Global;
 use zk_model::Expect;
 use zk_port::Link;
 
-/// Sends frames, one behind another.
-fn send_all<L: Link>(alloc: Global, line: &mut Line<L>, frames: &[Frame]) -> Result<(), LineFault>
+/// Sends an answer by one send, if it has frames.
+fn send_answer<L: Link>(
+    alloc: Global,
+    line: &mut Line<L>,
+    answer: &[Frame],
+) -> Result<(), LineFault>
     requires open { IsTrue line.old.is_open }
-    requires short { All IsShort (map said frames.now) }
-    ensures sends { OnOk result (Sends (flat_map frame_spelling (map said frames.now)) line.old line.new) }
+    requires short { All IsShort (map said answer.now) }
+    ensures sends { OnOk result (SendsAnswer (map said answer.now) line.old line.new) }
     ensures fails { IfErr result (λ fault.
-        FramesStop (map said frames.now) fault line.old line.new) }
+        SendStops (flat_map frame_spelling (map said answer.now)) fault line.old line.new) }
+    ensures some { IfErr result (λ _. 1 ≤ length (map said answer.now)) }
 {
-    for frame in frames {
-        line.send(alloc, frame)?;
+    if answer.is_empty() {
+        return Ok(());
     }
-    Ok(())
+    line.send_frames(alloc, answer)
 }
 
 /// Sends the greeting.
@@ -53,7 +57,7 @@ pub(crate) fn greet<L: Link>(
         → course.first ≡ line.old → course.claim.answer ≡ None
         → Ends core.now.job course outcome line.new) }
 {
-    send_all(alloc, line, &[greeting])?;
+    line.send(alloc, &greeting)?;
     Ok(())
 }
 
@@ -76,7 +80,7 @@ fn take_frame<L: Link>(
         → Ends core.now.job course outcome line.new) }
 {
     let Some(place) = core.expects() else {
-        return Err(ProverOutcome::NoMemory);
+        unreachable!();
     };
     let frame = line.take(alloc, place)?;
     Ok(frame)
@@ -93,7 +97,7 @@ fn grant_in(job: &ProverJob<'_>, frame: Frame) -> Result<Grant, ProverOutcome>
         Frame::Grant(grant) if job.suits(grant) => Ok(grant),
         Frame::Grant(_) => Err(ProverOutcome::BadGrant),
         Frame::Refuse { code } => Err(ProverOutcome::PeerRefused { code }),
-        _ => Err(ProverOutcome::NoMemory),
+        _ => unreachable!(),
     }
 }
 
@@ -142,7 +146,7 @@ fn answer<L: Link>(
     ensures job { core.new.job ≡ core.old.job }
 {
     let answer = core.step(alloc, frame)?;
-    send_all(alloc, line, &answer)?;
+    send_answer(alloc, line, &answer)?;
     Ok(())
 }
 
@@ -213,7 +217,7 @@ fn accepted_in(frame: Frame) -> Result<(), ProverOutcome>
     match frame {
         Frame::Verdict { code: 0, .. } => Ok(()),
         Frame::Verdict { code, number } => Err(ProverOutcome::Rejected { code, number }),
-        _ => Err(ProverOutcome::NoMemory),
+        _ => unreachable!(),
     }
 }
 

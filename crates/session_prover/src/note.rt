@@ -4,7 +4,7 @@ ghost use Rattle.session_prover.specs.Outcomes.{claim_outcome, line_outcome, ses
 
 use claim_store::{ClaimFault, Span};
 use frame_link::{LineFault, Log};
-use session_core::SessionFault;
+use session_core::ProverFault;
 
 /// How a session ended for the prover.
 #[derive(Clone, Copy, Debug, PartialEq, Eq)]
@@ -33,7 +33,7 @@ pub enum ProverOutcome {
     Device,
     /// A call of the link failed.
     Link,
-    /// Memory was wanting.
+    /// Memory was missing.
     NoMemory,
 }
 
@@ -65,14 +65,14 @@ impl From<LineFault> for ProverOutcome {
     }
 }
 
-impl From<SessionFault> for ProverOutcome {
+impl From<ProverFault> for ProverOutcome {
     ghost from_gives = { λ fault o. o ≡ session_outcome fault };
 
-    fn from(fault: SessionFault) -> Self {
+    fn from(fault: ProverFault) -> Self {
         match fault {
-            SessionFault::BadGrant => ProverOutcome::BadGrant,
-            SessionFault::PeerRefused { code } => ProverOutcome::PeerRefused { code },
-            SessionFault::BadHello(_) | SessionFault::NoMemory => ProverOutcome::NoMemory,
+            ProverFault::BadGrant => ProverOutcome::BadGrant,
+            ProverFault::PeerRefused { code } => ProverOutcome::PeerRefused { code },
+            ProverFault::NoMemory => ProverOutcome::NoMemory,
         }
     }
 }

@@ -1,13 +1,14 @@
 // A prover's session over a link.
-ghost use Rattle.std.specs.Prelude.{◌≡◌, ◌≤◌, ◌+◌, None, true, false, Some, length, IfOk, IfErr, OnOk};
+ghost use Rattle.std.specs.Prelude.{◌≡◌, ◌≤◌, ◌+◌, None, true, false, Some, [], length, IfOk, IfErr, OnOk};
 ghost use Rattle.zk_model.specs.Frames as model;
 ghost use Rattle.zk_model.specs.Transcript.{sent_by, wanted_hello};
 ghost use Rattle.zk_model.specs.declared.Side.TheVariants.{Prover, Verifier};
 ghost use Rattle.zk_port.specs.Logs.{put_before};
+ghost use Rattle.frame_link.specs.Lines.{snapshot};
 ghost use Rattle.proof_frames.specs.Frames.{said};
 ghost use Rattle.session_core.specs.Cores.{awaits_grant};
 ghost use Rattle.session_prover.specs.Stages.{ClaimedFor, RefusedFor};
-ghost use Rattle.session_prover.specs.Notes.{Ends, IsGranted, IsOutcome, SendsHonestly, SendsOnceClaimed, IsRelated, IsLogged, CountsOutcome, granted_of};
+ghost use Rattle.session_prover.specs.Notes.{Ends, IsGranted, IsOutcome, AnswersGrantPlace, AnswersVerdict, SendsHonestly, SendsOnceClaimed, SendsEach, IsRelated, IsLogged, CountsOutcome, granted_of, told_by};
 ghost use Rattle.session_prover.specs.Completing.{Completes};
 ghost use Rattle.session_prover.specs.Turns.{IsSound, IsFresh};
 ghost use Rattle.session_prover.specs.declared.note.ProverOutcome.TheVariants.{Accepted};
@@ -88,45 +89,42 @@ fn outcome_of(held: Result<(), ProverOutcome>) -> ProverOutcome
 /// Proves a job's statement to any verifier at the other end of a link (Weng, Yang, Katz and Wang, Wolverine, IEEE S&P 2021;
 /// Yang, Sarkar, Weng and Wang, QuickSilver, ACM CCS 2021). It claims the units that the verifier grants before it sends
 /// anything of them, and uses them for this session alone; in kind extended it then makes many correlations of the few that
-/// each has. The stream is ended, whatever came of it.
+/// each has. Each answer is sent by one send, and a verdict that was read is the outcome. The stream is ended, whatever came of it.
 pub fn prove_session<C: Claimant, L: Link>(
     alloc: Global,
     job: &ProverJob<'_>,
     claimant: &mut C,
     link: L,
 ) -> ProverNote<L>
-    requires side { L.side link ≡ Prover }
-    requires open { L.is_open link ≡ true }
+    requires open { (L.state link).is_open ≡ true }
     requires unasked { C.answer claimant.old ≡ None }
     requires total { C.total claimant.old ≤ job.now.file.params.total }
     ensures granted { IsGranted job.now
         (record { asked = C.asked claimant.new; answer = C.answer claimant.new }) result.log result.granted }
     ensures outcome { IsOutcome job.now
         (record { asked = C.asked claimant.new; answer = C.answer claimant.new }) result.log
-        (record {
-          ended = L.ended result.link;
-          to_come = L.to_come result.link;
-          before = L.faults link;
-          after = L.faults result.link;
-        }) result.outcome }
+        (told_by (snapshot Prover [] (L.state link)) (snapshot Prover result.log (L.state result.link)))
+        result.outcome }
+    ensures answers { AnswersGrantPlace job.now
+        (record { asked = C.asked claimant.new; answer = C.answer claimant.new }) result.outcome result.log }
+    ensures verdict { AnswersVerdict job.now result.outcome result.log }
     ensures honest { SendsHonestly job.now result.log result.outcome }
     ensures claimed { SendsOnceClaimed job.now
         (record { asked = C.asked claimant.new; answer = C.answer claimant.new }) result.log }
     ensures related { IsRelated job.now result.log }
     ensures logged { IsLogged job.now
         (record { asked = C.asked claimant.new; answer = C.answer claimant.new }) result.outcome result.log
-        (L.log link) (L.log result.link) }
-    ensures came { L.to_come link ≡ put_before (sent_by Verifier result.log) (L.to_come result.link) }
-    ensures receives { L.receives result.link ≤ L.receives link + length (sent_by Verifier result.log) + 1 }
-    ensures faults { CountsOutcome result.outcome (L.faults link) (L.faults result.link) }
-    ensures ended { L.is_open result.link ≡ false }
+        (snapshot Prover [] (L.state link)).told (snapshot Prover result.log (L.state result.link)).told }
+    ensures came { (L.state link).to_come
+        ≡ put_before (sent_by Verifier result.log) (L.state result.link).to_come }
+    ensures sends { SendsEach result.outcome result.log (L.state link).sends (L.state result.link).sends }
+    ensures receives { (L.state result.link).receives
+        ≤ (L.state link).receives + length (sent_by Verifier result.log) + 1 }
+    ensures faults { CountsOutcome result.outcome (L.state link).faults (L.state result.link).faults }
+    ensures ended { (L.state result.link).is_open ≡ false }
     ensures complete { Completes job.now result.granted result.log
-        (record {
-          ended = L.ended result.link;
-          to_come = L.to_come result.link;
-          before = L.faults link;
-          after = L.faults result.link;
-        }) result.outcome }
+        (told_by (snapshot Prover [] (L.state link)) (snapshot Prover result.log (L.state result.link)))
+        result.outcome }
 {
     honest_verdict();
     let _total = job.file().total();

@@ -6,6 +6,7 @@ use crate::bits::Bits;
 use bool_eval::EvalFault;
 use frame_link::Log;
 use std::alloc::AllocError;
+use thiserror::Error;
 use zk_model::Verdict;
 
 /// What a rehearsal gives.
@@ -28,13 +29,16 @@ pub struct Rehearsal {
 }
 
 /// Why there is no rehearsal.
-#[derive(Clone, Copy, Debug, PartialEq, Eq)]
+#[derive(Clone, Copy, Debug, PartialEq, Eq, Error)]
 pub enum RehearseFault {
     /// The bits are not as many as the circuit's inputs: so many are needed, and so many were given.
+    #[error("{got} bits in place of {need}")]
     WrongLength { need: u64, got: u64 },
     /// The session takes so many correlations, and so many units, which are more than 4,096.
+    #[error("the session takes {need} correlations in {units} units")]
     TooLarge { need: u64, units: u64 },
     /// Memory was wanting.
+    #[error("memory is missing")]
     NoMemory,
 }
 

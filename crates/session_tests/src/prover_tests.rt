@@ -87,7 +87,7 @@ pub fn proved<P: FaultPlan + Drop>(
         asked: None,
         answer: None,
     };
-    let link = ScriptedLink::new(alloc, Side::Prover, script.to_vec(alloc)?, plan);
+    let link = ScriptedLink::new(alloc, script.to_vec(alloc)?, plan);
     let note = prove_session(alloc, &job, &mut claimant, link);
     let asked = claimant.asked;
     Ok(Ending { note, asked })
@@ -249,7 +249,7 @@ fn a_fault_of_the_link_ends_a_proof(rt: HostRuntime) -> Result<(), Fail> {
     let scene = and_gate(LONG);
     let rehearsal = rehearsed(alloc, &scene)?;
     let whole = rehearsal.log.bytes();
-    // The calls are the hello, the grant's first byte and its others, the corrections, the challenge, the sums, the openings
+    // The calls are the hello, the grant's first byte and its others, the corrections, the challenge, the sums with the openings,
     // and the verdict.
     for (call, passed) in [
         (1, 0),
@@ -258,8 +258,7 @@ fn a_fault_of_the_link_ends_a_proof(rt: HostRuntime) -> Result<(), Fail> {
         (4, 123),
         (5, 152),
         (6, 165),
-        (7, 186),
-        (8, 199),
+        (7, 199),
     ] {
         let plan = FailAt::new([call].to_vec(alloc)?);
         let Ending { note, .. } = proved(alloc, &scene, &rehearsal.verifier, plan, None)?;
@@ -387,6 +386,7 @@ fn ending_of_inputs(
     bits.resize(inputs as usize, true)?;
     let scene = Scene {
         text: &text,
+        digest: [0; 32],
         bits: &bits,
         section: 1,
         dealing: Dealing::Direct,

@@ -1,5 +1,5 @@
 // What both ends of a session have: the claim of what a circuit gives, files, and the log of a rehearsal.
-ghost use Rattle.std.specs.Prelude.{◌≡◌, Bool, List, replicate, IfOk};
+ghost use Rattle.std.specs.Prelude.{◌≡◌, ℕ, Bool, List, IfOk};
 ghost use Rattle.zk_model.specs.Statement.{circuit_statement};
 ghost use Rattle.zk_model.specs.declared.Kind.TheVariants.{Extended};
 
@@ -16,6 +16,9 @@ use zk_model::{Kind, Params, Side};
 /// The most products of a section.
 pub const LONG: u32 = 1 << 20;
 
+/// The circuit of one AND gate.
+pub const AND_GATE: &str = "1 3\n2 1 1\n1 1\n\n2 1 0 1 2 AND\n";
+
 /// The seed of all files.
 const SEED: [u8; 32] = [7; 32];
 
@@ -26,15 +29,20 @@ pub enum Dealing {
     Direct,
     /// Kind extended, with one tree of height 1 and base 10.
     OneTree,
+    /// Kind extended, with two trees of height 2 and base 10.
+    LowTrees,
+    /// Kind extended, with two trees of height 6 and base 10.
+    HighTrees,
     /// Kind extended, with 8 trees of height 10 and base 64, as a rehearsal has them.
     EightTrees,
 }
 
-/// A circuit's text, the bits that it is given, how many products a section has, and what the files are dealt for: their kind, and
-/// how many units.
+/// A circuit's text, the digest of it that a hello has, the bits that it is given, how many products a section has, and what the files
+/// are dealt for: their kind, and how many units.
 #[derive(Clone, Copy)]
 pub struct Scene<'a> {
     pub text: &'a str,
+    pub digest: [u8; 32],
     pub bits: &'a [bool],
     pub section: u32,
     pub dealing: Dealing,
@@ -44,7 +52,8 @@ pub struct Scene<'a> {
 /// One AND gate at bits 1, in sections of this length, and files of one unit.
 pub fn and_gate(section: u32) -> Scene<'static> {
     Scene {
-        text: "1 3\n2 1 1\n1 1\n\n2 1 0 1 2 AND\n",
+        text: AND_GATE,
+        digest: [0; 32],
         bits: &[true, true],
         section,
         dealing: Dealing::Direct,
@@ -62,13 +71,13 @@ pub fn circuit_of(alloc: Global, scene: &Scene<'_>) -> Result<Circuit, Fail> {
 
 /// The claim that a scene's circuit gives what it gives.
 pub fn claim_of(alloc: Global, scene: &Scene<'_>, circuit: &Circuit) -> Result<CircuitClaim, Fail>
-    ensures { IfOk result (λ claim. (outputs : List Bool)
-        × (claim ≡ circuit_statement circuit.now (replicate 32 0) outputs)) }
+    ensures { IfOk result (λ claim. (digest : List ℕ) × (outputs : List Bool)
+        × (claim ≡ circuit_statement circuit.now digest outputs)) }
 {
     let Ok(outputs) = eval(alloc, circuit, scene.bits) else {
         return Err(Fail::new("no outputs"));
     };
-    let claim = CircuitClaim::new(alloc, circuit, [0; 32], &outputs)?;
+    let claim = CircuitClaim::new(alloc, circuit, scene.digest, &outputs)?;
     Ok(claim)
 }
 
@@ -100,6 +109,8 @@ pub fn files_of(alloc: Global, scene: &Scene<'_>) -> Result<(ProverFile, Verifie
             total,
         },
         Dealing::OneTree => extended(1, 1, 10, total),
+        Dealing::LowTrees => extended(2, 2, 10, total),
+        Dealing::HighTrees => extended(6, 2, 10, total),
         Dealing::EightTrees => extended(10, 8, 64, total),
     };
     Ok(deal(alloc, &params, &SEED)?)
@@ -143,7 +154,9 @@ pub fn rehearsed(alloc: Global, scene: &Scene<'_>) -> Result<Rehearsal, Fail> {
     let circuit = circuit_of(alloc, scene)?;
     let kind = match scene.dealing {
         Dealing::Direct => Kind::Direct,
-        Dealing::OneTree | Dealing::EightTrees => Kind::Extended,
+        Dealing::OneTree | Dealing::LowTrees | Dealing::HighTrees | Dealing::EightTrees => {
+            Kind::Extended
+        }
     };
     let Ok(rehearsal) = rehearse(alloc, circuit, scene.bits, kind, scene.section, &SEED) else {
         return Err(Fail::new("no rehearsal"));

@@ -8,6 +8,7 @@ use std::test::Fail;
 fn scene_of(text: &str, section: u32, dealing: Dealing) -> Scene<'_> {
     Scene {
         text,
+        digest: [0; 32],
         bits: &[true, false],
         section,
         dealing,

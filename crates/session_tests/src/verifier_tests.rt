@@ -11,7 +11,7 @@ use session_core::{HelloDiffers, VerifierJob};
 use session_verifier::{Grantor, SessionNote, VerifierOutcome, verify_session};
 use std::alloc::Global;
 use std::test::Fail;
-use zk_model::{FrameKind, Side};
+use zk_model::FrameKind;
 use zk_port::{FailAt, FaultPlan, Link, NoFault, QuietGate, ScriptedLink};
 
 /// Leases units from 0 on, or answers by a fault.
@@ -73,7 +73,7 @@ pub fn served<P: FaultPlan + Drop>(
         asked: None,
         answer: None,
     };
-    let link = ScriptedLink::new(alloc, Side::Verifier, script.to_vec(alloc)?, plan);
+    let link = ScriptedLink::new(alloc, script.to_vec(alloc)?, plan);
     Ok(verify_session(alloc, &job, &mut grantor, link, &QuietGate))
 }
 
@@ -243,6 +243,12 @@ fn a_fault_of_the_link_or_of_the_lease_ends_a_session(rt: HostRuntime) -> Result
             Some(refusal(code).as_slice()),
             "{code}"
         );
+        // Where its send is refused nothing else changes.
+        let plan = FailAt::new([2].to_vec(alloc)?);
+        let note = served(alloc, &and_gate(LONG), &script, plan, Some(fault))?;
+        assert_eq!(rt; note.outcome, wanted, "{code}");
+        assert_eq!(rt; note.link.faults(), 1, "{code}");
+        assert_eq!(rt; Some(note.log.bytes()), log.bytes().get(..102), "{code}");
     }
     Ok(())
 }

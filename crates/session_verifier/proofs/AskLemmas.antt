@@ -7,9 +7,9 @@ use Rattle.zk_model.specs.declared.Kind.TheVariants.{Direct, Extended}
 use Rattle.session_core.specs.Jobs.{VerifierJob, units_of_job}
 use Rattle.session_core.specs.Cores.{VerifierPlace, AnswersAsks, VerifierAnswers, awaits_hello, owes_grant, behind_grant, awaits_asks, awaits_corrections, awaits_sums, awaits_openings, has_judged, has_refused}
 use Rattle.session_core.specs.declared.judgement.Judgement.{Judgement}
-use Rattle.frame_link.specs.Lines.{LineState}
+use Rattle.frame_link.specs.Lines.{LineState, snapshot_of}
 use Rattle.session_verifier.specs.declared.note.VerifierOutcome.{VerifierOutcome}
-use Rattle.session_verifier.specs.Stages.{BehindAsks, Follows, AwaitsBehind, StartsAt, IsLineAt, IsStopped, StopsBehind, asks_due, moment_of}
+use Rattle.session_verifier.specs.Stages.{BehindAsks, Follows, AwaitsBehind, StartsAt, IsLineAt, IsStopped, StopsBehind, asks_due}
 use Rattle.session_verifier.proofs.RoundLemmas.{either_kind, behind_direct, behind_extended}
 
 -- ---- the next place
@@ -132,8 +132,8 @@ asks_go_on job start came behind place next old mid now less come follows goes =
 -- where the session stops there, it stops behind the grant
 pub asks_stop : (job : VerifierJob) (start came : ℕ) (behind place : VerifierPlace) (outcome : VerifierOutcome) (old mid now : LineState) → came < asks_due job
     → AsksCome job start came behind place old mid
-    → ((first : LineState) → IsLineAt job place first mid → IsStopped job place outcome (moment_of first) (moment_of now))
-    → (first : LineState) → IsLineAt job behind first old → StopsBehind job start outcome (moment_of first) (moment_of now)
+    → ((first : LineState) → IsLineAt job place first mid → IsStopped job place outcome (snapshot_of first) (snapshot_of now))
+    → (first : LineState) → IsLineAt job behind first old → StopsBehind job start outcome (snapshot_of first) (snapshot_of now)
 asks_stop job start came behind place outcome old mid now less come stops first is = record {
   place = place;
   behind = starts_there job start came place less come.waits;

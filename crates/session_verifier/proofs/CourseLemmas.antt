@@ -1,33 +1,38 @@
 -- What the course of a session says of its note.
-use Rattle.std.proofs.Common.{◌≡◌, ◌⊎◌, inl, inr, ℕ, ◌+◌, ◌^◌, ◌≤◌, ◌<◌, List, [], ◌++◌, length, Option, Some, None, Result, Ok, Err, Bool, true, false, refl, ap, sym, ◌∙◌, subst, arith, append-nil}
+use Rattle.std.proofs.Common.{◌≡◌, ◌⊎◌, inl, inr, ℕ, ◌+◌, ◌^◌, ◌≤◌, ◌<◌, List, [], ◌∷◌, ◌++◌, flat_map, length, Option, Some, None, Result, Ok, Err, Bool, true, false, refl, ap, sym, ◌∙◌, subst, arith, append-nil, append_assoc}
 use Rattle.zk_model.specs.Field.{IsElement, from_word}
 use Rattle.zk_model.specs.Program.{section_count}
 use Rattle.zk_model.specs.Statement.{IsStatement}
 use Rattle.zk_model.specs.Files.{IsVerifierFile}
-use Rattle.zk_model.specs.Transcript.{Grant, Transcript, IsGrant, refuse_frame, bytes_from, sent_by}
+use Rattle.zk_model.specs.Transcript.{Grant, Transcript, IsGrant, IsHello, BeginsWith, wanted_hello, hello_frame, ask_frame, sums_frame, openings_frame, verdict_frame, refuse_frame, bytes_from, turn_bytes, sent_by, spelling}
+use Rattle.zk_model.specs.Frames.{hello}
+use Rattle.zk_model.specs.declared.Expect.{Expect}
+use Rattle.zk_model.specs.declared.Expect.TheVariants as expect
+use Rattle.zk_laws.proofs.SentBytes.{none_of_prover}
+use Rattle.proof_frames.proofs.Lengths.{whole_length}
+use Rattle.frame_link.proofs.LineLemmas.{none_is_some}
 use Rattle.zk_model.specs.View.{ChecksHold, verdict_number}
 use Rattle.zk_model.specs.ServedVerifier.{challenge_coin}
 use Rattle.zk_model.specs.declared.Side.{Side}
 use Rattle.zk_model.specs.declared.Side.TheVariants.{Prover, Verifier}
 use Rattle.zk_model.specs.declared.Span.{Span}
 use Rattle.zk_laws.specs.Extraction.{Extraction}
-use Rattle.zk_port.specs.Logs.{appended}
-use Rattle.zk_port.specs.Counts.{Rose}
+use Rattle.zk_port.specs.Counts.{Rose, counted}
 use Rattle.lease_store.specs.declared.LeaseFault.{LeaseFault}
 use Rattle.lease_store.specs.declared.LeaseFault.TheVariants as lease
 use Rattle.session_core.specs.Jobs.{VerifierJob, IsVerifierJob, units_of_job, granted_from}
+use Rattle.session_core.specs.Rounds.{round_turns}
 use Rattle.session_core.specs.Judgements.{IsJudgement, session_transcript, verdict_in}
 use Rattle.session_core.specs.Cores.{VerifierPlace, awaits_hello, owes_grant, awaits_asks, awaits_corrections, awaits_sums, awaits_openings, has_judged, has_refused}
 use Rattle.session_core.specs.declared.judgement.Judgement.{Judgement}
 use Rattle.session_core.specs.declared.judgement.Judgement.TheVariants as judged
 use Rattle.session_core.proofs.Enough.{parts_within}
 use Rattle.session_core.proofs.Served.{AreRanged, served_is}
-use Rattle.frame_link.specs.Lines.{LineState}
-use Rattle.frame_link.proofs.LineLemmas.{appended_none}
-use Rattle.session_verifier.proofs.StageLemmas.{sent_answered, tells_so}
-use Rattle.session_verifier.specs.Outcomes.{lease_outcome, judgement_outcome}
-use Rattle.session_verifier.specs.Stages.{Moment, TellsLog, TellsBy, StopCause, StartsAt, IsLineAt, IsStopped, StopsBehind, IsRefused, RefusesBy, IsWaiting, IsJudgedLog, IsCourse}
-use Rattle.session_verifier.specs.Notes.{granted_by, IsJudgedSession, JudgesRightly, IsShown, EndsBecause, IsTold, ReceivesFew}
+use Rattle.frame_link.specs.Lines.{LinkSnapshot, IsCutShort}
+use Rattle.session_verifier.proofs.StageLemmas.{sent_answered}
+use Rattle.session_verifier.specs.Outcomes.{lease_outcome, lease_code, judgement_outcome}
+use Rattle.session_verifier.specs.Stages.{StopCause, StartsAt, IsStopped, StopsBehind, IsSent, IsFault, SendsUpTo, IsNoLink, CountsOutcome, IsLogAt, IsWholeHello, IsRefused, IsRefusalSent, IsRefusalUnsent, IsRefusedGrant, IsGrantUnsent, LacksTheGrant, RefusesHello, IsWaiting, IsJudgedLog, IsCourse, first_turn, second_turn}
+use Rattle.session_verifier.specs.Notes.{granted_by, IsJudgedSession, JudgesRightly, IsShown, HasJudged, LacksMemory, RefusesNoLease, EndsBecause, LeasesBehindHello, Refuses, CountsFaults, ReceivesFew}
 use Rattle.session_verifier.specs.declared.note.VerifierOutcome.{VerifierOutcome}
 use Rattle.session_verifier.specs.declared.note.VerifierOutcome.TheVariants.{Accepted, RejectedSum, RejectedOpening, PeerEnded, BadFrame, BadHello, Exhausted, Device, Broken, Link, NoMemory}
 
@@ -41,7 +46,7 @@ pub record IsKnown (job : VerifierJob) : Type 0 where
 
 -- ---- which units were leased
 
-pub granted_is : (job : VerifierJob) (answer : Option (Result Span LeaseFault)) (granted : Option Span) (outcome : VerifierOutcome) (first now : Moment)
+pub granted_is : (job : VerifierJob) (answer : Option (Result Span LeaseFault)) (granted : Option Span) (outcome : VerifierOutcome) (first now : LinkSnapshot)
     → IsCourse job answer granted outcome first now → granted ≡ granted_by answer
 granted_is job None granted outcome first now course = course.0
 granted_is job (Some (Err fault)) granted outcome first now course = course.0
@@ -79,7 +84,7 @@ not_both same = subst (λ b. if_true b) same tt
     if_true true = Unit {0}
     if_true false = ⊥
 
-stop_false : (job : VerifierJob) (place : VerifierPlace) (rest : List ℕ) (first now : Moment) (outcome : VerifierOutcome) → StopCause job place rest first now outcome
+stop_false : (job : VerifierJob) (place : VerifierPlace) (rest : List ℕ) (first now : LinkSnapshot) (outcome : VerifierOutcome) → StopCause job place rest first now outcome
     → is_judged outcome ≡ false
 stop_false job place rest first now Accepted cause = absurd cause
 stop_false job place rest first now (RejectedSum section left right) cause = absurd cause
@@ -116,6 +121,24 @@ in_outcome (judged.RejectedOpening output left right) = refl
 
 pub one_judgement : (some other : Judgement) → judgement_outcome some ≡ judgement_outcome other → some ≡ other
 one_judgement some other same = sym (in_outcome some) ∙ ap judgement_in same ∙ in_outcome other
+
+fault_false : (outcome : VerifierOutcome) → IsFault outcome → is_judged outcome ≡ false
+fault_false Link is = refl
+fault_false NoMemory is = refl
+fault_false Accepted is = absurd is
+fault_false (RejectedSum section left right) is = absurd is
+fault_false (RejectedOpening output left right) is = absurd is
+fault_false (PeerEnded at) is = absurd is
+fault_false (BadFrame at) is = absurd is
+fault_false (BadHello differs) is = absurd is
+fault_false (Exhausted at count total) is = absurd is
+fault_false Device is = absurd is
+fault_false (Broken at) is = absurd is
+
+lacks_false : (job : VerifierJob) (start : ℕ) (outcome : VerifierOutcome) (first now : LinkSnapshot) → LacksTheGrant job start outcome first now
+    → is_judged outcome ≡ false
+lacks_false job start outcome first now (inl refused) = ap is_judged refused.0
+lacks_false job start outcome first now (inr unsent) = fault_false outcome unsent.fault
 
 -- ---- judged sessions
 
@@ -161,7 +184,7 @@ judged_session job span granted judgement log known leased logged =
       found = logged.judged;
     }
 
-pub judges_rightly : (job : VerifierJob) (answer : Option (Result Span LeaseFault)) (granted : Option Span) (outcome : VerifierOutcome) (first now : Moment) → IsKnown job
+pub judges_rightly : (job : VerifierJob) (answer : Option (Result Span LeaseFault)) (granted : Option Span) (outcome : VerifierOutcome) (first now : LinkSnapshot) → IsKnown job
     → IsCourse job answer granted outcome first now → JudgesRightly job granted outcome now.log
 judges_rightly job None granted outcome first now known course judgement is =
     clash outcome judgement is (stop_false job awaits_hello course.1.stopped.rest first course.1.mid outcome course.1.stopped.cause)
@@ -169,206 +192,416 @@ judges_rightly job (Some (Err fault)) granted outcome first now known course jud
     clash outcome judgement is (ap is_judged course.1.named ∙ lease_false fault)
 judges_rightly job (Some (Ok span)) granted outcome first now known course judgement is = by_course course.1.course
   where
-    by_course : (IsStopped job owes_grant outcome first now ⊎ StopsBehind job span.start outcome first now
+    by_course : (LacksTheGrant job span.start outcome first now ⊎ StopsBehind job span.start outcome first now
         ⊎ ((other : Judgement) × (outcome ≡ judgement_outcome other) × IsWaiting job (has_judged span.start other) first now))
         → IsJudgedSession job granted judgement now.log
-    by_course (inl stopped) = clash outcome judgement is (stop_false job owes_grant stopped.rest first now outcome stopped.cause)
+    by_course (inl lacks) = clash outcome judgement is (lacks_false job span.start outcome first now lacks)
     by_course (inr (inl stops)) = clash outcome judgement is (stop_false job stops.place stops.stopped.rest first now outcome stops.stopped.cause)
     by_course (inr (inr found)) =
         judged_session job span granted judgement now.log known course.0
         (subst (λ j. IsJudgedLog job span.start j now.log) (one_judgement found.0 judgement (sym found.1 ∙ is)) found.2.log)
 
--- ---- receives, faults and what is told
+-- ---- receives
 
 -- behind what passed, the verifier sent something, or nothing
-record IsAfter (old now : Moment) : Type 0 where
+record IsAfter (old now : LinkSnapshot) : Type 0 where
   answer : List ℕ
   log : now.log ≡ old.log ++ bytes_from Verifier answer
   receives : now.receives ≡ old.receives
-  later : old.faults ≤ now.faults
 
-same_after : (old now : Moment) → now ≡ old → IsAfter old now
+same_after : (old now : LinkSnapshot) → now ≡ old → IsAfter old now
 same_after old now same = record {
   answer = [];
-  log = ap (λ (m : Moment). m.log) same ∙ sym (append-nil old.log);
-  receives = ap (λ (m : Moment). m.receives) same;
-  later = omega (arith, ap (λ (m : Moment). m.faults) same);
+  log = ap (λ (m : LinkSnapshot). m.log) same ∙ sym (append-nil old.log);
+  receives = ap (λ (m : LinkSnapshot). m.receives) same;
 }
 
-refused_after : (code : ℕ) (old now : Moment) → IsRefused code old now → IsAfter old now
-refused_after code old now refused = either refused.log
+refused_after : (code : ℕ) (old now : LinkSnapshot) → IsRefused code old now → IsAfter old now
+refused_after code old now refused = either refused.sent
   where
-    either : ((now.log ≡ old.log ++ bytes_from Verifier (refuse_frame code)) ⊎ (now.log ≡ old.log)) → IsAfter old now
-    either (inl log) = record { answer = refuse_frame code; log = log; receives = refused.receives; later = refused.later }
-    either (inr log) = record { answer = []; log = log ∙ sym (append-nil old.log); receives = refused.receives; later = refused.later }
+    either : (IsRefusalSent code old now ⊎ IsRefusalUnsent code old now) → IsAfter old now
+    either (inl sent) = record { answer = refuse_frame code; log = sent.log; receives = refused.receives }
+    either (inr unsent) = record { answer = []; log = unsent.log ∙ sym (append-nil old.log); receives = refused.receives }
 
-after : (outcome : VerifierOutcome) (old now : Moment) → RefusesBy outcome old now → IsAfter old now
-after Accepted old now by = same_after old now by
-after (RejectedSum section left right) old now by = same_after old now by
-after (RejectedOpening output left right) old now by = same_after old now by
-after (PeerEnded at) old now by = same_after old now by
-after (BadFrame at) old now by = same_after old now by
-after (BadHello differs) old now by = refused_after 1 old now by
-after (Exhausted at count total) old now by = refused_after 2 old now by
-after Device old now by = refused_after 3 old now by
-after (Broken at) old now by = refused_after 3 old now by
-after Link old now by = same_after old now by
-after NoMemory old now by = same_after old now by
+after : (rest : List ℕ) (outcome : VerifierOutcome) (old now : LinkSnapshot) → RefusesHello rest outcome old now → IsAfter old now
+after rest Accepted old now by = same_after old now by
+after rest (RejectedSum section left right) old now by = same_after old now by
+after rest (RejectedOpening output left right) old now by = same_after old now by
+after rest (PeerEnded at) old now by = same_after old now by
+after rest (BadFrame at) old now by = same_after old now by
+after rest (BadHello differs) old now by = refused_after 1 old now by
+after rest (Exhausted at count total) old now by = same_after old now by
+after rest Device old now by = same_after old now by
+after rest (Broken at) old now by = same_after old now by
+after rest Link old now by = same_after old now by
+after rest NoMemory old now (inl refused) = refused_after 4 old now refused.1
+after rest NoMemory old now (inr missing) = same_after old now missing.1
 
-few_after : (outcome : VerifierOutcome) (first old now : Moment) → RefusesBy outcome old now → ReceivesFew first old → ReceivesFew first now
-few_after outcome first old now by few =
-    let is = after outcome old now by in
+few_after : (first old now : LinkSnapshot) → IsAfter old now → ReceivesFew first old → ReceivesFew first now
+few_after first old now is few =
     let sent = ap (λ l. length (sent_by Prover l)) is.log ∙ ap length (sent_answered old.log is.answer) in
     omega (arith, few, is.receives, sent)
 
-pub receives_few : (job : VerifierJob) (answer : Option (Result Span LeaseFault)) (granted : Option Span) (outcome : VerifierOutcome) (first now : Moment)
+few_refused : (job : VerifierJob) (code : ℕ) (first now : LinkSnapshot) → IsRefusedGrant job code first now → ReceivesFew first now
+few_refused job code first now is = few_after first is.mid now (refused_after code is.mid now is.refused) (omega (arith, is.waiting.receives))
+
+few_lacking : (job : VerifierJob) (start : ℕ) (outcome : VerifierOutcome) (first now : LinkSnapshot) → LacksTheGrant job start outcome first now → ReceivesFew first now
+few_lacking job start outcome first now (inl refused) = few_refused job 4 first now refused.1
+few_lacking job start outcome first now (inr unsent) = omega (arith, unsent.receives)
+
+pub receives_few : (job : VerifierJob) (answer : Option (Result Span LeaseFault)) (granted : Option Span) (outcome : VerifierOutcome) (first now : LinkSnapshot)
     → IsCourse job answer granted outcome first now → ReceivesFew first now
-receives_few job None granted outcome first now course = few_after outcome first course.1.mid now course.1.refused course.1.stopped.receives
-receives_few job (Some (Err fault)) granted outcome first now course =
-    few_after outcome first course.1.mid now course.1.refused (omega (arith, course.1.waiting.receives))
+receives_few job None granted outcome first now course =
+    few_after first course.1.mid now (after course.1.stopped.rest outcome course.1.mid now course.1.refused) course.1.stopped.receives
+receives_few job (Some (Err fault)) granted outcome first now course = few_refused job (lease_code fault) first now course.1.refused
 receives_few job (Some (Ok span)) granted outcome first now course = by_course course.1.course
   where
-    by_course : (IsStopped job owes_grant outcome first now ⊎ StopsBehind job span.start outcome first now
+    by_course : (LacksTheGrant job span.start outcome first now ⊎ StopsBehind job span.start outcome first now
         ⊎ ((other : Judgement) × (outcome ≡ judgement_outcome other) × IsWaiting job (has_judged span.start other) first now))
         → ReceivesFew first now
-    by_course (inl stopped) = stopped.receives
+    by_course (inl lacks) = few_lacking job span.start outcome first now lacks
     by_course (inr (inl stops)) = stops.stopped.receives
     by_course (inr (inr found)) = omega (arith, found.2.receives)
 
-pub faults_later : (job : VerifierJob) (answer : Option (Result Span LeaseFault)) (granted : Option Span) (outcome : VerifierOutcome) (first now : Moment)
-    → IsCourse job answer granted outcome first now → first.faults ≤ now.faults
-faults_later job None granted outcome first now course =
-    omega (arith, course.1.stopped.later, (after outcome course.1.mid now course.1.refused).later)
-faults_later job (Some (Err fault)) granted outcome first now course =
-    omega (arith, course.1.waiting.faults, (after outcome course.1.mid now course.1.refused).later)
-faults_later job (Some (Ok span)) granted outcome first now course = by_course course.1.course
+-- ---- where the hello came
+
+-- there is no answer to it but a refusal
+pub hello_sent : (job : VerifierJob) (place : Expect) (rest : List ℕ) (outcome : VerifierOutcome) (first mid : LinkSnapshot)
+    → SendsUpTo job awaits_hello place rest outcome first mid → IsSent 0 first mid
+hello_sent job place rest outcome first mid (inl sent) = sent.0
+hello_sent job place rest outcome first mid (inr unsent) =
+    let answer = unsent.1.1 in
+    absurd (omega (arith, answer.at_least_one, ap length answer.answers.1))
+
+-- all bytes are the prover's
+pub none_answered : (log : List (Side × ℕ)) (rest : List ℕ) → log ≡ bytes_from Prover rest → sent_by Verifier log ≡ []
+none_answered log rest is = ap (sent_by Verifier) is ∙ none_of_prover rest
+
+pub hello_bytes : (job : VerifierJob) (outcome : VerifierOutcome) (first mid : LinkSnapshot) → (stopped : IsStopped job awaits_hello outcome first mid)
+    → mid.log ≡ bytes_from Prover stopped.rest
+hello_bytes job outcome first mid stopped = stopped.log ∙ ap (λ l. l ++ bytes_from Prover stopped.rest) stopped.waited
+
+-- a whole hello is not cut short
+whole_is_not_cut : (rest : List ℕ) → IsWholeHello rest → IsCutShort expect.Hello rest → ⊥
+whole_is_not_cut rest whole cut =
+    let sized = whole_length expect.Hello rest (hello whole.0) (record { allowed = (whole.0, refl, whole.1); spelled = whole.2 }) in
+    absurd (omega (arith, cut.short, sized))
+
+-- ---- failed calls
+
+not_link : (outcome : VerifierOutcome) → Refuses outcome → outcome ≡ Link → ⊥
+not_link outcome refuses is = subst Refuses is refuses
+
+counts_of : (outcome : VerifierOutcome) (first now : LinkSnapshot) → CountsOutcome outcome first now → (outcome ≡ Link → Rose first.faults now.faults)
+    → CountsFaults outcome first now
+counts_of outcome first now count rose = record { later = count.later; failed = rose; unfailed = by outcome count.unfailed }
   where
-    by_course : (IsStopped job owes_grant outcome first now ⊎ StopsBehind job span.start outcome first now
-        ⊎ ((other : Judgement) × (outcome ≡ judgement_outcome other) × IsWaiting job (has_judged span.start other) first now))
-        → first.faults ≤ now.faults
-    by_course (inl stopped) = stopped.later
-    by_course (inr (inl stops)) = stops.stopped.later
-    by_course (inr (inr found)) = omega (arith, found.2.faults)
+    by : (other : VerifierOutcome) → (IsNoLink other → now.faults ≡ first.faults)
+        → (now.faults ≡ first.faults) ⊎ (other ≡ Link) ⊎ (Refuses other × (sent_by Verifier now.log ≡ []) × (now.sends ≡ counted true first.sends))
+    by Accepted same = inl (same tt)
+    by (RejectedSum section left right) same = inl (same tt)
+    by (RejectedOpening output left right) same = inl (same tt)
+    by (PeerEnded at) same = inl (same tt)
+    by (BadFrame at) same = inl (same tt)
+    by (BadHello differs) same = inl (same tt)
+    by (Exhausted at count total) same = inl (same tt)
+    by Device same = inl (same tt)
+    by (Broken at) same = inl (same tt)
+    by Link same = inr (inl refl)
+    by NoMemory same = inl (same tt)
 
-tells_exactly : (first now : Moment) → now.told ≡ appended now.log first.told → TellsLog first now
-tells_exactly first now told = record { part = []; told = told ∙ ap (λ l. appended l first.told) (sym (append-nil now.log)) }
+counts_stop : (job : VerifierJob) (place : VerifierPlace) (outcome : VerifierOutcome) (first now : LinkSnapshot) → IsStopped job place outcome first now
+    → CountsFaults outcome first now
+counts_stop job place outcome first now stopped =
+    counts_of outcome first now stopped.count (λ is. subst (StopCause job place stopped.rest first now) is stopped.cause)
 
-told_of : (outcome : VerifierOutcome) (first now : Moment) → TellsBy outcome first now → IsTold outcome first now
-told_of Accepted first now told = told
-told_of (RejectedSum section left right) first now told = told
-told_of (RejectedOpening output left right) first now told = told
-told_of (PeerEnded at) first now told = told
-told_of (BadFrame at) first now told = told
-told_of (BadHello differs) first now told = tells_exactly first now told
-told_of (Exhausted at count total) first now told = tells_exactly first now told
-told_of Device first now told = tells_exactly first now told
-told_of (Broken at) first now told = tells_exactly first now told
-told_of Link first now told = told
-told_of NoMemory first now told = told
-
-told_after : (outcome : VerifierOutcome) (first old now : Moment) → RefusesBy outcome old now → TellsBy outcome first old → IsTold outcome first now
-told_after Accepted first old now by told = subst (IsTold Accepted first) (sym by) told
-told_after (RejectedSum section left right) first old now by told = subst (IsTold (RejectedSum section left right) first) (sym by) told
-told_after (RejectedOpening output left right) first old now by told = subst (IsTold (RejectedOpening output left right) first) (sym by) told
-told_after (PeerEnded at) first old now by told = subst (IsTold (PeerEnded at) first) (sym by) told
-told_after (BadFrame at) first old now by told = subst (IsTold (BadFrame at) first) (sym by) told
-told_after (BadHello differs) first old now by told = by.told first told
-told_after (Exhausted at count total) first old now by told = by.told first told
-told_after Device first old now by told = by.told first told
-told_after (Broken at) first old now by told = by.told first told
-told_after Link first old now by told = subst (IsTold Link first) (sym by) told
-told_after NoMemory first old now by told = subst (IsTold NoMemory first) (sym by) told
-
-pub is_told : (job : VerifierJob) (answer : Option (Result Span LeaseFault)) (granted : Option Span) (outcome : VerifierOutcome) (first now : Moment)
-    → IsCourse job answer granted outcome first now → IsTold outcome first now
-is_told job None granted outcome first now course = told_after outcome first course.1.mid now course.1.refused course.1.stopped.told
-is_told job (Some (Err fault)) granted outcome first now course =
-    told_after outcome first course.1.mid now course.1.refused (tells_so outcome first course.1.mid course.1.waiting.told)
-is_told job (Some (Ok span)) granted outcome first now course = by_course course.1.course
+counts_refusal : (code : ℕ) (outcome : VerifierOutcome) (first mid now : LinkSnapshot) → Refuses outcome → mid.faults ≡ first.faults → mid.sends ≡ first.sends
+    → sent_by Verifier mid.log ≡ [] → IsRefused code mid now → CountsFaults outcome first now
+counts_refusal code outcome first mid now refuses faults sends none refused = record {
+  later = omega (arith, faults, refused.later);
+  failed = λ is. absurd (not_link outcome refuses is);
+  unfailed = either refused.sent;
+}
   where
-    by_course : (IsStopped job owes_grant outcome first now ⊎ StopsBehind job span.start outcome first now
+    either : (IsRefusalSent code mid now ⊎ IsRefusalUnsent code mid now)
+        → (now.faults ≡ first.faults) ⊎ (outcome ≡ Link) ⊎ (Refuses outcome × (sent_by Verifier now.log ≡ []) × (now.sends ≡ counted true first.sends))
+    either (inl sent) = inl (sent.faults ∙ faults)
+    either (inr unsent) = inr (inr (refuses, ap (sent_by Verifier) unsent.log ∙ none, refused.sends ∙ ap (counted true) sends))
+
+counts_refused : (job : VerifierJob) (code : ℕ) (outcome : VerifierOutcome) (first now : LinkSnapshot) → Refuses outcome → IsRefusedGrant job code first now
+    → CountsFaults outcome first now
+counts_refused job code outcome first now refuses is =
+    counts_refusal code outcome first is.mid now refuses is.waiting.faults is.waiting.sent.sends
+    (none_answered is.mid.log (hello_frame (wanted_hello job.task.file.id job.task.statement)) is.waiting.log) is.refused
+
+lease_refuses : (fault : LeaseFault) → Refuses (lease_outcome fault)
+lease_refuses (lease.Exhausted at count total) = tt
+lease_refuses lease.Device = tt
+lease_refuses (lease.Broken at) = tt
+
+counts_unmet : (job : VerifierJob) (outcome : VerifierOutcome) (first mid now : LinkSnapshot) → (stopped : IsStopped job awaits_hello outcome first mid)
+    → RefusesHello stopped.rest outcome mid now → CountsFaults outcome first now
+counts_unmet job (BadHello differs) first mid now stopped by =
+    let sent = hello_sent job stopped.expect stopped.rest (BadHello differs) first mid stopped.sends in
+    counts_refusal 1 (BadHello differs) first mid now tt (stopped.count.unfailed tt) sent.sends
+    (none_answered mid.log stopped.rest (hello_bytes job (BadHello differs) first mid stopped)) by
+counts_unmet job NoMemory first mid now stopped (inl refused) =
+    let sent = hello_sent job stopped.expect stopped.rest NoMemory first mid stopped.sends in
+    counts_refusal 4 NoMemory first mid now tt (stopped.count.unfailed tt) sent.sends
+    (none_answered mid.log stopped.rest (hello_bytes job NoMemory first mid stopped)) refused.1
+counts_unmet job NoMemory first mid now stopped (inr missing) =
+    subst (CountsFaults NoMemory first) (sym missing.1) (counts_stop job awaits_hello NoMemory first mid stopped)
+counts_unmet job (PeerEnded at) first mid now stopped by =
+    subst (CountsFaults (PeerEnded at) first) (sym by) (counts_stop job awaits_hello (PeerEnded at) first mid stopped)
+counts_unmet job (BadFrame at) first mid now stopped by =
+    subst (CountsFaults (BadFrame at) first) (sym by) (counts_stop job awaits_hello (BadFrame at) first mid stopped)
+counts_unmet job Link first mid now stopped by = subst (CountsFaults Link first) (sym by) (counts_stop job awaits_hello Link first mid stopped)
+counts_unmet job Accepted first mid now stopped by = absurd stopped.cause
+counts_unmet job (RejectedSum section left right) first mid now stopped by = absurd stopped.cause
+counts_unmet job (RejectedOpening output left right) first mid now stopped by = absurd stopped.cause
+counts_unmet job (Exhausted at count total) first mid now stopped by = absurd stopped.cause
+counts_unmet job Device first mid now stopped by = absurd stopped.cause
+counts_unmet job (Broken at) first mid now stopped by = absurd stopped.cause
+
+counts_lacking : (job : VerifierJob) (start : ℕ) (outcome : VerifierOutcome) (first now : LinkSnapshot) → LacksTheGrant job start outcome first now
+    → CountsFaults outcome first now
+counts_lacking job start outcome first now (inl refused) =
+    counts_refused job 4 outcome first now (subst Refuses (sym refused.0) tt) refused.1
+counts_lacking job start outcome first now (inr unsent) = counts_of outcome first now unsent.count unsent.cause
+
+counts_same : (judgement : Judgement) (first now : LinkSnapshot) → now.faults ≡ first.faults → CountsFaults (judgement_outcome judgement) first now
+counts_same judgement first now same =
+    counts_of (judgement_outcome judgement) first now (record { later = omega (arith, same); unfailed = λ _. same })
+    (λ is. clash Link judgement (sym is) refl)
+
+pub counts_faults : (job : VerifierJob) (answer : Option (Result Span LeaseFault)) (granted : Option Span) (outcome : VerifierOutcome) (first now : LinkSnapshot)
+    → IsCourse job answer granted outcome first now → CountsFaults outcome first now
+counts_faults job None granted outcome first now course = counts_unmet job outcome first course.1.mid now course.1.stopped course.1.refused
+counts_faults job (Some (Err fault)) granted outcome first now course =
+    counts_refused job (lease_code fault) outcome first now (subst Refuses (sym course.1.named) (lease_refuses fault)) course.1.refused
+counts_faults job (Some (Ok span)) granted outcome first now course = by_course course.1.course
+  where
+    by_course : (LacksTheGrant job span.start outcome first now ⊎ StopsBehind job span.start outcome first now
         ⊎ ((other : Judgement) × (outcome ≡ judgement_outcome other) × IsWaiting job (has_judged span.start other) first now))
-        → IsTold outcome first now
-    by_course (inl stopped) = told_of outcome first now stopped.told
-    by_course (inr (inl stops)) = told_of outcome first now stops.stopped.told
-    by_course (inr (inr found)) = told_of outcome first now (tells_so outcome first now found.2.told)
+        → CountsFaults outcome first now
+    by_course (inl lacks) = counts_lacking job span.start outcome first now lacks
+    by_course (inr (inl stops)) = counts_stop job stops.place outcome first now stops.stopped
+    by_course (inr (inr found)) = subst (λ o. CountsFaults o first now) (sym found.1) (counts_same found.0 first now found.2.faults)
 
 -- ---- causes
 
-unmet_cause : (job : VerifierJob) (answer : Option (Result Span LeaseFault)) (outcome : VerifierOutcome) (first mid now : Moment)
-    → IsStopped job awaits_hello outcome first mid → RefusesBy outcome mid now → EndsBecause job answer outcome first now
-unmet_cause job answer Accepted first mid now stopped by = tt
-unmet_cause job answer (RejectedSum section left right) first mid now stopped by = tt
-unmet_cause job answer (RejectedOpening output left right) first mid now stopped by = tt
-unmet_cause job answer (PeerEnded at) first mid now stopped by = (awaits_hello, subst (IsStopped job awaits_hello (PeerEnded at) first) (sym by) stopped)
-unmet_cause job answer (BadFrame at) first mid now stopped by = (awaits_hello, subst (IsStopped job awaits_hello (BadFrame at) first) (sym by) stopped)
-unmet_cause job answer (BadHello differs) first mid now stopped by = (mid, stopped, by)
-unmet_cause job answer (Exhausted at count total) first mid now stopped by = absurd stopped.cause
-unmet_cause job answer Device first mid now stopped by = absurd stopped.cause
-unmet_cause job answer (Broken at) first mid now stopped by = absurd stopped.cause
-unmet_cause job answer Link first mid now stopped by = subst (λ (m : Moment). Rose first.faults m.faults) (sym by) stopped.cause
-unmet_cause job answer NoMemory first mid now stopped by = tt
+abbrev is_refused : Option (Result Span LeaseFault) → Type 0
+is_refused None = ⊥
+is_refused (Some (Ok span)) = ⊥
+is_refused (Some (Err fault)) = Unit {0}
 
-stop_cause : (job : VerifierJob) (answer : Option (Result Span LeaseFault)) (place : VerifierPlace) (outcome : VerifierOutcome) (first now : Moment)
-    → ¬ (place ≡ awaits_hello) → IsStopped job place outcome first now → EndsBecause job answer outcome first now
-stop_cause job answer place Accepted first now met stopped = tt
-stop_cause job answer place (RejectedSum section left right) first now met stopped = tt
-stop_cause job answer place (RejectedOpening output left right) first now met stopped = tt
-stop_cause job answer place (PeerEnded at) first now met stopped = (place, stopped)
-stop_cause job answer place (BadFrame at) first now met stopped = (place, stopped)
-stop_cause job answer place (BadHello differs) first now met stopped = absurd (met stopped.cause.0)
-stop_cause job answer place (Exhausted at count total) first now met stopped = absurd stopped.cause
-stop_cause job answer place Device first now met stopped = absurd stopped.cause
-stop_cause job answer place (Broken at) first now met stopped = absurd stopped.cause
-stop_cause job answer place Link first now met stopped = stopped.cause
-stop_cause job answer place NoMemory first now met stopped = tt
+-- no lease was asked for
+unasked : RefusesNoLease None
+unasked fault is = subst is_refused (sym is) tt
+
+leased_is_not_refused : (span : Span) → RefusesNoLease (Some (Ok span))
+leased_is_not_refused span fault is = subst is_refused (sym is) tt
+
+unmet_cause : (job : VerifierJob) (outcome : VerifierOutcome) (first mid now : LinkSnapshot)
+    → (stopped : IsStopped job awaits_hello outcome first mid) → RefusesHello stopped.rest outcome mid now → EndsBecause job None outcome first now
+unmet_cause job (PeerEnded at) first mid now stopped by = (awaits_hello, subst (IsStopped job awaits_hello (PeerEnded at) first) (sym by) stopped)
+unmet_cause job (BadFrame at) first mid now stopped by = (awaits_hello, subst (IsStopped job awaits_hello (BadFrame at) first) (sym by) stopped)
+unmet_cause job (BadHello differs) first mid now stopped by = (mid, stopped, by)
+unmet_cause job Link first mid now stopped by = (unasked, inl (awaits_hello, subst (IsStopped job awaits_hello Link first) (sym by) stopped))
+unmet_cause job NoMemory first mid now stopped (inl refused) =
+    let sent = hello_sent job stopped.expect stopped.rest NoMemory first mid stopped.sends in (
+      unasked,
+      inr (inl (record {
+        hello = refused.0.0;
+        is = refused.0.1;
+        wanted = tt;
+        mid = mid;
+        came = hello_bytes job NoMemory first mid stopped ∙ ap (bytes_from Prover) refused.0.2;
+        told = sent.told;
+        unsent = sent.sends;
+        unfailed = stopped.count.unfailed tt;
+        refused = refused.1;
+      })),
+    )
+unmet_cause job NoMemory first mid now stopped (inr missing) =
+    let lacks : LacksMemory job first mid =
+    record { place = awaits_hello; stopped = stopped; unmet = λ is whole. whole_is_not_cut stopped.rest whole missing.0 } in
+    (unasked, inl (subst (LacksMemory job first) (sym missing.1) lacks))
+unmet_cause job Accepted first mid now stopped by = absurd stopped.cause
+unmet_cause job (RejectedSum section left right) first mid now stopped by = absurd stopped.cause
+unmet_cause job (RejectedOpening output left right) first mid now stopped by = absurd stopped.cause
+unmet_cause job (Exhausted at count total) first mid now stopped by = absurd stopped.cause
+unmet_cause job Device first mid now stopped by = absurd stopped.cause
+unmet_cause job (Broken at) first mid now stopped by = absurd stopped.cause
+
+stop_cause : (job : VerifierJob) (answer : Option (Result Span LeaseFault)) (place : VerifierPlace) (outcome : VerifierOutcome) (first now : LinkSnapshot)
+    → RefusesNoLease answer → ¬ (place ≡ awaits_hello) → IsStopped job place outcome first now → EndsBecause job answer outcome first now
+stop_cause job answer place (PeerEnded at) first now leased met stopped = (place, stopped)
+stop_cause job answer place (BadFrame at) first now leased met stopped = (place, stopped)
+stop_cause job answer place (BadHello differs) first now leased met stopped = absurd (met stopped.cause.0)
+stop_cause job answer place Link first now leased met stopped = (leased, inl (place, stopped))
+stop_cause job answer place NoMemory first now leased met stopped = (leased, inl (record { place = place; stopped = stopped; unmet = λ is. absurd (met is) }))
+stop_cause job answer place Accepted first now leased met stopped = absurd stopped.cause
+stop_cause job answer place (RejectedSum section left right) first now leased met stopped = absurd stopped.cause
+stop_cause job answer place (RejectedOpening output left right) first now leased met stopped = absurd stopped.cause
+stop_cause job answer place (Exhausted at count total) first now leased met stopped = absurd stopped.cause
+stop_cause job answer place Device first now leased met stopped = absurd stopped.cause
+stop_cause job answer place (Broken at) first now leased met stopped = absurd stopped.cause
 
 behind_hello : (start : ℕ) (place : VerifierPlace) → StartsAt start place → ¬ (place ≡ awaits_hello)
 behind_hello start place starts same = subst (StartsAt start) same starts
 
-abbrev waits_for_hello : VerifierPlace → Type 0
-waits_for_hello awaits_hello = Unit {0}
-waits_for_hello owes_grant = ⊥
-waits_for_hello (awaits_asks start asked) = ⊥
-waits_for_hello (awaits_corrections start) = ⊥
-waits_for_hello (awaits_sums start d) = ⊥
-waits_for_hello (awaits_openings start d both) = ⊥
-waits_for_hello (has_judged start judgement) = ⊥
-waits_for_hello has_refused = ⊥
+lease_cause : (job : VerifierJob) (fault : LeaseFault) (first now : LinkSnapshot) → IsRefusedGrant job (lease_code fault) first now
+    → EndsBecause job (Some (Err fault)) (lease_outcome fault) first now
+lease_cause job (lease.Exhausted at count total) first now refused = (refl, refused)
+lease_cause job lease.Device first now refused = (refl, refused)
+lease_cause job (lease.Broken at) first now refused = (refl, refused)
 
-grant_is_no_hello : ¬ (owes_grant ≡ awaits_hello)
-grant_is_no_hello same = subst waits_for_hello (sym same) tt
-
-lease_cause : (job : VerifierJob) (fault : LeaseFault) (first now : Moment) → EndsBecause job (Some (Err fault)) (lease_outcome fault) first now
-lease_cause job (lease.Exhausted at count total) first now = refl
-lease_cause job lease.Device first now = refl
-lease_cause job (lease.Broken at) first now = refl
-
-judged_cause : (job : VerifierJob) (answer : Option (Result Span LeaseFault)) (judgement : Judgement) (first now : Moment)
+judged_cause : (job : VerifierJob) (answer : Option (Result Span LeaseFault)) (judgement : Judgement) (first now : LinkSnapshot) → HasJudged job answer judgement first now
     → EndsBecause job answer (judgement_outcome judgement) first now
-judged_cause job answer judged.Accepted first now = tt
-judged_cause job answer (judged.RejectedSum section left right) first now = tt
-judged_cause job answer (judged.RejectedOpening output left right) first now = tt
+judged_cause job answer judged.Accepted first now is = is
+judged_cause job answer (judged.RejectedSum section left right) first now is = is
+judged_cause job answer (judged.RejectedOpening output left right) first now is = is
 
-pub ends_because : (job : VerifierJob) (answer : Option (Result Span LeaseFault)) (granted : Option Span) (outcome : VerifierOutcome) (first now : Moment)
-    → IsCourse job answer granted outcome first now → EndsBecause job answer outcome first now
-ends_because job None granted outcome first now course = unmet_cause job None outcome first course.1.mid now course.1.stopped course.1.refused
-ends_because job (Some (Err fault)) granted outcome first now course =
-    subst (λ o. EndsBecause job (Some (Err fault)) o first now) (sym course.1.named) (lease_cause job fault first now)
-ends_because job (Some (Ok span)) granted outcome first now course = by_course course.1.course
+-- the wanted hello is one
+pub wanted_is_hello : (job : VerifierJob) → IsKnown job → IsHello (wanted_hello job.task.file.id job.task.statement)
+wanted_is_hello job known =
+    record { id = known.file.id; circuit = known.stated.circuit; outputs = known.stated.outputs; version = known.stated.version }
+
+unsent_cause : (job : VerifierJob) (span : Span) (outcome : VerifierOutcome) (first now : LinkSnapshot) → IsFault outcome → IsGrantUnsent job span.start outcome first now
+    → EndsBecause job (Some (Ok span)) outcome first now
+unsent_cause job span Link first now is unsent = (leased_is_not_refused span, inr (span, refl, unsent))
+unsent_cause job span NoMemory first now is unsent = (leased_is_not_refused span, inr (inr (span, refl, unsent)))
+unsent_cause job span Accepted first now is unsent = absurd is
+unsent_cause job span (RejectedSum section left right) first now is unsent = absurd is
+unsent_cause job span (RejectedOpening output left right) first now is unsent = absurd is
+unsent_cause job span (PeerEnded at) first now is unsent = absurd is
+unsent_cause job span (BadFrame at) first now is unsent = absurd is
+unsent_cause job span (BadHello differs) first now is unsent = absurd is
+unsent_cause job span (Exhausted at count total) first now is unsent = absurd is
+unsent_cause job span Device first now is unsent = absurd is
+unsent_cause job span (Broken at) first now is unsent = absurd is
+
+lacking_cause : (job : VerifierJob) (span : Span) (outcome : VerifierOutcome) (first now : LinkSnapshot) → IsKnown job → LacksTheGrant job span.start outcome first now
+    → EndsBecause job (Some (Ok span)) outcome first now
+lacking_cause job span outcome first now known (inl lacks) =
+    let is = lacks.1 in
+    subst (λ o. EndsBecause job (Some (Ok span)) o first now) (sym lacks.0) (
+      leased_is_not_refused span,
+      inr (inl (record {
+        hello = wanted_hello job.task.file.id job.task.statement;
+        is = wanted_is_hello job known;
+        wanted = refl;
+        mid = is.mid;
+        came = is.waiting.log;
+        told = is.waiting.sent.told;
+        unsent = is.waiting.sent.sends;
+        unfailed = is.waiting.faults;
+        refused = is.refused;
+      })),
+    )
+lacking_cause job span outcome first now known (inr unsent) = unsent_cause job span outcome first now unsent.fault unsent
+
+pub ends_because : (job : VerifierJob) (answer : Option (Result Span LeaseFault)) (granted : Option Span) (outcome : VerifierOutcome) (first now : LinkSnapshot)
+    → IsKnown job → IsCourse job answer granted outcome first now → EndsBecause job answer outcome first now
+ends_because job None granted outcome first now known course = unmet_cause job outcome first course.1.mid now course.1.stopped course.1.refused
+ends_because job (Some (Err fault)) granted outcome first now known course =
+    subst (λ o. EndsBecause job (Some (Err fault)) o first now) (sym course.1.named) (lease_cause job fault first now course.1.refused)
+ends_because job (Some (Ok span)) granted outcome first now known course = by_course course.1.course
   where
-    by_course : (IsStopped job owes_grant outcome first now ⊎ StopsBehind job span.start outcome first now
+    by_course : (LacksTheGrant job span.start outcome first now ⊎ StopsBehind job span.start outcome first now
         ⊎ ((other : Judgement) × (outcome ≡ judgement_outcome other) × IsWaiting job (has_judged span.start other) first now))
         → EndsBecause job (Some (Ok span)) outcome first now
-    by_course (inl stopped) = stop_cause job (Some (Ok span)) owes_grant outcome first now grant_is_no_hello stopped
-    by_course (inr (inl stops)) = stop_cause job (Some (Ok span)) stops.place outcome first now (behind_hello span.start stops.place stops.behind) stops.stopped
-    by_course (inr (inr found)) = subst (λ o. EndsBecause job (Some (Ok span)) o first now) (sym found.1) (judged_cause job (Some (Ok span)) found.0 first now)
+    by_course (inl lacks) = lacking_cause job span outcome first now known lacks
+    by_course (inr (inl stops)) = stop_cause job (Some (Ok span)) stops.place outcome first now (leased_is_not_refused span) (behind_hello span.start stops.place stops.behind) stops.stopped
+    by_course (inr (inr found)) = subst (λ o. EndsBecause job (Some (Ok span)) o first now) (sym found.1)
+        (judged_cause job (Some (Ok span)) found.0 first now (record { span = span; leased = refl; judged = found.2 }))
+
+-- ---- units are leased behind the hello
+
+-- the log of turns begins with what the prover says in the first
+begins_first : (turn : List ℕ × List ℕ) (turns : List (List ℕ × List ℕ)) (more log : List (Side × ℕ)) → log ≡ turn_bytes (turn ∷ turns) ++ more
+    → BeginsWith log (bytes_from Prover turn.0)
+begins_first turn turns more log is =
+    let a = bytes_from Prover turn.0 in
+    let b = bytes_from Verifier turn.1 in
+    let c = turn_bytes turns in
+    (b ++ (c ++ more), is ∙ append_assoc (a ++ b) c more ∙ append_assoc a b (c ++ more))
+
+-- behind other bytes a log begins with what it began with
+begins_before : (log more now front : List (Side × ℕ)) → now ≡ log ++ more → BeginsWith log front → BeginsWith now front
+begins_before log more now front is begun = (begun.0 ++ more, is ∙ ap (λ l. l ++ more) begun.1 ∙ append_assoc front begun.0 more)
+
+begins_at : (job : VerifierJob) (start : ℕ) (place : VerifierPlace) (log : List (Side × ℕ)) → StartsAt start place → IsLogAt job place log
+    → BeginsWith log (bytes_from Prover (hello_frame (wanted_hello job.task.file.id job.task.statement)))
+begins_at job start awaits_hello log starts at = absurd starts
+begins_at job start owes_grant log starts at = absurd starts
+begins_at job start (awaits_asks begun asked) log starts at = begins_first (first_turn job begun) [] (bytes_from Prover (flat_map ask_frame asked)) log at.2
+begins_at job start (awaits_corrections begun) log starts at = begins_first (first_turn job begun) (round_turns at.rounds) [] log at.spelled
+begins_at job start (awaits_sums begun d) log starts at = begins_first (first_turn job begun) (round_turns at.1.rounds) (turn_bytes (second_turn job begun d ∷ [])) log at.1.spelled
+begins_at job start (awaits_openings begun d both) log starts at = begins_first (first_turn job begun) (round_turns at.2.rounds)
+    (turn_bytes (second_turn job begun d ∷ []) ++ bytes_from Prover (sums_frame both)) log at.2.spelled
+begins_at job start (has_judged begun judgement) log starts at = absurd starts
+begins_at job start has_refused log starts at = absurd starts
+
+begins_alone : (job : VerifierJob) (mid now : LinkSnapshot) → mid.log ≡ bytes_from Prover (hello_frame (wanted_hello job.task.file.id job.task.statement)) → IsAfter mid now
+    → BeginsWith now.log (bytes_from Prover (hello_frame (wanted_hello job.task.file.id job.task.statement)))
+begins_alone job mid now log is =
+    let front = bytes_from Prover (hello_frame (wanted_hello job.task.file.id job.task.statement)) in
+    begins_before mid.log (bytes_from Verifier is.answer) now.log front is.log ([], log ∙ sym (append-nil front))
+
+begins_lacking : (job : VerifierJob) (start : ℕ) (outcome : VerifierOutcome) (first now : LinkSnapshot) → LacksTheGrant job start outcome first now
+    → BeginsWith now.log (bytes_from Prover (hello_frame (wanted_hello job.task.file.id job.task.statement)))
+begins_lacking job start outcome first now (inl lacks) =
+    begins_alone job lacks.1.mid now lacks.1.waiting.log (refused_after 4 lacks.1.mid now lacks.1.refused)
+begins_lacking job start outcome first now (inr unsent) = ([], unsent.log ∙ sym (append-nil (bytes_from Prover (hello_frame (wanted_hello job.task.file.id job.task.statement)))))
+
+pub leases_behind : (job : VerifierJob) (answer : Option (Result Span LeaseFault)) (granted : Option Span) (outcome : VerifierOutcome) (first now : LinkSnapshot)
+    → IsCourse job answer granted outcome first now → LeasesBehindHello job answer now.log
+leases_behind job None granted outcome first now course = tt
+leases_behind job (Some (Err fault)) granted outcome first now course =
+    let is = course.1.refused in
+    begins_alone job is.mid now is.waiting.log (refused_after (lease_code fault) is.mid now is.refused)
+leases_behind job (Some (Ok span)) granted outcome first now course = by_course course.1.course
+  where
+    by_course : (LacksTheGrant job span.start outcome first now ⊎ StopsBehind job span.start outcome first now
+        ⊎ ((other : Judgement) × (outcome ≡ judgement_outcome other) × IsWaiting job (has_judged span.start other) first now))
+        → BeginsWith now.log (bytes_from Prover (hello_frame (wanted_hello job.task.file.id job.task.statement)))
+    by_course (inl lacks) = begins_lacking job span.start outcome first now lacks
+    by_course (inr (inl stops)) =
+        let stopped = stops.stopped in
+        begins_before stopped.before (bytes_from Prover stopped.rest) now.log (bytes_from Prover (hello_frame (wanted_hello job.task.file.id job.task.statement))) stopped.log
+        (begins_at job span.start stops.place stopped.before stops.behind stopped.waited)
+    by_course (inr (inr found)) =
+        let is = found.2.log in
+        let t = session_transcript job span.start is.rounds is.corrections is.sums is.openings (verdict_in found.0) in
+        begins_first (first_turn job span.start)
+        (round_turns is.rounds ++ second_turn job span.start is.corrections ∷ (sums_frame t.sums ++ openings_frame t.openings, verdict_frame t.code t.number) ∷ [])
+        [] now.log (is.spelled ∙ sym (append-nil (spelling t)))
 
 -- ---- what an accepted session shows
 
-pub is_shown : (job : VerifierJob) (granted : Option Span) (log : List (Side × ℕ)) → IsKnown job → Extraction
-    → IsJudgedSession job granted judged.Accepted log → IsShown job granted log
-is_shown job granted log known extraction session =
+leased_one : (granted : Option Span) (some other : Span) → granted ≡ Some some → granted ≡ Some other → some ≡ other
+leased_one granted some other is also = ap (λ (o : Option Span). or_some o) (sym is ∙ also)
+  where
+    or_some : Option Span → Span
+    or_some None = some
+    or_some (Some span) = span
+
+leased_none : {T : Type 0} (granted : Option Span) (span : Span) → granted ≡ Some span → granted ≡ None → T
+leased_none granted span is none = absurd (none_is_some (sym none ∙ is))
+
+units_leased : (job : VerifierJob) (answer : Option (Result Span LeaseFault)) (granted : Option Span) (outcome : VerifierOutcome) (first now : LinkSnapshot) (span : Span)
+    → IsCourse job answer granted outcome first now → granted ≡ Some span → span.end ≡ span.start + units_of_job job
+units_leased job None granted outcome first now span course leased = leased_none granted span leased course.0
+units_leased job (Some (Err fault)) granted outcome first now span course leased = leased_none granted span leased course.0
+units_leased job (Some (Ok other)) granted outcome first now span course leased =
+    subst (λ (s : Span). s.end ≡ s.start + units_of_job job) (leased_one granted other span course.0 leased) course.1.units
+
+pub is_shown : (job : VerifierJob) (answer : Option (Result Span LeaseFault)) (granted : Option Span) (outcome : VerifierOutcome) (first now : LinkSnapshot)
+    → IsKnown job → Extraction → IsCourse job answer granted outcome first now → outcome ≡ Accepted → IsShown job granted now.log
+is_shown job answer granted outcome first now known extraction course accepted =
+    let session = judges_rightly job answer granted outcome first now known course judged.Accepted accepted in
     let t = session.t in
     let served = session.served in
     let checks : ChecksHold job.task.file job.task.statement t = record {
@@ -380,23 +613,12 @@ is_shown job granted log known extraction session =
     record {
       span = session.span;
       leased = session.leased;
+      units = units_leased job answer granted outcome first now session.span course session.leased;
       t = t;
-      spelled = served.in_order.bytes;
+      in_order = served.in_order;
+      grant = session.grant;
       challenge = served.challenge ∙ ap (λ (g : Grant). challenge_coin job.task.file g.start) session.grant;
+      checks = checks;
+      said = served.judged.said;
       extracted = λ prover is dealt. extraction job.task.file job.task.statement t known.file known.stated served.in_order.transcript served.replies checks prover is dealt;
     }
-
--- ---- the beginning
-
-pub line_begins : (job : VerifierJob) (line : LineState) → line.log ≡ [] → line.reading ≡ record { received = 0; expected = None; taken = []; bad = None }
-    → line.side ≡ Verifier → line.is_open ≡ true → IsLineAt job awaits_hello line line
-line_begins job line log reading side usable = record {
-  log = log;
-  received = reading ∙ (λ i. record { received = length (sent_by Prover (sym log i)); expected = None; taken = []; bad = None });
-  few = omega (arith, ap (λ l. length (sent_by Prover l)) log);
-  told = appended_none line.told ∙ ap (λ l. appended l line.told) (sym log);
-  side = side;
-  usable = usable;
-  receives = omega arith;
-  faults = refl;
-}

@@ -35,12 +35,13 @@ use Rattle.session_core.specs.declared.judgement.Judgement.{Judgement}
 use Rattle.session_core.specs.declared.fault.HelloDiffers.{HelloDiffers}
 use Rattle.session_core.specs.declared.fault.HelloDiffers.TheVariants.{Id, Circuit, Outputs, Version}
 use Rattle.session_verifier.specs.Outcomes.{judgement_outcome}
-use Rattle.session_verifier.specs.Stages.{Moment, StopCause, StartsAt, IsStopped, StopsBehind, IsRefused, RefusesBy, IsWaiting, IsUnmet, IsCourse}
+use Rattle.frame_link.specs.Lines.{LinkSnapshot}
+use Rattle.session_verifier.specs.Stages.{StopCause, StartsAt, IsStopped, StopsBehind, IsFault, IsRefused, IsRefusalSent, IsRefusalUnsent, LacksTheGrant, RefusesHello, IsWaiting, IsUnmet, IsCourse}
 use Rattle.session_verifier.specs.Notes.{IsPeerEnd, HasHonestPeer, Completes}
-use Rattle.session_verifier.proofs.StageLemmas.{one_expected, hello_in}
+use Rattle.session_verifier.proofs.StageLemmas.{one_expected, few_of, hello_in}
 use Rattle.session_verifier.proofs.CourseLemmas.{IsKnown, judged_session}
 use Rattle.session_verifier.proofs.RoundLemmas.{ask_length, asks_length}
-use Rattle.session_verifier.proofs.ServedLemmas.{IsCutOf, in_next, in_last, cut_asks, cut_corrections, cut_sums, cut_openings, hello_length, length_corrections, length_sums, length_openings, accepted_judgement}
+use Rattle.session_verifier.proofs.ServedLemmas.{IsCutOf, cut_of_stop, in_next, in_last, cut_asks, cut_corrections, cut_sums, cut_openings, hello_length, length_corrections, length_sums, length_openings, accepted_judgement}
 use Rattle.session_verifier.specs.declared.note.VerifierOutcome.{VerifierOutcome}
 use Rattle.session_verifier.specs.declared.note.VerifierOutcome.TheVariants.{Accepted, RejectedSum, RejectedOpening, PeerEnded, BadFrame, BadHello, Exhausted, Device, Broken, Link, NoMemory}
 
@@ -74,7 +75,7 @@ abbrev IsComplete : VerifierOutcome → Type 0
 IsComplete outcome = (outcome ≡ Accepted) ⊎ (outcome ≡ NoMemory)
 
 -- with such bytes a session stops only for want of memory
-goes_on : (job : VerifierJob) (place : VerifierPlace) (rest : List ℕ) (first now : Moment) (outcome : VerifierOutcome) (expect : Expect)
+goes_on : (job : VerifierJob) (place : VerifierPlace) (rest : List ℕ) (first now : LinkSnapshot) (outcome : VerifierOutcome) (expect : Expect)
     → verifier_expects job place ≡ Some expect → IsBegun expect outcome rest
     → ((differs : HelloDiffers) → outcome ≡ BadHello differs → StopCause job place rest first now (BadHello differs) → ⊥)
     → ¬ Rose first.faults now.faults → StopCause job place rest first now outcome → IsComplete outcome
@@ -160,7 +161,7 @@ hello_begun job prover outcome rest log known peer behind most =
     }
 
 -- ... and a whole one is not refused
-hello_is_met : (job : VerifierJob) (outcome : VerifierOutcome) (rest : List ℕ) (first now : Moment) (differs : HelloDiffers) → NoneBeginsAnother
+hello_is_met : (job : VerifierJob) (outcome : VerifierOutcome) (rest : List ℕ) (first now : LinkSnapshot) (differs : HelloDiffers) → NoneBeginsAnother
     → (is : IsBegun expect.Hello outcome rest) → is.frame ≡ hello (wanted_hello job.task.file.id job.task.statement) → is.more ≡ []
     → StopCause job awaits_hello rest first now (BadHello differs) → ⊥
 hello_is_met job outcome rest first now differs law is wanted nothing cause =
@@ -187,12 +188,12 @@ IsBadHello NoMemory = ⊥
 tells_hello : (outcome : VerifierOutcome) (differs : HelloDiffers) → outcome ≡ BadHello differs → IsBadHello outcome
 tells_hello outcome differs is = subst IsBadHello (sym is) tt
 
-unmet_completes : (job : VerifierJob) (outcome : VerifierOutcome) (prover : ProverTask) (first now : Moment) → NoneBeginsAnother → IsKnown job
+unmet_completes : (job : VerifierJob) (outcome : VerifierOutcome) (prover : ProverTask) (first now : LinkSnapshot) → NoneBeginsAnother → IsKnown job
     → IsUnmet job outcome first now → HasHonestPeer job prover outcome now.log → ¬ Rose first.faults now.faults → IsComplete outcome
 unfolding hello_begun
 unmet_completes job outcome prover first now law known unmet peer rose = by outcome unmet.stopped unmet.refused peer
   where
-    mid : Moment
+    mid : LinkSnapshot
     mid = unmet.mid
 
     bytes : (other : VerifierOutcome) → (stopped : IsStopped job awaits_hello other first mid) → mid.log ≡ bytes_from Prover stopped.rest
@@ -205,33 +206,33 @@ unmet_completes job outcome prover first now law known unmet peer rose = by outc
         let behind : IsBehindHello stopped.rest now.log = record {
           answer = [];
           other = λ is. omega (arith, is);
-          bytes = ap (λ (m : Moment). m.log) same ∙ bytes other stopped ∙ sym (append-nil (bytes_from Prover stopped.rest));
+          bytes = ap (λ (m : LinkSnapshot). m.log) same ∙ bytes other stopped ∙ sym (append-nil (bytes_from Prover stopped.rest));
         } in
         goes_on job awaits_hello stopped.rest first mid other expect.Hello refl
-        (hello_begun job prover other stopped.rest now.log known peer behind (stopped.few expect.Hello refl))
-        (λ differs is cause. absurd (unlike differs is)) (λ more. rose (subst (λ (m : Moment). Rose first.faults m.faults) (sym same) more)) stopped.cause
+        (hello_begun job prover other stopped.rest now.log known peer behind (few_of job awaits_hello other first mid stopped expect.Hello refl))
+        (λ differs is cause. absurd (unlike differs is)) (λ more. rose (subst (λ (m : LinkSnapshot). Rose first.faults m.faults) (sym same) more)) stopped.cause
 
     differing : (differs : HelloDiffers) → IsStopped job awaits_hello (BadHello differs) first mid → IsRefused 1 mid now
         → HasHonestPeer job prover (BadHello differs) now.log → ⊥
-    differing differs stopped refused peer = either refused.log
+    differing differs stopped refused peer = either refused.sent
       where
         met : IsBehindHello stopped.rest now.log → ⊥
         met behind = hello_is_met job (BadHello differs) stopped.rest first mid differs law
-            (hello_begun job prover (BadHello differs) stopped.rest now.log known peer behind (stopped.few expect.Hello refl)) refl refl stopped.cause
+            (hello_begun job prover (BadHello differs) stopped.rest now.log known peer behind (few_of job awaits_hello (BadHello differs) first mid stopped expect.Hello refl)) refl refl stopped.cause
 
-        either : ((now.log ≡ mid.log ++ bytes_from Verifier (refuse_frame 1)) ⊎ (now.log ≡ mid.log)) → ⊥
-        either (inl log) = met (record {
+        either : (IsRefusalSent 1 mid now ⊎ IsRefusalUnsent 1 mid now) → ⊥
+        either (inl sent) = met (record {
           answer = refuse_frame 1;
           other = λ is. omega (arith, is);
-          bytes = log ∙ ap (λ l. l ++ bytes_from Verifier (refuse_frame 1)) (bytes (BadHello differs) stopped);
+          bytes = sent.log ∙ ap (λ l. l ++ bytes_from Verifier (refuse_frame 1)) (bytes (BadHello differs) stopped);
         })
-        either (inr log) = met (record {
+        either (inr unsent) = met (record {
           answer = [];
           other = λ is. omega (arith, is);
-          bytes = log ∙ bytes (BadHello differs) stopped ∙ sym (append-nil (bytes_from Prover stopped.rest));
+          bytes = unsent.log ∙ bytes (BadHello differs) stopped ∙ sym (append-nil (bytes_from Prover stopped.rest));
         })
 
-    by : (other : VerifierOutcome) → IsStopped job awaits_hello other first mid → RefusesBy other mid now → HasHonestPeer job prover other now.log → IsComplete other
+    by : (other : VerifierOutcome) → (stopped : IsStopped job awaits_hello other first mid) → RefusesHello stopped.rest other mid now → HasHonestPeer job prover other now.log → IsComplete other
     by Accepted stopped refused peer = inl refl
     by (RejectedSum section left right) stopped refused peer = absurd stopped.cause
     by (RejectedOpening output left right) stopped refused peer = absurd stopped.cause
@@ -516,11 +517,11 @@ openings_begun job start outcome both rest pairs said few =
     }
 
 -- behind the grant no hello is expected
-late : (job : VerifierJob) (start : ℕ) (place : VerifierPlace) (rest : List ℕ) (first now : Moment) (differs : HelloDiffers) → StartsAt start place
+late : (job : VerifierJob) (start : ℕ) (place : VerifierPlace) (rest : List ℕ) (first now : LinkSnapshot) (differs : HelloDiffers) → StartsAt start place
     → StopCause job place rest first now (BadHello differs) → ⊥
 late job start place rest first now differs starts cause = subst (StartsAt start) cause.0 starts
 
-behind_completes : (job : VerifierJob) (start : ℕ) (place : VerifierPlace) (prover : ProverTask) (outcome : VerifierOutcome) (first now : Moment)
+behind_completes : (job : VerifierJob) (start : ℕ) (place : VerifierPlace) (prover : ProverTask) (outcome : VerifierOutcome) (first now : LinkSnapshot)
     → RepliesAreInRange → ServedSessionExists → HonestTurn → HonestTurnEnds → IsKnown job → StartsAt start place → IsStopped job place outcome first now
     → HasHonestPeer job prover outcome now.log → ¬ Rose first.faults now.faults → IsComplete outcome
 behind_completes job start (awaits_asks begun asked) prover outcome first now ranges law turn ends known starts stopped peer rose =
@@ -528,66 +529,54 @@ behind_completes job start (awaits_asks begun asked) prover outcome first now ra
     goes_on job (awaits_asks begun asked) stopped.rest first now outcome place refl
     (asks_begun job begun asked outcome stopped.rest (units_of_job job - length asked) stopped.waited.1
     (honest_said job begun 1 (flat_map ask_frame asked ++ stopped.rest) prover outcome now.log turn ends known peer
-    (cut_asks job begun asked outcome first now ranges law known stopped))
-    (stopped.few place refl))
+    (cut_asks job begun asked stopped.rest now.log ranges law known (cut_of_stop job (awaits_asks begun asked) outcome first now stopped)))
+    (few_of job (awaits_asks begun asked) outcome first now stopped place refl))
     (λ differs is. late job start (awaits_asks begun asked) stopped.rest first now differs starts) rose stopped.cause
 behind_completes job start (awaits_corrections begun) prover outcome first now ranges law turn ends known starts stopped peer rose =
     goes_on job (awaits_corrections begun) stopped.rest first now outcome (expect.Corrections job.task.statement.program.givens) refl
     (corrections_begun job begun outcome stopped.rest
     (honest_said job begun (1 + rounds_of job.task.file.params.kind) stopped.rest prover outcome now.log turn ends known peer
-    (cut_corrections job begun outcome first now law known stopped))
-    (stopped.few (expect.Corrections job.task.statement.program.givens) refl))
+    (cut_corrections job begun stopped.rest now.log law known (cut_of_stop job (awaits_corrections begun) outcome first now stopped)))
+    (few_of job (awaits_corrections begun) outcome first now stopped (expect.Corrections job.task.statement.program.givens) refl))
     (λ differs is. late job start (awaits_corrections begun) stopped.rest first now differs starts) rose stopped.cause
 behind_completes job start (awaits_sums begun d) prover outcome first now ranges law turn ends known starts stopped peer rose =
     goes_on job (awaits_sums begun d) stopped.rest first now outcome (expect.Sums (section_count job.task.statement.program job.section_length)) refl
     (sums_begun job begun outcome stopped.rest
     (honest_said job begun (2 + rounds_of job.task.file.params.kind) stopped.rest prover outcome now.log turn ends known peer
-    (cut_sums job begun d outcome first now law known stopped))
-    (stopped.few (expect.Sums (section_count job.task.statement.program job.section_length)) refl))
+    (cut_sums job begun d stopped.rest now.log law known (cut_of_stop job (awaits_sums begun d) outcome first now stopped)))
+    (few_of job (awaits_sums begun d) outcome first now stopped (expect.Sums (section_count job.task.statement.program job.section_length)) refl))
     (λ differs is. late job start (awaits_sums begun d) stopped.rest first now differs starts) rose stopped.cause
 behind_completes job start (awaits_openings begun d both) prover outcome first now ranges law turn ends known starts stopped peer rose =
     goes_on job (awaits_openings begun d both) stopped.rest first now outcome (expect.Openings (length job.task.statement.program.opened)) refl
     (openings_begun job begun outcome both stopped.rest stopped.waited.1
     (honest_said job begun (2 + rounds_of job.task.file.params.kind) (sums_frame both ++ stopped.rest) prover outcome now.log turn ends known peer
-    (cut_openings job begun d both outcome first now law known stopped))
-    (stopped.few (expect.Openings (length job.task.statement.program.opened)) refl))
+    (cut_openings job begun d both stopped.rest now.log law known (cut_of_stop job (awaits_openings begun d both) outcome first now stopped)))
+    (few_of job (awaits_openings begun d both) outcome first now stopped (expect.Openings (length job.task.statement.program.opened)) refl))
     (λ differs is. late job start (awaits_openings begun d both) stopped.rest first now differs starts) rose stopped.cause
 behind_completes job start awaits_hello prover outcome first now ranges law turn ends known starts stopped peer rose = absurd starts
 behind_completes job start owes_grant prover outcome first now ranges law turn ends known starts stopped peer rose = absurd starts
 behind_completes job start (has_judged begun judgement) prover outcome first now ranges law turn ends known starts stopped peer rose = absurd starts
 behind_completes job start has_refused prover outcome first now ranges law turn ends known starts stopped peer rose = absurd starts
 
--- where a grant is due no frame is expected
-none_expected : {expect : Expect} → None ≡ Some expect → ⊥
-none_expected is = subst is_none is tt
-  where
-    is_none : Option Expect → Type 0
-    is_none None = Unit {0}
-    is_none (Some expect) = ⊥
+-- the grant was not sent
+fault_completes : (outcome : VerifierOutcome) (first now : LinkSnapshot) → IsFault outcome → (outcome ≡ Link → Rose first.faults now.faults)
+    → ¬ Rose first.faults now.faults → IsComplete outcome
+fault_completes Link first now is cause rose = absurd (rose (cause refl))
+fault_completes NoMemory first now is cause rose = inr refl
+fault_completes Accepted first now is cause rose = absurd is
+fault_completes (RejectedSum section left right) first now is cause rose = absurd is
+fault_completes (RejectedOpening output left right) first now is cause rose = absurd is
+fault_completes (PeerEnded at) first now is cause rose = absurd is
+fault_completes (BadFrame at) first now is cause rose = absurd is
+fault_completes (BadHello differs) first now is cause rose = absurd is
+fault_completes (Exhausted at count total) first now is cause rose = absurd is
+fault_completes Device first now is cause rose = absurd is
+fault_completes (Broken at) first now is cause rose = absurd is
 
-due_completes : (job : VerifierJob) (outcome : VerifierOutcome) (rest : List ℕ) (first now : Moment) → ¬ Rose first.faults now.faults
-    → StopCause job owes_grant rest first now outcome → IsComplete outcome
-due_completes job (PeerEnded at) rest first now rose cause = absurd (none_expected cause.0.1)
-due_completes job (BadFrame at) rest first now rose cause = absurd (none_expected cause.1.1)
-due_completes job (BadHello differs) rest first now rose cause = absurd (subst is_due cause.0 tt)
-  where
-    is_due : VerifierPlace → Type 0
-    is_due awaits_hello = ⊥
-    is_due owes_grant = Unit {0}
-    is_due (awaits_asks start asked) = ⊥
-    is_due (awaits_corrections start) = ⊥
-    is_due (awaits_sums start d) = ⊥
-    is_due (awaits_openings start d both) = ⊥
-    is_due (has_judged start judgement) = ⊥
-    is_due has_refused = ⊥
-due_completes job Link rest first now rose cause = absurd (rose cause)
-due_completes job NoMemory rest first now rose cause = inr refl
-due_completes job Accepted rest first now rose cause = absurd cause
-due_completes job (RejectedSum section left right) rest first now rose cause = absurd cause
-due_completes job (RejectedOpening output left right) rest first now rose cause = absurd cause
-due_completes job (Exhausted at count total) rest first now rose cause = absurd cause
-due_completes job Device rest first now rose cause = absurd cause
-due_completes job (Broken at) rest first now rose cause = absurd cause
+lacking_completes : (job : VerifierJob) (start : ℕ) (outcome : VerifierOutcome) (first now : LinkSnapshot) → ¬ Rose first.faults now.faults
+    → LacksTheGrant job start outcome first now → IsComplete outcome
+lacking_completes job start outcome first now rose (inl refused) = inr refused.0
+lacking_completes job start outcome first now rose (inr unsent) = fault_completes outcome first now unsent.fault unsent.cause rose
 
 -- ---- the whole session
 
@@ -600,17 +589,17 @@ pub record AreLaws : Type 0 where
   pub ends : HonestTurnEnds
   pub accepted : HonestWholeIsAccepted
 
-pub completes : (job : VerifierJob) (answer : Option (Result Span LeaseFault)) (granted : Option Span) (outcome : VerifierOutcome) (first now : Moment) → AreLaws
+pub completes : (job : VerifierJob) (answer : Option (Result Span LeaseFault)) (granted : Option Span) (outcome : VerifierOutcome) (first now : LinkSnapshot) → AreLaws
     → IsKnown job → IsCourse job answer granted outcome first now → Completes job answer outcome first now
 completes job None granted outcome first now laws known course prover peer leased rose =
     unmet_completes job outcome prover first now laws.another known course.1 peer rose
 completes job (Some (Err fault)) granted outcome first now laws known course prover peer leased rose = absurd (leased fault refl)
 completes job (Some (Ok span)) granted outcome first now laws known course prover peer leased rose = by_course course.1.course
   where
-    by_course : (IsStopped job owes_grant outcome first now ⊎ StopsBehind job span.start outcome first now
+    by_course : (LacksTheGrant job span.start outcome first now ⊎ StopsBehind job span.start outcome first now
         ⊎ ((other : Judgement) × (outcome ≡ judgement_outcome other) × IsWaiting job (has_judged span.start other) first now))
         → IsComplete outcome
-    by_course (inl stopped) = due_completes job outcome stopped.rest first now rose stopped.cause
+    by_course (inl lacks) = lacking_completes job span.start outcome first now rose lacks
     by_course (inr (inl stops)) =
         behind_completes job span.start stops.place prover outcome first now laws.ranges laws.exists laws.turn laws.ends known stops.behind stops.stopped peer rose
     by_course (inr (inr found)) =

@@ -5,3 +5,5 @@ pub mod CourseLemmas
 pub mod ServedLemmas
 pub mod HonestLemmas
 pub mod RelatedLemmas
+pub mod ToldLemmas
+pub mod ShownLemmas

@@ -9,6 +9,7 @@ use Rattle.zk_model.specs.Transcript.{TreeAsk, Round, Setup, Commitment, Transcr
 use Rattle.zk_model.specs.Frames.{AreElements}
 use Rattle.zk_model.specs.View.{verdict_code}
 use Rattle.zk_model.specs.ServedVerifier.{IsServed, IsAccepted, IsCutInTurn, ServesWith, challenge_coin}
+use Rattle.zk_model.specs.declared.Expect.{Expect}
 use Rattle.zk_model.specs.declared.Expect.TheVariants as expect
 use Rattle.zk_model.specs.declared.Side.{Side}
 use Rattle.zk_model.specs.declared.Side.TheVariants.{Prover, Verifier}
@@ -20,17 +21,20 @@ use Rattle.session_laws.specs.Rounds.{RepliesAreInRange}
 use Rattle.session_laws.proofs.Sizes as sizes
 use Rattle.proof_frames.proofs.FrameLemmas.{length-elements, length-sums}
 use Rattle.lease_store.specs.declared.LeaseFault.{LeaseFault}
+use Rattle.lease_store.specs.declared.LeaseFault.TheVariants as lease
 use Rattle.session_core.specs.Jobs.{VerifierJob, units_of_job, granted_from}
 use Rattle.session_core.specs.Judgements.{verdict_in}
 use Rattle.session_core.specs.Rounds.{AreServedRounds, round_turns}
-use Rattle.session_core.specs.Cores.{VerifierPlace, AreAsksSoFar, awaits_hello, owes_grant, awaits_asks, awaits_corrections, awaits_sums, awaits_openings, has_judged, has_refused}
+use Rattle.session_core.specs.Cores.{VerifierPlace, AreAsksSoFar, awaits_hello, owes_grant, awaits_asks, awaits_corrections, awaits_sums, awaits_openings, has_judged, has_refused, verifier_expects}
 use Rattle.session_core.specs.declared.judgement.Judgement.{Judgement}
 use Rattle.session_core.specs.declared.judgement.Judgement.TheVariants as judged
-use Rattle.session_verifier.specs.Outcomes.{judgement_outcome}
+use Rattle.session_verifier.specs.Outcomes.{judgement_outcome, lease_outcome, lease_code}
 use Rattle.session_verifier.proofs.RoundLemmas.{turns_append, some_rounds, asks_length}
-use Rattle.session_verifier.specs.Stages.{Moment, first_turn, second_turn, StartsAt, IsStopped, StopsBehind, IsRefused, RefusesBy, IsWaiting, IsCourse}
+use Rattle.frame_link.specs.Lines.{LinkSnapshot, longest}
+use Rattle.session_verifier.specs.Stages.{first_turn, second_turn, StartsAt, IsLogAt, IsStopped, StopsBehind, IsRefused, IsRefusalSent, IsRefusalUnsent, IsRefusedGrant, LacksTheGrant, RefusesHello, IsWaiting, IsCourse}
 use Rattle.session_verifier.specs.Notes.{IsUngranted, SendsRightly, AcceptsExactly, refusal_of, IsJudgedSession}
-use Rattle.session_verifier.proofs.CourseLemmas.{IsKnown, grant_is, judged_session}
+use Rattle.session_verifier.proofs.StageLemmas.{few_of}
+use Rattle.session_verifier.proofs.CourseLemmas.{IsKnown, grant_is, judged_session, hello_bytes}
 use Rattle.session_verifier.specs.declared.note.VerifierOutcome.{VerifierOutcome}
 use Rattle.session_verifier.specs.declared.note.VerifierOutcome.TheVariants.{Accepted, RejectedSum, RejectedOpening, PeerEnded, BadFrame, BadHello, Exhausted, Device, Broken, Link, NoMemory}
 
@@ -162,6 +166,26 @@ front_count job start rounds served =
     let mapped : length (round_turns rounds) ≡ length rounds = length-map rounds _ in
     omega (arith, mapped, served.count)
 
+-- ---- where the verifier waited, and bytes of the frame that it expected
+
+pub record IsCutAt (job : VerifierJob) (place : VerifierPlace) (rest : List ℕ) (log : List (Side × ℕ)) : Type 0 where
+  pub before : List (Side × ℕ)
+  pub waited : IsLogAt job place before
+  pub few : (other : Expect) → verifier_expects job place ≡ Some other → length rest ≤ longest other
+  pub logged : log ≡ before ++ bytes_from Prover rest
+
+pub cut_of_stop : (job : VerifierJob) (place : VerifierPlace) (outcome : VerifierOutcome) (first now : LinkSnapshot) → (stopped : IsStopped job place outcome first now)
+    → IsCutAt job place stopped.rest now.log
+cut_of_stop job place outcome first now stopped = record {
+  before = stopped.before;
+  waited = stopped.waited;
+  few = few_of job place outcome first now stopped;
+  logged = stopped.log;
+}
+
+pub cut_of_log : (job : VerifierJob) (place : VerifierPlace) (log : List (Side × ℕ)) → IsLogAt job place log → IsCutAt job place [] log
+cut_of_log job place log at = record { before = log; waited = at; few = λ other is. omega arith; logged = sym (append-nil log) }
+
 -- ---- among the asks
 
 -- fewer items, and a part of one more
@@ -205,20 +229,20 @@ cut_in_asks job start asked rest log (round ∷ rounds) law known within so few 
     (is ∙ append_assoc front (bytes_from Prover (flat_map ask_frame asked)) (bytes_from Prover rest)
     ∙ ap (λ l. front ++ l) (sym (map-append (λ (byte : ℕ). (Prover, byte)) (flat_map ask_frame asked) rest)))
 
-pub cut_asks : (job : VerifierJob) (start : ℕ) (asked : List (List TreeAsk)) (outcome : VerifierOutcome) (first now : Moment) → RepliesAreInRange → ServedSessionExists
-    → IsKnown job → (stopped : IsStopped job (awaits_asks start asked) outcome first now) → IsCutOf job start 1 (flat_map ask_frame asked ++ stopped.rest) now.log
-cut_asks job start asked outcome first now ranges law known stopped =
+pub cut_asks : (job : VerifierJob) (start : ℕ) (asked : List (List TreeAsk)) (rest : List ℕ) (log : List (Side × ℕ)) → RepliesAreInRange → ServedSessionExists
+    → IsKnown job → IsCutAt job (awaits_asks start asked) rest log → IsCutOf job start 1 (flat_map ask_frame asked ++ rest) log
+cut_asks job start asked rest log ranges law known stopped =
     let at = stopped.waited in
     let some = some_rounds job start ranges (record { file = known.file; is = known.is }) at.0 in
-    cut_in_asks job start asked stopped.rest now.log some.0 law known at.0 at.1
+    cut_in_asks job start asked rest log some.0 law known at.0 at.1
     (stopped.few (expect.Ask job.task.file.params.height job.task.file.params.trees (units_of_job job - length asked)) refl)
-    (stopped.log ∙ ap (λ l. l ++ bytes_from Prover stopped.rest) at.2) some.1
+    (stopped.logged ∙ ap (λ l. l ++ bytes_from Prover rest) at.2) some.1
 
 -- ---- behind them
 
-pub cut_corrections : (job : VerifierJob) (start : ℕ) (outcome : VerifierOutcome) (first now : Moment) → ServedSessionExists → IsKnown job
-    → (stopped : IsStopped job (awaits_corrections start) outcome first now) → IsCutOf job start (1 + rounds_of job.task.file.params.kind) stopped.rest now.log
-cut_corrections job start outcome first now law known stopped =
+pub cut_corrections : (job : VerifierJob) (start : ℕ) (rest : List ℕ) (log : List (Side × ℕ)) → ServedSessionExists → IsKnown job
+    → IsCutAt job (awaits_corrections start) rest log → IsCutOf job start (1 + rounds_of job.task.file.params.kind) rest log
+cut_corrections job start rest log law known stopped =
     let at = stopped.waited in
     let givens = job.task.statement.program.givens in
     let s = goes_further job start at.rounds (replicate givens 0) law known at.within at.served (zeros givens) in
@@ -226,17 +250,17 @@ cut_corrections job start outcome first now law known stopped =
     let second = second_turn job start (replicate givens 0) in
     let whole = 1 + rounds_of job.task.file.params.kind in
     let next = in_next front second (last_turn s.t) whole (front_count job start at.rounds at.served) in
-    let few : length stopped.rest ≤ length second.0 =
+    let few : length rest ≤ length second.0 =
     omega (arith, stopped.few (expect.Corrections givens) refl, length_corrections (replicate givens 0), length-replicate {A = ℕ} givens 0) in
-    cut_at job start at.rounds (replicate givens 0) now.log whole stopped.rest (front ++ second ∷ last_turn s.t ∷ []) at.served s
+    cut_at job start at.rounds (replicate givens 0) log whole rest (front ++ second ∷ last_turn s.t ∷ []) at.served s
     (sym (turns_are job start at.rounds (replicate givens 0) s)) next.0
-    (subst (λ (turn : List ℕ × List ℕ). length stopped.rest ≤ length turn.0) (sym next.2) few)
-    (stopped.log ∙ ap (λ l. l ++ bytes_from Prover stopped.rest) (at.spelled ∙ append-nil (turn_bytes front))
-    ∙ ap (λ l. turn_bytes l ++ bytes_from Prover stopped.rest) (sym next.1))
+    (subst (λ (turn : List ℕ × List ℕ). length rest ≤ length turn.0) (sym next.2) few)
+    (stopped.logged ∙ ap (λ l. l ++ bytes_from Prover rest) (at.spelled ∙ append-nil (turn_bytes front))
+    ∙ ap (λ l. turn_bytes l ++ bytes_from Prover rest) (sym next.1))
 
-pub cut_sums : (job : VerifierJob) (start : ℕ) (d : List ℕ) (outcome : VerifierOutcome) (first now : Moment) → ServedSessionExists → IsKnown job
-    → (stopped : IsStopped job (awaits_sums start d) outcome first now) → IsCutOf job start (2 + rounds_of job.task.file.params.kind) stopped.rest now.log
-cut_sums job start d outcome first now law known stopped =
+pub cut_sums : (job : VerifierJob) (start : ℕ) (d rest : List ℕ) (log : List (Side × ℕ)) → ServedSessionExists → IsKnown job
+    → IsCutAt job (awaits_sums start d) rest log → IsCutOf job start (2 + rounds_of job.task.file.params.kind) rest log
+cut_sums job start d rest log law known stopped =
     let at = stopped.waited.1 in
     let s = goes_further job start at.rounds d law known at.within at.served stopped.waited.0 in
     let front = front_of job start at.rounds in
@@ -244,27 +268,27 @@ cut_sums job start d outcome first now law known stopped =
     let whole = 2 + rounds_of job.task.file.params.kind in
     let next = in_last front second (last_turn s.t) whole (omega (arith, front_count job start at.rounds at.served)) in
     let long = last_length job start at.rounds d s in
-    let few : length stopped.rest ≤ length (last_turn s.t).0 =
+    let few : length rest ≤ length (last_turn s.t).0 =
     omega (
       arith,
       stopped.few (expect.Sums (section_count job.task.statement.program job.section_length)) refl,
       long.0,
       length-append (sums_frame s.t.sums) (openings_frame s.t.openings),
     ) in
-    cut_at job start at.rounds d now.log whole stopped.rest (front ++ second ∷ last_turn s.t ∷ []) at.served s
+    cut_at job start at.rounds d log whole rest (front ++ second ∷ last_turn s.t ∷ []) at.served s
     (sym (turns_are job start at.rounds d s)) next.0
-    (subst (λ (turn : List ℕ × List ℕ). length stopped.rest ≤ length turn.0) (sym next.2) few)
-    (stopped.log ∙ ap (λ l. l ++ bytes_from Prover stopped.rest) (at.spelled ∙ sym (turns_append front (second ∷ [])))
-    ∙ ap (λ l. turn_bytes l ++ bytes_from Prover stopped.rest) (sym next.1))
+    (subst (λ (turn : List ℕ × List ℕ). length rest ≤ length turn.0) (sym next.2) few)
+    (stopped.logged ∙ ap (λ l. l ++ bytes_from Prover rest) (at.spelled ∙ sym (turns_append front (second ∷ [])))
+    ∙ ap (λ l. turn_bytes l ++ bytes_from Prover rest) (sym next.1))
 
 -- four lists, put otherwise
 apart : {X : Type 0} (a b s r : List X) → (a ++ (b ++ s)) ++ r ≡ (a ++ b) ++ (s ++ r)
 apart a b s r = ap (λ l. l ++ r) (sym (append_assoc a b s)) ∙ append_assoc (a ++ b) s r
 
-pub cut_openings : (job : VerifierJob) (start : ℕ) (d : List ℕ) (both : List (ℕ × ℕ)) (outcome : VerifierOutcome) (first now : Moment) → ServedSessionExists → IsKnown job
-    → (stopped : IsStopped job (awaits_openings start d both) outcome first now)
-    → IsCutOf job start (2 + rounds_of job.task.file.params.kind) (sums_frame both ++ stopped.rest) now.log
-cut_openings job start d both outcome first now law known stopped =
+pub cut_openings : (job : VerifierJob) (start : ℕ) (d : List ℕ) (both : List (ℕ × ℕ)) (rest : List ℕ) (log : List (Side × ℕ)) → ServedSessionExists → IsKnown job
+    → IsCutAt job (awaits_openings start d both) rest log
+    → IsCutOf job start (2 + rounds_of job.task.file.params.kind) (sums_frame both ++ rest) log
+cut_openings job start d both rest log law known stopped =
     let at = stopped.waited.2 in
     let s = goes_further job start at.rounds d law known at.within at.served stopped.waited.0 in
     let front = front_of job start at.rounds in
@@ -272,7 +296,7 @@ cut_openings job start d both outcome first now law known stopped =
     let whole = 2 + rounds_of job.task.file.params.kind in
     let next = in_last front second (last_turn s.t) whole (omega (arith, front_count job start at.rounds at.served)) in
     let long = last_length job start at.rounds d s in
-    let few : length (sums_frame both ++ stopped.rest) ≤ length (last_turn s.t).0 =
+    let few : length (sums_frame both ++ rest) ≤ length (last_turn s.t).0 =
     omega (
       arith,
       stopped.few (expect.Openings (length job.task.statement.program.opened)) refl,
@@ -281,15 +305,15 @@ cut_openings job start d both outcome first now law known stopped =
       length_sums both,
       stopped.waited.1.counted,
       length-append (sums_frame s.t.sums) (openings_frame s.t.openings),
-      length-append (sums_frame both) stopped.rest,
+      length-append (sums_frame both) rest,
     ) in
-    cut_at job start at.rounds d now.log whole (sums_frame both ++ stopped.rest) (front ++ second ∷ last_turn s.t ∷ []) at.served s
+    cut_at job start at.rounds d log whole (sums_frame both ++ rest) (front ++ second ∷ last_turn s.t ∷ []) at.served s
     (sym (turns_are job start at.rounds d s)) next.0
-    (subst (λ (turn : List ℕ × List ℕ). length (sums_frame both ++ stopped.rest) ≤ length turn.0) (sym next.2) few)
-    (stopped.log ∙ ap (λ l. l ++ bytes_from Prover stopped.rest) at.spelled
-    ∙ apart (turn_bytes front) (turn_bytes (second ∷ [])) (bytes_from Prover (sums_frame both)) (bytes_from Prover stopped.rest)
-    ∙ (λ i. sym (turns_append front (second ∷ [])) i ++ sym (map-append (λ (byte : ℕ). (Prover, byte)) (sums_frame both) stopped.rest) i)
-    ∙ ap (λ l. turn_bytes l ++ bytes_from Prover (sums_frame both ++ stopped.rest)) (sym next.1))
+    (subst (λ (turn : List ℕ × List ℕ). length (sums_frame both ++ rest) ≤ length turn.0) (sym next.2) few)
+    (stopped.logged ∙ ap (λ l. l ++ bytes_from Prover rest) at.spelled
+    ∙ apart (turn_bytes front) (turn_bytes (second ∷ [])) (bytes_from Prover (sums_frame both)) (bytes_from Prover rest)
+    ∙ (λ i. sym (turns_append front (second ∷ [])) i ++ sym (map-append (λ (byte : ℕ). (Prover, byte)) (sums_frame both) rest) i)
+    ∙ ap (λ l. turn_bytes l ++ bytes_from Prover (sums_frame both ++ rest)) (sym next.1))
 
 -- some turns are whole, and these bytes came of the next
 pub record IsSomeCut (job : VerifierJob) (start : ℕ) (log : List (Side × ℕ)) : Type 0 where
@@ -297,52 +321,22 @@ pub record IsSomeCut (job : VerifierJob) (start : ℕ) (log : List (Side × ℕ)
   pub rest : List ℕ
   pub cut : IsCutOf job start whole rest log
 
-pub cut_behind : (job : VerifierJob) (start : ℕ) (place : VerifierPlace) (outcome : VerifierOutcome) (first now : Moment) → RepliesAreInRange → ServedSessionExists → IsKnown job
-    → StartsAt start place → IsStopped job place outcome first now → IsSomeCut job start now.log
-cut_behind job start awaits_hello outcome first now ranges law known starts stopped = absurd starts
-cut_behind job start owes_grant outcome first now ranges law known starts stopped = absurd starts
-cut_behind job start (awaits_asks begun asked) outcome first now ranges law known starts stopped = subst (λ b. IsSomeCut job b now.log) starts
-    (record { whole = 1; rest = _; cut = cut_asks job begun asked outcome first now ranges law known stopped })
-cut_behind job start (awaits_corrections begun) outcome first now ranges law known starts stopped = subst (λ b. IsSomeCut job b now.log) starts
-    (record { whole = _; rest = _; cut = cut_corrections job begun outcome first now law known stopped })
-cut_behind job start (awaits_sums begun d) outcome first now ranges law known starts stopped = subst (λ b. IsSomeCut job b now.log) starts
-    (record { whole = _; rest = _; cut = cut_sums job begun d outcome first now law known stopped })
-cut_behind job start (awaits_openings begun d both) outcome first now ranges law known starts stopped = subst (λ b. IsSomeCut job b now.log) starts
-    (record { whole = _; rest = _; cut = cut_openings job begun d both outcome first now law known stopped })
-cut_behind job start (has_judged begun judgement) outcome first now ranges law known starts stopped = absurd starts
-cut_behind job start has_refused outcome first now ranges law known starts stopped = absurd starts
+pub cut_behind : (job : VerifierJob) (start : ℕ) (place : VerifierPlace) (rest : List ℕ) (log : List (Side × ℕ)) → RepliesAreInRange → ServedSessionExists → IsKnown job
+    → StartsAt start place → IsCutAt job place rest log → IsSomeCut job start log
+cut_behind job start awaits_hello rest log ranges law known starts stopped = absurd starts
+cut_behind job start owes_grant rest log ranges law known starts stopped = absurd starts
+cut_behind job start (awaits_asks begun asked) rest log ranges law known starts stopped = subst (λ b. IsSomeCut job b log) starts
+    (record { whole = 1; rest = _; cut = cut_asks job begun asked rest log ranges law known stopped })
+cut_behind job start (awaits_corrections begun) rest log ranges law known starts stopped = subst (λ b. IsSomeCut job b log) starts
+    (record { whole = _; rest = _; cut = cut_corrections job begun rest log law known stopped })
+cut_behind job start (awaits_sums begun d) rest log ranges law known starts stopped = subst (λ b. IsSomeCut job b log) starts
+    (record { whole = _; rest = _; cut = cut_sums job begun d rest log law known stopped })
+cut_behind job start (awaits_openings begun d both) rest log ranges law known starts stopped = subst (λ b. IsSomeCut job b log) starts
+    (record { whole = _; rest = _; cut = cut_openings job begun d both rest log law known stopped })
+cut_behind job start (has_judged begun judgement) rest log ranges law known starts stopped = absurd starts
+cut_behind job start has_refused rest log ranges law known starts stopped = absurd starts
 
 -- ---- what the verifier sends
-
--- a refusal, or nothing
-record IsAnswer (outcome : VerifierOutcome) (mid now : Moment) : Type 0 where
-  answer : List ℕ
-  refused : (answer ≡ []) ⊎ ((code : ℕ) × (refusal_of outcome ≡ Some code) × (answer ≡ refuse_frame code))
-  log : now.log ≡ mid.log ++ bytes_from Verifier answer
-
-answers_nothing : (outcome : VerifierOutcome) (mid now : Moment) → now ≡ mid → IsAnswer outcome mid now
-answers_nothing outcome mid now same =
-    record { answer = []; refused = inl refl; log = ap (λ (m : Moment). m.log) same ∙ sym (append-nil mid.log) }
-
-answers_refusal : (outcome : VerifierOutcome) (code : ℕ) (mid now : Moment) → refusal_of outcome ≡ Some code → IsRefused code mid now → IsAnswer outcome mid now
-answers_refusal outcome code mid now of refused = either refused.log
-  where
-    either : ((now.log ≡ mid.log ++ bytes_from Verifier (refuse_frame code)) ⊎ (now.log ≡ mid.log)) → IsAnswer outcome mid now
-    either (inl log) = record { answer = refuse_frame code; refused = inr (code, of, refl); log = log }
-    either (inr log) = record { answer = []; refused = inl refl; log = log ∙ sym (append-nil mid.log) }
-
-answers_by : (outcome : VerifierOutcome) (mid now : Moment) → RefusesBy outcome mid now → IsAnswer outcome mid now
-answers_by Accepted mid now by = answers_nothing Accepted mid now by
-answers_by (RejectedSum section left right) mid now by = answers_nothing (RejectedSum section left right) mid now by
-answers_by (RejectedOpening output left right) mid now by = answers_nothing (RejectedOpening output left right) mid now by
-answers_by (PeerEnded at) mid now by = answers_nothing (PeerEnded at) mid now by
-answers_by (BadFrame at) mid now by = answers_nothing (BadFrame at) mid now by
-answers_by (BadHello differs) mid now by = answers_refusal (BadHello differs) 1 mid now refl by
-answers_by (Exhausted at count total) mid now by = answers_refusal (Exhausted at count total) 2 mid now refl by
-answers_by Device mid now by = answers_refusal Device 3 mid now refl by
-answers_by (Broken at) mid now by = answers_refusal (Broken at) 3 mid now refl by
-answers_by Link mid now by = answers_nothing Link mid now by
-answers_by NoMemory mid now by = answers_nothing NoMemory mid now by
 
 -- a hello has 102 bytes
 pub hello_length : (job : VerifierJob) → IsKnown job → length (hello_frame (wanted_hello job.task.file.id job.task.statement)) ≡ 102
@@ -361,20 +355,51 @@ hello_length job known =
       known.stated.outputs.0,
     )
 
-ungranted : (outcome : VerifierOutcome) (mid now : Moment) (rest : List ℕ) → mid.log ≡ bytes_from Prover rest → length rest ≤ 102
-    → RefusesBy outcome mid now → IsUngranted outcome now.log
-ungranted outcome mid now rest log most by =
-    let is = answers_by outcome mid now by in
-    record {
+-- a refusal, or nothing, behind the hello
+ungranted_alone : (outcome : VerifierOutcome) (rest : List ℕ) (log : List (Side × ℕ)) → length rest ≤ 102 → log ≡ bytes_from Prover rest → IsUngranted outcome log
+ungranted_alone outcome rest log most is =
+    record { rest = rest; most = most; answer = []; refused = inl refl; bytes = is ∙ sym (append-nil (bytes_from Prover rest)) }
+
+ungranted_refused : (outcome : VerifierOutcome) (code : ℕ) (rest : List ℕ) (mid now : LinkSnapshot) → length rest ≤ 102 → refusal_of outcome ≡ Some code
+    → mid.log ≡ bytes_from Prover rest → IsRefused code mid now → IsUngranted outcome now.log
+ungranted_refused outcome code rest mid now most of log refused = either refused.sent
+  where
+    either : (IsRefusalSent code mid now ⊎ IsRefusalUnsent code mid now) → IsUngranted outcome now.log
+    either (inl sent) = record {
       rest = rest;
       most = most;
-      answer = is.answer;
-      refused = is.refused;
-      bytes = is.log ∙ ap (λ l. l ++ bytes_from Verifier is.answer) log;
+      answer = refuse_frame code;
+      refused = inr (code, of, refl);
+      bytes = sent.log ∙ ap (λ l. l ++ bytes_from Verifier (refuse_frame code)) log;
     }
+    either (inr unsent) = ungranted_alone outcome rest now.log most (unsent.log ∙ log)
+
+ungranted : (outcome : VerifierOutcome) (rest : List ℕ) (mid now : LinkSnapshot) → length rest ≤ 102 → mid.log ≡ bytes_from Prover rest
+    → RefusesHello rest outcome mid now → IsUngranted outcome now.log
+ungranted (BadHello differs) rest mid now most log by = ungranted_refused (BadHello differs) 1 rest mid now most refl log by
+ungranted NoMemory rest mid now most log (inl refused) = ungranted_refused NoMemory 4 rest mid now most refl log refused.1
+ungranted NoMemory rest mid now most log (inr missing) = ungranted_alone NoMemory rest now.log most (ap (λ (m : LinkSnapshot). m.log) missing.1 ∙ log)
+ungranted Accepted rest mid now most log by = ungranted_alone Accepted rest now.log most (ap (λ (m : LinkSnapshot). m.log) by ∙ log)
+ungranted (RejectedSum section left right) rest mid now most log by =
+    ungranted_alone (RejectedSum section left right) rest now.log most (ap (λ (m : LinkSnapshot). m.log) by ∙ log)
+ungranted (RejectedOpening output left right) rest mid now most log by =
+    ungranted_alone (RejectedOpening output left right) rest now.log most (ap (λ (m : LinkSnapshot). m.log) by ∙ log)
+ungranted (PeerEnded at) rest mid now most log by = ungranted_alone (PeerEnded at) rest now.log most (ap (λ (m : LinkSnapshot). m.log) by ∙ log)
+ungranted (BadFrame at) rest mid now most log by = ungranted_alone (BadFrame at) rest now.log most (ap (λ (m : LinkSnapshot). m.log) by ∙ log)
+ungranted (Exhausted at count total) rest mid now most log by =
+    ungranted_alone (Exhausted at count total) rest now.log most (ap (λ (m : LinkSnapshot). m.log) by ∙ log)
+ungranted Device rest mid now most log by = ungranted_alone Device rest now.log most (ap (λ (m : LinkSnapshot). m.log) by ∙ log)
+ungranted (Broken at) rest mid now most log by = ungranted_alone (Broken at) rest now.log most (ap (λ (m : LinkSnapshot). m.log) by ∙ log)
+ungranted Link rest mid now most log by = ungranted_alone Link rest now.log most (ap (λ (m : LinkSnapshot). m.log) by ∙ log)
+
+-- the code of a lease that was refused
+pub lease_refusal : (fault : LeaseFault) → refusal_of (lease_outcome fault) ≡ Some (lease_code fault)
+lease_refusal (lease.Exhausted at count total) = refl
+lease_refusal lease.Device = refl
+lease_refusal (lease.Broken at) = refl
 
 -- before the grant
-before_grant : (job : VerifierJob) (start : ℕ) (log : List (Side × ℕ)) → RepliesAreInRange → ServedSessionExists → IsKnown job
+pub before_grant : (job : VerifierJob) (start : ℕ) (log : List (Side × ℕ)) → RepliesAreInRange → ServedSessionExists → IsKnown job
     → start + units_of_job job ≤ job.task.file.params.total
     → log ≡ bytes_from Prover (hello_frame (wanted_hello job.task.file.id job.task.statement)) → ServesWith job.task (granted_from job start) log
 before_grant job start log ranges law known within is =
@@ -389,7 +414,7 @@ before_grant job start log ranges law known within is =
       ap turn_bytes (turns_are job start some.0 (replicate givens 0) s) ∙ append_assoc hello grant more ∙ ap (λ l. l ++ (grant ++ more)) (sym is),
     ))
 
-serves_judged : (job : VerifierJob) (span : Span) (judgement : Judgement) (log : List (Side × ℕ)) → IsJudgedSession job (Some span) judgement log
+pub serves_judged : (job : VerifierJob) (span : Span) (judgement : Judgement) (log : List (Side × ℕ)) → IsJudgedSession job (Some span) judgement log
     → ServesWith job.task (granted_from job span.start) log
 serves_judged job span judgement log session =
     let same : session.span ≡ span = ap (λ (o : Option Span). or_span o) (sym session.leased) in
@@ -405,33 +430,48 @@ serves_judged job span judgement log session =
     or_span None = span
     or_span (Some other) = other
 
-pub sends_rightly : (job : VerifierJob) (answer : Option (Result Span LeaseFault)) (granted : Option Span) (outcome : VerifierOutcome) (first now : Moment)
+-- behind the hello, a refusal of the grant is logged, or nothing
+sends_refusal : (job : VerifierJob) (span : Span) (first now : LinkSnapshot) → RepliesAreInRange → ServedSessionExists → IsKnown job
+    → span.start + units_of_job job ≤ job.task.file.params.total → IsRefusedGrant job 4 first now → SendsRightly job (Some span) NoMemory now.log
+sends_refusal job span first now ranges law known within is = either is.refused.sent
+  where
+    either : (IsRefusalSent 4 is.mid now ⊎ IsRefusalUnsent 4 is.mid now) → SendsRightly job (Some span) NoMemory now.log
+    either (inl sent) = inr (refl, sent.log ∙ ap (λ l. l ++ bytes_from Verifier (refuse_frame 4)) is.waiting.log)
+    either (inr unsent) = inl (before_grant job span.start now.log ranges law known within (unsent.log ∙ is.waiting.log))
+
+sends_lacking : (job : VerifierJob) (span : Span) (outcome : VerifierOutcome) (first now : LinkSnapshot) → RepliesAreInRange → ServedSessionExists → IsKnown job
+    → span.start + units_of_job job ≤ job.task.file.params.total → LacksTheGrant job span.start outcome first now → SendsRightly job (Some span) outcome now.log
+sends_lacking job span outcome first now ranges law known within (inl refused) =
+    subst (λ o. SendsRightly job (Some span) o now.log) (sym refused.0) (sends_refusal job span first now ranges law known within refused.1)
+sends_lacking job span outcome first now ranges law known within (inr unsent) = inl (before_grant job span.start now.log ranges law known within unsent.log)
+
+pub sends_rightly : (job : VerifierJob) (answer : Option (Result Span LeaseFault)) (granted : Option Span) (outcome : VerifierOutcome) (first now : LinkSnapshot)
     → RepliesAreInRange → ServedSessionExists → IsKnown job → IsCourse job answer granted outcome first now → SendsRightly job granted outcome now.log
 sends_rightly job None granted outcome first now ranges law known course =
     let stopped = course.1.stopped in
     subst (λ g. SendsRightly job g outcome now.log) (sym course.0)
-    (ungranted outcome course.1.mid now stopped.rest (stopped.log ∙ ap (λ l. l ++ bytes_from Prover stopped.rest) stopped.waited)
-    (stopped.few expect.Hello refl) course.1.refused)
+    (ungranted outcome stopped.rest course.1.mid now (few_of job awaits_hello outcome first course.1.mid stopped expect.Hello refl)
+    (hello_bytes job outcome first course.1.mid stopped) course.1.refused)
 sends_rightly job (Some (Err fault)) granted outcome first now ranges law known course =
+    let is = course.1.refused in
     subst (λ g. SendsRightly job g outcome now.log) (sym course.0)
-    (ungranted outcome course.1.mid now (hello_frame (wanted_hello job.task.file.id job.task.statement)) course.1.waiting.log
-    (omega (arith, hello_length job known)) course.1.refused)
+    (ungranted_refused outcome (lease_code fault) (hello_frame (wanted_hello job.task.file.id job.task.statement)) is.mid now
+    (omega (arith, hello_length job known)) (ap refusal_of course.1.named ∙ lease_refusal fault) is.waiting.log is.refused)
 sends_rightly job (Some (Ok span)) granted outcome first now ranges law known course =
     subst (λ g. SendsRightly job g outcome now.log) (sym course.0) (by_course course.1.course)
   where
     within : span.start + units_of_job job ≤ job.task.file.params.total
     within = omega (arith, course.1.units, course.1.within)
 
-    by_course : (IsStopped job owes_grant outcome first now ⊎ StopsBehind job span.start outcome first now
+    by_course : (LacksTheGrant job span.start outcome first now ⊎ StopsBehind job span.start outcome first now
         ⊎ ((other : Judgement) × (outcome ≡ judgement_outcome other) × IsWaiting job (has_judged span.start other) first now))
-        → ServesWith job.task (granted_from job span.start) now.log
-    by_course (inl stopped) = before_grant job span.start now.log ranges law known within
-        (stopped.log ∙ (λ i. stopped.waited i ++ bytes_from Prover (stopped.none refl i)) ∙ append-nil (bytes_from Prover (hello_frame (wanted_hello job.task.file.id job.task.statement))))
+        → SendsRightly job (Some span) outcome now.log
+    by_course (inl lacks) = sends_lacking job span outcome first now ranges law known within lacks
     by_course (inr (inl stops)) =
-        let some = cut_behind job span.start stops.place outcome first now ranges law known stops.behind stops.stopped in
+        let some = cut_behind job span.start stops.place stops.stopped.rest now.log ranges law known stops.behind (cut_of_stop job stops.place outcome first now stops.stopped) in
         let cut = some.cut in
-        serves_with job span.start cut.rounds cut.d now.log cut.session (inr (cut_in_turn job span.start some.whole some.rest now.log cut))
-    by_course (inr (inr found)) = serves_judged job span found.0 now.log (judged_session job span (Some span) found.0 now.log known refl found.2.log)
+        inl (serves_with job span.start cut.rounds cut.d now.log cut.session (inr (cut_in_turn job span.start some.whole some.rest now.log cut)))
+    by_course (inr (inr found)) = inl (serves_judged job span found.0 now.log (judged_session job span (Some span) found.0 now.log known refl found.2.log))
 
 -- ---- no cut session is accepted
 
@@ -477,7 +517,7 @@ accepted_judgement judged.Accepted code = refl
 accepted_judgement (judged.RejectedSum section left right) code = absurd (omega (arith, code))
 accepted_judgement (judged.RejectedOpening output left right) code = absurd (omega (arith, code))
 
-pub accepts_exactly : (job : VerifierJob) (answer : Option (Result Span LeaseFault)) (granted : Option Span) (outcome : VerifierOutcome) (first now : Moment)
+pub accepts_exactly : (job : VerifierJob) (answer : Option (Result Span LeaseFault)) (granted : Option Span) (outcome : VerifierOutcome) (first now : LinkSnapshot)
     → RepliesAreInRange → ServedSessionExists → CutIsNotAccepted → VerdictIsSaid → IsKnown job → IsCourse job answer granted outcome first now → AcceptsExactly job outcome now.log
 accepts_exactly job None granted outcome first now ranges law cut said known course accepted =
     absurd (ungranted_is_cut job outcome now.log cut known (subst (λ g. SendsRightly job g outcome now.log) course.0 (sends_rightly job None granted outcome first now ranges law known course)) accepted)
@@ -485,14 +525,22 @@ accepts_exactly job (Some (Err fault)) granted outcome first now ranges law cut 
     absurd (ungranted_is_cut job outcome now.log cut known (subst (λ g. SendsRightly job g outcome now.log) course.0 (sends_rightly job (Some (Err fault)) granted outcome first now ranges law known course)) accepted)
 accepts_exactly job (Some (Ok span)) granted outcome first now ranges law cut said known course accepted = by_course course.1.course
   where
-    by_course : (IsStopped job owes_grant outcome first now ⊎ StopsBehind job span.start outcome first now
+    refused_is_cut : IsRefusedGrant job 4 first now → IsAccepted job.task now.log → ⊥
+    refused_is_cut is accepted = ungranted_is_cut job NoMemory now.log cut known
+        (ungranted_refused NoMemory 4 (hello_frame (wanted_hello job.task.file.id job.task.statement)) is.mid now
+        (omega (arith, hello_length job known)) refl is.waiting.log is.refused) accepted
+
+    lacking_is_cut : LacksTheGrant job span.start outcome first now → IsAccepted job.task now.log → ⊥
+    lacking_is_cut (inl refused) accepted = refused_is_cut refused.1 accepted
+    lacking_is_cut (inr unsent) accepted = first_is_cut job now.log (hello_frame (wanted_hello job.task.file.id job.task.statement)) cut known
+        unsent.log (omega (arith, hello_length job known)) accepted
+
+    by_course : (LacksTheGrant job span.start outcome first now ⊎ StopsBehind job span.start outcome first now
         ⊎ ((other : Judgement) × (outcome ≡ judgement_outcome other) × IsWaiting job (has_judged span.start other) first now))
         → outcome ≡ Accepted
-    by_course (inl stopped) = absurd (first_is_cut job now.log (hello_frame (wanted_hello job.task.file.id job.task.statement)) cut known
-        (stopped.log ∙ (λ i. stopped.waited i ++ bytes_from Prover (stopped.none refl i)) ∙ append-nil (bytes_from Prover (hello_frame (wanted_hello job.task.file.id job.task.statement))))
-        (omega (arith, hello_length job known)) accepted)
+    by_course (inl lacks) = absurd (lacking_is_cut lacks accepted)
     by_course (inr (inl stops)) =
-        let some = cut_behind job span.start stops.place outcome first now ranges law known stops.behind stops.stopped in
+        let some = cut_behind job span.start stops.place stops.stopped.rest now.log ranges law known stops.behind (cut_of_stop job stops.place outcome first now stops.stopped) in
         let is = some.cut in
         absurd (cut job.task is.session.t now.log known.file.params is.session.served.in_order.transcript
         (cut_in_turn job span.start some.whole some.rest now.log is) accepted)

@@ -1,12 +1,17 @@
 -- From where a verifier waits to where it waits next, and to where it stops.
-use Rattle.std.proofs.Common.{◌≡◌, ◌⊎◌, ℕ, ◌+◌, ◌-◌, ◌^◌, ◌≤◌, List, [], ◌∷◌, ◌++◌, flat_map, length, take, Result, Ok, Err, OnOk, IfErr, inl, inr, Option, Some, None, refl, ap, sym, ◌∙◌, subst, arith, append_assoc, append-nil, length-append}
+use Rattle.std.proofs.Common.{◌≡◌, ◌⊎◌, ℕ, true, ◌+◌, ◌-◌, ◌^◌, ◌≤◌, List, [], ◌∷◌, ◌++◌, flat_map, length, take, Result, Ok, Err, OnOk, IfErr, inl, inr, Option, Some, None, refl, ap, sym, ◌∙◌, subst, arith, append_assoc, append-nil, length-append}
 use Rattle.std.specs.Prelude.{All}
 use Rattle.std.specs.List.{AllByRecursion}
-use Rattle.std.proofs.lemmas.List.{map-append}
+use Rattle.std.proofs.lemmas.List.{map-append, length-map, take-map}
+use Rattle.std.proofs.lemmas.List.FromFn.{length-enumerate_from}
+use Rattle.std.specs.List.{enumerate_from}
+use Rattle.std.proofs.Math.Numerals.{add-one}
 use Rattle.std.proofs.lemmas.List.Elements.{All-nil, All-push, All-from_recursion}
 use Rattle.zk_model.specs.Program.{section_count}
 use Rattle.zk_model.specs.Transcript.{Hello, TreeAsk, IsHello, wanted_hello, hello_frame, grant_frame, ask_frame, reply_frame, corrections_frame, challenge_frame, sums_frame, openings_frame, verdict_frame, refuse_frame, bytes_from, turn_bytes, sent_by}
 use Rattle.zk_model.specs.Frames.{Frame, hello, grant, asks, replies, corrections, challenge, sums, openings, verdict, refuse, frame_spelling, Allows, AreAsks, AreElements, AreSums, IsWhole}
+use Rattle.zk_model.specs.Files.{rounds_of}
+use Rattle.zk_model.specs.Replies.{unit_reply}
 use Rattle.zk_model.specs.View.{verdict_code, verdict_number}
 use Rattle.zk_model.specs.ServedVerifier.{challenge_coin, round_replies}
 use Rattle.zk_model.specs.declared.Expect.{Expect}
@@ -15,18 +20,22 @@ use Rattle.zk_model.specs.declared.Kind.TheVariants.{Direct, Extended}
 use Rattle.zk_model.specs.declared.Side.{Side}
 use Rattle.zk_model.specs.declared.Side.TheVariants.{Prover, Verifier}
 use Rattle.zk_laws.proofs.SentBytes.{sent_by-append, own_bytes, none_of_verifier}
-use Rattle.zk_port.specs.Logs.{appended, peer_of, AppendsPart}
-use Rattle.zk_port.specs.Counts.{Rose}
+use Rattle.zk_port.specs.Logs.{appended, AppendsPart}
+use Rattle.zk_port.specs.Links.{LinkState}
+use Rattle.zk_port.specs.Counts.{Rose, counted}
+use Rattle.frame_link.specs.Sides.{peer_of}
 use Rattle.proof_frames.specs.Frames.{IsShort}
 use Rattle.frame_link.specs.declared.fault.LineFault.{LineFault}
 use Rattle.frame_link.specs.declared.fault.LineFault.TheVariants as fault
-use Rattle.session_core.specs.declared.fault.SessionFault.{SessionFault}
-use Rattle.session_core.specs.declared.fault.SessionFault.TheVariants as session
-use Rattle.session_verifier.specs.Outcomes.{line_outcome, session_outcome}
+use Rattle.session_core.specs.declared.fault.VerifierFault.{VerifierFault}
+use Rattle.session_core.specs.declared.fault.VerifierFault.TheVariants as session
+use Rattle.session_verifier.specs.Outcomes.{line_outcome, session_outcome, hello_code}
 use Rattle.proof_frames.specs.Readings.{Reading, IsShortPlace}
+use Rattle.proof_frames.proofs.Begun.{held_goes_on}
 use Rattle.proof_frames.proofs.Lengths.{whole_length}
-use Rattle.frame_link.specs.Lines.{LineState, Came, Arrives, Fails, Breaks, Sends, SendFails, IsSendCause, longest}
-use Rattle.frame_link.proofs.LineLemmas.{frame_most, appended_more, none_is_some}
+use Rattle.proof_frames.proofs.Steps.{nothing_held}
+use Rattle.frame_link.specs.Lines.{LineState, LinkSnapshot, Came, Arrives, Fails, Breaks, Sends, SendFails, IsSendRefused, IsSendCause, CountsFault, IsNoBadByte, IsCutShort, OnlySends, counted_times, snapshot, snapshot_of, longest}
+use Rattle.frame_link.proofs.LineLemmas.{frame_most, appended_more, appended_none}
 use Rattle.session_core.specs.Jobs.{VerifierJob, units_of_job, granted_from}
 use Rattle.session_core.specs.Judgements.{verdict_in}
 use Rattle.session_core.specs.Extending.{asks_in}
@@ -34,9 +43,9 @@ use Rattle.session_core.specs.Rounds.{round_turns}
 use Rattle.session_core.specs.Cores.{VerifierPlace, AnswersAsks, awaits_hello, owes_grant, behind_grant, awaits_asks, awaits_corrections, awaits_sums, awaits_openings, has_judged, has_refused, verifier_expects, VerifierAnswers, VerifierRefuses}
 use Rattle.session_laws.specs.Rounds.{RepliesAreInRange}
 use Rattle.session_verifier.proofs.RoundLemmas.{either_kind, behind_direct, behind_extended, turns_append, one_ask_more, replies_spelled, served_round, served_none, short_replies}
-use Rattle.session_verifier.specs.Stages.{IsHeldJob, IsLogAt, IsLineAt, IsStopped, IsRefused, StopCause, TellsLog, TellsBy, IsUsable, IsWaiting, Moment, moment_of, first_turn, second_turn, frames_before}
+use Rattle.session_verifier.specs.Stages.{IsHeldJob, IsLogAt, IsLineAt, IsStopped, IsRefused, LacksTheGrant, IsUnmet, RefusesHello, StopCause, LeavesFrame, IsUnsent, IsFault, CountsOutcome, SendsAnswer, AnswerFails, IsUsable, IsWaiting, first_turn, second_turn, frames_before, answers_before}
 use Rattle.session_verifier.specs.declared.note.VerifierOutcome.{VerifierOutcome}
-use Rattle.session_verifier.specs.declared.note.VerifierOutcome.TheVariants.{Accepted, RejectedSum, RejectedOpening, PeerEnded, BadFrame, BadHello, Exhausted, Device, Broken, Link, NoMemory}
+use Rattle.session_verifier.specs.declared.note.VerifierOutcome.TheVariants.{Link, NoMemory}
 
 -- ---- what a frame holds
 
@@ -257,15 +266,104 @@ pub frame_short : (place : Expect) (bytes : List ℕ) (frame : Frame) → IsShor
 frame_short place bytes frame short whole =
     omega (arith, whole_length place bytes frame whole, frame_most place bytes, longest_short place short)
 
+-- ---- how many answers there were
+
+-- asks of one unit more, with their answer
+asks_answered : (job : VerifierJob) (start : ℕ) (asked : List (List TreeAsk)) (trees : List TreeAsk) (answer : List Frame) (now : VerifierPlace)
+    → job.task.file.params.kind ≡ Extended → AnswersAsks job start (asked ++ trees ∷ []) answer now
+    → ((answer ≡ []) × (answers_before job now ≡ 1)) ⊎ ((1 ≤ length answer) × (answers_before job now ≡ 1 + 1))
+asks_answered job start asked trees answer now extended (inl more) = inl (more.1, ap (answers_before job) more.2)
+asks_answered job start asked trees answer now extended (inr all) =
+    let entries = enumerate_from start (asked ++ trees ∷ []) in
+    let replied = round_replies job.task.file (granted_from job start) (asked ++ trees ∷ []) in
+    inr (
+      omega (
+        arith,
+        ap length all.1,
+        length-map replied replies,
+        length-map entries (λ (entry : ℕ × List TreeAsk). unit_reply job.task.file entry.0 entry.1),
+        length-enumerate_from start (asked ++ trees ∷ []),
+        length-append asked (trees ∷ []),
+      ),
+      omega (arith, ap (answers_before job) all.2, ap rounds_of extended),
+    )
+
+-- an answer with frames is one answer more
+answers_counted : (job : VerifierJob) (place now : VerifierPlace) (log : List (Side × ℕ)) (frame : Frame) (answer : List Frame) → IsLogAt job place log
+    → VerifierAnswers job place frame answer now
+    → ((answer ≡ []) × (answers_before job now ≡ answers_before job place)) ⊎ ((1 ≤ length answer) × (answers_before job now ≡ answers_before job place + 1))
+answers_counted job awaits_hello now log frame answer at answers = inl (answers.1, ap (answers_before job) answers.2)
+answers_counted job owes_grant now log frame answer at answers = absurd answers
+answers_counted job (awaits_asks start asked) now log frame answer at answers = asks_answered job start asked answers.0 answer now at.1.extended answers.2
+answers_counted job (awaits_corrections start) now log frame answer at answers =
+    inr (omega (arith, ap length answers.2), omega (arith, ap (answers_before job) answers.3))
+answers_counted job (awaits_sums start d) now log frame answer at answers = inl (answers.2, ap (answers_before job) answers.3)
+answers_counted job (awaits_openings start d both) now log frame answer at answers =
+    inr (omega (arith, ap length answers.4), omega (arith, ap (answers_before job) answers.5))
+answers_counted job (has_judged start judgement) now log frame answer at answers = absurd answers
+answers_counted job has_refused now log frame answer at answers = absurd answers
+
+-- one send more
+one_send_more : (n before now : ℕ) → now ≡ counted true (counted_times n before) → now ≡ counted_times (n + 1) before
+one_send_more n before now is = is ∙ ap (λ (k : ℕ). counted_times k before) (sym (add-one n))
+
+first_sent : (before old new : ℕ) → old ≡ before → new ≡ counted true old → new ≡ counted_times 1 before
+first_sent before old new none one = one_send_more 0 before new (one ∙ ap (counted true) none)
+
+-- as many sends as answers
+sends_on : (was now first old new : ℕ) (answer : List Frame) → ((answer ≡ []) × (now ≡ was)) ⊎ ((1 ≤ length answer) × (now ≡ was + 1))
+    → old ≡ counted_times was first → ((answer ≡ []) × (new ≡ old)) ⊎ ((1 ≤ length answer) × (new ≡ counted true old))
+    → new ≡ counted_times now first
+sends_on was now first old new answer (inl none) counts (inl unsent) = unsent.1 ∙ counts ∙ ap (λ (k : ℕ). counted_times k first) (sym none.1)
+sends_on was now first old new answer (inl none) counts (inr sent) = absurd (omega (arith, ap length none.0, sent.0))
+sends_on was now first old new answer (inr some) counts (inl unsent) = absurd (omega (arith, ap length unsent.0, some.0))
+sends_on was now first old new answer (inr some) counts (inr sent) =
+    one_send_more was first new (sent.1 ∙ ap (counted true) counts) ∙ ap (λ (k : ℕ). counted_times k first) (sym some.1)
+
 -- ---- the next place
+
+-- what an answer makes of a line, whether it has frames or none
+record IsAnswered (answer : List Frame) (old new : LineState) : Type 0 where
+  logged : new.log ≡ old.log ++ bytes_from old.side (flat_map frame_spelling answer)
+  told : new.told ≡ appended (bytes_from old.side (flat_map frame_spelling answer)) old.told
+  sends : ((answer ≡ []) × (new.sends ≡ old.sends)) ⊎ ((1 ≤ length answer) × (new.sends ≡ counted true old.sends))
+  others : OnlySends old new
+  unfailed : new.faults ≡ old.faults
+
+nothing_sent : (old new : LineState) → new ≡ old → IsAnswered [] old new
+nothing_sent old new same = record {
+  logged = ap (λ (l : LineState). l.log) same ∙ sym (append-nil old.log);
+  told = ap (λ (l : LineState). l.told) same ∙ appended_none old.told;
+  sends = inl (refl, ap (λ (l : LineState). l.sends) same);
+  others = record {
+    side = ap (λ (l : LineState). l.side) same;
+    reading = ap (λ (l : LineState). l.reading) same;
+    to_come = ap (λ (l : LineState). l.to_come) same;
+    ended = ap (λ (l : LineState). l.ended) same;
+    is_open = ap (λ (l : LineState). l.is_open) same;
+    receives = ap (λ (l : LineState). l.receives) same;
+  };
+  unfailed = ap (λ (l : LineState). l.faults) same;
+}
+
+answered : (answer : List Frame) (old new : LineState) → SendsAnswer answer old new → IsAnswered answer old new
+answered answer old new (inl none) = subst (λ a. IsAnswered a old new) (sym none.0) (nothing_sent old new none.1)
+answered answer old new (inr some) = record {
+  logged = some.1.logged;
+  told = some.1.told;
+  sends = inr (some.0, some.1.sends);
+  others = some.1.others;
+  unfailed = some.1.unfailed;
+}
 
 -- a line on which a frame came and was answered
 pub goes_on : (job : VerifierJob) (place now : VerifierPlace) (expect : Expect) (frame : Frame) (answer : List Frame) (first old mid new : LineState)
     → RepliesAreInRange → IsHeldJob job → verifier_expects job place ≡ Some expect → IsShortPlace expect
     → IsLineAt job place first old → Arrives expect frame old mid → VerifierAnswers job place frame answer now
-    → Sends (flat_map frame_spelling answer) mid new
+    → SendsAnswer answer mid new
     → IsLineAt job now first new
-goes_on job place now expect frame answer first old mid new law held expects short at came answers sent =
+goes_on job place now expect frame answer first old mid new law held expects short at came answers by =
+    let sent = answered answer mid new by in
     let bytes : came.bytes ≡ frame_spelling frame = came.whole.spelled in
     let mid_log : mid.log ≡ old.log ++ bytes_from Prover came.bytes = came.came.logged ∙ ap (λ s. old.log ++ bytes_from (peer_of s) came.bytes) at.side in
     let new_side : mid.side ≡ Verifier = came.came.side ∙ at.side in
@@ -286,6 +384,8 @@ goes_on job place now expect frame answer first old mid new law held expects sho
       told = sent.told ∙ (λ i. appended (bytes_from (new_side i) (flat_map frame_spelling answer)) (came_told i))
           ∙ appended_more (old.log ++ bytes_from Prover came.bytes) (bytes_from Verifier (flat_map frame_spelling answer)) first.told
           ∙ ap (λ l. appended l first.told) (sym log);
+      sends = sends_on (answers_before job place) (answers_before job now) first.sends mid.sends new.sends answer
+          (answers_counted job place now old.log frame answer at.log answers) (came.came.sends ∙ at.sends) sent.sends;
       side = sent.others.side ∙ new_side;
       usable = sent.others.is_open ∙ came.came.is_open ∙ at.usable;
       receives = omega (arith, counted, sent.others.receives, came.receives, at.receives);
@@ -297,6 +397,12 @@ goes_on job place now expect frame answer first old mid new law held expects sho
 -- what is expected is one place
 pub one_expected : (some other : Expect) (place : Option Expect) → place ≡ Some some → place ≡ Some other → other ≡ some
 one_expected some other place is also = ap place_in (sym also ∙ is)
+
+-- no more came than a frame of it has
+pub few_of : (job : VerifierJob) (place : VerifierPlace) (outcome : VerifierOutcome) (first now : LinkSnapshot) → (stopped : IsStopped job place outcome first now)
+    → (other : Expect) → verifier_expects job place ≡ Some other → length stopped.rest ≤ longest other
+few_of job place outcome first now stopped other also =
+    subst (λ p. length stopped.rest ≤ longest p) (sym (one_expected stopped.expect other (verifier_expects job place) stopped.expected also)) stopped.few
 
 came_logged : (job : VerifierJob) (place : VerifierPlace) (bytes : List ℕ) (first old mid : LineState) → IsLineAt job place first old → Came bytes old mid
     → mid.log ≡ old.log ++ bytes_from Prover bytes
@@ -317,24 +423,18 @@ came_counted job place bytes first old mid at came =
     ap (λ l. length (sent_by Prover l)) (came_logged job place bytes first old mid at came) ∙ sent_more old.log bytes
     ∙ ap (λ n. n + length bytes) (sym (ap (λ (r : Reading). r.received) at.received))
 
--- all is told, however the session ended
-pub tells_so : (outcome : VerifierOutcome) (first now : Moment) → now.told ≡ appended now.log first.told → TellsBy outcome first now
-tells_so Accepted first now told = told
-tells_so (RejectedSum section left right) first now told = told
-tells_so (RejectedOpening output left right) first now told = told
-tells_so (PeerEnded at) first now told = told
-tells_so (BadFrame at) first now told = told
-tells_so (BadHello differs) first now told = told
-tells_so (Exhausted at count total) first now told = told
-tells_so Device first now told = told
-tells_so (Broken at) first now told = told
-tells_so Link first now told = record { part = []; told = told ∙ ap (λ l. appended l first.told) (sym (append-nil now.log)) }
-tells_so NoMemory first now told = record { part = []; told = told ∙ ap (λ l. appended l first.told) (sym (append-nil now.log)) }
+-- how often calls failed
+pub count_of : (broke : LineFault) (first old now : LineState) → old.faults ≡ first.faults → CountsFault broke old now
+    → CountsOutcome (line_outcome broke) (snapshot_of first) (snapshot_of now)
+count_of (fault.PeerEnded at) first old now faults count = record { later = omega (arith, faults, count.later); unfailed = λ no. count.unfailed no ∙ faults }
+count_of (fault.BadFrame at) first old now faults count = record { later = omega (arith, faults, count.later); unfailed = λ no. count.unfailed no ∙ faults }
+count_of fault.Link first old now faults count = record { later = omega (arith, faults, count.later); unfailed = λ no. absurd no }
+count_of fault.NoMemory first old now faults count = record { later = omega (arith, faults, count.later); unfailed = λ no. count.unfailed no ∙ faults }
 
 line_cause : (job : VerifierJob) (place : VerifierPlace) (expect : Expect) (bytes : List ℕ) (broke : LineFault) (first old now : LineState)
     → verifier_expects job place ≡ Some expect
     → length (sent_by Prover now.log) ≡ old.reading.received + length bytes → old.faults ≡ first.faults
-    → Breaks expect bytes old now broke → StopCause job place bytes (moment_of first) (moment_of now) (line_outcome broke)
+    → Breaks expect bytes old now broke → StopCause job place bytes (snapshot_of first) (snapshot_of now) (line_outcome broke)
 line_cause job place expect bytes (fault.PeerEnded at) first old now expects counted faults broken =
     ((expect, expects, (broken.1, broken.2)), broken.0 ∙ sym counted, broken.3, broken.4)
 line_cause job place expect bytes (fault.BadFrame at) first old now expects counted faults broken =
@@ -342,31 +442,37 @@ line_cause job place expect bytes (fault.BadFrame at) first old now expects coun
 line_cause job place expect bytes fault.Link first old now expects counted faults broken = subst (λ n. Rose n now.faults) faults broken
 line_cause job place expect bytes fault.NoMemory first old now expects counted faults broken = tt
 
+-- what is left of the frame where it did not come
+frame_left : (expect : Expect) (bytes : List ℕ) (broke : LineFault) → (IsNoBadByte broke → IsCutShort expect bytes)
+    → LeavesFrame expect bytes (line_outcome broke)
+frame_left expect bytes (fault.PeerEnded at) cut = tt
+frame_left expect bytes (fault.BadFrame at) cut = tt
+frame_left expect bytes fault.Link cut = cut tt
+frame_left expect bytes fault.NoMemory cut = inl (cut tt)
+
 -- no frame came
 pub stops_without : (job : VerifierJob) (place : VerifierPlace) (expect : Expect) (broke : LineFault) (first old now : LineState)
     → verifier_expects job place ≡ Some expect → IsLineAt job place first old → Fails expect broke old now
-    → IsStopped job place (line_outcome broke) (moment_of first) (moment_of now)
+    → IsStopped job place (line_outcome broke) (snapshot_of first) (snapshot_of now)
 stops_without job place expect broke first old now expects at fails =
     let counted = came_counted job place fails.bytes first old now at fails.came in
     let received = ap (λ (r : Reading). r.received) at.received in
     record {
       before = old.log;
       waited = at.log;
+      expect = expect;
+      expected = expects;
       rest = fails.bytes;
-      few = λ other also. subst (λ p. length fails.bytes ≤ longest p) (sym (one_expected expect other (verifier_expects job place) expects also)) fails.few;
-      none = λ is. absurd (none_is_some (sym is ∙ expects));
+      few = fails.few;
       log = came_logged job place fails.bytes first old now at fails.came;
       cause = line_cause job place expect fails.bytes broke first old now expects counted at.faults fails.broken;
-      told = tells_so (line_outcome broke) (moment_of first) (moment_of now) (came_told job place fails.bytes first old now at fails.came);
+      sends = inl (record { told = came_told job place fails.bytes first old now at fails.came; sends = fails.came.sends ∙ at.sends }, frame_left expect fails.bytes broke fails.cut);
       receives = omega (arith, counted, received, fails.receives, at.receives);
-      later = omega (arith, at.faults, fails.count.later);
+      count = count_of broke first old now at.faults fails.count;
     }
 
-frame_few : (job : VerifierJob) (place : VerifierPlace) (expect : Expect) (frame : Frame) (old mid : LineState) → verifier_expects job place ≡ Some expect
-    → (came : Arrives expect frame old mid) → (other : Expect) → verifier_expects job place ≡ Some other → length came.bytes ≤ longest other
-frame_few job place expect frame old mid expects came other also =
-    subst (λ p. length came.bytes ≤ longest p) (sym (one_expected expect other (verifier_expects job place) expects also))
-    (omega (arith, whole_length expect came.bytes frame came.whole, frame_most expect came.bytes))
+frame_few : (expect : Expect) (frame : Frame) (old mid : LineState) → (came : Arrives expect frame old mid) → length came.bytes ≤ longest expect
+frame_few expect frame old mid came = omega (arith, whole_length expect came.bytes frame came.whole, frame_most expect came.bytes)
 
 abbrev pub hello_in : Hello → Frame → Hello
 hello_in other (hello x) = x
@@ -387,79 +493,128 @@ hello_ranged job place expect frame other expects allowed at is =
     let given = allowed_at places.Hello expect frame (sym (ap (verifier_expects job) at) ∙ expects) allowed in
     subst IsHello (ap (hello_in other) (sym given.1 ∙ is)) given.2
 
-refusal_cause : (job : VerifierJob) (place : VerifierPlace) (expect : Expect) (frame : Frame) (bytes : List ℕ) (fault : SessionFault) (first now : LineState)
+refusal_cause : (job : VerifierJob) (place : VerifierPlace) (expect : Expect) (frame : Frame) (bytes : List ℕ) (fault : VerifierFault) (first now : LineState)
     → verifier_expects job place ≡ Some expect → Allows expect frame
-    → bytes ≡ frame_spelling frame → VerifierRefuses job place frame fault → StopCause job place bytes (moment_of first) (moment_of now) (session_outcome fault)
+    → bytes ≡ frame_spelling frame → VerifierRefuses job place frame fault → StopCause job place bytes (snapshot_of first) (snapshot_of now) (session_outcome fault)
 refusal_cause job place expect frame bytes (session.BadHello differs) first now expects allowed spelled refuses =
     (refuses.1, (refuses.0, hello_ranged job place expect frame refuses.0 expects allowed refuses.1 refuses.2, spelled ∙ ap frame_spelling refuses.2, refuses.3))
-refusal_cause job place expect frame bytes session.BadGrant first now expects allowed spelled refuses = absurd refuses
-refusal_cause job place expect frame bytes (session.PeerRefused code) first now expects allowed spelled refuses = absurd refuses
 refusal_cause job place expect frame bytes session.NoMemory first now expects allowed spelled refuses = tt
 
+-- and where it came, and was refused
+frame_whole : (expect : Expect) (bytes : List ℕ) (frame : Frame) (fault : VerifierFault) → IsWhole expect bytes frame
+    → LeavesFrame expect bytes (session_outcome fault)
+frame_whole expect bytes frame (session.BadHello differs) whole = tt
+frame_whole expect bytes frame session.NoMemory whole = inr (frame, whole)
+
+refused_count : (fault : VerifierFault) (first now : LineState) → now.faults ≡ first.faults → CountsOutcome (session_outcome fault) (snapshot_of first) (snapshot_of now)
+refused_count fault first now same = record { later = omega (arith, same); unfailed = λ _. same }
+
 -- a frame was refused
-pub stops_refused : (job : VerifierJob) (place : VerifierPlace) (expect : Expect) (frame : Frame) (fault : SessionFault) (first old now : LineState)
+pub stops_refused : (job : VerifierJob) (place : VerifierPlace) (expect : Expect) (frame : Frame) (fault : VerifierFault) (first old now : LineState)
     → verifier_expects job place ≡ Some expect → IsLineAt job place first old → Arrives expect frame old now → VerifierRefuses job place frame fault
-    → IsStopped job place (session_outcome fault) (moment_of first) (moment_of now)
+    → IsStopped job place (session_outcome fault) (snapshot_of first) (snapshot_of now)
 stops_refused job place expect frame fault first old now expects at came refuses =
     let counted = came_counted job place came.bytes first old now at came.came in
     let received = ap (λ (r : Reading). r.received) at.received in
     record {
       before = old.log;
       waited = at.log;
+      expect = expect;
+      expected = expects;
       rest = came.bytes;
-      few = frame_few job place expect frame old now expects came;
-      none = λ is. absurd (none_is_some (sym is ∙ expects));
+      few = frame_few expect frame old now came;
       log = came_logged job place came.bytes first old now at came.came;
       cause = refusal_cause job place expect frame came.bytes fault first now expects came.whole.allowed came.whole.spelled refuses;
-      told = tells_so (session_outcome fault) (moment_of first) (moment_of now) (came_told job place came.bytes first old now at came.came);
+      sends = inl (record { told = came_told job place came.bytes first old now at came.came; sends = came.came.sends ∙ at.sends }, frame_whole expect came.bytes frame fault came.whole);
       receives = omega (arith, counted, received, came.receives, at.receives);
-      later = omega (arith, at.faults, came.unfailed);
+      count = refused_count fault first now (came.unfailed ∙ at.faults);
     }
 
 send_cause : (job : VerifierJob) (place : VerifierPlace) (bytes : List ℕ) (broke : LineFault) (first mid now : LineState) → mid.faults ≡ first.faults
-    → IsSendCause mid now broke → StopCause job place bytes (moment_of first) (moment_of now) (line_outcome broke)
+    → IsSendCause mid now broke → StopCause job place bytes (snapshot_of first) (snapshot_of now) (line_outcome broke)
 send_cause job place bytes (fault.PeerEnded at) first mid now faults cause = absurd cause
 send_cause job place bytes (fault.BadFrame at) first mid now faults cause = absurd cause
 send_cause job place bytes fault.Link first mid now faults cause = subst (λ n. Rose n now.faults) faults cause
 send_cause job place bytes fault.NoMemory first mid now faults cause = tt
 
--- what is told where a send was refused
-pub tells_part : (bytes : List (Side × ℕ)) (first mid now : LineState) → now.log ≡ mid.log → mid.told ≡ appended mid.log first.told
-    → AppendsPart bytes mid.told now.told → TellsLog (moment_of first) (moment_of now)
-tells_part bytes first mid now logged told part = record {
-  part = take part.count bytes;
-  told = part.part ∙ ap (appended (take part.count bytes)) told
-      ∙ appended_more mid.log (take part.count bytes) first.told
-      ∙ ap (λ l. appended (l ++ take part.count bytes) first.told) (sym logged);
-}
+unsent_fault : (broke : LineFault) (old new : LineState) → IsSendCause old new broke → IsFault (line_outcome broke)
+unsent_fault (fault.PeerEnded at) old new cause = absurd cause
+unsent_fault (fault.BadFrame at) old new cause = absurd cause
+unsent_fault fault.Link old new cause = tt
+unsent_fault fault.NoMemory old new cause = tt
 
-tells_unsent : (broke : LineFault) (first mid now : LineState) → IsSendCause mid now broke → TellsLog (moment_of first) (moment_of now)
-    → TellsBy (line_outcome broke) (moment_of first) (moment_of now)
-tells_unsent (fault.PeerEnded at) first mid now cause told = absurd cause
-tells_unsent (fault.BadFrame at) first mid now cause told = absurd cause
-tells_unsent fault.Link first mid now cause told = told
-tells_unsent fault.NoMemory first mid now cause told = told
+-- what is told where the send of an answer was refused
+pub unsent_of : (answers : ℕ) (bytes : List ℕ) (broke : LineFault) (first mid now : LineState) → mid.side ≡ Verifier → mid.told ≡ appended mid.log first.told
+    → mid.sends ≡ counted_times answers first.sends → IsSendRefused bytes broke mid now
+    → IsUnsent answers bytes (snapshot_of first) (snapshot_of now)
+unsent_of answers bytes broke first mid now side told sends refused =
+    let part = bytes_from Verifier (take refused.told.count bytes) in
+    let of_side : take refused.told.count (bytes_from mid.side bytes) ≡ part =
+    ap (λ s. take refused.told.count (bytes_from s bytes)) side ∙ take-map (λ (byte : ℕ). (Verifier, byte)) refused.told.count bytes in
+    record {
+      count = refused.told.count;
+      told = refused.told.part ∙ (λ i. appended (of_side i) (told i))
+          ∙ appended_more mid.log part first.told
+          ∙ ap (λ l. appended (l ++ part) first.told) (sym refused.logged);
+      sends = one_send_more answers first.sends now.sends (refused.sends ∙ ap (counted true) sends);
+    }
 
--- an answer was not sent
-pub stops_unsent : (job : VerifierJob) (place : VerifierPlace) (expect : Expect) (frame : Frame) (answer : List ℕ) (broke : LineFault) (first old mid now : LineState)
-    → verifier_expects job place ≡ Some expect → IsLineAt job place first old → Arrives expect frame old mid → SendFails answer broke mid now
-    → IsStopped job place (line_outcome broke) (moment_of first) (moment_of now)
-stops_unsent job place expect frame answer broke first old mid now expects at came fails =
-    let counted = ap (λ l. length (sent_by Prover l)) fails.logged ∙ came_counted job place came.bytes first old mid at came.came in
+-- memory was missing for an answer, and nothing was sent
+stops_unprepared : (job : VerifierJob) (place : VerifierPlace) (expect : Expect) (frame : Frame) (first old mid : LineState)
+    → verifier_expects job place ≡ Some expect → IsLineAt job place first old → Arrives expect frame old mid
+    → IsStopped job place NoMemory (snapshot_of first) (snapshot_of mid)
+stops_unprepared job place expect frame first old mid expects at came = stops_refused job place expect frame session.NoMemory first old mid expects at came tt
+
+-- the send of an answer was refused
+stops_with : (job : VerifierJob) (place next : VerifierPlace) (expect : Expect) (frame : Frame) (answer : List Frame) (broke : LineFault) (first old mid now : LineState)
+    → verifier_expects job place ≡ Some expect → IsLineAt job place first old → Arrives expect frame old mid → VerifierAnswers job place frame answer next
+    → 1 ≤ length answer → IsSendRefused (flat_map frame_spelling answer) broke mid now
+    → IsStopped job place (line_outcome broke) (snapshot_of first) (snapshot_of now)
+stops_with job place next expect frame answer broke first old mid now expects at came answers some refused =
+    let counted = ap (λ l. length (sent_by Prover l)) refused.logged ∙ came_counted job place came.bytes first old mid at came.came in
     let received = ap (λ (r : Reading). r.received) at.received in
     record {
       before = old.log;
       waited = at.log;
+      expect = expect;
+      expected = expects;
       rest = came.bytes;
-      few = frame_few job place expect frame old mid expects came;
-      none = λ is. absurd (none_is_some (sym is ∙ expects));
-      log = fails.logged ∙ came_logged job place came.bytes first old mid at came.came;
-      cause = send_cause job place came.bytes broke first mid now (came.unfailed ∙ at.faults) fails.cause;
-      told = tells_unsent broke first mid now fails.cause
-          (tells_part (bytes_from mid.side answer) first mid now fails.logged (came_told job place came.bytes first old mid at came.came) fails.told);
-      receives = omega (arith, counted, received, fails.others.receives, came.receives, at.receives);
-      later = omega (arith, at.faults, came.unfailed, fails.count.later);
+      few = frame_few expect frame old mid came;
+      log = refused.logged ∙ came_logged job place came.bytes first old mid at came.came;
+      cause = send_cause job place came.bytes broke first mid now (came.unfailed ∙ at.faults) refused.cause;
+      sends = inr (
+        unsent_fault broke mid now refused.cause,
+        (
+          flat_map frame_spelling answer,
+          record {
+            frame = frame;
+            allowed = (expect, expects, came.whole.allowed);
+            came = came.whole.spelled;
+            frames = answer;
+            at_least_one = some;
+            next = next;
+            answers = answers;
+            answer_is = refl;
+          },
+          unsent_of (answers_before job place) (flat_map frame_spelling answer) broke first mid now (came.came.side ∙ at.side)
+              (came_told job place came.bytes first old mid at came.came) (came.came.sends ∙ at.sends) refused,
+        ),
+      );
+      receives = omega (arith, counted, received, refused.others.receives, came.receives, at.receives);
+      count = count_of broke first mid now (came.unfailed ∙ at.faults) refused.count;
     }
+
+-- an answer was not sent
+pub stops_unsent : (job : VerifierJob) (place next : VerifierPlace) (expect : Expect) (frame : Frame) (answer : List Frame) (broke : LineFault) (first old mid now : LineState)
+    → verifier_expects job place ≡ Some expect → IsLineAt job place first old → Arrives expect frame old mid → VerifierAnswers job place frame answer next
+    → AnswerFails answer broke mid now
+    → IsStopped job place (line_outcome broke) (snapshot_of first) (snapshot_of now)
+stops_unsent job place next expect frame answer broke first old mid now expects at came answers fails = either fails.1
+  where
+    either : SendFails (flat_map frame_spelling answer) broke mid now → IsStopped job place (line_outcome broke) (snapshot_of first) (snapshot_of now)
+    either (inl none) = subst (λ (q : LineFault × LineState). IsStopped job place (line_outcome q.0) (snapshot_of first) (snapshot_of q.1))
+        (λ i. (sym none.0 i, sym none.1 i)) (stops_unprepared job place expect frame first old mid expects at came)
+    either (inr refused) = stops_with job place next expect frame answer broke first old mid now expects at came answers fails.0 refused
 
 -- one frame that is short
 one_short : (frame : Frame) → IsShort frame → All IsShort (frame ∷ [])
@@ -505,9 +660,13 @@ pub usable_with : (expect : Expect) (frame : Frame) (old now : LineState) → Is
 usable_with expect frame old now usable came =
     record { side = came.came.side ∙ usable.side; open_still = came.came.is_open ∙ usable.open_still }
 
-pub usable_unsent : (answer : List ℕ) (broke : LineFault) (old now : LineState) → IsUsable old → SendFails answer broke old now → IsUsable now
-usable_unsent answer broke old now usable fails =
+pub usable_refused : (answer : List ℕ) (broke : LineFault) (old now : LineState) → IsUsable old → IsSendRefused answer broke old now → IsUsable now
+usable_refused answer broke old now usable fails =
     record { side = fails.others.side ∙ usable.side; open_still = fails.others.is_open ∙ usable.open_still }
+
+pub usable_sent : (answer : List ℕ) (old now : LineState) → IsUsable old → Sends answer old now → IsUsable now
+usable_sent answer old now usable sent =
+    record { side = sent.others.side ∙ usable.side; open_still = sent.others.is_open ∙ usable.open_still }
 
 pub usable_at : (job : VerifierJob) (place : VerifierPlace) (first line : LineState) → IsLineAt job place first line → IsUsable line
 usable_at job place first line at = record { side = at.side; open_still = at.usable }
@@ -544,6 +703,14 @@ frames_behind job start = by_kind (either_kind job.task.file.params.kind)
     by_kind (inl direct) = omega (arith, ap (frames_before job) (behind_direct job start direct))
     by_kind (inr extended) = omega (arith, ap (frames_before job) (behind_extended job start extended))
 
+-- and one answer is sent
+one_answer_behind : (job : VerifierJob) (start : ℕ) → answers_before job (behind_grant job start) ≡ 1
+one_answer_behind job start = by_kind (either_kind job.task.file.params.kind)
+  where
+    by_kind : ((job.task.file.params.kind ≡ Direct) ⊎ (job.task.file.params.kind ≡ Extended)) → answers_before job (behind_grant job start) ≡ 1
+    by_kind (inl direct) = ap (answers_before job) (behind_direct job start direct) ∙ omega (arith, ap rounds_of direct)
+    by_kind (inr extended) = ap (answers_before job) (behind_extended job start extended)
+
 pub sent_answered : (log : List (Side × ℕ)) (answer : List ℕ) → sent_by Prover (log ++ bytes_from Verifier answer) ≡ sent_by Prover log
 sent_answered log answer =
     sent_by-append Prover log (bytes_from Verifier answer) ∙ ap (λ l. sent_by Prover log ++ l) (none_of_verifier answer) ∙ append-nil (sent_by Prover log)
@@ -562,71 +729,193 @@ granted_on job start first old new within at sent =
       told = sent.told ∙ (λ i. appended (bytes_from (at.side i) (grant_frame (granted_from job start))) (at.told i))
           ∙ appended_more old.log (bytes_from Verifier (grant_frame (granted_from job start))) first.told
           ∙ ap (λ l. appended l first.told) (sym log);
+      sends = first_sent first.sends old.sends new.sends at.sends sent.sends ∙ ap (λ (k : ℕ). counted_times k first.sends) (sym (one_answer_behind job start));
       side = sent.others.side ∙ at.side;
       usable = sent.others.is_open ∙ at.usable;
       receives = omega (arith, counted, sent.others.receives, at.receives);
       faults = sent.unfailed ∙ at.faults;
     }
 
--- the grant was not sent
-pub ungranted_on : (job : VerifierJob) (bytes : List ℕ) (broke : LineFault) (first old new : LineState)
-    → IsLineAt job owes_grant first old → SendFails bytes broke old new
-    → IsStopped job owes_grant (line_outcome broke) (moment_of first) (moment_of new)
-ungranted_on job bytes broke first old new at fails =
-    let counted = ap (λ l. length (sent_by Prover l)) fails.logged in
-    record {
-      before = old.log;
-      waited = at.log;
-      rest = [];
-      few = λ expect is. absurd (none_is_some is);
-      none = λ is. refl;
-      log = fails.logged ∙ sym (append-nil old.log);
-      cause = send_cause job owes_grant [] broke first old new at.faults fails.cause;
-      told = tells_unsent broke first old new fails.cause (tells_part (bytes_from old.side bytes) first old new fails.logged at.told fails.told);
-      receives = omega (arith, counted, fails.others.receives, at.receives);
-      later = omega (arith, at.faults, fails.count.later);
-    }
+-- a line is the same with room in its log
+pub at_with_room : (job : VerifierJob) (place : VerifierPlace) (first old new : LineState) (room : ℕ) → new ≡ record old { room = room }
+    → IsLineAt job place first old → IsLineAt job place first new
+at_with_room job place first old new room is at = subst (IsLineAt job place first) (sym is) (record {
+  log = at.log;
+  received = at.received;
+  few = at.few;
+  told = at.told;
+  sends = at.sends;
+  side = at.side;
+  usable = at.usable;
+  receives = at.receives;
+  faults = at.faults;
+})
 
--- a refusal was sent, or not
-pub refusal_sent : (code : ℕ) (old new : LineState) → IsUsable old → Sends (refuse_frame code) old new → IsRefused code (moment_of old) (moment_of new)
-refusal_sent code old new usable sent =
-    let log : new.log ≡ old.log ++ bytes_from Verifier (refuse_frame code) = sent.logged ∙ ap (λ s. old.log ++ bytes_from s (refuse_frame code)) usable.side in
-    record {
-      log = inl log;
-      told = λ first told. record {
-        part = [];
-        told = sent.told ∙ (λ i. appended (bytes_from (usable.side i) (refuse_frame code)) (told i))
-            ∙ appended_more old.log (bytes_from Verifier (refuse_frame code)) first.told
-            ∙ ap (λ l. appended l first.told) (sym log ∙ sym (append-nil new.log));
-      };
-      ended = sent.others.ended;
-      to_come = sent.others.to_come;
-      receives = sent.others.receives;
-      later = omega (arith, sent.unfailed);
-    }
+pub waiting_of : (job : VerifierJob) (place : VerifierPlace) (first line : LineState) → IsLineAt job place first line
+    → IsWaiting job place (snapshot_of first) (snapshot_of line)
+waiting_of job place first line at =
+    record { log = at.log; sent = record { told = at.told; sends = at.sends }; receives = at.receives; faults = at.faults }
 
-pub refusal_failed : (code : ℕ) (broke : LineFault) (old new : LineState) → IsUsable old → SendFails (refuse_frame code) broke old new
-    → IsRefused code (moment_of old) (moment_of new)
+-- ---- the grant is not sent
+
+link_rose : (broke : LineFault) (first old new : LineState) → old.faults ≡ first.faults → IsSendCause old new broke → line_outcome broke ≡ Link
+    → Rose first.faults new.faults
+link_rose (fault.PeerEnded at) first old new faults cause is = absurd cause
+link_rose (fault.BadFrame at) first old new faults cause is = absurd cause
+link_rose fault.Link first old new faults cause is = subst (λ n. Rose n new.faults) faults cause
+link_rose fault.NoMemory first old new faults cause is = absurd (not_link is)
+  where
+    if_link : VerifierOutcome → Type 0
+    if_link Link = ⊥
+    if_link outcome = Unit {0}
+
+    not_link : NoMemory ≡ Link → ⊥
+    not_link same = subst if_link same tt
+
+-- its send was refused
+pub grant_unsent : (job : VerifierJob) (start : ℕ) (bytes : List ℕ) (broke : LineFault) (first old new : LineState)
+    → bytes ≡ grant_frame (granted_from job start) → IsLineAt job owes_grant first old → IsSendRefused bytes broke old new
+    → LacksTheGrant job start (line_outcome broke) (snapshot_of first) (snapshot_of new)
+grant_unsent job start bytes broke first old new is at refused =
+    let counted = ap (λ l. length (sent_by Prover l)) refused.logged in
+    inr (record {
+      fault = unsent_fault broke old new refused.cause;
+      log = refused.logged ∙ at.log;
+      unsent = subst (λ b. IsUnsent 0 b (snapshot_of first) (snapshot_of new)) is (unsent_of 0 bytes broke first old new at.side at.told at.sends refused);
+      cause = link_rose broke first old new at.faults refused.cause;
+      receives = omega (arith, counted, refused.others.receives, at.receives);
+      count = count_of broke first old new at.faults refused.count;
+    })
+
+-- there was no memory for it, and a refusal was sent
+pub grant_refused : (job : VerifierJob) (start : ℕ) (first old new : LineState) → IsLineAt job owes_grant first old
+    → IsRefused 4 (snapshot_of old) (snapshot_of new) → LacksTheGrant job start NoMemory (snapshot_of first) (snapshot_of new)
+grant_refused job start first old new at refused = inl (refl, record { mid = snapshot_of old; waiting = waiting_of job owes_grant first old at; refused = refused })
+
+-- ---- refusals
+
+refusal_sent : (code : ℕ) (old new : LineState) → IsUsable old → Sends (refuse_frame code) old new → IsRefused code (snapshot_of old) (snapshot_of new)
+refusal_sent code old new usable sent = record {
+  sent = inl (record {
+    log = sent.logged ∙ ap (λ s. old.log ++ bytes_from s (refuse_frame code)) usable.side;
+    told = sent.told ∙ ap (λ s. appended (bytes_from s (refuse_frame code)) old.told) usable.side;
+    faults = sent.unfailed;
+  });
+  sends = sent.sends;
+  ended = sent.others.ended;
+  to_come = sent.others.to_come;
+  receives = sent.others.receives;
+  later = omega (arith, sent.unfailed);
+}
+
+refusal_failed : (code : ℕ) (broke : LineFault) (old new : LineState) → IsUsable old → IsSendRefused (refuse_frame code) broke old new
+    → IsRefused code (snapshot_of old) (snapshot_of new)
 refusal_failed code broke old new usable fails = record {
-  log = inr fails.logged;
-  told = λ first told. record {
-    part = take fails.told.count (bytes_from old.side (refuse_frame code));
-    told = fails.told.part ∙ ap (appended (take fails.told.count (bytes_from old.side (refuse_frame code)))) told
-        ∙ appended_more old.log (take fails.told.count (bytes_from old.side (refuse_frame code))) first.told
-        ∙ ap (λ l. appended (l ++ take fails.told.count (bytes_from old.side (refuse_frame code))) first.told) (sym fails.logged);
-  };
+  sent = inr (record {
+    log = fails.logged;
+    told = subst (λ s. AppendsPart (bytes_from s (refuse_frame code)) old.told new.told) usable.side fails.told;
+  });
+  sends = fails.sends;
   ended = fails.others.ended;
   to_come = fails.others.to_come;
   receives = fails.others.receives;
   later = fails.count.later;
 }
 
-pub refusal_of : {T : Type 0} (code : ℕ) (old new : LineState) (result : Result T LineFault) → IsUsable old
-    → OnOk result (Sends (refuse_frame code) old new) → IfErr result (λ broke. SendFails (refuse_frame code) broke old new)
-    → IsRefused code (moment_of old) (moment_of new)
-refusal_of code old new (Ok value) usable sent fails = refusal_sent code old new usable sent
-refusal_of code old new (Err broke) usable sent fails = refusal_failed code broke old new usable fails
+pub refusal_of : {T : Type 0} (code : ℕ) (bytes : List ℕ) (old new : LineState) (result : Result T LineFault) → bytes ≡ refuse_frame code → IsUsable old
+    → OnOk result (Sends bytes old new) → IfErr result (λ broke. IsSendRefused bytes broke old new)
+    → IsRefused code (snapshot_of old) (snapshot_of new)
+refusal_of code bytes old new (Ok value) is usable sent fails = refusal_sent code old new usable (subst (λ b. Sends b old new) is sent)
+refusal_of code bytes old new (Err broke) is usable sent fails = refusal_failed code broke old new usable (subst (λ b. IsSendRefused b broke old new) is fails)
 
-pub waiting_of : (job : VerifierJob) (place : VerifierPlace) (first line : LineState) → IsLineAt job place first line
-    → IsWaiting job place (moment_of first) (moment_of line)
-waiting_of job place first line at = record { log = at.log; told = at.told; receives = at.receives; faults = at.faults }
+pub usable_behind : {T : Type 0} (bytes : List ℕ) (old new : LineState) (result : Result T LineFault) → IsUsable old
+    → OnOk result (Sends bytes old new) → IfErr result (λ broke. IsSendRefused bytes broke old new) → IsUsable new
+usable_behind bytes old new (Ok value) usable sent fails = usable_sent bytes old new usable sent
+usable_behind bytes old new (Err broke) usable sent fails = usable_refused bytes broke old new usable fails
+
+-- ---- the hello is not met
+
+-- no byte of a hello is a first part of one
+none_of_hello : IsCutShort places.Hello []
+none_of_hello = record { goes_on = held_goes_on places.Hello [] [] [] (nothing_held places.Hello); short = omega arith }
+
+-- there was no room for a refusal
+pub unmet_without_room : (job : VerifierJob) (first line new : LineState) → new ≡ line → IsLineAt job awaits_hello first line
+    → IsUnmet job NoMemory (snapshot_of first) (snapshot_of new)
+unmet_without_room job first line new same at =
+    let now = snapshot_of line in
+    let counted : line.receives ≤ first.receives + length (sent_by Prover line.log) + 1 = omega (arith, at.receives) in
+    subst (λ (l : LineState). IsUnmet job NoMemory (snapshot_of first) (snapshot_of l)) (sym same) (record {
+      mid = now;
+      stopped = record {
+        before = line.log;
+        waited = at.log;
+        expect = places.Hello;
+        expected = refl;
+        rest = [];
+        few = omega arith;
+        log = sym (append-nil line.log);
+        cause = tt;
+        sends = inl (record { told = at.told; sends = at.sends }, inl none_of_hello);
+        receives = counted;
+        count = record { later = omega (arith, at.faults); unfailed = λ _. at.faults };
+      };
+      refused = inr (none_of_hello, refl);
+    })
+
+-- it did not come
+hello_missing : (broke : LineFault) (bytes : List ℕ) (now : LinkSnapshot) → (IsNoBadByte broke → IsCutShort places.Hello bytes)
+    → RefusesHello bytes (line_outcome broke) now now
+hello_missing (fault.PeerEnded at) bytes now cut = refl
+hello_missing (fault.BadFrame at) bytes now cut = refl
+hello_missing fault.Link bytes now cut = refl
+hello_missing fault.NoMemory bytes now cut = inr (cut tt, refl)
+
+pub unmet_without : (job : VerifierJob) (broke : LineFault) (first old now : LineState) → IsLineAt job awaits_hello first old → Fails places.Hello broke old now
+    → IsUnmet job (line_outcome broke) (snapshot_of first) (snapshot_of now)
+unfolding stops_without
+unmet_without job broke first old now at fails = record {
+  mid = snapshot_of now;
+  stopped = stops_without job awaits_hello places.Hello broke first old now refl at fails;
+  refused = hello_missing broke fails.bytes (snapshot_of now) fails.cut;
+}
+
+-- it came, and was refused
+hello_refused : (fault : VerifierFault) (bytes : List ℕ) (mid now : LinkSnapshot) → (hello : Hello) × IsHello hello × (bytes ≡ hello_frame hello)
+    → IsRefused (hello_code fault) mid now → RefusesHello bytes (session_outcome fault) mid now
+hello_refused (session.BadHello differs) bytes mid now whole refused = refused
+hello_refused session.NoMemory bytes mid now whole refused = inl (whole, refused)
+
+pub unmet_refused : (job : VerifierJob) (frame : Frame) (fault : VerifierFault) (first old mid now : LineState) → IsLineAt job awaits_hello first old
+    → Arrives places.Hello frame old mid → VerifierRefuses job awaits_hello frame fault
+    → IsRefused (hello_code fault) (snapshot_of mid) (snapshot_of now)
+    → IsUnmet job (session_outcome fault) (snapshot_of first) (snapshot_of now)
+unfolding stops_refused
+unmet_refused job frame fault first old mid now at came refuses refused =
+    let whole = came.whole.allowed in record {
+      mid = snapshot_of mid;
+      stopped = stops_refused job awaits_hello places.Hello frame fault first old mid refl at came refuses;
+      refused = hello_refused fault came.bytes (snapshot_of mid) (snapshot_of now)
+          (whole.0, whole.2, came.whole.spelled ∙ ap frame_spelling whole.1) refused;
+    }
+
+-- ---- the beginning
+
+pub line_begins : (job : VerifierJob) (line : LineState) → line.log ≡ [] → line.reading ≡ record { received = 0; expected = None; taken = []; bad = None }
+    → line.side ≡ Verifier → line.is_open ≡ true → IsLineAt job awaits_hello line line
+line_begins job line log reading side usable = record {
+  log = log;
+  received = reading ∙ (λ i. record { received = length (sent_by Prover (sym log i)); expected = None; taken = []; bad = None });
+  few = omega (arith, ap (λ l. length (sent_by Prover l)) log);
+  told = appended_none line.told ∙ ap (λ l. appended l line.told) (sym log);
+  sends = refl;
+  side = side;
+  usable = usable;
+  receives = omega arith;
+  faults = refl;
+}
+
+-- and the end: what the link tells then, seen from the verifier's side
+pub ends_for : (line : LineState) (log : List (Side × ℕ)) (link : LinkState) → line.side ≡ Verifier → snapshot line.side log link ≡ snapshot_of line
+    → snapshot Verifier log link ≡ snapshot_of line
+ends_for line log link side passed = ap (λ s. snapshot s log link) (sym side) ∙ passed

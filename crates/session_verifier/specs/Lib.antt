@@ -1,3 +1,4 @@
 pub mod Outcomes
 pub mod Stages
 pub mod Notes
+pub mod Laws

@@ -1,29 +1,32 @@
 -- What a note of a session says.
-use Rattle.std.specs.Prelude.{◌≡◌, ◌⊎◌, ℕ, ◌+◌, ◌≤◌, List, [], ◌++◌, length, Option, Some, None, Result, Ok, Err}
+use Rattle.std.specs.Prelude.{◌≡◌, ◌⊎◌, ℕ, ◌+◌, ◌≤◌, List, [], ◌++◌, length, true, Option, Some, None, IfSome, Result, Ok, Err}
 use Rattle.zk_model.specs.Files.{ProverFile, IsProverFile, AreDealt}
 use Rattle.zk_model.specs.Mac.{Pair, AreKeysOf}
 use Rattle.zk_model.specs.Correlations.{IsProverView, span_keys}
-use Rattle.zk_model.specs.View.{span_of}
-use Rattle.zk_model.specs.Transcript.{Setup, Transcript, IsSetup, BeginsWith, refuse_frame, bytes_from, turn_bytes, setup_turns, sent_by, spelling}
+use Rattle.zk_model.specs.View.{ChecksHold, SaysVerdict, span_of}
+use Rattle.zk_model.specs.Transcript.{Hello, Setup, Transcript, IsHello, IsSetup, IsInOrder, BeginsWith, wanted_hello, hello_frame, refuse_frame, bytes_from, turn_bytes, setup_turns, sent_by}
 use Rattle.zk_model.specs.ServedVerifier.{IsServed, IsAccepted, ServesWith, challenge_coin}
 use Rattle.zk_model.specs.declared.Side.{Side}
 use Rattle.zk_model.specs.declared.Side.TheVariants.{Prover, Verifier}
 use Rattle.zk_model.specs.declared.Span.{Span}
+use Rattle.zk_model.specs.declared.Verdict.TheVariants as verdict
 use Rattle.zk_model.specs.HonestProver.{ProverTask}
 use Rattle.zk_model.specs.Peers.{IsFromHonestProver, HasEndedHonestly}
 use Rattle.zk_laws.specs.Extraction.{IsExtracted}
 use Rattle.zk_laws.specs.Rehearsing.{AreCounterparts}
 use Rattle.session_laws.specs.Peers.{HasWitness, GivesClaims}
-use Rattle.zk_port.specs.Counts.{Rose}
+use Rattle.zk_port.specs.Counts.{Rose, counted}
 use Rattle.zk_port.specs.Logs.{appended}
+use Rattle.frame_link.specs.Lines.{LinkSnapshot}
 use Rattle.lease_store.specs.declared.LeaseFault.{LeaseFault}
 use Rattle.lease_store.specs.declared.LeaseFault.TheVariants as lease
-use Rattle.session_core.specs.Jobs.{VerifierJob, granted_from}
+use Rattle.session_core.specs.Jobs.{VerifierJob, units_of_job, granted_from}
 use Rattle.session_core.specs.Judgements.{IsJudgement, verdict_in}
-use Rattle.session_core.specs.Cores.{VerifierPlace, awaits_hello}
+use Rattle.session_core.specs.Cores.{VerifierPlace, awaits_hello, has_judged}
 use Rattle.session_core.specs.declared.judgement.Judgement.{Judgement}
+use Rattle.session_core.specs.declared.judgement.Judgement.TheVariants as judged
 use Rattle.session_verifier.specs.Outcomes.{judgement_outcome}
-use Rattle.session_verifier.specs.Stages.{Moment, TellsLog, IsStopped, IsRefused}
+use Rattle.session_verifier.specs.Stages.{IsStopped, IsRefused, IsRefusedGrant, IsGrantUnsent, IsWaiting, IsWholeHello}
 use Rattle.session_verifier.specs.declared.note.VerifierOutcome.{VerifierOutcome}
 use Rattle.session_verifier.specs.declared.note.VerifierOutcome.TheVariants.{Accepted, RejectedSum, RejectedOpening, PeerEnded, BadFrame, BadHello, Exhausted, Device, Broken, Link, NoMemory}
 
@@ -52,31 +55,31 @@ JudgesRightly job granted outcome log =
 abbrev pub AcceptsExactly : VerifierJob → VerifierOutcome → List (Side × ℕ) → Type 0
 AcceptsExactly job outcome log = IsAccepted job.task log → outcome ≡ Accepted
 
--- What an accepted session shows: the challenge is the coin of the first unit; and for every prover's file that is dealt with
--- the verifier's there is a finding, and every finding shows inputs that make the program give the claims, or a root of a named
--- polynomial that is not zero: at the challenge, or at the key.
+-- What an accepted session shows. Its log is that of a transcript in order for the job's file and statement, with a grant of the
+-- units that were leased and the job's length of sections; the challenge is the coin of the first unit, all checks hold, and the
+-- verdict says so. And for every prover's file that is dealt with the verifier's there is a finding, and every finding shows inputs
+-- that make the program give the claims, or a root of a named polynomial that is not zero: at the challenge, or at the key.
 pub record IsShown (job : VerifierJob) (granted : Option Span) (log : List (Side × ℕ)) : Type 0 where
   pub span : Span
   pub leased : granted ≡ Some span
+  pub units : span.end ≡ span.start + units_of_job job
   pub t : Transcript
-  pub spelled : log ≡ spelling t
+  pub in_order : IsInOrder job.task.file.params job.task.file.id job.task.statement t log
+  pub grant : t.commitment.setup.grant ≡ granted_from job span.start
   pub challenge : t.challenge ≡ challenge_coin job.task.file span.start
+  pub checks : ChecksHold job.task.file job.task.statement t
+  pub said : SaysVerdict t verdict.Accepted
   pub extracted : (prover : ProverFile) → IsProverFile prover → AreDealt prover job.task.file
       → IsExtracted prover job.task.file job.task.statement t
 
 -- the code of the refusal that an outcome has, if it has one
 abbrev pub refusal_of : VerifierOutcome → Option ℕ
-refusal_of Accepted = None
-refusal_of (RejectedSum section left right) = None
-refusal_of (RejectedOpening output left right) = None
-refusal_of (PeerEnded at) = None
-refusal_of (BadFrame at) = None
 refusal_of (BadHello differs) = Some 1
 refusal_of (Exhausted at count total) = Some 2
 refusal_of Device = Some 3
 refusal_of (Broken at) = Some 3
-refusal_of Link = None
-refusal_of NoMemory = None
+refusal_of NoMemory = Some 4
+refusal_of outcome = None
 
 -- The log of a session in which no units were leased: no more of the prover than a hello has; and nothing of the verifier, or the
 -- refusal of its outcome.
@@ -87,11 +90,33 @@ pub record IsUngranted (outcome : VerifierOutcome) (log : List (Side × ℕ)) : 
   pub refused : (answer ≡ []) ⊎ ((code : ℕ) × (refusal_of outcome ≡ Some code) × (answer ≡ refuse_frame code))
   pub bytes : log ≡ bytes_from Prover rest ++ bytes_from Verifier answer
 
+-- these are bytes of the prover's hello, and a refusal of this code
+abbrev pub EndsByRefusal : VerifierJob → ℕ → List (Side × ℕ) → Type 0
+EndsByRefusal job code log =
+    log ≡ bytes_from Prover (hello_frame (wanted_hello job.task.file.id job.task.statement)) ++ bytes_from Verifier (refuse_frame code)
+
 -- What the verifier sends: where units were leased, its part of a session that it serves with their grant, or of a beginning of
--- one.
+-- one; or, where memory was missing for the grant, a refusal in its place.
 abbrev pub SendsRightly : VerifierJob → Option Span → VerifierOutcome → List (Side × ℕ) → Type 0
 SendsRightly job None outcome log = IsUngranted outcome log
-SendsRightly job (Some span) outcome log = ServesWith job.task (granted_from job span.start) log
+SendsRightly job (Some span) outcome log =
+    ServesWith job.task (granted_from job span.start) log ⊎ ((outcome ≡ NoMemory) × EndsByRefusal job 4 log)
+
+-- a first part of the refusal of an outcome, behind a whole hello
+pub record BeginsRefusal (outcome : VerifierOutcome) (log : List (Side × ℕ)) : Type 0 where
+  pub rest : List ℕ
+  pub hello : IsWholeHello rest
+  pub code : ℕ
+  pub code_is : refusal_of outcome ≡ Some code
+  pub answer : List ℕ
+  pub begun : BeginsWith (refuse_frame code) answer
+  pub bytes : log ≡ bytes_from Prover rest ++ bytes_from Verifier answer
+
+-- the same of a log with a part of an answer whose send was refused
+abbrev pub TellsRightly : VerifierJob → Option Span → VerifierOutcome → List (Side × ℕ) → Type 0
+TellsRightly job None outcome log = IsUngranted outcome log ⊎ BeginsRefusal outcome log
+TellsRightly job (Some span) outcome log =
+    ServesWith job.task (granted_from job span.start) log ⊎ ((outcome ≡ NoMemory) × BeginsRefusal NoMemory log)
 
 -- Whatever was asked: for every prover's file that is dealt with the verifier's, and every setup of a session about the statement
 -- with whose turns the log begins, the verifier's keys of the granted units fit the pairs that the prover sees then.
@@ -103,37 +128,116 @@ KeepsKeys job log = (prover : ProverFile) (setup : Setup) (pairs : List Pair)
     → IsProverView prover setup pairs
     → AreKeysOf job.task.file.key pairs (span_keys job.task.file (span_of setup.grant))
 
--- why a session ended so: what came, what the one who leases units answered, or the count of the link
-abbrev pub EndsBecause : VerifierJob → Option (Result Span LeaseFault) → VerifierOutcome → Moment → Moment → Type 0
-EndsBecause job answer Accepted first now = Unit {0}
-EndsBecause job answer (RejectedSum section left right) first now = Unit {0}
-EndsBecause job answer (RejectedOpening output left right) first now = Unit {0}
-EndsBecause job answer (PeerEnded at) first now = (place : VerifierPlace) × IsStopped job place (PeerEnded at) first now
-EndsBecause job answer (BadFrame at) first now = (place : VerifierPlace) × IsStopped job place (BadFrame at) first now
-EndsBecause job answer (BadHello differs) first now =
-    (mid : Moment) × IsStopped job awaits_hello (BadHello differs) first mid × IsRefused 1 mid now
-EndsBecause job answer (Exhausted at count total) first now = answer ≡ Some (Err (lease.Exhausted at count total))
-EndsBecause job answer Device first now = answer ≡ Some (Err lease.Device)
-EndsBecause job answer (Broken at) first now = answer ≡ Some (Err (lease.Broken at))
-EndsBecause job answer Link first now = Rose first.faults now.faults
-EndsBecause job answer NoMemory first now = Unit {0}
+-- units were leased, and the session was judged so: its log is whole, and each answer was sent by one send
+pub record HasJudged
+    (job : VerifierJob)
+    (answer : Option (Result Span LeaseFault))
+    (judgement : Judgement)
+    (first now : LinkSnapshot) : Type 0 where
+  pub span : Span
+  pub leased : answer ≡ Some (Ok span)
+  pub judged : IsWaiting job (has_judged span.start judgement) first now
 
--- The log is what the link tells; where a send may have been refused, that is a first part of what the link tells.
-abbrev pub IsTold : VerifierOutcome → Moment → Moment → Type 0
-IsTold Accepted first now = now.told ≡ appended now.log first.told
-IsTold (RejectedSum section left right) first now = now.told ≡ appended now.log first.told
-IsTold (RejectedOpening output left right) first now = now.told ≡ appended now.log first.told
-IsTold (PeerEnded at) first now = now.told ≡ appended now.log first.told
-IsTold (BadFrame at) first now = now.told ≡ appended now.log first.told
-IsTold (BadHello differs) first now = TellsLog first now
-IsTold (Exhausted at count total) first now = TellsLog first now
-IsTold Device first now = TellsLog first now
-IsTold (Broken at) first now = TellsLog first now
-IsTold Link first now = TellsLog first now
-IsTold NoMemory first now = TellsLog first now
+-- the session stopped where the verifier waited for a frame
+abbrev pub StopsSomewhere : VerifierJob → VerifierOutcome → LinkSnapshot → LinkSnapshot → Type 0
+StopsSomewhere job outcome first now = (place : VerifierPlace) × IsStopped job place outcome first now
+
+-- units were leased, and the one send of their grant was refused
+abbrev pub FailsToGrant :
+    VerifierJob → Option (Result Span LeaseFault) → VerifierOutcome → LinkSnapshot → LinkSnapshot → Type 0
+FailsToGrant job answer outcome first now =
+    (span : Span) × (answer ≡ Some (Ok span)) × IsGrantUnsent job span.start outcome first now
+
+-- memory was missing in the grant's place, behind a whole hello: refusal 4 was sent; units were leased only behind the wanted one
+pub record LacksGrant
+    (job : VerifierJob)
+    (answer : Option (Result Span LeaseFault))
+    (first now : LinkSnapshot) : Type 0 where
+  pub hello : Hello
+  pub is : IsHello hello
+  pub wanted : IfSome answer (λ _. hello ≡ wanted_hello job.task.file.id job.task.statement)
+  pub mid : LinkSnapshot
+  pub came : mid.log ≡ bytes_from Prover (hello_frame hello)
+  pub told : mid.told ≡ appended mid.log first.told
+  pub unsent : mid.sends ≡ first.sends
+  pub unfailed : mid.faults ≡ first.faults
+  pub refused : IsRefused 4 mid now
+
+-- memory was missing elsewhere: while a frame came or was answered, but not in the grant's place
+pub record LacksMemory (job : VerifierJob) (first now : LinkSnapshot) : Type 0 where
+  pub place : VerifierPlace
+  pub stopped : IsStopped job place NoMemory first now
+  pub unmet : place ≡ awaits_hello → ¬ IsWholeHello stopped.rest
+
+-- no lease was refused
+abbrev pub RefusesNoLease : Option (Result Span LeaseFault) → Type 0
+RefusesNoLease answer = (fault : LeaseFault) → ¬ (answer ≡ Some (Err fault))
+
+-- Why a session ended so: what was judged; what came; what the one who leases units answered, and the refusal that was sent; the
+-- link failed, in a receive or in the send of an answer; or memory was missing. Where a lease was refused, it is the cause, and no
+-- fault beside it.
+abbrev pub EndsBecause :
+    VerifierJob → Option (Result Span LeaseFault) → VerifierOutcome → LinkSnapshot → LinkSnapshot → Type 0
+EndsBecause job answer Accepted first now = HasJudged job answer judged.Accepted first now
+EndsBecause job answer (RejectedSum section left right) first now =
+    HasJudged job answer (judged.RejectedSum section left right) first now
+EndsBecause job answer (RejectedOpening output left right) first now =
+    HasJudged job answer (judged.RejectedOpening output left right) first now
+EndsBecause job answer (PeerEnded at) first now = StopsSomewhere job (PeerEnded at) first now
+EndsBecause job answer (BadFrame at) first now = StopsSomewhere job (BadFrame at) first now
+EndsBecause job answer (BadHello differs) first now =
+    (mid : LinkSnapshot) × IsStopped job awaits_hello (BadHello differs) first mid × IsRefused 1 mid now
+EndsBecause job answer (Exhausted at count total) first now =
+    (answer ≡ Some (Err (lease.Exhausted at count total))) × IsRefusedGrant job 2 first now
+EndsBecause job answer Device first now = (answer ≡ Some (Err lease.Device)) × IsRefusedGrant job 3 first now
+EndsBecause job answer (Broken at) first now = (answer ≡ Some (Err (lease.Broken at))) × IsRefusedGrant job 3 first now
+EndsBecause job answer Link first now =
+    RefusesNoLease answer × (StopsSomewhere job Link first now ⊎ FailsToGrant job answer Link first now)
+EndsBecause job answer NoMemory first now =
+    RefusesNoLease answer
+    × (LacksMemory job first now ⊎ LacksGrant job answer first now ⊎ FailsToGrant job answer NoMemory first now)
+
+-- no units are leased before the wanted hello came
+abbrev pub LeasesBehindHello : VerifierJob → Option (Result Span LeaseFault) → List (Side × ℕ) → Type 0
+LeasesBehindHello job answer log =
+    IfSome answer (λ _. BeginsWith log (bytes_from Prover (hello_frame (wanted_hello job.task.file.id job.task.statement))))
+
+-- no send was refused
+abbrev pub IsAllSent : VerifierOutcome → Type 0
+IsAllSent Accepted = Unit {0}
+IsAllSent (RejectedSum section left right) = Unit {0}
+IsAllSent (RejectedOpening output left right) = Unit {0}
+IsAllSent (PeerEnded at) = Unit {0}
+IsAllSent (BadFrame at) = Unit {0}
+IsAllSent outcome = ⊥
+
+-- What the link tells is what it told before and the log; where a send was refused, a first part of the one answer that was due
+-- then, and nothing else.
+pub record IsTold (job : VerifierJob) (granted : Option Span) (outcome : VerifierOutcome) (first now : LinkSnapshot) : Type 0 where
+  pub part : List ℕ
+  pub told : now.told ≡ appended (now.log ++ bytes_from Verifier part) first.told
+  pub none : IsAllSent outcome → part ≡ []
+  pub rightly : TellsRightly job granted outcome (now.log ++ bytes_from Verifier part)
+
+-- the verifier refuses in a grant's place, which it may where memory is missing
+abbrev pub Refuses : VerifierOutcome → Type 0
+Refuses (BadHello differs) = Unit {0}
+Refuses (Exhausted at count total) = Unit {0}
+Refuses Device = Unit {0}
+Refuses (Broken at) = Unit {0}
+Refuses NoMemory = Unit {0}
+Refuses outcome = ⊥
+
+-- The count of failed calls does not fall. It rises where the outcome is `Link`; else only by the one send of a refusal that was
+-- refused, which is then not logged.
+pub record CountsFaults (outcome : VerifierOutcome) (first now : LinkSnapshot) : Type 0 where
+  pub later : first.faults ≤ now.faults
+  pub failed : outcome ≡ Link → Rose first.faults now.faults
+  pub unfailed : (now.faults ≡ first.faults) ⊎ (outcome ≡ Link)
+      ⊎ (Refuses outcome × (sent_by Verifier now.log ≡ []) × (now.sends ≡ counted true first.sends))
 
 -- at most one receive more than bytes of the prover came
-abbrev pub ReceivesFew : Moment → Moment → Type 0
+abbrev pub ReceivesFew : LinkSnapshot → LinkSnapshot → Type 0
 ReceivesFew first now = now.receives ≤ first.receives + length (sent_by Prover now.log) + 1
 
 -- the peer ended
@@ -161,9 +265,10 @@ pub record HasHonestPeer (job : VerifierJob) (prover : ProverTask) (outcome : Ve
   pub ended : IsPeerEnd outcome → HasEndedHonestly prover log
 
 -- with an honest peer, where no lease was refused and the link's count did not rise, the session is accepted, unless memory was
--- wanting
-abbrev pub Completes : VerifierJob → Option (Result Span LeaseFault) → VerifierOutcome → Moment → Moment → Type 0
+-- missing
+abbrev pub Completes :
+    VerifierJob → Option (Result Span LeaseFault) → VerifierOutcome → LinkSnapshot → LinkSnapshot → Type 0
 Completes job answer outcome first now = (prover : ProverTask) → HasHonestPeer job prover outcome now.log
-    → ((fault : LeaseFault) → ¬ (answer ≡ Some (Err fault)))
+    → RefusesNoLease answer
     → ¬ Rose first.faults now.faults
     → (outcome ≡ Accepted) ⊎ (outcome ≡ NoMemory)

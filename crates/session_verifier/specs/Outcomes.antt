@@ -1,10 +1,11 @@
--- How a session ended for the verifier, as faults and judgements say it.
+-- How a session ended for the verifier, as faults and judgements say it, and the codes of its refusals.
+use Rattle.std.specs.Prelude.{ℕ}
 use Rattle.frame_link.specs.declared.fault.LineFault.{LineFault}
 use Rattle.frame_link.specs.declared.fault.LineFault.TheVariants as line
 use Rattle.lease_store.specs.declared.LeaseFault.{LeaseFault}
 use Rattle.lease_store.specs.declared.LeaseFault.TheVariants as lease
-use Rattle.session_core.specs.declared.fault.SessionFault.{SessionFault}
-use Rattle.session_core.specs.declared.fault.SessionFault.TheVariants as session
+use Rattle.session_core.specs.declared.fault.VerifierFault.{VerifierFault}
+use Rattle.session_core.specs.declared.fault.VerifierFault.TheVariants as session
 use Rattle.session_core.specs.declared.judgement.Judgement.{Judgement}
 use Rattle.session_core.specs.declared.judgement.Judgement.TheVariants as judgement
 use Rattle.session_verifier.specs.declared.note.VerifierOutcome.{VerifierOutcome}
@@ -23,11 +24,9 @@ line_outcome (line.BadFrame place) = BadFrame place
 line_outcome line.Link = Link
 line_outcome line.NoMemory = NoMemory
 
--- of a frame that the verifier refused; the faults of a prover do not come
-abbrev pub session_outcome : SessionFault → VerifierOutcome
+-- of a frame that the verifier refused
+abbrev pub session_outcome : VerifierFault → VerifierOutcome
 session_outcome (session.BadHello differs) = BadHello differs
-session_outcome session.BadGrant = NoMemory
-session_outcome (session.PeerRefused code) = NoMemory
 session_outcome session.NoMemory = NoMemory
 
 -- of what it found
@@ -35,3 +34,14 @@ abbrev pub judgement_outcome : Judgement → VerifierOutcome
 judgement_outcome judgement.Accepted = Accepted
 judgement_outcome (judgement.RejectedSum section left right) = RejectedSum section left right
 judgement_outcome (judgement.RejectedOpening output left right) = RejectedOpening output left right
+
+-- the code of the refusal for a hello that is not met
+abbrev pub hello_code : VerifierFault → ℕ
+hello_code (session.BadHello differs) = 1
+hello_code session.NoMemory = 4
+
+-- and for units that are not leased
+abbrev pub lease_code : LeaseFault → ℕ
+lease_code (lease.Exhausted at count total) = 2
+lease_code lease.Device = 3
+lease_code (lease.Broken first) = 3

@@ -1,24 +1,26 @@
 -- How far a session is at the verifier: which frames are logged where it waits, and why it stops there.
-use Rattle.std.specs.Prelude.{◌≡◌, ◌⊎◌, ℕ, ◌+◌, ◌*◌, ◌^◌, ◌≤◌, ◌<◌, List, [], ◌∷◌, ◌++◌, flat_map, length, Bool, true, Option, Some, None, IfSome, Result, Ok, Err}
+use Rattle.std.specs.Prelude.{◌≡◌, ◌⊎◌, ℕ, ◌+◌, ◌*◌, ◌^◌, ◌≤◌, ◌<◌, List, [], ◌∷◌, ◌++◌, flat_map, take, length, true, Option, Some, None, IfSome, Result, Ok, Err}
 use Rattle.zk_model.specs.Program.{section_count}
 use Rattle.zk_model.specs.Files.{IsVerifierFile, rounds_of}
 use Rattle.zk_model.specs.Transcript.{Hello, TreeAsk, Round, IsHello, wanted_hello, hello_frame, grant_frame, ask_frame, corrections_frame, challenge_frame, sums_frame, refuse_frame, bytes_from, turn_bytes, sent_by, spelling}
-use Rattle.zk_model.specs.Frames.{AreElements, AreSums, CanGoOn, IsFirstBad, frame_length}
+use Rattle.zk_model.specs.Frames.{Frame, Allows, AreElements, AreSums, CanGoOn, IsWhole, IsFirstBad, frame_length, frame_spelling}
 use Rattle.zk_model.specs.ServedVerifier.{challenge_coin}
 use Rattle.zk_model.specs.declared.Expect.{Expect}
+use Rattle.zk_model.specs.declared.Expect.TheVariants as expect
 use Rattle.zk_model.specs.declared.Side.{Side}
 use Rattle.zk_model.specs.declared.Side.TheVariants.{Prover, Verifier}
-use Rattle.zk_port.specs.Counts.{Rose}
-use Rattle.zk_port.specs.Logs.{appended}
-use Rattle.frame_link.specs.Lines.{LineState, longest}
+use Rattle.zk_port.specs.Counts.{Rose, counted}
+use Rattle.zk_port.specs.Logs.{appended, AppendsPart}
+use Rattle.frame_link.specs.Lines.{LineState, LinkSnapshot, Sends, SendFails, counted_times, longest, IsCutShort}
+use Rattle.frame_link.specs.declared.fault.LineFault.{LineFault}
 use Rattle.session_core.specs.Jobs.{VerifierJob, IsVerifierJob, granted_from, units_of_job}
 use Rattle.session_core.specs.Judgements.{IsJudgement, session_transcript, verdict_in}
 use Rattle.session_core.specs.Rounds.{AreServedRounds, round_turns}
-use Rattle.session_core.specs.Cores.{VerifierPlace, VerifierState, AreAsksSoFar, awaits_hello, owes_grant, awaits_asks, awaits_corrections, awaits_sums, awaits_openings, has_judged, has_refused, verifier_expects, DiffersFirst}
+use Rattle.session_core.specs.Cores.{VerifierPlace, VerifierState, AreAsksSoFar, VerifierAnswers, awaits_hello, owes_grant, awaits_asks, awaits_corrections, awaits_sums, awaits_openings, has_judged, has_refused, verifier_expects, DiffersFirst}
 use Rattle.session_core.specs.declared.judgement.Judgement.{Judgement}
 use Rattle.zk_model.specs.declared.Span.{Span}
 use Rattle.lease_store.specs.declared.LeaseFault.{LeaseFault}
-use Rattle.session_verifier.specs.Outcomes.{lease_outcome, judgement_outcome}
+use Rattle.session_verifier.specs.Outcomes.{lease_outcome, lease_code, judgement_outcome}
 use Rattle.session_verifier.specs.declared.note.VerifierOutcome.{VerifierOutcome}
 use Rattle.session_verifier.specs.declared.note.VerifierOutcome.TheVariants.{Accepted, RejectedSum, RejectedOpening, PeerEnded, BadFrame, BadHello, Exhausted, Device, Broken, Link, NoMemory}
 
@@ -90,13 +92,36 @@ frames_before job (awaits_openings start d both) = 3 + units_of_job job
 frames_before job (has_judged start judgement) = 4 + units_of_job job
 frames_before job has_refused = 4 + units_of_job job
 
--- A line where a verifier waits, since a first moment: all that passed is logged, no frame is under way, and there were at most
--- as many receives as bytes came; nothing failed.
+-- how many answers of the verifier are sent where it waits: the grant, in kind extended the replies, the challenge, and the verdict
+abbrev pub answers_before : VerifierJob → VerifierPlace → ℕ
+answers_before job awaits_hello = 0
+answers_before job owes_grant = 0
+answers_before job (awaits_asks start asked) = 1
+answers_before job (awaits_corrections start) = rounds_of job.task.file.params.kind + 1
+answers_before job (awaits_sums start d) = rounds_of job.task.file.params.kind + 2
+answers_before job (awaits_openings start d both) = rounds_of job.task.file.params.kind + 2
+answers_before job (has_judged start judgement) = rounds_of job.task.file.params.kind + 3
+answers_before job has_refused = 0
+
+-- all that was sent is logged, and the link tells it: so many answers, each by one send
+pub record IsSent (answers : ℕ) (first now : LinkSnapshot) : Type 0 where
+  pub told : now.told ≡ appended now.log first.told
+  pub sends : now.sends ≡ counted_times answers first.sends
+
+-- behind so many answers, the one send of another was refused: behind the log the link tells a first part of it, maybe none or all
+pub record IsUnsent (answers : ℕ) (answer : List ℕ) (first now : LinkSnapshot) : Type 0 where
+  pub count : ℕ
+  pub told : now.told ≡ appended (now.log ++ bytes_from Verifier (take count answer)) first.told
+  pub sends : now.sends ≡ counted_times (answers + 1) first.sends
+
+-- A line where a verifier waits, since a first moment: all that passed is logged, each answer was sent by one send, no frame is
+-- under way, and there were at most as many receives as bytes came; nothing failed.
 pub record IsLineAt (job : VerifierJob) (place : VerifierPlace) (first now : LineState) : Type 0 where
   pub log : IsLogAt job place now.log
   pub received : now.reading ≡ record { received = length (sent_by Prover now.log); expected = None; taken = []; bad = None }
   pub few : length (sent_by Prover now.log) ≤ frames_before job place * (2 ^ 24 + 5)
   pub told : now.told ≡ appended now.log first.told
+  pub sends : now.sends ≡ counted_times (answers_before job place) first.sends
   pub side : now.side ≡ Verifier
   pub usable : now.is_open ≡ true
   pub receives : now.receives ≤ first.receives + length (sent_by Prover now.log)
@@ -133,36 +158,14 @@ AwaitsBehind job start came now =
     ((asked : List (List TreeAsk)) × (length asked ≡ came) × (came < asks_due job) × (now ≡ awaits_asks start asked))
     ⊎ ((came ≡ asks_due job) × (now ≡ awaits_corrections start))
 
--- what is logged at a moment, and what the link tells then
-pub record Moment : Type 0 where
-  pub log : List (Side × ℕ)
-  pub told : Option (List (Side × ℕ))
-  pub to_come : Option (List ℕ)
-  pub ended : Option Bool
-  pub receives : ℕ
-  pub faults : ℕ
+-- an answer was sent by one send, or has no frames
+abbrev pub SendsAnswer : List Frame → LineState → LineState → Type 0
+SendsAnswer answer old new =
+    ((answer ≡ []) × (new ≡ old)) ⊎ ((1 ≤ length answer) × Sends (flat_map frame_spelling answer) old new)
 
--- by these
-abbrev pub moment_at : List (Side × ℕ) → Option (List (Side × ℕ)) → Option (List ℕ) → Option Bool → ℕ → ℕ → Moment
-moment_at log told to_come ended receives faults = record {
-  log = log;
-  told = told;
-  to_come = to_come;
-  ended = ended;
-  receives = receives;
-  faults = faults;
-}
-
--- of a line
-abbrev pub moment_of : LineState → Moment
-moment_of line = record {
-  log = line.log;
-  told = line.told;
-  to_come = line.to_come;
-  ended = line.ended;
-  receives = line.receives;
-  faults = line.faults;
-}
+-- an answer, which has frames, was not sent
+abbrev pub AnswerFails : List Frame → LineFault → LineState → LineState → Type 0
+AnswerFails answer fault old new = (1 ≤ length answer) × SendFails (flat_map frame_spelling answer) fault old new
 
 -- ---- why it stops
 
@@ -171,8 +174,8 @@ abbrev pub ExpectsThere : VerifierJob → VerifierPlace → (Expect → Type 0) 
 ExpectsThere job place P = (expect : Expect) × (verifier_expects job place ≡ Some expect) × P expect
 
 -- Why a session stops behind these bytes of the frame that is expected: the peer has ended and more is wanted; a byte is bad;
--- they are a hello that is not the wanted one; the link failed; memory was wanting.
-abbrev pub StopCause : VerifierJob → VerifierPlace → List ℕ → Moment → Moment → VerifierOutcome → Type 0
+-- they are a hello that is not the wanted one; the link failed; memory was missing.
+abbrev pub StopCause : VerifierJob → VerifierPlace → List ℕ → LinkSnapshot → LinkSnapshot → VerifierOutcome → Type 0
 StopCause job place rest first now (PeerEnded at) =
     ExpectsThere job place (λ expect. CanGoOn expect rest × (length rest < frame_length expect rest))
     × (at ≡ length (sent_by Prover now.log))
@@ -194,24 +197,47 @@ StopCause job place rest first now (Exhausted at count total) = ⊥
 StopCause job place rest first now Device = ⊥
 StopCause job place rest first now (Broken at) = ⊥
 
--- what the link tells begins with what is logged; it is that alone but where a send was refused
-pub record TellsLog (first now : Moment) : Type 0 where
-  pub part : List (Side × ℕ)
-  pub told : now.told ≡ appended (now.log ++ part) first.told
+-- the link failed, or memory was missing
+abbrev pub IsFault : VerifierOutcome → Type 0
+IsFault Link = Unit {0}
+IsFault NoMemory = Unit {0}
+IsFault outcome = ⊥
 
--- what the link tells where a session ended so
-abbrev pub TellsBy : VerifierOutcome → Moment → Moment → Type 0
-TellsBy Accepted first now = now.told ≡ appended now.log first.told
-TellsBy (RejectedSum section left right) first now = now.told ≡ appended now.log first.told
-TellsBy (RejectedOpening output left right) first now = now.told ≡ appended now.log first.told
-TellsBy (PeerEnded at) first now = now.told ≡ appended now.log first.told
-TellsBy (BadFrame at) first now = now.told ≡ appended now.log first.told
-TellsBy (BadHello differs) first now = now.told ≡ appended now.log first.told
-TellsBy (Exhausted at count total) first now = now.told ≡ appended now.log first.told
-TellsBy Device first now = now.told ≡ appended now.log first.told
-TellsBy (Broken at) first now = now.told ≡ appended now.log first.told
-TellsBy Link first now = TellsLog first now
-TellsBy NoMemory first now = TellsLog first now
+-- the link did not fail
+abbrev pub IsNoLink : VerifierOutcome → Type 0
+IsNoLink Link = ⊥
+IsNoLink outcome = Unit {0}
+
+-- the count of failed calls does not fall, and rises only where the link failed
+pub record CountsOutcome (outcome : VerifierOutcome) (first now : LinkSnapshot) : Type 0 where
+  pub later : first.faults ≤ now.faults
+  pub unfailed : IsNoLink outcome → now.faults ≡ first.faults
+
+-- these bytes are a frame that came where the verifier waits, and those are what it answers
+pub record IsAnswer (job : VerifierJob) (place : VerifierPlace) (rest answer : List ℕ) : Type 0 where
+  pub frame : Frame
+  pub allowed : ExpectsThere job place (λ expect. Allows expect frame)
+  pub came : rest ≡ frame_spelling frame
+  pub frames : List Frame
+  pub at_least_one : 1 ≤ length frames
+  pub next : VerifierPlace
+  pub answers : VerifierAnswers job place frame frames next
+  pub answer_is : answer ≡ flat_map frame_spelling frames
+
+-- What these bytes are of the frame that is expected, where all answers so far were sent: where the link failed, they begin one
+-- of which more are missing; where memory was missing, too, or they are a whole one.
+abbrev pub LeavesFrame : Expect → List ℕ → VerifierOutcome → Type 0
+LeavesFrame expect rest Link = IsCutShort expect rest
+LeavesFrame expect rest NoMemory = IsCutShort expect rest ⊎ ((frame : Frame) × IsWhole expect rest frame)
+LeavesFrame expect rest outcome = Unit {0}
+
+-- What was sent where a session stopped behind these bytes of a frame: all answers so far, and neither the link's failure nor
+-- missing memory is the cause beside a bad byte; or, where the link failed or memory was missing, the send of the answer to the
+-- frame was refused.
+abbrev pub SendsUpTo : VerifierJob → VerifierPlace → Expect → List ℕ → VerifierOutcome → LinkSnapshot → LinkSnapshot → Type 0
+SendsUpTo job place expect rest outcome first now =
+    (IsSent (answers_before job place) first now × LeavesFrame expect rest outcome)
+    ⊎ (IsFault outcome × ((answer : List ℕ) × IsAnswer job place rest answer × IsUnsent (answers_before job place) answer first now))
 
 -- the verifier waits for a frame of a session whose grant begins here
 abbrev pub StartsAt : ℕ → VerifierPlace → Type 0
@@ -225,20 +251,21 @@ StartsAt start (has_judged begun judgement) = ⊥
 StartsAt start has_refused = ⊥
 
 -- A session that stopped: what is logged where the verifier waited, and then bytes of the frame that was expected.
-pub record IsStopped (job : VerifierJob) (place : VerifierPlace) (outcome : VerifierOutcome) (first now : Moment) : Type 0 where
+pub record IsStopped (job : VerifierJob) (place : VerifierPlace) (outcome : VerifierOutcome) (first now : LinkSnapshot) : Type 0 where
   pub before : List (Side × ℕ)
   pub waited : IsLogAt job place before
+  pub expect : Expect
+  pub expected : verifier_expects job place ≡ Some expect
   pub rest : List ℕ
-  pub few : (expect : Expect) → verifier_expects job place ≡ Some expect → length rest ≤ longest expect
-  pub none : verifier_expects job place ≡ None → rest ≡ []
+  pub few : length rest ≤ longest expect
   pub log : now.log ≡ before ++ bytes_from Prover rest
   pub cause : StopCause job place rest first now outcome
-  pub told : TellsBy outcome first now
+  pub sends : SendsUpTo job place expect rest outcome first now
   pub receives : now.receives ≤ first.receives + length (sent_by Prover now.log) + 1
-  pub later : first.faults ≤ now.faults
+  pub count : CountsOutcome outcome first now
 
 -- a session stopped behind the grant that begins here
-pub record StopsBehind (job : VerifierJob) (start : ℕ) (outcome : VerifierOutcome) (first now : Moment) : Type 0 where
+pub record StopsBehind (job : VerifierJob) (start : ℕ) (outcome : VerifierOutcome) (first now : LinkSnapshot) : Type 0 where
   pub place : VerifierPlace
   pub behind : StartsAt start place
   pub stopped : IsStopped job place outcome first now
@@ -248,63 +275,94 @@ pub record IsUsable (line : LineState) : Type 0 where
   pub side : line.side ≡ Verifier
   pub open_still : line.is_open ≡ true
 
--- What stands in a grant's place, if anything does, behind what is logged: a refusal of this code, or nothing of it where it
--- was not sent.
-pub record IsRefused (code : ℕ) (old now : Moment) : Type 0 where
-  pub log : (now.log ≡ old.log ++ bytes_from Verifier (refuse_frame code)) ⊎ (now.log ≡ old.log)
-  pub told : (first : Moment) → old.told ≡ appended old.log first.told → TellsLog first now
+-- ---- refusals
+
+-- a refusal of this code is logged, and the link tells it
+pub record IsRefusalSent (code : ℕ) (old now : LinkSnapshot) : Type 0 where
+  pub log : now.log ≡ old.log ++ bytes_from Verifier (refuse_frame code)
+  pub told : now.told ≡ appended (bytes_from Verifier (refuse_frame code)) old.told
+  pub faults : now.faults ≡ old.faults
+
+-- its send was refused: it is not logged, and the link tells a first part of it, maybe none or all
+pub record IsRefusalUnsent (code : ℕ) (old now : LinkSnapshot) : Type 0 where
+  pub log : now.log ≡ old.log
+  pub told : AppendsPart (bytes_from Verifier (refuse_frame code)) old.told now.told
+
+-- A refusal of this code was sent once, in a grant's place: it is logged, unless that send was refused. Whether it was changes
+-- nothing but the count of failed calls.
+pub record IsRefused (code : ℕ) (old now : LinkSnapshot) : Type 0 where
+  pub sent : IsRefusalSent code old now ⊎ IsRefusalUnsent code old now
+  pub sends : now.sends ≡ counted true old.sends
   pub ended : now.ended ≡ old.ended
   pub to_come : now.to_come ≡ old.to_come
   pub receives : now.receives ≡ old.receives
   pub later : old.faults ≤ now.faults
 
--- what the verifier sends in place of a grant: 1 for a hello that differs, 2 where units are wanting, 3 for a fault of the
--- journal; after any other end nothing passes
-abbrev pub RefusesBy : VerifierOutcome → Moment → Moment → Type 0
-RefusesBy Accepted old now = now ≡ old
-RefusesBy (RejectedSum section left right) old now = now ≡ old
-RefusesBy (RejectedOpening output left right) old now = now ≡ old
-RefusesBy (PeerEnded at) old now = now ≡ old
-RefusesBy (BadFrame at) old now = now ≡ old
-RefusesBy (BadHello differs) old now = IsRefused 1 old now
-RefusesBy (Exhausted at count total) old now = IsRefused 2 old now
-RefusesBy Device old now = IsRefused 3 old now
-RefusesBy (Broken at) old now = IsRefused 3 old now
-RefusesBy Link old now = now ≡ old
-RefusesBy NoMemory old now = now ≡ old
+-- these bytes are a whole hello
+abbrev pub IsWholeHello : List ℕ → Type 0
+IsWholeHello rest = (hello : Hello) × IsHello hello × (rest ≡ hello_frame hello)
+
+-- What the verifier sends where a session stopped at the hello, behind these bytes of it: refusal 1 where it differs; refusal 4
+-- where it came whole and memory was missing then; else nothing.
+abbrev pub RefusesHello : List ℕ → VerifierOutcome → LinkSnapshot → LinkSnapshot → Type 0
+RefusesHello rest (BadHello differs) old now = IsRefused 1 old now
+RefusesHello rest NoMemory old now =
+    (IsWholeHello rest × IsRefused 4 old now) ⊎ (IsCutShort expect.Hello rest × (now ≡ old))
+RefusesHello rest outcome old now = now ≡ old
 
 -- a session in which the verifier waits, or has judged: all that passed is logged, and nothing failed
-pub record IsWaiting (job : VerifierJob) (place : VerifierPlace) (first now : Moment) : Type 0 where
+pub record IsWaiting (job : VerifierJob) (place : VerifierPlace) (first now : LinkSnapshot) : Type 0 where
   pub log : IsLogAt job place now.log
-  pub told : now.told ≡ appended now.log first.told
+  pub sent : IsSent (answers_before job place) first now
   pub receives : now.receives ≤ first.receives + length (sent_by Prover now.log)
   pub faults : now.faults ≡ first.faults
 
--- the hello did not come, or is not the wanted one; units were not asked for
-pub record IsUnmet (job : VerifierJob) (outcome : VerifierOutcome) (first now : Moment) : Type 0 where
-  pub mid : Moment
+-- ---- what came of it
+
+-- the hello did not come, or was not met; units were not asked for
+pub record IsUnmet (job : VerifierJob) (outcome : VerifierOutcome) (first now : LinkSnapshot) : Type 0 where
+  pub mid : LinkSnapshot
   pub stopped : IsStopped job awaits_hello outcome first mid
-  pub refused : RefusesBy outcome mid now
+  pub refused : RefusesHello stopped.rest outcome mid now
+
+-- behind the wanted hello a refusal of this code was sent, in the grant's place
+pub record IsRefusedGrant (job : VerifierJob) (code : ℕ) (first now : LinkSnapshot) : Type 0 where
+  pub mid : LinkSnapshot
+  pub waiting : IsWaiting job owes_grant first mid
+  pub refused : IsRefused code mid now
 
 -- the units that were asked for were refused
-pub record IsUnleased (job : VerifierJob) (fault : LeaseFault) (outcome : VerifierOutcome) (first now : Moment) : Type 0 where
+pub record IsUnleased (job : VerifierJob) (fault : LeaseFault) (outcome : VerifierOutcome) (first now : LinkSnapshot) : Type 0 where
   pub named : outcome ≡ lease_outcome fault
-  pub mid : Moment
-  pub waiting : IsWaiting job owes_grant first mid
-  pub refused : RefusesBy outcome mid now
+  pub refused : IsRefusedGrant job (lease_code fault) first now
 
--- these units were leased: the grant was not sent, or the session stopped behind it, or it was judged
-pub record IsGranted (job : VerifierJob) (span : Span) (outcome : VerifierOutcome) (first now : Moment) : Type 0 where
+-- behind the wanted hello, the one send of the grant from this unit on was refused, and nothing followed
+pub record IsGrantUnsent (job : VerifierJob) (start : ℕ) (outcome : VerifierOutcome) (first now : LinkSnapshot) : Type 0 where
+  pub fault : IsFault outcome
+  pub log : IsLogAt job owes_grant now.log
+  pub unsent : IsUnsent 0 (grant_frame (granted_from job start)) first now
+  pub cause : outcome ≡ Link → Rose first.faults now.faults
+  pub receives : now.receives ≤ first.receives + length (sent_by Prover now.log)
+  pub count : CountsOutcome outcome first now
+
+-- the grant from this unit on was not sent: memory was missing for it, and it was refused; or its one send was refused
+abbrev pub LacksTheGrant : VerifierJob → ℕ → VerifierOutcome → LinkSnapshot → LinkSnapshot → Type 0
+LacksTheGrant job start outcome first now =
+    ((outcome ≡ NoMemory) × IsRefusedGrant job 4 first now) ⊎ IsGrantUnsent job start outcome first now
+
+-- These units were leased: their grant was not sent; or the session stopped behind it; or it was judged.
+pub record IsGranted (job : VerifierJob) (span : Span) (outcome : VerifierOutcome) (first now : LinkSnapshot) : Type 0 where
   pub units : span.end ≡ span.start + units_of_job job
   pub within : span.end ≤ job.task.file.params.total
   pub course :
-      IsStopped job owes_grant outcome first now
+      LacksTheGrant job span.start outcome first now
       ⊎ StopsBehind job span.start outcome first now
       ⊎ ((judgement : Judgement) × (outcome ≡ judgement_outcome judgement)
       × IsWaiting job (has_judged span.start judgement) first now)
 
 -- what came of a session, by what the one who leases units answered, if it was asked
-abbrev pub IsCourse : VerifierJob → Option (Result Span LeaseFault) → Option Span → VerifierOutcome → Moment → Moment → Type 0
+abbrev pub IsCourse :
+    VerifierJob → Option (Result Span LeaseFault) → Option Span → VerifierOutcome → LinkSnapshot → LinkSnapshot → Type 0
 IsCourse job None granted outcome first now = (granted ≡ None) × IsUnmet job outcome first now
 IsCourse job (Some (Err fault)) granted outcome first now = (granted ≡ None) × IsUnleased job fault outcome first now
 IsCourse job (Some (Ok span)) granted outcome first now = (granted ≡ Some span) × IsGranted job span outcome first now

@@ -1,20 +1,24 @@
 // The turns of a verifier's session over a line.
-ghost use Rattle.std.specs.Prelude.{◌≡◌, ◌≤◌, ◌+◌, map, flat_map, All, IfOk, IfErr, OnOk, IsTrue};
-ghost use Rattle.zk_model.specs.Frames.{frame_spelling};
+ghost use Rattle.std.specs.Prelude.{◌≡◌, ◌≤◌, ◌+◌, [], ◌∷◌, map, All, IfOk, IfErr, OnOk, IsTrue};
+ghost use Rattle.zk_model.specs.Transcript.{refuse_frame};
 ghost use Rattle.session_core.specs.Jobs.{units_of_job};
 ghost use Rattle.proof_frames.specs.Frames.{said, IsShort};
-ghost use Rattle.frame_link.specs.Lines.{LineState, Sends, SendFails};
-ghost use Rattle.session_core.specs.Cores.{owes_grant, behind_grant, awaits_corrections, has_judged};
-ghost use Rattle.session_verifier.specs.Stages.{IsHeldJob, IsLineAt, IsStopped, IsRefused, IsUsable, StopsBehind, Follows, Expects, asks_due, moment_of};
+ghost use Rattle.frame_link.specs.Lines.{LineState, snapshot_of};
+ghost use Rattle.session_core.specs.Cores.{awaits_hello, owes_grant, behind_grant, awaits_corrections, has_judged};
+ghost use Rattle.session_verifier.specs.Outcomes.{hello_code};
+ghost use Rattle.session_verifier.specs.Stages.{IsHeldJob, IsLineAt, IsStopped, IsRefused, IsUnmet, IsUsable, LacksTheGrant, StopsBehind, SendsAnswer, AnswerFails, Follows, Expects, asks_due};
 
 use crate::note::VerifierOutcome;
 use frame_link::{Line, LineFault};
 use lease_store::Span;
-use proof_frames::Frame;
-use session_core::{Judgement, VerifierCore};
+use proof_frames::{Expect, Frame};
+use session_core::{Judgement, VerifierCore, VerifierFault};
 use session_laws::replies_are_in_range;
 use std::alloc::Global;
 use zk_port::Link;
+
+/// How many bytes a refusal has.
+const REFUSAL: usize = 6;
 
 /// Sends an answer, if it has frames.
 fn send_answer<L: Link>(
@@ -24,14 +28,73 @@ fn send_answer<L: Link>(
 ) -> Result<(), LineFault>
     requires open { IsTrue line.old.is_open }
     requires short { All IsShort (map said answer.now) }
-    ensures sends { OnOk result (Sends (flat_map frame_spelling (map said answer.now)) line.old line.new) }
-    ensures fails { IfErr result (λ fault.
-        SendFails (flat_map frame_spelling (map said answer.now)) fault line.old line.new) }
+    ensures sends { OnOk result (SendsAnswer (map said answer.now) line.old line.new) }
+    ensures fails { IfErr result (λ fault. AnswerFails (map said answer.now) fault line.old line.new) }
 {
     if answer.is_empty() {
         return Ok(());
     }
     line.send_frames(alloc, answer)
+}
+
+/// The frame of a refusal.
+fn refusal(code: u8) -> [u8; 6]
+    ensures { result ≡ refuse_frame code }
+{
+    [10, 1, 0, 0, 0, code]
+}
+
+/// Sends a refusal in a grant's place, for which there is room; whether that fails changes nothing.
+pub(crate) fn refuse<L: Link>(alloc: Global, line: &mut Line<L>, code: u8)
+    requires usable { IsUsable line.old }
+    requires room { 6 ≤ line.old.room }
+    ensures refused { IsRefused code (snapshot_of line.old) (snapshot_of line.new) }
+    ensures usable { IsUsable line.new }
+{
+    let _ = line.send_prepared(alloc, &refusal(code));
+}
+
+/// The code of the refusal for a hello that is not met.
+fn code_for_hello(fault: &VerifierFault) -> u8
+    ensures { result ≡ hello_code fault.now }
+{
+    match fault {
+        VerifierFault::BadHello(_) => 1,
+        VerifierFault::NoMemory => 4,
+    }
+}
+
+/// Keeps room for a refusal, and takes the hello; one that is not met is refused.
+pub(crate) fn meet<L: Link>(
+    alloc: Global,
+    core: &mut VerifierCore<'_>,
+    line: &mut Line<L>,
+) -> Result<(), VerifierOutcome>
+    requires job { IsHeldJob core.old.job }
+    requires begins { core.old.place ≡ awaits_hello }
+    requires at { (first : LineState) × IsLineAt core.old.job awaits_hello first line.old }
+    ensures met { OnOk result (core.new.place ≡ owes_grant) }
+    ensures goes_on { OnOk result ((first : LineState) → IsLineAt core.old.job awaits_hello first line.old
+        → IsLineAt core.old.job owes_grant first line.new) }
+    ensures room { OnOk result (6 ≤ line.new.room) }
+    ensures unmet { IfErr result (λ outcome. (first : LineState)
+        → IsLineAt core.old.job awaits_hello first line.old
+        → IsUnmet core.old.job outcome (snapshot_of first) (snapshot_of line.new)) }
+    ensures usable { IsUsable line.new }
+    ensures job { core.new.job ≡ core.old.job }
+{
+    let Ok(()) = line.reserve(REFUSAL) else {
+        return Err(VerifierOutcome::NoMemory);
+    };
+    let hello = line.take(alloc, Expect::Hello)?;
+    replies_are_in_range();
+    match core.step(alloc, hello) {
+        Ok(_) => Ok(()),
+        Err(fault) => {
+            refuse(alloc, line, code_for_hello(&fault));
+            Err(VerifierOutcome::from(fault))
+        }
+    }
 }
 
 /// Takes the frame that the verifier expects, and sends what it answers.
@@ -48,12 +111,12 @@ pub(crate) fn advance<L: Link>(
         → IsLineAt core.old.job core.new.place first line.new) }
     ensures stops { IfErr result (λ outcome. (first : LineState)
         → IsLineAt core.old.job core.old.place first line.old
-        → IsStopped core.old.job core.old.place outcome (moment_of first) (moment_of line.new)) }
+        → IsStopped core.old.job core.old.place outcome (snapshot_of first) (snapshot_of line.new)) }
     ensures usable { IsUsable line.new }
     ensures job { core.new.job ≡ core.old.job }
 {
     let Some(place) = core.expects() else {
-        return Err(VerifierOutcome::NoMemory);
+        unreachable!();
     };
     let frame = line.take(alloc, place)?;
     replies_are_in_range();
@@ -62,7 +125,7 @@ pub(crate) fn advance<L: Link>(
     Ok(())
 }
 
-/// Sends the grant, where it is due.
+/// Sends the grant, where it is due; where there is no memory for it, a refusal goes out in its place.
 pub(crate) fn give_grant<L: Link>(
     alloc: Global,
     core: &mut VerifierCore<'_>,
@@ -72,27 +135,23 @@ pub(crate) fn give_grant<L: Link>(
     requires due { core.old.place ≡ owes_grant }
     requires units { span.end ≡ span.start + units_of_job core.old.job }
     requires within { span.end ≤ core.old.job.task.file.params.total }
+    requires room { 6 ≤ line.old.room }
     requires at { (first : LineState) × IsLineAt core.old.job owes_grant first line.old }
     ensures core { core.new ≡ record core.old { place = behind_grant core.old.job span.start } }
     ensures goes_on { OnOk result ((first : LineState) → IsLineAt core.old.job owes_grant first line.old
         → IsLineAt core.old.job (behind_grant core.old.job span.start) first line.new) }
-    ensures stops { IfErr result (λ outcome. (first : LineState)
+    ensures fails { IfErr result (λ outcome. (first : LineState)
         → IsLineAt core.old.job owes_grant first line.old
-        → IsStopped core.old.job owes_grant outcome (moment_of first) (moment_of line.new)) }
+        → LacksTheGrant core.old.job span.start outcome (snapshot_of first) (snapshot_of line.new)) }
     ensures usable { IsUsable line.new }
 {
     let grant = core.grant(alloc, span);
-    line.send(alloc, &grant)?;
+    let Ok(bytes) = line.prepare(alloc, &grant) else {
+        refuse(alloc, line, 4);
+        return Err(VerifierOutcome::NoMemory);
+    };
+    line.send_prepared(alloc, &bytes)?;
     Ok(())
-}
-
-/// Sends a refusal in a grant's place; whether that fails changes nothing.
-pub(crate) fn refuse<L: Link>(alloc: Global, line: &mut Line<L>, code: u8)
-    requires usable { IsUsable line.old }
-    ensures refused { IsRefused code (moment_of line.old) (moment_of line.new) }
-    ensures usable { IsUsable line.new }
-{
-    let _ = line.send(alloc, &Frame::Refuse { code });
 }
 
 /// Takes the asks for all units of the grant, a frame for each, which are so many in kind extended and none in kind direct; the
@@ -113,7 +172,7 @@ pub(crate) fn take_asks<L: Link>(
         → IsLineAt core.old.job (awaits_corrections _start) first line.new) }
     ensures stops { IfErr result (λ outcome. (first : LineState)
         → IsLineAt core.old.job core.old.place first line.old
-        → StopsBehind core.old.job _start outcome (moment_of first) (moment_of line.new)) }
+        → StopsBehind core.old.job _start outcome (snapshot_of first) (snapshot_of line.new)) }
     ensures usable { IsUsable line.new }
     ensures job { core.new.job ≡ core.old.job }
 {
@@ -138,7 +197,7 @@ pub(crate) fn judge<L: Link>(
         → IsLineAt core.old.job (has_judged _start judgement) first line.new) }
     ensures stops { IfErr result (λ outcome. (first : LineState)
         → IsLineAt core.old.job core.old.place first line.old
-        → StopsBehind core.old.job _start outcome (moment_of first) (moment_of line.new)) }
+        → StopsBehind core.old.job _start outcome (snapshot_of first) (snapshot_of line.new)) }
     ensures usable { IsUsable line.new }
 {
     advance(alloc, core, line)?;
@@ -146,6 +205,6 @@ pub(crate) fn judge<L: Link>(
     advance(alloc, core, line)?;
     match core.judgement() {
         Some(judgement) => Ok(judgement),
-        None => Err(VerifierOutcome::NoMemory),
+        None => unreachable!(),
     }
 }

@@ -4,10 +4,12 @@
 
 mod course;
 mod grantor;
+mod laws;
 mod note;
 mod serve;
 mod verify;
 
 pub use grantor::Grantor;
+pub use laws::{shown_is_accepted, shown_is_found, shown_solves};
 pub use note::{SessionNote, VerifierOutcome};
 pub use verify::verify_session;

@@ -5,7 +5,7 @@ ghost use Rattle.session_verifier.specs.Outcomes.{lease_outcome, line_outcome, s
 use frame_link::{LineFault, Log};
 use lease_store::{LeaseFault, Span};
 use mersenne_field::Fe;
-use session_core::{HelloDiffers, Judgement, SessionFault};
+use session_core::{HelloDiffers, Judgement, VerifierFault};
 
 /// How a session ended for the verifier.
 #[derive(Clone, Copy, Debug, PartialEq, Eq)]
@@ -30,7 +30,7 @@ pub enum VerifierOutcome {
     Broken { first: u64 },
     /// A call of the link failed.
     Link,
-    /// Memory was wanting.
+    /// Memory was missing.
     NoMemory,
 }
 
@@ -61,15 +61,13 @@ impl From<LineFault> for VerifierOutcome {
     }
 }
 
-impl From<SessionFault> for VerifierOutcome {
+impl From<VerifierFault> for VerifierOutcome {
     ghost from_gives = { λ fault o. o ≡ session_outcome fault };
 
-    fn from(fault: SessionFault) -> Self {
+    fn from(fault: VerifierFault) -> Self {
         match fault {
-            SessionFault::BadHello(differs) => VerifierOutcome::BadHello(differs),
-            SessionFault::BadGrant | SessionFault::PeerRefused { .. } | SessionFault::NoMemory => {
-                VerifierOutcome::NoMemory
-            }
+            VerifierFault::BadHello(differs) => VerifierOutcome::BadHello(differs),
+            VerifierFault::NoMemory => VerifierOutcome::NoMemory,
         }
     }
 }

@@ -1,16 +1,17 @@
 // A verifier's session over a line.
 ghost use Rattle.std.specs.Prelude.{◌≡◌, ◌+◌, ◌≤◌, None, Some, IfSome, IfOk, IfErr};
-ghost use Rattle.frame_link.specs.Lines.{LineState};
+ghost use Rattle.frame_link.specs.Lines.{LineState, snapshot_of};
 ghost use Rattle.session_core.specs.Jobs.{units_of_job};
 ghost use Rattle.session_core.specs.Cores.{awaits_hello, owes_grant, behind_grant, awaits_corrections, has_judged};
-ghost use Rattle.session_verifier.specs.Stages.{asks_due, IsHeldJob, IsLineAt, IsStopped, IsUsable, IsCourse, IsGranted, IsUnleased, RefusesBy, StopsBehind, moment_of};
+ghost use Rattle.session_verifier.specs.Outcomes.{lease_code};
+ghost use Rattle.session_verifier.specs.Stages.{asks_due, IsHeldJob, IsLineAt, IsUsable, IsCourse, IsGranted, StopsBehind};
 
-use crate::course::{advance, give_grant, judge, refuse, take_asks};
+use crate::course::{give_grant, judge, meet, refuse, take_asks};
 use crate::grantor::Grantor;
 use crate::note::VerifierOutcome;
 use dealer_files::Kind;
 use frame_link::Line;
-use lease_store::Span;
+use lease_store::{LeaseFault, Span};
 use session_core::{Judgement, VerifierCore, VerifierJob};
 use std::alloc::Global;
 use zk_port::{Gate, Link, Phase};
@@ -22,17 +23,13 @@ pub(crate) struct Course {
     pub(crate) outcome: VerifierOutcome,
 }
 
-/// Sends the refusal that an outcome has, if it has one.
-fn turn_away<L: Link>(alloc: Global, line: &mut Line<L>, outcome: &VerifierOutcome)
-    requires usable { IsUsable line.old }
-    ensures refuses { RefusesBy outcome.now (moment_of line.old) (moment_of line.new) }
-    ensures usable { IsUsable line.new }
+/// The code of the refusal for units that are not leased.
+fn code_for_lease(fault: &LeaseFault) -> u8
+    ensures { result ≡ lease_code fault.now }
 {
-    match outcome {
-        VerifierOutcome::BadHello(_) => refuse(alloc, line, 1),
-        VerifierOutcome::Exhausted { .. } => refuse(alloc, line, 2),
-        VerifierOutcome::Device | VerifierOutcome::Broken { .. } => refuse(alloc, line, 3),
-        _ => {}
+    match fault {
+        LeaseFault::Exhausted { .. } => 2,
+        LeaseFault::Device | LeaseFault::Broken { .. } => 3,
     }
 }
 
@@ -63,7 +60,7 @@ fn serve_turns<L: Link>(
         → IsLineAt core.old.job (has_judged start judgement) first line.new) }
     ensures stops { IfErr result (λ outcome. (first : LineState)
         → IsLineAt core.old.job core.old.place first line.old
-        → StopsBehind core.old.job start outcome (moment_of first) (moment_of line.new)) }
+        → StopsBehind core.old.job start outcome (snapshot_of first) (snapshot_of line.new)) }
     ensures usable { IsUsable line.new }
 {
     take_asks(alloc, core, line, asks, start)?;
@@ -83,9 +80,10 @@ fn serve_granted<L: Link>(
     requires due { core.old.place ≡ owes_grant }
     requires units { span.end ≡ span.start + units_of_job core.old.job }
     requires within { span.end ≤ core.old.job.task.file.params.total }
+    requires room { 6 ≤ line.old.room }
     requires at { (first : LineState) × IsLineAt core.old.job owes_grant first line.old }
     ensures granted { (first : LineState) → IsLineAt core.old.job owes_grant first line.old
-        → IsGranted core.old.job span result (moment_of first) (moment_of line.new) }
+        → IsGranted core.old.job span result (snapshot_of first) (snapshot_of line.new) }
     ensures usable { IsUsable line.new }
 {
     if let Err(outcome) = give_grant(alloc, core, line, span) {
@@ -112,14 +110,13 @@ pub(crate) fn serve<L: Link, R: Grantor, G: Gate>(
     ensures asked { IfSome (R.answer grantor.new) (λ _. R.asked grantor.new ≡ Some (units_of_job job.now)) }
     ensures course { (first : LineState) → IsLineAt job.now awaits_hello first line.old
         → IsCourse job.now (R.answer grantor.new) result.granted result.outcome
-        (moment_of first) (moment_of line.new) }
+        (snapshot_of first) (snapshot_of line.new) }
     ensures usable { IsUsable line.new }
 {
     let _total = job.file().total();
     let asks = asks_due(job);
     let mut core = VerifierCore::new(&*job);
-    if let Err(outcome) = advance(alloc, &mut core, line) {
-        turn_away(alloc, line, &outcome);
+    if let Err(outcome) = meet(alloc, &mut core, line) {
         return Course {
             granted: None,
             outcome,
@@ -127,11 +124,10 @@ pub(crate) fn serve<L: Link, R: Grantor, G: Gate>(
     }
     match grantor.grant(job.units()) {
         Err(fault) => {
-            let outcome = VerifierOutcome::from(fault);
-            turn_away(alloc, line, &outcome);
+            refuse(alloc, line, code_for_lease(&fault));
             Course {
                 granted: None,
-                outcome,
+                outcome: VerifierOutcome::from(fault),
             }
         }
         Ok(span) => {

@@ -1,9 +1,10 @@
 // A verifier's session over a link.
-ghost use Rattle.std.specs.Prelude.{◌≡◌, ◌≤◌, None, Some, [], IfSome, IsTrue};
+ghost use Rattle.std.specs.Prelude.{◌≡◌, ◌≤◌, None, Some, [], false, IfSome, IsTrue};
 ghost use Rattle.zk_model.specs.declared.Side.TheVariants.{Verifier};
+ghost use Rattle.frame_link.specs.Lines.{snapshot};
 ghost use Rattle.session_core.specs.Jobs.{units_of_job};
-ghost use Rattle.session_verifier.specs.Stages.{IsCourse, moment_at};
-ghost use Rattle.session_verifier.specs.Notes.{granted_by, JudgesRightly, AcceptsExactly, IsShown, SendsRightly, KeepsKeys, EndsBecause, IsTold, ReceivesFew, Completes};
+ghost use Rattle.session_verifier.specs.Stages.{IsCourse};
+ghost use Rattle.session_verifier.specs.Notes.{granted_by, JudgesRightly, AcceptsExactly, IsShown, SendsRightly, KeepsKeys, EndsBecause, LeasesBehindHello, IsTold, CountsFaults, ReceivesFew, Completes};
 ghost use Rattle.session_verifier.specs.declared.note.VerifierOutcome.TheVariants.{Accepted};
 
 use crate::grantor::Grantor;
@@ -29,16 +30,14 @@ fn lead<L: Link, R: Grantor, G: Gate>(
     link: L,
     gate: &G,
 ) -> SessionNote<L>
-    requires open { IsTrue (L.is_open link) }
-    requires side { L.side link ≡ Verifier }
+    requires open { IsTrue (L.state link).is_open }
     requires once { R.answer grantor.old ≡ None }
     requires total { R.total grantor.old ≤ job.now.task.file.params.total }
     ensures same { R.total grantor.new ≡ R.total grantor.old }
     ensures asked { IfSome (R.answer grantor.new) (λ _. R.asked grantor.new ≡ Some (units_of_job job.now)) }
     ensures course { IsCourse job.now (R.answer grantor.new) result.granted result.outcome
-        (moment_at [] (L.log link) (L.to_come link) (L.ended link) (L.receives link) (L.faults link))
-        (moment_at result.log (L.log result.link) (L.to_come result.link)
-        (L.ended result.link) (L.receives result.link) (L.faults result.link)) }
+        (snapshot Verifier [] (L.state link)) (snapshot Verifier result.log (L.state result.link)) }
+    ensures ended { (L.state result.link).is_open ≡ false }
 {
     let mut line = Line::new(alloc, link, Side::Verifier);
     let course = serve(alloc, job, grantor, gate, &mut line);
@@ -54,8 +53,9 @@ fn lead<L: Link, R: Grantor, G: Gate>(
 /// Leads a session with a peer that may send anything: meets its hello, leases the units that the session takes, grants them,
 /// replies in kind extended to the asks for all of them, challenges, and judges (Weng, Yang, Katz and Wang, Wolverine, IEEE S&P
 /// 2021; Yang, Sarkar, Weng and Wang, QuickSilver, ACM CCS 2021). The gate is told when units are leased and when such a session
-/// has ended. Each receive asks for no more bytes than the frame under way still wants; `end` is the last call of the link. A
-/// refusal is sent for a hello that differs and for units that are not leased; whether that send fails changes nothing.
+/// has ended. Each receive asks for no more bytes than the frame under way still wants; each answer is sent by one send, and `end`
+/// is the last call of the link. A refusal is sent in the grant's place for a hello that differs, for units that are not leased,
+/// and where memory is missing for the grant; its own room is kept first, and whether its send fails changes nothing.
 pub fn verify_session<L: Link, R: Grantor, G: Gate>(
     alloc: Global,
     job: &VerifierJob<'_>,
@@ -63,8 +63,7 @@ pub fn verify_session<L: Link, R: Grantor, G: Gate>(
     link: L,
     gate: &G,
 ) -> SessionNote<L>
-    requires open { IsTrue (L.is_open link) }
-    requires side { L.side link ≡ Verifier }
+    requires open { IsTrue (L.state link).is_open }
     requires once { R.answer grantor.old ≡ None }
     requires total { R.total grantor.old ≤ job.now.task.file.params.total }
     ensures same { R.total grantor.new ≡ R.total grantor.old }
@@ -76,22 +75,17 @@ pub fn verify_session<L: Link, R: Grantor, G: Gate>(
     ensures sends { SendsRightly job.now result.granted result.outcome result.log }
     ensures related { KeepsKeys job.now result.log }
     ensures cause { EndsBecause job.now (R.answer grantor.new) result.outcome
-        (moment_at [] (L.log link) (L.to_come link) (L.ended link) (L.receives link) (L.faults link))
-        (moment_at result.log (L.log result.link) (L.to_come result.link)
-        (L.ended result.link) (L.receives result.link) (L.faults result.link)) }
-    ensures told { IsTold result.outcome
-        (moment_at [] (L.log link) (L.to_come link) (L.ended link) (L.receives link) (L.faults link))
-        (moment_at result.log (L.log result.link) (L.to_come result.link)
-        (L.ended result.link) (L.receives result.link) (L.faults result.link)) }
+        (snapshot Verifier [] (L.state link)) (snapshot Verifier result.log (L.state result.link)) }
+    ensures leased { LeasesBehindHello job.now (R.answer grantor.new) result.log }
+    ensures told { IsTold job.now result.granted result.outcome
+        (snapshot Verifier [] (L.state link)) (snapshot Verifier result.log (L.state result.link)) }
     ensures receives { ReceivesFew
-        (moment_at [] (L.log link) (L.to_come link) (L.ended link) (L.receives link) (L.faults link))
-        (moment_at result.log (L.log result.link) (L.to_come result.link)
-        (L.ended result.link) (L.receives result.link) (L.faults result.link)) }
+        (snapshot Verifier [] (L.state link)) (snapshot Verifier result.log (L.state result.link)) }
     ensures complete { Completes job.now (R.answer grantor.new) result.outcome
-        (moment_at [] (L.log link) (L.to_come link) (L.ended link) (L.receives link) (L.faults link))
-        (moment_at result.log (L.log result.link) (L.to_come result.link)
-        (L.ended result.link) (L.receives result.link) (L.faults result.link)) }
-    ensures faults { L.faults link ≤ L.faults result.link }
+        (snapshot Verifier [] (L.state link)) (snapshot Verifier result.log (L.state result.link)) }
+    ensures faults { CountsFaults result.outcome
+        (snapshot Verifier [] (L.state link)) (snapshot Verifier result.log (L.state result.link)) }
+    ensures ended { (L.state result.link).is_open ≡ false }
 {
     none_begins_another();
     honest_turn();

@@ -1,5 +1,5 @@
 use Rattle.std.proofs.Common.{ap, ◌∙◌}
-use Rattle.session_pool.proofs.Leased.{is_lease_of, fresh_moment}
+use Rattle.session_pool.proofs.Leased.{is_lease_of}
 use Rattle.session_pool.proofs.serving.serve_link.Goals as goal
 
 pub returns : goal.returns
@@ -10,15 +10,18 @@ returns g c = record {
       (c.verify_session.ensures.same ∙ c.new-first.ensures.total ∙ c.total.ensures.total ∙ ap (λ f. f.params.total) c.file.ensures.file)
       c.verify_session.ensures.asked;
   granted_is = c.verify_session.ensures.granted;
+  behind_hello = c.verify_session.ensures.leased;
   verdict = c.verify_session.ensures.verdict;
   accepted = c.verify_session.ensures.accepted;
   shown = c.verify_session.ensures.shown;
   sends = c.verify_session.ensures.sends;
   related = c.verify_session.ensures.related;
   first = _;
-  fresh = fresh_moment _ _ _ _ _ _ c.requires.fresh;
+  fresh = c.requires.fresh;
   cause = c.verify_session.ensures.cause;
   told = c.verify_session.ensures.told;
+  faults = c.verify_session.ensures.faults;
   receives = c.verify_session.ensures.receives;
   complete = c.verify_session.ensures.complete;
+  ended = c.verify_session.ensures.ended;
 }

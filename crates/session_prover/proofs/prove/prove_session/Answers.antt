@@ -1,106 +1,100 @@
-use Rattle.std.proofs.Common.{ℕ, List, Option, length, ap, sym, subst, arith, ◌^◌, ◌≤◌, ◌∙◌}
+use Rattle.std.proofs.Common.{ℕ, List, length, ap, sym, subst, ◌^◌, ◌≤◌, ◌∙◌, ◌≡◌, ◌+◌, []}
 use Rattle.zk_model.specs.Transcript.{sent_by}
 use Rattle.zk_model.specs.declared.Side.{Side}
-use Rattle.zk_model.specs.declared.Side.TheVariants.{Verifier}
-use Rattle.frame_link.specs.Lines.{LineState}
+use Rattle.zk_model.specs.declared.Side.TheVariants.{Prover, Verifier}
+use Rattle.zk_port.specs.Logs.{put_before}
+use Rattle.frame_link.specs.Lines.{LinkSnapshot, snapshot, snapshot_of}
 use Rattle.session_prover.specs.Stages.{Course}
-use Rattle.session_prover.specs.Notes.{Told, IsOutcome, SendsHonestly, SendsOnceClaimed, IsRelated, IsLogged}
+use Rattle.session_prover.specs.Notes.{IsOutcome, AnswersGrantPlace, AnswersVerdict, SendsHonestly, SendsOnceClaimed, SendsEach, IsRelated, IsLogged, CountsOutcome, Ends, told_by}
+use Rattle.session_prover.specs.Turns.{IsSound}
 use Rattle.zk_model.specs.Files.{IsProverFile}
 use Rattle.zk_model.specs.Program.{Program}
 use Rattle.zk_model.specs.Statement.{Statement, IsStatement}
 use Rattle.session_prover.proofs.Judging.{ends_with}
 use Rattle.session_prover.proofs.Completed.{completes}
+use Rattle.session_prover.proofs.prove.prove_session.Given.{Over}
 use Rattle.session_prover.proofs.prove.prove_session.Goals as goal
+
+-- where the session began, and what became of its claim
+abbrev course_of : (g : Over) (c : goal.After-end-link g) → Course
+course_of g c = record { first = c.new-line.result; claim = record { asked = g.C.Claimant.asked c.hold-held.new.claimant; answer = g.C.Claimant.answer c.hold-held.new.claimant } }
+
+-- how it ended
+ends_of : (g : Over) (c : goal.After-end-link g) → Ends c.args.job.now (course_of g c) c.outcome_of-outcome.result c.hold-held.new.line
+ends_of g c =
+    ends_with c.args.job.now (course_of g c) c.hold-held.result c.outcome_of-outcome.result c.hold-held.new.line c.hold-held.ensures.accepted c.hold-held.ensures.ends
+    c.outcome_of-outcome.ensures.accepted c.outcome_of-outcome.ensures.other
+
+-- the moments before and after it
+first_is : (g : Over) (c : goal.After-end-link g) → snapshot_of c.new-line.result ≡ snapshot Prover [] (g.L.Link.state c.args.link)
+first_is g c = ap snapshot_of c.new-line.ensures
+
+now_is : (g : Over) (c : goal.After-end-link g) → snapshot_of c.hold-held.new.line ≡ snapshot Prover c.end-link.result.1 (g.L.Link.state c.end-link.result.0)
+now_is g c = sym (ap (λ side. snapshot side c.end-link.result.1 (g.L.Link.state c.end-link.result.0)) (sym (ends_of g c).side) ∙ c.end-link.ensures.passed)
+
+log_is : (g : Over) (c : goal.After-end-link g) → c.hold-held.new.line.log ≡ c.end-link.result.1
+log_is g c = ap (λ (s : LinkSnapshot). s.log) (now_is g c)
 
 pub returns-clause-outcome : goal.returns-clause-outcome
 returns-clause-outcome g c =
-    let course : Course = record { first = c.new-line.result; claim = record { asked = g.C.Claimant.asked c.hold-held.new.claimant; answer = g.C.Claimant.answer c.hold-held.new.claimant } } in
     let result = c.outcome_of-outcome.result in
-    let ends = ends_with c.args.job.now course c.hold-held.result result c.hold-held.new.line c.hold-held.ensures.accepted c.hold-held.ensures.ends
-    c.outcome_of-outcome.ensures.accepted c.outcome_of-outcome.ensures.other in
-    let told = c.end-link.ensures in
-    subst (λ (q : List (Side × ℕ) × Told). IsOutcome c.args.job.now course.claim q.0 q.1 result)
-    (λ i. (
-      sym told.log i,
-      record {
-        ended = sym told.ended i;
-        to_come = sym told.to_come i;
-        before = ap (λ (s : LineState). s.faults) c.new-line.ensures i;
-        after = sym told.faults i;
-      },
-    )) ends.outcome_is
+    subst (λ (q : LinkSnapshot × LinkSnapshot). IsOutcome c.args.job.now (course_of g c).claim q.1.log (told_by q.0 q.1) result) (λ i. (first_is g c i, now_is g c i)) (ends_of g c).outcome_is
+
+pub returns-clause-answers : goal.returns-clause-answers
+returns-clause-answers g c =
+    subst (AnswersGrantPlace c.args.job.now (course_of g c).claim c.outcome_of-outcome.result) (log_is g c) (ends_of g c).answers
+
+pub returns-clause-verdict : goal.returns-clause-verdict
+returns-clause-verdict g c =
+    subst (AnswersVerdict c.args.job.now c.outcome_of-outcome.result) (log_is g c) (ends_of g c).verdict
 
 pub returns-clause-honest : goal.returns-clause-honest
 returns-clause-honest g c =
-    let course : Course = record { first = c.new-line.result; claim = record { asked = g.C.Claimant.asked c.hold-held.new.claimant; answer = g.C.Claimant.answer c.hold-held.new.claimant } } in
     let result = c.outcome_of-outcome.result in
-    let ends = ends_with c.args.job.now course c.hold-held.result result c.hold-held.new.line c.hold-held.ensures.accepted c.hold-held.ensures.ends
-    c.outcome_of-outcome.ensures.accepted c.outcome_of-outcome.ensures.other in
-    subst (λ (l : List (Side × ℕ)). SendsHonestly c.args.job.now l result) (sym c.end-link.ensures.log) ends.honest
+    subst (λ (l : List (Side × ℕ)). SendsHonestly c.args.job.now l result) (log_is g c) (ends_of g c).honest
 
 pub returns-clause-claimed : goal.returns-clause-claimed
 returns-clause-claimed g c =
-    let course : Course = record { first = c.new-line.result; claim = record { asked = g.C.Claimant.asked c.hold-held.new.claimant; answer = g.C.Claimant.answer c.hold-held.new.claimant } } in
-    let result = c.outcome_of-outcome.result in
-    let ends = ends_with c.args.job.now course c.hold-held.result result c.hold-held.new.line c.hold-held.ensures.accepted c.hold-held.ensures.ends
-    c.outcome_of-outcome.ensures.accepted c.outcome_of-outcome.ensures.other in
-    subst (λ (l : List (Side × ℕ)). SendsOnceClaimed c.args.job.now course.claim l) (sym c.end-link.ensures.log) ends.claimed
+    subst (λ (l : List (Side × ℕ)). SendsOnceClaimed c.args.job.now (course_of g c).claim l) (log_is g c) (ends_of g c).claimed
 
 pub returns-clause-related : goal.returns-clause-related
 returns-clause-related g c =
-    let course : Course = record { first = c.new-line.result; claim = record { asked = g.C.Claimant.asked c.hold-held.new.claimant; answer = g.C.Claimant.answer c.hold-held.new.claimant } } in
-    let result = c.outcome_of-outcome.result in
-    let ends = ends_with c.args.job.now course c.hold-held.result result c.hold-held.new.line c.hold-held.ensures.accepted c.hold-held.ensures.ends
-    c.outcome_of-outcome.ensures.accepted c.outcome_of-outcome.ensures.other in
-    subst (λ (l : List (Side × ℕ)). IsRelated c.args.job.now l) (sym c.end-link.ensures.log) ends.related
+    subst (λ (l : List (Side × ℕ)). IsRelated c.args.job.now l) (log_is g c) (ends_of g c).related
 
 pub returns-clause-logged : goal.returns-clause-logged
 returns-clause-logged g c =
-    let course : Course = record { first = c.new-line.result; claim = record { asked = g.C.Claimant.asked c.hold-held.new.claimant; answer = g.C.Claimant.answer c.hold-held.new.claimant } } in
     let result = c.outcome_of-outcome.result in
-    let ends = ends_with c.args.job.now course c.hold-held.result result c.hold-held.new.line c.hold-held.ensures.accepted c.hold-held.ensures.ends
-    c.outcome_of-outcome.ensures.accepted c.outcome_of-outcome.ensures.other in
-    let told = c.end-link.ensures in
-    subst (λ (q : List (Side × ℕ) × Option (List (Side × ℕ)) × Option (List (Side × ℕ))). IsLogged c.args.job.now course.claim result q.0 q.1 q.2)
-    (λ i. (sym told.log i, ap (λ (s : LineState). s.told) c.new-line.ensures i, sym told.told i)) ends.logged
+    subst (λ (q : LinkSnapshot × LinkSnapshot). IsLogged c.args.job.now (course_of g c).claim result q.1.log q.0.told q.1.told) (λ i. (first_is g c i, now_is g c i)) (ends_of g c).logged
+
+pub returns-clause-came : goal.returns-clause-came
+returns-clause-came g c =
+    subst (λ (q : LinkSnapshot × LinkSnapshot). q.0.to_come ≡ put_before (sent_by Verifier q.1.log) q.1.to_come) (λ i. (first_is g c i, now_is g c i)) (ends_of g c).came
+
+pub returns-clause-sends : goal.returns-clause-sends
+returns-clause-sends g c =
+    let result = c.outcome_of-outcome.result in
+    subst (λ (q : LinkSnapshot × LinkSnapshot). SendsEach result q.1.log q.0.sends q.1.sends) (λ i. (first_is g c i, now_is g c i)) (ends_of g c).sends
 
 pub returns-clause-receives : goal.returns-clause-receives
 returns-clause-receives g c =
-    let course : Course = record { first = c.new-line.result; claim = record { asked = g.C.Claimant.asked c.hold-held.new.claimant; answer = g.C.Claimant.answer c.hold-held.new.claimant } } in
+    subst (λ (q : LinkSnapshot × LinkSnapshot). q.1.receives ≤ q.0.receives + length (sent_by Verifier q.1.log) + 1) (λ i. (first_is g c i, now_is g c i)) (ends_of g c).receives
+
+pub returns-clause-faults : goal.returns-clause-faults
+returns-clause-faults g c =
     let result = c.outcome_of-outcome.result in
-    let ends = ends_with c.args.job.now course c.hold-held.result result c.hold-held.new.line c.hold-held.ensures.accepted c.hold-held.ensures.ends
-    c.outcome_of-outcome.ensures.accepted c.outcome_of-outcome.ensures.other in
-    let told = c.end-link.ensures in
-    let few = ends.receives in
-    let after = told.receives in
-    let before = ap (λ (s : LineState). s.receives) c.new-line.ensures in
-    let heard = ap (λ (l : List (Side × ℕ)). length (sent_by Verifier l)) told.log in
-    omega (arith, few, after, before, heard)
+    subst (λ (q : LinkSnapshot × LinkSnapshot). CountsOutcome result q.0.faults q.1.faults) (λ i. (first_is g c i, now_is g c i)) (ends_of g c).count
 
 pub returns-clause-complete : goal.returns-clause-complete
 returns-clause-complete g c =
-    let course : Course = record { first = c.new-line.result; claim = record { asked = g.C.Claimant.asked c.hold-held.new.claimant; answer = g.C.Claimant.answer c.hold-held.new.claimant } } in
     let result = c.outcome_of-outcome.result in
-    let ends = ends_with c.args.job.now course c.hold-held.result result c.hold-held.new.line c.hold-held.ensures.accepted c.hold-held.ensures.ends
-    c.outcome_of-outcome.ensures.accepted c.outcome_of-outcome.ensures.other in
-    let told = c.end-link.ensures in
-    completes c.args.job.now course.claim c.hold-held.new.granted c.end-link.result.1 _ result c.honest_verdict.ensures
-    (record {
+    let sound : IsSound c.args.job.now = record {
       is = c.file.ensures.job;
       file = subst IsProverFile c.file.ensures.file c.total-total.ensures.file;
       stated = subst IsStatement c.statement.ensures.statement c.program.ensures.stated;
       givens = subst (λ (p : Program). p.givens ≤ 2 ^ 20) (c.program.ensures.program ∙ ap (λ (s : Statement). s.program) c.statement.ensures.statement) c.opened-opened.ensures.held.givens;
       products = subst (λ (p : Program). length p.products ≤ 2 ^ 20) (c.program.ensures.program ∙ ap (λ (s : Statement). s.program) c.statement.ensures.statement) c.opened-opened.ensures.held.products;
       opened = subst (λ (p : Program). length p.opened ≤ 2 ^ 20) (c.program.ensures.program ∙ ap (λ (s : Statement). s.program) c.statement.ensures.statement) c.opened-opened.ensures.held.opened;
-    })
+    } in
+    completes c.args.job.now (course_of g c).claim c.hold-held.new.granted c.end-link.result.1 _ result c.honest_verdict.ensures sound
     c.hold-held.ensures.granted
-    (subst (λ (q : List (Side × ℕ) × Told). IsOutcome c.args.job.now course.claim q.0 q.1 result)
-    (λ i. (
-      sym told.log i,
-      record {
-        ended = sym told.ended i;
-        to_come = sym told.to_come i;
-        before = ap (λ (s : LineState). s.faults) c.new-line.ensures i;
-        after = sym told.faults i;
-      },
-    )) ends.outcome_is)
+    (subst (λ (q : LinkSnapshot × LinkSnapshot). IsOutcome c.args.job.now (course_of g c).claim q.1.log (told_by q.0 q.1) result) (λ i. (first_is g c i, now_is g c i)) (ends_of g c).outcome_is)

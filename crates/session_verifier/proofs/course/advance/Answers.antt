@@ -1,7 +1,6 @@
-use Rattle.std.proofs.Common.{sym, ◌∙◌, subst, map, flat_map}
+use Rattle.std.proofs.Common.{sym, ◌∙◌, subst, map}
 use Rattle.std.specs.Prelude.{All}
-use Rattle.zk_model.specs.Frames.{frame_spelling}
-use Rattle.frame_link.specs.Lines.{Sends}
+use Rattle.session_verifier.specs.Stages.{SendsAnswer, AnswerFails}
 use Rattle.proof_frames.specs.Frames.{said, IsShort}
 use Rattle.frame_link.proofs.LineLemmas.{fails_at}
 use Rattle.session_verifier.specs.Outcomes.{line_outcome, session_outcome}
@@ -39,8 +38,9 @@ returns-in_err-send_answer-clause-stops g c =
     let place = c.args.core.now.place in
     let expects = sym c.expects.ensures.place ∙ c.in-Some.is in
     fails_at _ c.from_residual-in_err-send_answer.result (line_outcome c.in_err-send_answer.field-0.0) c.from_residual-in_err-send_answer.ensures.1
-    (λ first at. stops_unsent job place c.in-Some.place (said c.in_ok-frame.frame) _ c.in_err-send_answer.field-0.0 first c.args.line.now c.take.new.self c.send_answer.new.line expects at
-    c.in_ok-frame.ensures.arrives c.in_err-send_answer.ensures.fails)
+    (λ first at. stops_unsent job place c.step.new.self.place c.in-Some.place (said c.in_ok-frame.frame) _ c.in_err-send_answer.field-0.0 first c.args.line.now c.take.new.self c.send_answer.new.line expects at
+    c.in_ok-frame.ensures.arrives c.in_ok-answer.ensures.answered
+    (subst (λ l. AnswerFails (map said l) c.in_err-send_answer.field-0.0 c.take.new.self c.send_answer.new.line) c.deref.ensures.value c.in_err-send_answer.ensures.fails))
 
 pub returns-clause-goes_on : goal.returns-clause-goes_on
 returns-clause-goes_on g c first at =
@@ -49,7 +49,7 @@ returns-clause-goes_on g c first at =
     let expects = sym c.expects.ensures.place ∙ c.in-Some.is in
     goes_on job place c.step.new.self.place c.in-Some.place (said c.in_ok-frame.frame) _ first c.args.line.now c.take.new.self c.send_answer.new.line c.replies_are_in_range.ensures c.requires.job expects c.in-Some.ensures.short at
     c.in_ok-frame.ensures.arrives c.in_ok-answer.ensures.answered
-    (subst (λ l. Sends (flat_map frame_spelling (map said l)) c.take.new.self c.send_answer.new.line) c.deref.ensures.value c.in_ok-send_answer.ensures.sends)
+    (subst (λ l. SendsAnswer (map said l) c.take.new.self c.send_answer.new.line) c.deref.ensures.value c.in_ok-send_answer.ensures.sends)
 
 pub returns-clause-follows : goal.returns-clause-follows
 returns-clause-follows g c = follows_of c.args.core.now.job c.args.core.now.place c.step.new.self.place (said c.in_ok-frame.frame) _ c.in_ok-answer.ensures.answered

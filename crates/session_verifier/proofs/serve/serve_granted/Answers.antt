@@ -1,6 +1,7 @@
 use Rattle.std.proofs.Common.{sym, subst, inl, inr}
 use Rattle.session_core.specs.Cores.{VerifierState, has_judged}
-use Rattle.session_verifier.specs.Stages.{IsLineAt, StopsBehind, moment_of}
+use Rattle.frame_link.specs.Lines.{snapshot_of}
+use Rattle.session_verifier.specs.Stages.{IsLineAt, StopsBehind}
 use Rattle.session_verifier.proofs.StageLemmas.{waiting_of}
 use Rattle.session_verifier.proofs.serve.serve_granted.Goals as goal
 
@@ -23,6 +24,6 @@ returns-in-Err-serve_turns-clause-granted g c first at =
     record {
       units = c.requires.units;
       within = c.requires.within;
-      course = inr (inl (subst (λ (s : VerifierState). StopsBehind s.job c.args.span.start c.in-Err-serve_turns.outcome (moment_of first) (moment_of line))
+      course = inr (inl (subst (λ (s : VerifierState). StopsBehind s.job c.args.span.start c.in-Err-serve_turns.outcome (snapshot_of first) (snapshot_of line))
           c.give_grant.ensures.core (c.in-Err-serve_turns.ensures.stops first there)));
     }
