@@ -1,5 +1,7 @@
 //! Runs of the program over the examples: each line of standard input is a command line, its words apart by single
 //! spaces, and behind the lines of each run comes the status that it ends with. The seed is 32 bytes 7.
+//!
+//! `stdin` has the command lines and `stdout` what they must print, both by `vectors/example_runs.py`; `data` has the circuits.
 #![tactic(auto)]
 
 use port_os::{FileShelf, OutputSink};

@@ -1,4 +1,7 @@
 //! Tests of the parts that stand below sessions, against values that the program did not make.
+//!
+//! `row_tests` has worked values of the field, checks, circuits and frames, `outside_tests` the objects in memory, `dealing_tests` dealt files
+//! and journals against bytes that `vectors/dealt_files.py` computes, which `vectors` has.
 #![tactic(auto)]
 
 #[cfg(test)]

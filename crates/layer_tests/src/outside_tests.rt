@@ -2,7 +2,6 @@
 use std::alloc::Global;
 use std::collections::BTreeMap;
 use std::test::Fail;
-use zk_model::Side;
 use zk_port::{
     Door, FailAt, Link, LoadFault, MemoryDoor, MemoryShelf, MemorySink, NoFault, PortFault,
     ScriptedLink, Shelf, Sink,
@@ -12,8 +11,8 @@ use zk_port::{
 fn links_come_in_order_and_give_their_bytes_in_order(rt: HostRuntime) -> Result<(), Fail> {
     let alloc: Global = rt.alloc();
     let mut door = MemoryDoor::new(alloc, NoFault);
-    let first = ScriptedLink::new(alloc, Side::Verifier, b"abcde".to_vec(alloc)?, NoFault);
-    let second = ScriptedLink::new(alloc, Side::Verifier, Vec::new(alloc), NoFault);
+    let first = ScriptedLink::new(alloc, b"abcde".to_vec(alloc)?, NoFault);
+    let second = ScriptedLink::new(alloc, Vec::new(alloc), NoFault);
     door.wait(first)?;
     door.wait(second)?;
     assert!(rt; door.listen(alloc, "", 2).is_ok());

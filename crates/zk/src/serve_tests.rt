@@ -79,7 +79,7 @@ fn served<R: Threads + Wait>(
     let words = words_of(alloc, &all)?;
     let mut door = MemoryDoor::new(alloc, fail_at(alloc, door_fails)?);
     if let Some(Peer { script, fails }) = peer {
-        let link = ScriptedLink::new(alloc, Side::Verifier, script, FailAt::new(fails));
+        let link = ScriptedLink::new(alloc, script, FailAt::new(fails));
         door.wait(link)?;
     }
     let mut shelf = MemoryShelf::new(files, fail_at(alloc, &[3])?);

@@ -6,7 +6,8 @@ use Rattle.bristol_reader.specs.Laws.{OneCircuit}
 use Rattle.bool_eval.specs.Answers.{IsCause}
 use Rattle.bool_eval.specs.declared.EvalFault.{EvalFault}
 use Rattle.bool_eval.specs.declared.EvalFault.TheVariants.{WrongLength, NoMemory}
-use Rattle.zk_cli.specs.Changes.{ShelfChange, SinkChange}
+use Rattle.zk_cli.specs.Changes.{ShelfChange, SinkChange, OnlyLoads}
+use Rattle.zk_cli.specs.Commands.{Evaluates}
 use Rattle.zk_cli.specs.CircuitFiles.{IsCircuitFile}
 use Rattle.zk_cli.specs.EvalRuns.{EvalStop, EvalLines, outputs_line}
 use Rattle.zk_cli.specs.Outcomes.{IsEvalStatus, WritesOutputs, IsRefused, IsReady, IsDone, HasFailed}
@@ -97,11 +98,11 @@ eval_means ask status shelf sink (inl says) = from_prints says.prints
 
 -- ---- what each status says
 
-pub record EvalStatusesMean (ask : EvalAsk) (status : ℕ) (shelf : ShelfChange) (sink : SinkChange) : Type 0 where
-  pub statuses : IsEvalStatus status
-  pub on_0 : status ≡ 0 → WritesOutputs shelf.old.told ask sink
-  pub on_3 : status ≡ 3 → IsRefused shelf.old.told ask.circuit ask.bits
-  pub on_4 : status ≡ 4 → HasFailed ask.circuit shelf sink
+record EvalStatusesMean (ask : EvalAsk) (status : ℕ) (shelf : ShelfChange) (sink : SinkChange) : Type 0 where
+  statuses : IsEvalStatus status
+  on_0 : status ≡ 0 → WritesOutputs shelf.old.told ask sink
+  on_3 : status ≡ 3 → IsRefused shelf.old.told ask.circuit ask.bits
+  on_4 : status ≡ 4 → HasFailed ask.circuit shelf sink
 
 each_eval_means : (ask : EvalAsk) (status : ℕ) (shelf : ShelfChange) (sink : SinkChange) → EvalMeans ask status shelf sink
     → EvalStatusesMean ask status shelf sink
@@ -130,7 +131,7 @@ each_eval_means ask status shelf sink (inr (inr (inr at))) = record {
   on_4 = λ e. absurd (omega (arith, at, e));
 }
 
-pub eval_statuses_mean : (ask : EvalAsk) (status : ℕ) (shelf : ShelfChange) (sink : SinkChange)
+eval_statuses_mean : (ask : EvalAsk) (status : ℕ) (shelf : ShelfChange) (sink : SinkChange)
     → EvalLines ask status shelf sink → EvalStatusesMean ask status shelf sink
 eval_statuses_mean ask status shelf sink says = each_eval_means ask status shelf sink (eval_means ask status shelf sink says)
 
@@ -145,8 +146,21 @@ eval_completed one ask status shelf sink circuit ready calm (inr (inl m)) =
 eval_completed one ask status shelf sink circuit ready calm (inr (inr (inl m))) = absurd (calm m.1)
 eval_completed one ask status shelf sink circuit ready calm (inr (inr (inr m))) = inr m
 
-pub eval_done : OneCircuit → (ask : EvalAsk) (status : ℕ) (shelf : ShelfChange) (sink : SinkChange) (circuit : Circuit)
+eval_done : OneCircuit → (ask : EvalAsk) (status : ℕ) (shelf : ShelfChange) (sink : SinkChange) (circuit : Circuit)
     → EvalLines ask status shelf sink → IsReady shelf.old.told ask.circuit ask.bits circuit
     → ¬ HasFailed ask.circuit shelf sink → IsDone status
 eval_done one ask status shelf sink circuit says ready calm =
     eval_completed one ask status shelf sink circuit ready calm (eval_means ask status shelf sink says)
+
+pub evaluates : OneCircuit → (ask : EvalAsk) (status : ℕ) (shelf : ShelfChange) (sink : SinkChange)
+    → EvalLines ask status shelf sink → OnlyLoads ask.circuit shelf → Evaluates ask status shelf sink
+evaluates one ask status shelf sink says kept =
+    let means = eval_statuses_mean ask status shelf sink says in record {
+      lines = says;
+      kept = kept;
+      statuses = means.statuses;
+      on_0 = means.on_0;
+      on_3 = means.on_3;
+      on_4 = means.on_4;
+      done = λ circuit ready calm. eval_done one ask status shelf sink circuit says ready calm;
+    }

@@ -1,6 +1,7 @@
 pub mod Answering
 pub mod DealOutcomes
 pub mod EvalOutcomes
+pub mod Lacking
 pub mod Outcomes
 pub mod Refusals
 pub mod Stopping

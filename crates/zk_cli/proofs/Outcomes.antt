@@ -2,7 +2,8 @@
 use Rattle.std.proofs.Common.{◌≡◌, ◌⊎◌, ◌<◌, ◌≤◌, ℕ, List, Option, refl, ap, sym, ◌∙◌, subst, inl, inr, arith}
 use Rattle.zk_model.specs.Circuit.{Circuit}
 use Rattle.zk_port.specs.Files.{Files}
-use Rattle.zk_cli.specs.Changes.{ShelfChange, SinkChange}
+use Rattle.zk_cli.specs.Changes.{ShelfChange, SinkChange, OnlyLoads}
+use Rattle.zk_cli.specs.Commands.{Rehearses}
 use Rattle.zk_cli.specs.CircuitFiles.{IsCircuitFile}
 use Rattle.zk_cli.specs.Made.{IfRehearsed, Effects}
 use Rattle.zk_cli.specs.Outcomes.{Accepts, IsRefused, TakesTooMany, IsReady, AnswersFor, HasFailed, IsRehearseStatus}
@@ -26,7 +27,7 @@ use Rattle.bristol_reader.specs.Laws.{OneCircuit}
 
 -- ---- what is handed back
 
-pub has_outputs : {L : Type 0} (part : Part L) (told : Option Files) (ask : RehearseAsk) (seed : List ℕ)
+has_outputs : {L : Type 0} (part : Part L) (told : Option Files) (ask : RehearseAsk) (seed : List ℕ)
     → IfRehearsed part (IsRehearsed told ask seed) → IfRehearsed part (HasOutputs told ask)
 has_outputs (Rehearsed r) told ask seed is = record {
   circuit = is.circuit;
@@ -37,7 +38,7 @@ has_outputs (Rehearsed r) told ask seed is = record {
 has_outputs Plain told ask seed is = tt
 has_outputs (Served links) told ask seed is = tt
 
-pub has_numbers : {L : Type 0} (part : Part L) (told : Option Files) (ask : RehearseAsk) (seed : List ℕ)
+has_numbers : {L : Type 0} (part : Part L) (told : Option Files) (ask : RehearseAsk) (seed : List ℕ)
     → IfRehearsed part (IsRehearsed told ask seed) → IfRehearsed part (HasNumbers told ask)
 has_numbers (Rehearsed r) told ask seed is = record {
   circuit = is.circuit;
@@ -140,12 +141,12 @@ run_means {L} (Served links) ask seed status shelf sink made says = absurd says
 
 -- ---- what each status says
 
-pub record StatusesMean {L : Type 0} (ask : RehearseAsk) (run : Effects L) : Type 0 where
-  pub statuses : IsRehearseStatus run.status
-  pub on_0 : run.status ≡ 0 → Accepts run.part run.sink
-  pub on_3 : run.status ≡ 3 → IsRefused run.shelf.old.told ask.circuit ask.bits
-  pub on_4 : run.status ≡ 4 → HasFailed ask.circuit run.shelf run.sink
-  pub on_9 : run.status ≡ 9 → TakesTooMany run.shelf.old.told ask
+record StatusesMean {L : Type 0} (ask : RehearseAsk) (run : Effects L) : Type 0 where
+  statuses : IsRehearseStatus run.status
+  on_0 : run.status ≡ 0 → Accepts run.part run.sink
+  on_3 : run.status ≡ 3 → IsRefused run.shelf.old.told ask.circuit ask.bits
+  on_4 : run.status ≡ 4 → HasFailed ask.circuit run.shelf run.sink
+  on_9 : run.status ≡ 9 → TakesTooMany run.shelf.old.told ask
 
 each_means : {L : Type 0} (ask : RehearseAsk) (run : Effects L) → RunMeans ask run → StatusesMean ask run
 each_means ask run (inl m) = let at = m.0 in record {
@@ -184,7 +185,7 @@ each_means ask run (inr (inr (inr (inr m)))) = let at = m.0 in record {
   on_9 = λ e. m.1;
 }
 
-pub statuses_mean : {L : Type 0} (ask : RehearseAsk) (seed : List ℕ) (run : Effects L)
+statuses_mean : {L : Type 0} (ask : RehearseAsk) (seed : List ℕ) (run : Effects L)
     → IfRehearsed run.part (IsRehearsed run.shelf.old.told ask seed) → RehearseLines ask run → StatusesMean ask run
 statuses_mean ask seed run made says =
     each_means ask run (run_means run.part ask seed run.status run.shelf run.sink made says)
@@ -215,9 +216,27 @@ completed one ask seed run circuit made ready calm (inr (inr (inr (inr m)))) =
     let same = told_circuit one run.shelf.old.told ask.circuit circuit m.1.circuit ready.file m.1.file in
     inr (inl (m.0, subst (λ c. 4096 < rehearsal_units c ask.kind ask.section) same m.1.many))
 
-pub rehearse_done : {L : Type 0} → OneCircuit → (ask : RehearseAsk) (seed : List ℕ) (run : Effects L) (circuit : Circuit)
+rehearse_done : {L : Type 0} → OneCircuit → (ask : RehearseAsk) (seed : List ℕ) (run : Effects L) (circuit : Circuit)
     → IfRehearsed run.part (IsRehearsed run.shelf.old.told ask seed) → RehearseLines ask run
     → IsReady run.shelf.old.told ask.circuit ask.bits circuit → ¬ HasFailed ask.circuit run.shelf run.sink
     → AnswersFor (rehearsal_units circuit ask.kind ask.section) run.status
 rehearse_done one ask seed run circuit made says ready calm =
     completed one ask seed run circuit made ready calm (run_means run.part ask seed run.status run.shelf run.sink made says)
+
+pub rehearses : {L : Type 0} → OneCircuit → (ask : RehearseAsk) (seed : List ℕ) (run : Effects L)
+    → IfRehearsed run.part (IsRehearsed run.shelf.old.told ask seed) → RehearseLines ask run → OnlyLoads ask.circuit run.shelf
+    → Rehearses ask seed run
+rehearses one ask seed run made says kept =
+    let means = statuses_mean ask seed run made says in record {
+      outputs = has_outputs run.part run.shelf.old.told ask seed made;
+      numbers = has_numbers run.part run.shelf.old.told ask seed made;
+      log = made;
+      lines = says;
+      kept = kept;
+      statuses = means.statuses;
+      on_0 = means.on_0;
+      on_3 = means.on_3;
+      on_4 = means.on_4;
+      on_9 = means.on_9;
+      done = λ circuit ready calm. rehearse_done one ask seed run circuit made says ready calm;
+    }

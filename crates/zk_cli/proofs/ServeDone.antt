@@ -21,20 +21,21 @@ use Rattle.dealer_files.specs.declared.fault.FileFault.TheVariants as file
 use Rattle.lease_store.specs.declared.LeaseFault.{LeaseFault}
 use Rattle.session_core.specs.Jobs.{VerifierJob, units_of_job}
 use Rattle.session_pool.specs.FirstUnits.{first_units}
-use Rattle.session_pool.specs.Notes.{IsLeaseOf}
-use Rattle.session_verifier.specs.Stages.{Moment}
+use Rattle.session_pool.specs.Notes.{IsLeaseOf, IsNote, IsSessionOf}
+use Rattle.zk_port.specs.Links.{LinkState}
+use Rattle.zk_model.specs.declared.Side.{Side}
 use Rattle.session_verifier.specs.declared.note.SessionNote.{SessionNote}
 use Rattle.session_verifier.specs.declared.note.VerifierOutcome.{VerifierOutcome}
 use Rattle.session_verifier.specs.declared.note.VerifierOutcome.TheVariants.{Accepted, NoMemory}
 use Rattle.command_words.specs.Words.{ServeAsk}
 use Rattle.command_words.specs.declared.TheConstants.{FILE_LIMIT}
-use Rattle.zk_cli.specs.Changes.{ShelfChange, SinkChange}
+use Rattle.zk_cli.specs.Changes.{ShelfChange, SinkChange, DoorChange, OnlyLoadsBoth}
 use Rattle.zk_cli.specs.Made.{EachNote}
 use Rattle.zk_cli.specs.NoteLines.{has_status, outcome_status}
 use Rattle.zk_cli.specs.Outcomes.{IsReady, IsDone}
-use Rattle.zk_cli.specs.ServeRuns.{IsServeJob, ClaimStop, FileStop, OpeningStop, ServeStop, SaysServed, DoorChange}
-use Rattle.zk_cli.specs.ServeStatuses.{IsServable, HasRoom, HasServeFailed, IsWithHonestPeer, NotesMean, PartMeans}
-use Rattle.zk_cli.specs.ServedNotes.{IsServedNote}
+use Rattle.zk_cli.specs.ServeRuns.{IsServeJob, ClaimStop, FileStop, OpeningStop, ServeStop, LeadsSessions, SaysServed, ServeEffects, ServeLines}
+use Rattle.zk_cli.specs.ServeStatuses.{IsServable, HasRoom, HasServeFailed, IsWithHonestPeer, NotesMean, PartMeans, Serves}
+use Rattle.zk_cli.proofs.ServeOutcomes.{serve_means}
 use Rattle.zk_cli.specs.Stops.{stop_status}
 use Rattle.zk_cli.specs.StopsOf.{load_stop, file_stop}
 use Rattle.zk_cli.specs.declared.finish.Part.{Part}
@@ -111,20 +112,20 @@ file_7 ask shelf stop ready calm (inr why) =
 
 stop_7 : OneCircuit → (ask : ServeAsk) (shelf : ShelfChange) (sink : SinkChange) (door : DoorChange) (stop : Stop) → (ready : IsServable shelf.old.told ask)
     → ¬ HasServeFailed ask shelf sink door → ServeStop ask shelf door stop → stop_status stop ≡ 7
-stop_7 one ask shelf sink door stop ready calm (inl why) = claim_7 one ask shelf stop ready (λ rose. calm (inl rose)) why
-stop_7 one ask shelf sink door stop ready calm (inr (inl why)) = file_7 ask shelf stop ready (λ rose. calm (inr (inl rose))) why.cause
-stop_7 one ask shelf sink door stop ready calm (inr (inr why)) = of_cause why.cause
+stop_7 one ask shelf sink door stop ready calm (inl (inl why, unasked)) = claim_7 one ask shelf stop ready (λ rose. calm (inl rose)) why
+stop_7 one ask shelf sink door stop ready calm (inl (inr why, unasked)) = file_7 ask shelf stop ready (λ rose. calm (inr (inl rose))) why.cause
+stop_7 one ask shelf sink door stop ready calm (inr why) = of_cause why.cause
   where
     few : units_of_job why.job ≤ 4096
     few = (job_room one shelf.old.told ask why.circuit why.job ready why.served).0
 
-    of_cause : OpeningStop why.job door.old.faults door.new.faults stop → stop_status stop ≡ 7
-    of_cause (inl large) =
+    of_cause : OpeningStop why.job ask.address door stop → stop_status stop ≡ 7
+    of_cause (inl (large, unasked)) =
         let many : 4096 < large.found.units = large.large.many in
         let units = large.large.units in
         absurd (omega (arith, many, units, few))
-    of_cause (inr (inl unheard)) = absurd (calm (inr (inr (inl unheard.failed))))
-    of_cause (inr (inr is)) = ap stop_status is
+    of_cause (inr (inl unheard)) = absurd (calm (inr (inr (inl (inl unheard.failed)))))
+    of_cause (inr (inr lacks)) = ap stop_status lacks.stops
 
 -- ---- sessions with honest peers
 
@@ -138,69 +139,86 @@ leased_whole count total fault fits same = by_test (nat_le count total) refl sam
     by_test true is e = cc
     by_test false is e = grind (arith, nat_tests, fits, is)
 
-note_done : OneCircuit → (told : Option Files) (ask : ServeAsk) (granted : Option Span) (outcome : VerifierOutcome) (now : Moment)
-    → IsServable told ask → IsServedNote told ask granted outcome now → IsWithHonestPeer told ask outcome now
+note_done : OneCircuit → (told : Option Files) (ask : ServeAsk) (circuit : Circuit) (job : VerifierJob) → IsServeJob told ask circuit job
+    → (granted : Option Span) (outcome : VerifierOutcome) (log : List (Side × ℕ)) (link : LinkState)
+    → IsServable told ask → IsSessionOf job granted outcome log link → IsWithHonestPeer told ask outcome log link
     → (outcome ≡ Accepted) ⊎ (outcome ≡ NoMemory)
-note_done one told ask granted outcome now ready is honest =
-    let peer = honest.honest is.circuit is.job is.served in
-    is.note.complete peer.0 peer.1 unrefused
-    (λ rose. honest.calm (subst (λ (n : ℕ). Rose n now.faults) is.note.fresh.unfailed rose))
+note_done one told ask circuit job served granted outcome log link ready is honest =
+    let peer = honest.honest circuit job served in
+    is.complete peer.0 peer.1 unrefused
+    (λ rose. honest.calm (subst (λ (n : ℕ). Rose n link.faults) is.fresh.unfailed rose))
   where
-    unrefused : (fault : LeaseFault) → ¬ (is.note.answer ≡ Some (Err fault))
-    unrefused fault same = of_lease is.note.leased
+    unrefused : (fault : LeaseFault) → ¬ (is.answer ≡ Some (Err fault))
+    unrefused fault same = of_lease is.leased
       where
-        of_lease : IsLeaseOf is.job is.note.answer → ⊥
+        of_lease : IsLeaseOf job is.answer → ⊥
         of_lease (inl none) = cc
-        of_lease (inr first) = leased_whole (units_of_job is.job) is.job.task.file.params.total fault
-            (job_room one told ask is.circuit is.job ready is.served).1 (cc)
+        of_lease (inr first) = leased_whole (units_of_job job) job.task.file.params.total fault
+            (job_room one told ask circuit job ready served).1 (cc)
 
 no_status : (status : ℕ) (outcome : VerifierOutcome) → (outcome ≡ Accepted) ⊎ (outcome ≡ NoMemory) → status ≢ 0 → status ≢ 7
     → (outcome_status outcome == status || false) ≡ true → ⊥
 no_status status outcome (inl is) some other same = grind (arith, nat_tests, is, some, other, same)
 no_status status outcome (inr is) some other same = grind (arith, nat_tests, is, some, other, same)
 
-no_status_in : {L : Type 0} (moment : SessionNote L → Moment) → OneCircuit → (told : Option Files) (ask : ServeAsk) (notes : List (SessionNote L))
-    (status : ℕ) → IsServable told ask → length notes ≤ 1
-    → All (λ note. IsServedNote told ask note.granted note.outcome (moment note)) notes
-    → All (λ note. IsWithHonestPeer told ask note.outcome (moment note)) notes → status ≢ 0 → status ≢ 7 → has_status notes status ≡ true → ⊥
-no_status_in moment one told ask [] status ready most each honest some other same = cc
-no_status_in moment one told ask (note ∷ []) status ready most each honest some other same =
+no_status_in : {L : Type 0} (link_tells : L → LinkState) → OneCircuit → (told : Option Files) (ask : ServeAsk) (circuit : Circuit) (job : VerifierJob)
+    → IsServeJob told ask circuit job → (notes : List (SessionNote L)) (status : ℕ) → IsServable told ask → length notes ≤ 1
+    → All (IsNote link_tells job) notes
+    → All (λ note. IsWithHonestPeer told ask note.outcome note.log (link_tells note.link)) notes
+    → status ≢ 0 → status ≢ 7 → has_status notes status ≡ true → ⊥
+no_status_in link_tells one told ask circuit job served [] status ready most each honest some other same = cc
+no_status_in link_tells one told ask circuit job served (note ∷ []) status ready most each honest some other same =
     no_status status note.outcome
-    (note_done one told ask note.granted note.outcome (moment note) ready (each 0 note (omega arith)) (honest 0 note (omega arith)))
+    (note_done one told ask circuit job served note.granted note.outcome note.log (link_tells note.link) ready
+    (each 0 note (omega arith)) (honest 0 note (omega arith)))
     some other same
-no_status_in moment one told ask (note ∷ next ∷ notes) status ready most each honest some other same = absurd (omega (arith, most))
+no_status_in link_tells one told ask circuit job served (note ∷ next ∷ notes) status ready most each honest some other same =
+    absurd (omega (arith, most))
 
 -- ---- the run
 
-notes_done : {L : Type 0} (moment : SessionNote L → Moment) → OneCircuit → (ask : ServeAsk) (notes : List (SessionNote L)) (status : ℕ)
-    (shelf : ShelfChange) (sink : SinkChange) (door : DoorChange) → IsServable shelf.old.told ask → length notes ≤ 1
-    → All (λ note. IsServedNote shelf.old.told ask note.granted note.outcome (moment note)) notes
-    → All (λ note. IsWithHonestPeer shelf.old.told ask note.outcome (moment note)) notes
+notes_done : {L : Type 0} (link_tells : L → LinkState) → OneCircuit → (ask : ServeAsk) (notes : List (SessionNote L)) (status : ℕ)
+    (shelf : ShelfChange) (sink : SinkChange) (door : DoorChange) (door_failed memory_failed : Bool) → IsServable shelf.old.told ask
+    → LeadsSessions link_tells ask notes door_failed memory_failed shelf.old.told door
+    → All (λ note. IsWithHonestPeer shelf.old.told ask note.outcome note.log (link_tells note.link)) notes
     → ¬ HasServeFailed ask shelf sink door → NotesMean notes status sink door → IsDone status
-notes_done moment one ask notes status shelf sink door ready most each honest calm (inl accepted) = inl accepted.0
-notes_done moment one ask notes status shelf sink door ready most each honest calm (inr (inl some)) =
-    absurd (no_status_in moment one shelf.old.told ask notes 1 ready most each honest (λ e. absurd (omega (arith, e))) (λ e. absurd (omega (arith, e))) some.1)
-notes_done moment one ask notes status shelf sink door ready most each honest calm (inr (inr (inl (at, inl rose)))) =
-    absurd (calm (inr (inr (inl rose))))
-notes_done moment one ask notes status shelf sink door ready most each honest calm (inr (inr (inl (at, inr (inl failed))))) =
-    absurd (calm (inr (inr (inr failed))))
-notes_done moment one ask notes status shelf sink door ready most each honest calm (inr (inr (inl (at, inr (inr some))))) =
-    absurd (no_status_in moment one shelf.old.told ask notes 4 ready most each honest (λ e. absurd (omega (arith, e))) (λ e. absurd (omega (arith, e))) some)
-notes_done moment one ask notes status shelf sink door ready most each honest calm (inr (inr (inr (inl some)))) =
-    absurd (no_status_in moment one shelf.old.told ask notes 6 ready most each honest (λ e. absurd (omega (arith, e))) (λ e. absurd (omega (arith, e))) some.1)
-notes_done moment one ask notes status shelf sink door ready most each honest calm (inr (inr (inr (inr seven)))) = inr seven
+notes_done link_tells one ask notes status shelf sink door door_failed memory_failed ready leads honest calm means = of_means means
+  where
+    none : (other : ℕ) → other ≢ 0 → other ≢ 7 → has_status notes other ≡ true → ⊥
+    none other some seven same = no_status_in link_tells one shelf.old.told ask leads.circuit leads.job leads.served notes other ready
+        leads.taken.most leads.each honest some seven same
 
-pub serve_is_done : {L : Type 0} (moment : SessionNote L → Moment) → OneCircuit → (ask : ServeAsk) (part : Part L) (status : ℕ)
+    of_means : NotesMean notes status sink door → IsDone status
+    of_means (inl accepted) = inl accepted.0
+    of_means (inr (inl some)) = absurd (none 1 (λ e. absurd (omega (arith, e))) (λ e. absurd (omega (arith, e))) some.1)
+    of_means (inr (inr (inl (at, inl failed)))) = absurd (calm (inr (inr (inl failed))))
+    of_means (inr (inr (inl (at, inr (inl failed))))) = absurd (calm (inr (inr (inr failed))))
+    of_means (inr (inr (inl (at, inr (inr some))))) =
+        absurd (none 4 (λ e. absurd (omega (arith, e))) (λ e. absurd (omega (arith, e))) some)
+    of_means (inr (inr (inr (inl some)))) = absurd (none 6 (λ e. absurd (omega (arith, e))) (λ e. absurd (omega (arith, e))) some.1)
+    of_means (inr (inr (inr (inr seven)))) = inr seven
+
+serve_is_done : {L : Type 0} (link_tells : L → LinkState) → OneCircuit → (ask : ServeAsk) (part : Part L) (status : ℕ)
     (shelf : ShelfChange) (sink : SinkChange) (door : DoorChange)
-    → EachNote part (λ note. IsServedNote shelf.old.told ask note.granted note.outcome (moment note))
-    → SaysServed part ask status shelf sink door → PartMeans part ask status shelf sink door
+    → SaysServed link_tells part ask status shelf sink door → PartMeans part ask status shelf sink door
     → IsServable shelf.old.told ask → ¬ HasServeFailed ask shelf sink door
-    → EachNote part (λ note. IsWithHonestPeer shelf.old.told ask note.outcome (moment note)) → IsDone status
-serve_is_done moment one ask (Served notes) status shelf sink door each says means ready calm honest =
-    notes_done moment one ask notes.items status shelf sink door ready says.taken.most each honest calm means
-serve_is_done moment one ask Plain status shelf sink door each says means ready calm honest =
+    → EachNote part (λ note. IsWithHonestPeer shelf.old.told ask note.outcome note.log (link_tells note.link)) → IsDone status
+serve_is_done link_tells one ask (Served notes) status shelf sink door says means ready calm honest =
+    notes_done link_tells one ask notes.items status shelf sink door says.door_failed says.memory_failed ready says.leads honest calm means
+serve_is_done link_tells one ask Plain status shelf sink door says means ready calm honest =
     elim means.answered [
       | inl e ↦ inr (e ∙ stop_7 one ask shelf sink door means.stop ready calm means.cause)
       | inr e ↦ inr e
     ]
-serve_is_done moment one ask (Rehearsed r) status shelf sink door each says means ready calm honest = absurd says
+serve_is_done link_tells one ask (Rehearsed r) status shelf sink door says means ready calm honest = absurd says
+
+pub serves : {L : Type 0} (link_tells : L → LinkState) → OneCircuit → (ask : ServeAsk) (run : ServeEffects L)
+    → ServeLines link_tells ask run → OnlyLoadsBoth ask.circuit ask.file run.shelf → Serves link_tells ask run
+serves link_tells one ask run lines kept =
+    let means = serve_means link_tells ask run.part run.status run.shelf run.sink run.door lines in record {
+      lines = lines;
+      means = means;
+      done = λ ready calm honest.
+          serve_is_done link_tells one ask run.part run.status run.shelf run.sink run.door lines means ready calm honest;
+      kept = kept;
+    }

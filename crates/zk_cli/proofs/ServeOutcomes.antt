@@ -2,31 +2,31 @@
 use Rattle.std.proofs.Common.{◌≡◌, ◌⊎◌, ◌≤◌, ℕ, Bool, true, false, List, [], ◌∷◌, All, length, Option, Some, Result, Ok, Err, refl, ap, ◌∙◌, inl, inr, arith, zero, suc}
 use Rattle.std.specs.Prelude.{◌==◌, ◌||◌, nat_le, if◌then◌else◌}
 use Rattle.zk_port.specs.Logs.{appended}
-use Rattle.session_pool.specs.Doors.{TakesOneAtMost, door_state}
+use Rattle.session_pool.specs.Doors.{TakesOneAtMost}
+use Rattle.zk_port.specs.Doors.{DoorState, after_listen}
+use Rattle.zk_port.specs.Links.{LinkState}
 use Rattle.session_verifier.specs.Notes.{EndsBecause}
-use Rattle.zk_port.specs.Files.{Files}
 use Rattle.zk_model.specs.declared.Span.{Span}
 use Rattle.lease_store.specs.declared.LeaseFault.{LeaseFault}
 use Rattle.lease_store.specs.declared.LeaseFault.TheVariants as lease
 use Rattle.session_core.specs.Jobs.{VerifierJob, units_of_job}
 use Rattle.session_pool.specs.FirstUnits.{first_units}
-use Rattle.session_pool.specs.Notes.{IsLeaseOf}
-use Rattle.session_verifier.specs.Stages.{Moment}
+use Rattle.session_pool.specs.Notes.{IsLeaseOf, IsNote}
+use Rattle.frame_link.specs.Lines.{LinkSnapshot, snapshot}
+use Rattle.zk_model.specs.declared.Side.TheVariants.{Verifier}
 use Rattle.session_verifier.specs.declared.note.SessionNote.{SessionNote}
 use Rattle.session_verifier.specs.declared.note.VerifierOutcome.{VerifierOutcome}
 use Rattle.session_verifier.specs.declared.note.VerifierOutcome.TheVariants.{Accepted, RejectedSum, RejectedOpening, PeerEnded, BadFrame, BadHello, Exhausted, Device, Broken, Link, NoMemory}
 use Rattle.command_words.specs.Words.{ServeAsk}
-use Rattle.zk_cli.specs.Changes.{ShelfChange, SinkChange}
-use Rattle.zk_cli.specs.Made.{EachNote}
+use Rattle.zk_cli.specs.Changes.{ShelfChange, SinkChange, DoorChange}
 use Rattle.zk_cli.specs.NoteLines.{has_status, served_status, served_text, outcome_status}
 use Rattle.zk_cli.specs.Prints.{Prints, after_sink_fault}
-use Rattle.zk_cli.specs.ServeRuns.{DoorChange, SaysServed}
+use Rattle.zk_cli.specs.ServeRuns.{SaysServed}
 use Rattle.zk_cli.specs.ServeStatuses.{NotesMean, PartMeans}
-use Rattle.zk_cli.specs.ServedNotes.{IsServedNote}
-use Rattle.zk_cli.specs.Stops.{stop_status, stop_line}
+use Rattle.zk_cli.specs.Stops.{PrintsMade, stop_status, stop_line}
 use Rattle.zk_cli.specs.declared.finish.Part.{Part}
 use Rattle.zk_cli.specs.declared.finish.Part.TheVariants.{Plain, Rehearsed, Served}
-use Rattle.zk_cli.proofs.Answering.{stop_answers, high_stop}
+use Rattle.zk_cli.proofs.Answering.{stop_answers, high_stop, memory_answers}
 
 true_is_false : true ≡ false → ⊥
 true_is_false same = cc
@@ -87,38 +87,39 @@ all_accepted (note ∷ other ∷ notes) most one four five six seven = absurd (o
 
 -- ---- what the status says
 
-mean_written : {L : Type 0} (notes : List (SessionNote L)) (door_failed memory_failed : Bool) (answer : ℕ) (sink : SinkChange) (door : DoorChange)
-    → TakesOneAtMost (length notes) door_failed memory_failed (door_state door.offered door.old.faults) door.new
+mean_written : {L : Type 0} (address : List ℕ) (notes : List (SessionNote L)) (door_failed memory_failed : Bool) (answer : ℕ) (sink : SinkChange) (door : DoorChange)
+    → TakesOneAtMost (length notes) door_failed memory_failed (after_listen address 1 door.old) door.new
     → has_status notes 5 ≡ false
     → ChainMeans door_failed (has_status notes 1) (has_status notes 4) (has_status notes 6) (has_status notes 7) (served_status notes door_failed memory_failed)
     → Prints (served_status notes door_failed memory_failed) (served_text notes door_failed) answer sink → NotesMean notes answer sink door
-mean_written notes door_failed memory_failed answer sink door taken no_five means (inr (inr short)) = inr (inr (inr (inr short.answered)))
-mean_written notes door_failed memory_failed answer sink door taken no_five (inl zero_is) (inl whole) =
+mean_written address notes door_failed memory_failed answer sink door taken no_five means (inr (inr short)) = inr (inr (inr (inr short.answered)))
+mean_written address notes door_failed memory_failed answer sink door taken no_five (inl zero_is) (inl whole) =
     inl (
       whole.answered ∙ zero_is.0,
       record {
         each = all_accepted notes taken.most zero_is.2 zero_is.3 no_five zero_is.4 zero_is.5;
         written = whole.written ∙ ap (λ failed. appended (served_text notes failed) sink.old.written) zero_is.1;
         sink_quiet = whole.quiet;
-        door_quiet = taken.calm zero_is.1;
+        listen_quiet = ap (λ (s : DoorState). s.listen_faults) taken.rest;
+        next_quiet = taken.calm zero_is.1;
       },
     )
-mean_written notes door_failed memory_failed answer sink door taken no_five (inr (inl one)) (inl whole) = inr (inl (whole.answered ∙ one.0, one.1))
-mean_written notes door_failed memory_failed answer sink door taken no_five (inr (inr (inl four))) (inl whole) =
-    inr (inr (inl (whole.answered ∙ four.0, elim four.1 [ inl failed ↦ inl (taken.failed failed) | inr link ↦ inr (inr link) ])))
-mean_written notes door_failed memory_failed answer sink door taken no_five (inr (inr (inr (inl six)))) (inl whole) =
+mean_written address notes door_failed memory_failed answer sink door taken no_five (inr (inl one)) (inl whole) = inr (inl (whole.answered ∙ one.0, one.1))
+mean_written address notes door_failed memory_failed answer sink door taken no_five (inr (inr (inl four))) (inl whole) =
+    inr (inr (inl (whole.answered ∙ four.0, elim four.1 [ inl failed ↦ inl (inr (taken.failed failed)) | inr link ↦ inr (inr link) ])))
+mean_written address notes door_failed memory_failed answer sink door taken no_five (inr (inr (inr (inl six)))) (inl whole) =
     inr (inr (inr (inl (whole.answered ∙ six.0, six.1))))
-mean_written notes door_failed memory_failed answer sink door taken no_five (inr (inr (inr (inr seven)))) (inl whole) =
+mean_written address notes door_failed memory_failed answer sink door taken no_five (inr (inr (inr (inr seven)))) (inl whole) =
     inr (inr (inr (inr (whole.answered ∙ seven))))
-mean_written notes door_failed memory_failed answer sink door taken no_five (inl zero_is) (inr (inl fault)) =
+mean_written address notes door_failed memory_failed answer sink door taken no_five (inl zero_is) (inr (inl fault)) =
     inr (inr (inl (fault.answered ∙ ap after_sink_fault zero_is.0, inr (inl fault.failed))))
-mean_written notes door_failed memory_failed answer sink door taken no_five (inr (inl one)) (inr (inl fault)) =
+mean_written address notes door_failed memory_failed answer sink door taken no_five (inr (inl one)) (inr (inl fault)) =
     inr (inr (inl (fault.answered ∙ ap after_sink_fault one.0, inr (inl fault.failed))))
-mean_written notes door_failed memory_failed answer sink door taken no_five (inr (inr (inl four))) (inr (inl fault)) =
+mean_written address notes door_failed memory_failed answer sink door taken no_five (inr (inr (inl four))) (inr (inl fault)) =
     inr (inr (inl (fault.answered ∙ ap after_sink_fault four.0, inr (inl fault.failed))))
-mean_written notes door_failed memory_failed answer sink door taken no_five (inr (inr (inr (inl six)))) (inr (inl fault)) =
+mean_written address notes door_failed memory_failed answer sink door taken no_five (inr (inr (inr (inl six)))) (inr (inl fault)) =
     inr (inr (inr (inl (fault.answered ∙ ap after_sink_fault six.0, six.1))))
-mean_written notes door_failed memory_failed answer sink door taken no_five (inr (inr (inr (inr seven)))) (inr (inl fault)) =
+mean_written address notes door_failed memory_failed answer sink door taken no_five (inr (inr (inr (inr seven)))) (inr (inl fault)) =
     inr (inr (inr (inr (fault.answered ∙ ap after_sink_fault seven))))
 
 -- ---- no lease of the first units is refused by a device
@@ -141,7 +142,7 @@ refused_by job answer fault (inl none) same = cc
 refused_by job answer fault (inr first) same =
     by_device (units_of_job job) job.task.file.params.total fault (cc)
 
-not_five : (job : VerifierJob) (answer : Option (Result Span LeaseFault)) (outcome : VerifierOutcome) (first now : Moment)
+not_five : (job : VerifierJob) (answer : Option (Result Span LeaseFault)) (outcome : VerifierOutcome) (first now : LinkSnapshot)
     → IsLeaseOf job answer → EndsBecause job answer outcome first now → (outcome_status outcome == 5) ≡ false
 not_five job answer Accepted first now leased cause = refl
 not_five job answer (RejectedSum section left right) first now leased cause = refl
@@ -150,32 +151,35 @@ not_five job answer (PeerEnded at) first now leased cause = refl
 not_five job answer (BadFrame place) first now leased cause = refl
 not_five job answer (BadHello differs) first now leased cause = refl
 not_five job answer (Exhausted at count total) first now leased cause = refl
-not_five job answer Device first now leased cause = let by = refused_by job answer lease.Device leased cause in cc
-not_five job answer (Broken at) first now leased cause = let by = refused_by job answer (lease.Broken at) leased cause in cc
+not_five job answer Device first now leased cause = let by = refused_by job answer lease.Device leased cause.0 in cc
+not_five job answer (Broken at) first now leased cause = let by = refused_by job answer (lease.Broken at) leased cause.0 in cc
 not_five job answer Link first now leased cause = refl
 not_five job answer NoMemory first now leased cause = refl
 
-none_five : {L : Type 0} (moment : SessionNote L → Moment) (told : Option Files) (ask : ServeAsk) (notes : List (SessionNote L))
-    → All (λ note. IsServedNote told ask note.granted note.outcome (moment note)) notes → length notes ≤ 1 → has_status notes 5 ≡ false
-none_five moment told ask [] each most = refl
-none_five moment told ask (note ∷ []) each most =
-    let is : IsServedNote told ask note.granted note.outcome (moment note) = each 0 note (omega arith) in
-    ap (λ b. b || false) (not_five is.job is.note.answer note.outcome is.note.first (moment note) is.note.leased is.note.cause)
-none_five moment told ask (note ∷ other ∷ notes) each most = absurd (omega (arith, most))
+none_five : {L : Type 0} (link_tells : L → LinkState) (job : VerifierJob) (notes : List (SessionNote L))
+    → All (IsNote link_tells job) notes → length notes ≤ 1 → has_status notes 5 ≡ false
+none_five link_tells job [] each most = refl
+none_five link_tells job (note ∷ []) each most =
+    let is : IsNote link_tells job note = each 0 note (omega arith) in
+    ap (λ b. b || false) (not_five job is.answer note.outcome (snapshot Verifier [] is.first) (snapshot Verifier note.log (link_tells note.link)) is.leased is.cause)
+none_five link_tells job (note ∷ other ∷ notes) each most = absurd (omega (arith, most))
 
-pub serve_means : {L : Type 0} (moment : SessionNote L → Moment) (told : Option Files) (ask : ServeAsk) (part : Part L) (status : ℕ)
+pub serve_means : {L : Type 0} (link_tells : L → LinkState) (ask : ServeAsk) (part : Part L) (status : ℕ)
     (shelf : ShelfChange) (sink : SinkChange) (door : DoorChange)
-    → EachNote part (λ note. IsServedNote told ask note.granted note.outcome (moment note))
-    → SaysServed part ask status shelf sink door → PartMeans part ask status shelf sink door
-serve_means moment told ask (Served notes) status shelf sink door each says =
-    let no_five = none_five moment told ask notes.items each says.taken.most in
-    mean_written notes.items says.door_failed says.memory_failed status sink door says.taken no_five
+    → SaysServed link_tells part ask status shelf sink door → PartMeans part ask status shelf sink door
+serve_means link_tells ask (Served notes) status shelf sink door says =
+    let no_five = none_five link_tells says.leads.job notes.items says.leads.each says.leads.taken.most in
+    mean_written ask.address notes.items says.door_failed says.memory_failed status sink door says.leads.taken no_five
     (chain_means says.door_failed says.memory_failed (has_status notes.items 1) (has_status notes.items 4) (has_status notes.items 5)
     (has_status notes.items 6) (has_status notes.items 7) no_five)
     says.prints
-serve_means moment told ask Plain status shelf sink door each says = record {
+serve_means link_tells ask Plain status shelf sink door says = record {
   stop = says.stop;
   cause = says.cause;
-  answered = stop_answers (stop_status says.stop) (stop_line says.stop) status sink (high_stop says.stop) says.prints;
+  answered = answers says.prints;
 }
-serve_means moment told ask (Rehearsed r) status shelf sink door each says = absurd says
+  where
+    answers : PrintsMade (stop_status says.stop) (stop_line says.stop) status sink → (status ≡ stop_status says.stop) ⊎ (status ≡ 7)
+    answers (inl prints) = stop_answers (stop_status says.stop) (stop_line says.stop) status sink (high_stop says.stop) prints
+    answers (inr prints) = inr (memory_answers status sink prints)
+serve_means link_tells ask (Rehearsed r) status shelf sink door says = absurd says

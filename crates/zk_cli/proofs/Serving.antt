@@ -1,11 +1,14 @@
 -- What a verifier that serves composes: its files, its notes, and what it says.
-use Rattle.std.proofs.Common.{◌≡◌, ◌≤◌, ℕ, List, All, Result, Ok, Err, IfOk, Option, Some, None, get_or, append-nil, refl, sym, ap, subst, inl, inr, arith}
+use Rattle.std.proofs.Common.{◌≡◌, ◌≤◌, ℕ, List, length, All, Result, Ok, Err, IfOk, Option, Some, None, get_or, append-nil, refl, sym, ap, subst, inl, inr, arith}
 use Rattle.std.specs.Prelude.{take}
 use Rattle.zk_port.specs.Logs.{appended}
 use Rattle.zk_model.specs.Circuit.{Circuit}
-use Rattle.zk_model.specs.Files.{VerifierFile}
+use Rattle.zk_model.specs.Files.{ProverFile, VerifierFile, AreDealt}
+use Rattle.zk_model.specs.Transcript.{Transcript, IsCommitment, IsTranscript}
+use Rattle.zk_model.specs.declared.Params.{Params}
 use Rattle.sha2.specs.Sha256.{sha256}
-use Rattle.zk_laws.specs.Extraction.{IsExtracted}
+use Rattle.zk_laws.proofs.FindingShows.{claims_are}
+use Rattle.zk_laws.specs.Extraction.{IsExtracted, NoErrorSolves}
 use Rattle.session_laws.specs.Circuits.{ExtractedShowsOutputs}
 use Rattle.zk_model.specs.Headline.{ShowsOutputs}
 use Rattle.zk_model.specs.Statement.{Statement}
@@ -16,25 +19,26 @@ use Rattle.zk_port.specs.Files.{Files, LoadCause, StandsLonger}
 use Rattle.zk_port.specs.declared.fault.LoadFault.{LoadFault}
 use Rattle.zk_port.specs.declared.fault.LoadFault.TheVariants as load
 use Rattle.session_core.specs.Jobs.{units_of_job, verifier_of}
-use Rattle.session_pool.specs.Doors.{DoorState}
+use Rattle.session_core.specs.Jobs.{VerifierJob}
+use Rattle.session_pool.specs.Doors.{TakesOneAtMost}
 use Rattle.session_pool.specs.Notes.{IsNote}
+use Rattle.session_verifier.specs.Notes.{IsShown}
+use Rattle.zk_port.specs.Doors.{after_listen}
+use Rattle.zk_port.specs.Links.{LinkState}
+use Rattle.zk_port.specs.Shelves.{ShelfState}
+use Rattle.zk_port.specs.Sinks.{SinkState}
 use Rattle.session_pool.specs.declared.served.Served as pool
-use Rattle.session_verifier.specs.Stages.{Moment}
-use Rattle.session_verifier.specs.declared.note.SessionNote.{SessionNote}
-use Rattle.session_verifier.specs.declared.note.VerifierOutcome.{VerifierOutcome}
 use Rattle.session_verifier.specs.declared.note.VerifierOutcome.TheVariants.{Accepted}
 use Rattle.command_words.specs.Words.{ServeAsk}
 use Rattle.command_words.specs.declared.TheConstants.{FILE_LIMIT}
-use Rattle.zk_cli.specs.Changes.{ShelfState, ShelfChange, SinkState, SinkChange}
+use Rattle.zk_cli.specs.Changes.{DoorChange}
 use Rattle.zk_cli.specs.Prints.{Prints}
-use Rattle.zk_cli.specs.ServeRuns.{IsClaim, IsVerifierFileAt, FileStop, IsUndecoded, ServeStop, SaysNoService, DoorChange}
+use Rattle.zk_cli.specs.ServeRuns.{IsClaim, IsVerifierFileAt, IsServeJob, FileStop, IsUndecoded, LeadsSessions, SaysServed, ServeEffects, ServeLines}
 use Rattle.zk_cli.specs.Made.{EachNote}
-use Rattle.zk_cli.specs.ServedNotes.{IsServedNote, IsHeadline}
+use Rattle.zk_cli.specs.ServedNotes.{IsHeadline, HeadlineIsOfAcceptedLog}
 use Rattle.zk_cli.specs.declared.finish.Part.{Part}
 use Rattle.zk_cli.specs.declared.finish.Part.TheVariants.{Plain, Rehearsed, Served}
-use Rattle.zk_cli.specs.Stops.{PrintsMade, PrintsStop, stop_status, stop_line}
 use Rattle.zk_cli.specs.declared.stop.Stop.{Stop}
-use Rattle.zk_cli.specs.declared.stop.Stop.TheVariants.{NoMemory}
 
 -- a count that rose since a moment rose since any before
 rose_since : (first before now : ℕ) → first ≤ before → Rose before now → Rose first now
@@ -59,37 +63,6 @@ file_stop_since old mid new name stop same earlier (inl why) = inl record {
 file_stop_since old mid new name stop same earlier (inr why) =
     inr (subst (λ (told : Option Files). IsUndecoded told name stop) same why)
 
--- the notes of a job that a claim and a file make are those of what was asked
-pub notes_served : {L : Type 0} (moment : SessionNote L → Moment) (told : Option Files) (ask : ServeAsk) (circuit : Circuit)
-    (claim : Statement) (file : VerifierFile) (result : Result (pool.Served L) Stop)
-    → IsClaim told ask circuit claim → IsVerifierFileAt told ask.file file
-    → IfOk result (λ _. units_of_job (verifier_of claim file ask.section) ≤ 4096)
-    → IfOk result (λ served. All (λ note. IsNote (verifier_of claim file ask.section) note.granted note.outcome (moment note)) served.notes.items)
-    → IfOk result (λ served. All (λ note. IsServedNote told ask note.granted note.outcome (moment note)) served.notes.items)
-notes_served moment told ask circuit claim file (Err stop) is_claim is_file few notes = tt
-notes_served moment told ask circuit claim file (Ok served) is_claim is_file few notes =
-    λ k default within. record {
-      circuit = circuit;
-      job = verifier_of claim file ask.section;
-      served = record { claim = is_claim; file = is_file; section = refl };
-      few = few;
-      note = notes k default within;
-    }
-
--- a stop whose line is written, or for which there is no memory
-pub says_no_service : (ask : ServeAsk) (status : ℕ) (shelf : ShelfChange) (sink : SinkChange) (door : DoorChange) (stop : Stop)
-    → ServeStop ask shelf door stop → door.new.left ≡ door.old.left
-    → PrintsMade (stop_status stop) (stop_line stop) status sink → SaysNoService ask status shelf sink door
-says_no_service ask status shelf sink door stop why left (inl prints) =
-    record { stop = stop; cause = why; prints = prints; left = left }
-says_no_service ask status shelf sink door stop why left (inr prints) =
-    record { stop = NoMemory; cause = inl (inr (inr refl)); prints = prints; left = left }
-
-pub says_serve_memory : (ask : ServeAsk) (status : ℕ) (shelf : ShelfChange) (sink : SinkChange) (offered : ℕ) (door : DoorState)
-    → PrintsStop NoMemory status sink → SaysNoService ask status shelf sink (record { offered = offered; old = door; new = door })
-says_serve_memory ask status shelf sink offered door prints =
-    record { stop = NoMemory; cause = inl (inr (inr refl)); prints = prints; left = refl }
-
 -- where nothing is written for want of memory, a first part of the text is
 pub says_nothing : (status : ℕ) (text : List ℕ) (sink : SinkState) → Prints status text 7 (record { old = sink; new = sink })
 says_nothing status text sink = inr (inr record {
@@ -102,35 +75,86 @@ says_nothing status text sink = inr (inr record {
     append_nothing None = refl
     append_nothing (Some before) = ap Some (sym (append-nil before))
 
+-- the sessions of a job that a claim and a file make are those of what was asked
+pub leads_sessions : {L : Type 0} (link_tells : L → LinkState) (told : Option Files) (ask : ServeAsk) (circuit : Circuit)
+    (claim : Statement) (file : VerifierFile) (result : Result (pool.Served L) Stop) (door : DoorChange)
+    → IsClaim told ask circuit claim → IsVerifierFileAt told ask.file file
+    → IfOk result (λ _. units_of_job (verifier_of claim file ask.section) ≤ 4096)
+    → IfOk result (λ served. All (IsNote link_tells (verifier_of claim file ask.section)) served.notes.items)
+    → IfOk result (λ served. TakesOneAtMost (length served.notes.items) served.door_failed served.memory_failed
+    (after_listen ask.address 1 door.old) door.new)
+    → IfOk result (λ served. LeadsSessions link_tells ask served.notes.items served.door_failed served.memory_failed told door)
+leads_sessions link_tells told ask circuit claim file (Err stop) door is_claim is_file few notes taken = tt
+leads_sessions link_tells told ask circuit claim file (Ok served) door is_claim is_file few notes taken = record {
+  circuit = circuit;
+  job = verifier_of claim file ask.section;
+  served = record { claim = is_claim; file = is_file; section = refl };
+  few = few;
+  each = notes;
+  taken = taken;
+}
+
 -- what an accepted session about what was asked shows
-pub headline : ExtractedShowsOutputs → (told : Option Files) (ask : ServeAsk) (granted : Option Span) (outcome : VerifierOutcome) (now : Moment)
-    → IsServedNote told ask granted outcome now → outcome ≡ Accepted → IsHeadline told ask granted now.log
-headline law told ask granted outcome now served accepted =
-    let shown = served.note.shown accepted in
-    let claim = served.served.claim in
+headline : ExtractedShowsOutputs → (told : Option Files) (ask : ServeAsk) (circuit : Circuit) (job : VerifierJob)
+    → IsServeJob told ask circuit job → (granted : Option Span) (log : List (Side × ℕ)) → IsShown job granted log
+    → IsHeadline told ask granted log
+headline law told ask circuit job served granted log shown =
+    let claim = served.claim in
     record {
-      circuit = served.circuit;
-      job = served.job;
-      served = served.served;
+      circuit = circuit;
+      job = job;
+      served = served;
       span = shown.span;
       leased = shown.leased;
+      units = shown.units;
       t = shown.t;
-      spelled = shown.spelled;
+      in_order = shown.in_order;
+      grant = shown.grant;
       challenge = shown.challenge;
+      checks = shown.checks;
+      said = shown.said;
       shows = λ prover valid dealt.
-          subst (λ (s : Statement). ShowsOutputs served.circuit ask.outputs prover served.job.task.file.key s shown.t) (sym claim.statement_is)
-          (law served.circuit (sha256 claim.text) ask.outputs prover served.job.task.file shown.t claim.says.well_formed
-          (subst (λ (s : Statement). IsExtracted prover served.job.task.file s shown.t) claim.statement_is (shown.extracted prover valid dealt)));
+          subst (λ (s : Statement). ShowsOutputs circuit ask.outputs prover job.task.file.key s shown.t) (sym claim.statement_is)
+          (law circuit (sha256 claim.text) ask.outputs prover job.task.file shown.t claim.says.well_formed
+          (subst (λ (s : Statement). IsExtracted prover job.task.file s shown.t) claim.statement_is (shown.extracted prover valid dealt)));
     }
 
 -- of each note that is handed back
-pub headlines : {L : Type 0} → ExtractedShowsOutputs → (moment : SessionNote L → Moment) → ((note : SessionNote L) → (moment note).log ≡ note.log)
-    → (told : Option Files) (ask : ServeAsk) (part : Part L)
-    → EachNote part (λ note. IsServedNote told ask note.granted note.outcome (moment note))
-    → EachNote part (λ note. note.outcome ≡ Accepted → IsHeadline told ask note.granted note.log)
-headlines law moment same told ask (Served notes) each = λ k default within accepted.
-    let note = get_or notes.items k default in
-    subst (λ (log : List (Side × ℕ)). IsHeadline told ask note.granted log) (same note)
-    (headline law told ask note.granted note.outcome (moment note) (each k default within) accepted)
-headlines law moment same told ask Plain each = tt
-headlines law moment same told ask (Rehearsed r) each = tt
+pub headlines : {L : Type 0} (link_tells : L → LinkState) → ExtractedShowsOutputs → (ask : ServeAsk) (run : ServeEffects L)
+    → ServeLines link_tells ask run
+    → EachNote run.part (λ note. note.outcome ≡ Accepted → IsHeadline run.shelf.old.told ask note.granted note.log)
+headlines link_tells law ask run lines = of_part run.part lines
+  where
+    of_part : (part : Part _) → SaysServed link_tells part ask run.status run.shelf run.sink run.door
+        → EachNote part (λ note. note.outcome ≡ Accepted → IsHeadline run.shelf.old.told ask note.granted note.log)
+    of_part (Served notes) says = λ k default within accepted.
+        let note = get_or notes.items k default in
+        headline law run.shelf.old.told ask says.leads.circuit says.leads.job says.leads.served note.granted note.log
+        ((says.leads.each k default within).shown accepted)
+    of_part Plain says = tt
+    of_part (Rehearsed r) says = tt
+
+-- ---- what the headline's record holds
+
+-- files that are dealt as one have the same numbers
+of_commitment : (prover : ProverFile) (verifier : VerifierFile) (statement : Statement) (t : Transcript) → AreDealt prover verifier
+    → IsTranscript verifier.params statement.program t → IsCommitment prover.params statement.program t.commitment
+of_commitment prover verifier statement t dealt whole =
+    subst (λ (params : Params). IsCommitment params statement.program t.commitment) (sym dealt.params) whole.commitment
+
+pub of_accepted_log : NoErrorSolves → HeadlineIsOfAcceptedLog
+of_accepted_log solves told ask granted log shown = (
+  record { t = shown.t; in_order = shown.in_order; checks = shown.checks; said = shown.said },
+  λ prover valid dealt.
+      let shows : ShowsOutputs shown.circuit ask.outputs prover shown.job.task.file.key shown.job.task.statement shown.t =
+      shown.shows prover valid dealt in
+      record {
+        finding = shows.finding;
+        found = shows.found;
+        says = shows.says;
+        solves = λ view seen right.
+            solves prover shown.job.task.statement shown.t.commitment view valid shown.in_order.stated
+            (of_commitment prover shown.job.task.file shown.job.task.statement shown.t dealt shown.in_order.transcript) seen right;
+        claims = λ view seen claimed. claims_are shown.job.task.statement view shown.in_order.stated claimed;
+      },
+)

@@ -1,10 +1,12 @@
 -- One store after another.
-use Rattle.std.proofs.Common.{◌≡◌, ◌⊎◌, ◌≤◌, ◌++◌, ℕ, List, Bool, true, false, IsFalse, Option, None, Some, refl, ◌∙◌, subst, inl, inr, arith}
+use Rattle.std.proofs.Common.{◌≡◌, ◌⊎◌, ◌≤◌, ◌<◌, ◌++◌, ℕ, suc, List, [], ◌∷◌, take, length, Bool, true, false, IsFalse, Result, Ok, Err, IfErr, OnOk, Option, None, Some, refl, ap, ◌∙◌, subst, inl, inr, arith}
+use Rattle.std.specs.Option.{option_map}
 use Rattle.zk_port.specs.Counts.{Rose, CountsNames}
-use Rattle.zk_port.specs.Files.{Files}
+use Rattle.zk_port.specs.Files.{Files, stored}
 use Rattle.zk_port.specs.Files as port
-use Rattle.zk_cli.specs.Changes.{ShelfState, ShelfChange, CountsStay, SomeFailed, OthersStay, OnlyStores}
-use Rattle.zk_cli.specs.DealRuns.{StoreStop, IsDealName, ending}
+use Rattle.zk_port.specs.Shelves.{ShelfState}
+use Rattle.zk_cli.specs.Changes.{ShelfChange, CountsStay, SomeFailed, OthersStay, OnlyStores}
+use Rattle.zk_cli.specs.DealRuns.{StopsAt, StopsStoring, IsDealName, all_stored, next_name, ending}
 use Rattle.zk_cli.specs.declared.deal_command.Stored.{Stored}
 use Rattle.zk_cli.specs.declared.stop.Stop.{Stop}
 
@@ -43,10 +45,77 @@ failed_before IsNamed a b c failed later = (
 
 -- ---- stops
 
-pub stop_later : (name : List ℕ) (stop : Stop) (a b c : ShelfState) → CountsStay (between a b)
-    → StoreStop name (between b c) stop → StoreStop name (between a c) stop
-stop_later name stop a b c quiet (inl memory) = inl memory
-stop_later name stop a b c quiet (inr failed) = inr (failed.0, failed_later _ a b c quiet failed.1)
+-- a store that stops is the first of some that do
+pub stops_first : (one : List ℕ × List ℕ) (more : List (List ℕ × List ℕ)) (stop : Stop) (a b : ShelfState)
+    → StopsAt one.0 (between a b) stop → StopsStoring (one ∷ more) (between a b) stop
+stops_first one more stop a b at = record {
+  done = 0;
+  some = omega arith;
+  others = subst (λ (told : Option Files). port.OthersStay one.0 told b.told) (nothing_stored a.told) at.others;
+  cause = at.cause;
+}
+  where
+    nothing_stored : (told : Option Files) → told ≡ option_map (all_stored []) told
+    nothing_stored None = refl
+    nothing_stored (Some files) = refl
+
+-- stores that stop behind one that is done
+pub stops_behind : (one : List ℕ × List ℕ) (more : List (List ℕ × List ℕ)) (stop : Stop) (a b c : ShelfState)
+    → b.told ≡ option_map (stored one.0 one.1) a.told → CountsStay (between a b)
+    → StopsStoring more (between b c) stop → StopsStoring (one ∷ more) (between a c) stop
+stops_behind one more stop a b c is quiet behind = record {
+  done = suc behind.done;
+  some = let few = behind.some in omega (arith, few);
+  others = subst (λ (told : Option Files). port.OthersStay (next_name behind.done more) told c.told) (stored_before a.told b.told is) behind.others;
+  cause = elim behind.cause [
+    | inl memory ↦ inl memory
+    | inr failed ↦ inr (failed.0, subst (λ n. Rose n (c.faults_of (next_name behind.done more))) (quiet.each (next_name behind.done more)) failed.1)
+  ];
+}
+  where
+    stored_before : (old mid : Option Files) → mid ≡ option_map (stored one.0 one.1) old
+        → option_map (all_stored (take behind.done more)) mid ≡ option_map (all_stored (take (suc behind.done) (one ∷ more))) old
+    stored_before old mid same = ap (option_map (all_stored (take behind.done more))) same ∙ both old
+      where
+        both : (told : Option Files) → option_map (all_stored (take behind.done more)) (option_map (stored one.0 one.1) told)
+            ≡ option_map (all_stored (take (suc behind.done) (one ∷ more))) told
+        both None = refl
+        both (Some files) = refl
+
+-- the same behind a second that is done, and behind a third
+pub stops_behind_two : (one two : List ℕ × List ℕ) (more : List (List ℕ × List ℕ)) (stop : Stop) (a b c d : ShelfState)
+    → b.told ≡ option_map (stored one.0 one.1) a.told → CountsStay (between a b)
+    → c.told ≡ option_map (stored two.0 two.1) b.told → CountsStay (between b c)
+    → StopsStoring more (between c d) stop → StopsStoring (one ∷ two ∷ more) (between a d) stop
+stops_behind_two one two more stop a b c d first quiet second still behind =
+    stops_behind one (two ∷ more) stop a b d first quiet (stops_behind two more stop b c d second still behind)
+
+pub stops_last : {T : Type 0} (result : Result T Stop) (one two three four : List ℕ × List ℕ) (a b c d e : ShelfState)
+    → b.told ≡ option_map (stored one.0 one.1) a.told → CountsStay (between a b)
+    → c.told ≡ option_map (stored two.0 two.1) b.told → CountsStay (between b c)
+    → d.told ≡ option_map (stored three.0 three.1) c.told → CountsStay (between c d)
+    → IfErr result (StopsAt four.0 (between d e))
+    → IfErr result (StopsStoring (one ∷ two ∷ three ∷ four ∷ []) (between a e))
+stops_last (Ok done) one two three four a b c d e first quiet second still third calm at = tt
+stops_last (Err stop) one two three four a b c d e first quiet second still third calm at =
+    stops_behind_two one two (three ∷ four ∷ []) stop a b c e first quiet second still
+    (stops_behind three (four ∷ []) stop c d e third calm (stops_first four [] stop d e at))
+
+-- all four are done
+pub stored_all : {T : Type 0} (result : Result T Stop) (one two three four : List ℕ × List ℕ) (a b c d e : Option Files)
+    → b ≡ option_map (stored one.0 one.1) a → c ≡ option_map (stored two.0 two.1) b → d ≡ option_map (stored three.0 three.1) c
+    → OnOk result (e ≡ option_map (stored four.0 four.1) d)
+    → OnOk result (e ≡ option_map (all_stored (one ∷ two ∷ three ∷ four ∷ [])) a)
+stored_all (Err stop) one two three four a b c d e first second third last = tt
+stored_all (Ok value) one two three four a b c d e first second third last =
+    last ∙ ap (option_map (stored four.0 four.1)) (third ∙ ap (option_map (stored three.0 three.1))
+    (second ∙ ap (option_map (stored two.0 two.1)) first)) ∙ all a
+  where
+    all : (told : Option Files) → option_map (stored four.0 four.1) (option_map (stored three.0 three.1)
+        (option_map (stored two.0 two.1) (option_map (stored one.0 one.1) told)))
+        ≡ option_map (all_stored (one ∷ two ∷ three ∷ four ∷ [])) told
+    all None = refl
+    all (Some files) = refl
 
 -- ---- what is touched
 

@@ -1,40 +1,20 @@
--- The shelf and the sink of a run, before and after it.
+-- The shelf, the sink and the door of a run, before and after it.
 use Rattle.std.specs.Prelude.{◌≡◌, ◌⊎◌, ◌≤◌, ℕ, List, Option, None, Some, IsSomeAnd}
+use Rattle.zk_port.specs.Changes.{Change}
 use Rattle.zk_port.specs.Counts.{Rose}
+use Rattle.zk_port.specs.Doors.{DoorState}
 use Rattle.zk_port.specs.Files.{Files}
+use Rattle.zk_port.specs.Shelves.{ShelfState}
+use Rattle.zk_port.specs.Sinks.{SinkState}
 
--- a shelf: its files where it tells them, how often a call has failed, and how often one for each name has
-pub record ShelfState : Type 0 where
-  pub told : Option Files
-  pub faults : ℕ
-  pub faults_of : List ℕ → ℕ
+abbrev pub ShelfChange : Type 0
+ShelfChange = Change ShelfState
 
--- a sink: what is written where it tells that, and how often a call has failed
-pub record SinkState : Type 0 where
-  pub written : Option (List ℕ)
-  pub faults : ℕ
+abbrev pub SinkChange : Type 0
+SinkChange = Change SinkState
 
-pub record ShelfChange : Type 0 where
-  pub old : ShelfState
-  pub new : ShelfState
-
-pub record SinkChange : Type 0 where
-  pub old : SinkState
-  pub new : SinkState
-
--- what a shelf tells of itself at two moments
-abbrev pub shelf_change : {S : Type 0} → (S → Option Files) → (S → ℕ) → (S → List ℕ → ℕ) → S → S → ShelfChange
-shelf_change told faults faults_of old new = record {
-  old = record { told = told old; faults = faults old; faults_of = faults_of old };
-  new = record { told = told new; faults = faults new; faults_of = faults_of new };
-}
-
--- what a sink tells of itself at two moments
-abbrev pub sink_change : {S : Type 0} → (S → Option (List ℕ)) → (S → ℕ) → S → S → SinkChange
-sink_change written faults old new = record {
-  old = record { written = written old; faults = faults old };
-  new = record { written = written new; faults = faults new };
-}
+abbrev pub DoorChange : Type 0
+DoorChange = Change DoorState
 
 -- a call for this name failed
 abbrev pub NameFailed : List ℕ → ShelfChange → Type 0

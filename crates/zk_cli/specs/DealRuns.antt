@@ -1,5 +1,5 @@
 -- `deal NAME --units N [--trees T --height H --base K]`: what it stores, and what it says.
-use Rattle.std.specs.Prelude.{◌≡◌, ◌⊎◌, ℕ, List, ◌++◌, codes}
+use Rattle.std.specs.Prelude.{◌≡◌, ◌⊎◌, ◌<◌, ℕ, List, [], ◌∷◌, ◌++◌, length, take, get_or, codes}
 use Rattle.std.specs.Option.{option_map}
 use Rattle.std.specs.Fmt.{decimal}
 use Rattle.hex.specs.Hex.{encode_lower}
@@ -11,8 +11,8 @@ use Rattle.zk_model.specs.declared.JournalKind.TheVariants.{Claims, Ceilings}
 use Rattle.zk_model.specs.declared.Kind.{Kind}
 use Rattle.zk_model.specs.declared.Kind.TheVariants.{Direct, Extended}
 use Rattle.zk_model.specs.declared.Params.{Params}
-use Rattle.zk_port.specs.Files.{Files, stored}
-use Rattle.zk_cli.specs.Changes.{ShelfChange, SinkChange, CountsStay, SomeFailed}
+use Rattle.zk_port.specs.Files.{Files, stored, OthersStay}
+use Rattle.zk_cli.specs.Changes.{ShelfChange, SinkChange, CountsStay, NameFailed}
 use Rattle.zk_cli.specs.Stops.{PrintsStop, PrintsMade}
 use Rattle.command_words.specs.Words.{DealAsk}
 use Rattle.zk_cli.specs.declared.deal_command.Stored.{Stored}
@@ -33,26 +33,28 @@ ending VerifierJournal = codes ".verifier.journal"
 abbrev pub IsDealName : List ℕ → List ℕ → Type 0
 IsDealName name other = (file : Stored) × (other ≡ name ++ ending file)
 
--- the files with blank journals of so many units: the prover's has a slot for each, and at most 4,096
-abbrev pub with_journals : List ℕ → List ℕ → ℕ → Files → Files
-with_journals name id total files =
-    stored (name ++ ending VerifierJournal) (blank_journal_bytes Ceilings id total (ceiling_slots total))
-    (stored (name ++ ending ProverJournal) (blank_journal_bytes Claims id total (claim_slots total)) files)
+-- what is stored under which name, in order: both dealt files as their bytes, and blank journals; the prover's has a slot for each
+-- unit, and at most 4,096
+abbrev pub file_stores : List ℕ → model.ProverFile → model.VerifierFile → List (List ℕ × List ℕ)
+file_stores name prover verifier =
+    (name ++ ending ProverFile, prover_file_bytes prover)
+    ∷ (name ++ ending VerifierFile, verifier_file_bytes verifier)
+    ∷ (name ++ ending ProverJournal, blank_journal_bytes Claims prover.id prover.params.total (claim_slots prover.params.total))
+    ∷ (name ++ ending VerifierJournal, blank_journal_bytes Ceilings prover.id prover.params.total (ceiling_slots prover.params.total))
+    ∷ []
 
--- the files with both dealt files as their bytes, and blank journals
-abbrev pub with_files : List ℕ → model.ProverFile → model.VerifierFile → Files → Files
-with_files name prover verifier files =
-    with_journals name prover.id prover.params.total
-    (stored (name ++ ending VerifierFile) (verifier_file_bytes verifier)
-    (stored (name ++ ending ProverFile) (prover_file_bytes prover) files))
+-- of the files that are dealt from the seed
+abbrev pub dealt_stores : DealAsk → List ℕ → List (List ℕ × List ℕ)
+dealt_stores ask seed = file_stores ask.name (dealt_prover ask.params seed) (dealt_verifier ask.params seed)
 
--- the files with those that are dealt from the seed
-abbrev pub with_dealt : DealAsk → List ℕ → Files → Files
-with_dealt ask seed = with_files ask.name (dealt_prover ask.params seed) (dealt_verifier ask.params seed)
+-- the files with these bytes under these names, one stored behind another
+abbrev pub all_stored : List (List ℕ × List ℕ) → Files → Files
+all_stored [] files = files
+all_stored (one ∷ more) files = all_stored more (stored one.0 one.1 files)
 
 -- all four are stored, and nothing else is changed
 pub record StoresDealt (ask : DealAsk) (seed : List ℕ) (shelf : ShelfChange) : Type 0 where
-  pub files : shelf.new.told ≡ option_map (with_dealt ask seed) shelf.old.told
+  pub files : shelf.new.told ≡ option_map (all_stored (dealt_stores ask seed)) shelf.old.told
   pub counts : CountsStay shelf
 
 -- ---- what is said
@@ -70,10 +72,21 @@ file_lines prover =
 abbrev pub dealt_lines : Params → List ℕ → List ℕ
 dealt_lines params seed = file_lines (dealt_prover params seed)
 
--- why a store stops: one for one of the four names failed, or memory is wanting
-abbrev pub StoreStop : List ℕ → ShelfChange → Stop → Type 0
-StoreStop name shelf stop =
-    (stop ≡ NoMemory) ⊎ ((stop ≡ ShelfFailed) × SomeFailed (IsDealName name) shelf)
+-- a store for this name stops: it failed, or memory is missing; all other names have what they had
+pub record StopsAt (name : List ℕ) (shelf : ShelfChange) (stop : Stop) : Type 0 where
+  pub others : OthersStay name shelf.old.told shelf.new.told
+  pub cause : (stop ≡ NoMemory) ⊎ ((stop ≡ ShelfFailed) × NameFailed name shelf)
+
+-- the name of the store that comes behind so many
+abbrev pub next_name : ℕ → List (List ℕ × List ℕ) → List ℕ
+next_name done stores = (get_or stores done ([], [])).0
+
+-- Storing stops: the first of the stores, so many, are done; the next is the one that stops; and all other names have what they had.
+pub record StopsStoring (stores : List (List ℕ × List ℕ)) (shelf : ShelfChange) (stop : Stop) : Type 0 where
+  pub done : ℕ
+  pub some : done < length stores
+  pub others : OthersStay (next_name done stores) (option_map (all_stored (take done stores)) shelf.old.told) shelf.new.told
+  pub cause : (stop ≡ NoMemory) ⊎ ((stop ≡ ShelfFailed) × NameFailed (next_name done stores) shelf)
 
 -- the files are stored, and their lines are written
 pub record SaysDealt (ask : DealAsk) (seed : List ℕ) (status : ℕ) (shelf : ShelfChange) (sink : SinkChange)
@@ -81,11 +94,11 @@ pub record SaysDealt (ask : DealAsk) (seed : List ℕ) (status : ℕ) (shelf : S
   pub stores : StoresDealt ask seed shelf
   pub prints : PrintsMade 0 (dealt_lines ask.params seed) status sink
 
--- the line of a stop is written, and this is why
-pub record SaysUndealt (ask : DealAsk) (status : ℕ) (shelf : ShelfChange) (sink : SinkChange) : Type 0 where
+-- the line of a stop is written, and this is why, and what was stored until then
+pub record SaysUndealt (ask : DealAsk) (seed : List ℕ) (status : ℕ) (shelf : ShelfChange) (sink : SinkChange) : Type 0 where
   pub stop : Stop
-  pub cause : StoreStop ask.name shelf stop
+  pub cause : StopsStoring (dealt_stores ask seed) shelf stop
   pub prints : PrintsStop stop status sink
 
 abbrev pub DealLines : DealAsk → List ℕ → ℕ → ShelfChange → SinkChange → Type 0
-DealLines ask seed status shelf sink = SaysDealt ask seed status shelf sink ⊎ SaysUndealt ask status shelf sink
+DealLines ask seed status shelf sink = SaysDealt ask seed status shelf sink ⊎ SaysUndealt ask seed status shelf sink

@@ -1,11 +1,12 @@
 pub mod Changes
 pub mod CircuitFiles
+pub mod Commands
 pub mod DealRuns
 pub mod EvalRuns
 pub mod FaultLines
 pub mod FileLines
-pub mod Guards
 pub mod Made
+pub mod Meets
 pub mod NoteLines
 pub mod Outcomes
 pub mod Prints

@@ -1,5 +1,5 @@
 -- `serve ADDRESS FILE CIRCUIT OUTPUTS --sessions 1 [--section G]`: what is served, and what is said of it.
-use Rattle.std.specs.Prelude.{◌≡◌, ◌≢◌, ◌⊎◌, ◌≤◌, ℕ, List, length, Bool, Option}
+use Rattle.std.specs.Prelude.{◌≡◌, ◌≢◌, ◌⊎◌, ◌≤◌, ℕ, List, All, length, Bool, Option}
 use Rattle.sha2.specs.Sha256.{sha256}
 use Rattle.zk_model.specs.Circuit.{Circuit}
 use Rattle.zk_model.specs.Bristol.{IsText}
@@ -8,19 +8,22 @@ use Rattle.zk_model.specs.Files.{VerifierFile, IsVerifierFile}
 use Rattle.zk_model.specs.Statement.{Statement, circuit_statement}
 use Rattle.zk_model.specs.declared.Side.TheVariants.{Verifier}
 use Rattle.zk_port.specs.Counts.{Rose}
+use Rattle.zk_port.specs.Doors.{RefusesListen, after_listen}
 use Rattle.zk_port.specs.Files.{Files}
+use Rattle.zk_port.specs.Links.{LinkState}
 use Rattle.dealer_files.specs.Faults.{IsFirstFault}
 use Rattle.dealer_files.specs.declared.fault.FileFault.{FileFault}
 use Rattle.session_core.specs.Jobs.{VerifierJob, IsTooLarge, units_of_job}
 use Rattle.session_core.specs.declared.verifier_job.TooManyUnits.{TooManyUnits}
-use Rattle.session_pool.specs.Doors.{DoorState, TakesOneAtMost, door_state}
+use Rattle.session_pool.specs.Doors.{TakesOneAtMost}
+use Rattle.session_pool.specs.Notes.{IsNote}
 use Rattle.session_verifier.specs.declared.note.SessionNote.{SessionNote}
 use Rattle.command_words.specs.Words.{ServeAsk, serve_ask}
-use Rattle.zk_cli.specs.Changes.{ShelfChange, SinkChange}
+use Rattle.zk_cli.specs.Changes.{ShelfChange, SinkChange, DoorChange}
 use Rattle.zk_cli.specs.CircuitFiles.{IsLoaded, IsCircuitFile, IsUnloaded, CircuitStop}
 use Rattle.zk_cli.specs.NoteLines.{served_text, served_status}
 use Rattle.zk_cli.specs.Prints.{Prints}
-use Rattle.zk_cli.specs.Stops.{PrintsStop}
+use Rattle.zk_cli.specs.Stops.{PrintsMade, stop_status, stop_line}
 use Rattle.zk_cli.specs.StopsOf.{file_stop, units_stop}
 use Rattle.zk_cli.specs.declared.finish.Part.{Part}
 use Rattle.zk_cli.specs.declared.finish.Part.TheVariants.{Plain, Served}
@@ -58,14 +61,9 @@ pub record IsServeJob (told : Option Files) (ask : ServeAsk) (circuit : Circuit)
 
 -- ---- why nothing is served
 
--- the links that a listen for one session offers, and the door before and after
-pub record DoorChange : Type 0 where
-  pub offered : ℕ
-  pub old : DoorState
-  pub new : DoorState
-
-abbrev pub door_change : ℕ → DoorState → DoorState → DoorChange
-door_change offered old new = record { offered = offered; old = old; new = new }
+-- nothing was asked of the door
+abbrev pub IsUnasked : DoorChange → Type 0
+IsUnasked door = door.new ≡ door.old
 
 -- the circuit under the name has another number of outputs
 pub record HasOtherOutputs (told : Option Files) (ask : ServeAsk) (stop : Stop) : Type 0 where
@@ -105,28 +103,37 @@ pub record TakesTooMuch (job : VerifierJob) (stop : Stop) : Type 0 where
   pub large : IsTooLarge job found
   pub stops : stop ≡ units_stop found
 
--- the door does not listen
-pub record IsUnheard (job : VerifierJob) (before now : ℕ) (stop : Stop) : Type 0 where
+-- the door was asked to listen at the address, and failed
+pub record IsUnheard (job : VerifierJob) (address : List ℕ) (door : DoorChange) (stop : Stop) : Type 0 where
   pub few : units_of_job job ≤ 4096
-  pub failed : Rose before now
+  pub refused : RefusesListen address door.old door.new
+  pub failed : Rose door.old.listen_faults door.new.listen_faults
   pub stops : stop ≡ DoorFailed
 
--- why no session is opened, where the door's count of faults was and is so: it is too large, or the door does not listen
-abbrev pub OpeningStop : VerifierJob → ℕ → ℕ → Stop → Type 0
-OpeningStop job before now stop = TakesTooMuch job stop ⊎ IsUnheard job before now stop ⊎ (stop ≡ NoMemory)
+-- it was asked, and found no memory
+pub record FindsNoMemory (job : VerifierJob) (address : List ℕ) (door : DoorChange) (stop : Stop) : Type 0 where
+  pub few : units_of_job job ≤ 4096
+  pub refused : RefusesListen address door.old door.new
+  pub quiet : door.new.listen_faults ≡ door.old.listen_faults
+  pub stops : stop ≡ NoMemory
+
+-- why no session is opened: it is too large, and nothing is asked of the door; or the door does not listen
+abbrev pub OpeningStop : VerifierJob → List ℕ → DoorChange → Stop → Type 0
+OpeningStop job address door stop =
+    (TakesTooMuch job stop × IsUnasked door) ⊎ IsUnheard job address door stop ⊎ FindsNoMemory job address door stop
 
 -- there is a claim and a file, but no session is opened
 pub record LacksSession (told : Option Files) (ask : ServeAsk) (door : DoorChange) (stop : Stop) : Type 0 where
   pub circuit : Circuit
   pub job : VerifierJob
   pub served : IsServeJob told ask circuit job
-  pub cause : OpeningStop job door.old.faults door.new.faults stop
+  pub cause : OpeningStop job ask.address door stop
 
 -- Why nothing is served, the first of these: the circuit can't be had, or has another number of outputs; the file can't be had;
--- the session is too large; the door does not listen. Want of memory may come at any time.
+-- the session is too large; the door does not listen. Before that nothing is asked of the door.
 abbrev pub ServeStop : ServeAsk → ShelfChange → DoorChange → Stop → Type 0
 ServeStop ask shelf door stop =
-    ClaimStop ask shelf stop ⊎ LacksFile ask shelf stop ⊎ LacksSession shelf.old.told ask door stop
+    ((ClaimStop ask shelf stop ⊎ LacksFile ask shelf stop) × IsUnasked door) ⊎ LacksSession shelf.old.told ask door stop
 
 -- ---- what is said
 
@@ -142,26 +149,36 @@ abbrev pub serve_effects : {L : Type 0} → ℕ → Part L → ShelfChange → S
 serve_effects status part shelf sink door =
     record { status = status; part = part; shelf = shelf; sink = sink; door = door }
 
--- the line of a stop is written, and this is why; no link was taken
+-- the line of a stop is written, and this is why; the line of another want of memory may be written in its place
 pub record SaysNoService (ask : ServeAsk) (status : ℕ) (shelf : ShelfChange) (sink : SinkChange) (door : DoorChange) : Type 0 where
   pub stop : Stop
   pub cause : ServeStop ask shelf door stop
-  pub prints : PrintsStop stop status sink
-  pub left : door.new.left ≡ door.old.left
+  pub prints : PrintsMade (stop_status stop) (stop_line stop) status sink
 
--- One link at most was taken, of those that were offered, and there is a note of it; the lines of the notes are written, and the
--- status is theirs.
-pub record SaysNotes {L : Type 0} (notes : List (SessionNote L)) (status : ℕ) (sink : SinkChange) (door : DoorChange) : Type 0 where
+-- The door listened at the address, once and for one session; one job stands above all notes, and each note is one of a session
+-- about it; as many links were taken as there are notes, and nothing else was asked of the door.
+pub record LeadsSessions {L : Type 0} (link_tells : L → LinkState) (ask : ServeAsk) (notes : List (SessionNote L))
+    (door_failed memory_failed : Bool) (told : Option Files) (door : DoorChange) : Type 0 where
+  pub circuit : Circuit
+  pub job : VerifierJob
+  pub served : IsServeJob told ask circuit job
+  pub few : units_of_job job ≤ 4096
+  pub each : All (IsNote link_tells job) notes
+  pub taken : TakesOneAtMost (length notes) door_failed memory_failed (after_listen ask.address 1 door.old) door.new
+
+-- sessions were led; the lines of their notes are written, and the status is theirs
+pub record SaysNotes {L : Type 0} (link_tells : L → LinkState) (ask : ServeAsk) (notes : List (SessionNote L)) (status : ℕ)
+    (shelf : ShelfChange) (sink : SinkChange) (door : DoorChange) : Type 0 where
   pub door_failed : Bool
   pub memory_failed : Bool
-  pub taken : TakesOneAtMost (length notes) door_failed memory_failed (door_state door.offered door.old.faults) door.new
+  pub leads : LeadsSessions link_tells ask notes door_failed memory_failed shelf.old.told door
   pub prints : Prints (served_status notes door_failed memory_failed) (served_text notes door_failed) status sink
 
 -- what was served is handed back, exactly where the door listened, and said; or why nothing was
-abbrev pub SaysServed : {L : Type 0} → Part L → ServeAsk → ℕ → ShelfChange → SinkChange → DoorChange → Type 0
-SaysServed (Served notes) ask status shelf sink door = SaysNotes notes.items status sink door
-SaysServed Plain ask status shelf sink door = SaysNoService ask status shelf sink door
-SaysServed part ask status shelf sink door = ⊥
+abbrev pub SaysServed : {L : Type 0} → (L → LinkState) → Part L → ServeAsk → ℕ → ShelfChange → SinkChange → DoorChange → Type 0
+SaysServed link_tells (Served notes) ask status shelf sink door = SaysNotes link_tells ask notes.items status shelf sink door
+SaysServed link_tells Plain ask status shelf sink door = SaysNoService ask status shelf sink door
+SaysServed link_tells part ask status shelf sink door = ⊥
 
-abbrev pub ServeLines : {L : Type 0} → ServeAsk → ServeEffects L → Type 0
-ServeLines ask run = SaysServed run.part ask run.status run.shelf run.sink run.door
+abbrev pub ServeLines : {L : Type 0} → (L → LinkState) → ServeAsk → ServeEffects L → Type 0
+ServeLines link_tells ask run = SaysServed link_tells run.part ask run.status run.shelf run.sink run.door

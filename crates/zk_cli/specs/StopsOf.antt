@@ -12,6 +12,7 @@ use Rattle.dealer_files.specs.declared.fault.FileFault.TheVariants as file
 use Rattle.session_core.specs.declared.verifier_job.TooManyUnits.{TooManyUnits}
 use Rattle.session_rehearsal.specs.declared.rehearsal.RehearseFault.{RehearseFault}
 use Rattle.session_rehearsal.specs.declared.rehearsal.RehearseFault.TheVariants as session
+use Rattle.zk_cli.specs.declared.stop.BadFile.TheVariants as bad
 use Rattle.zk_cli.specs.declared.stop.Stop.{Stop}
 use Rattle.zk_cli.specs.declared.stop.Stop.TheVariants as stop
 
@@ -44,13 +45,13 @@ store_stop port.NoMemory = stop.NoMemory
 
 -- whose verifier's file is refused
 abbrev pub file_stop : FileFault → Stop
-file_stop file.BadMagic = stop.BadFile file.BadMagic
-file_stop file.BadKind = stop.BadFile file.BadKind
-file_stop file.BadParam = stop.BadFile file.BadParam
-file_stop (file.Length need got) = stop.BadFile (file.Length need got)
-file_stop (file.BadElement place) = stop.BadFile (file.BadElement place)
-file_stop file.ZeroKey = stop.BadFile file.ZeroKey
-file_stop file.BadDigest = stop.BadFile file.BadDigest
+file_stop file.BadMagic = stop.BadFile bad.BadMagic
+file_stop file.BadKind = stop.BadFile bad.BadKind
+file_stop file.BadParam = stop.BadFile bad.BadParam
+file_stop (file.Length need got) = stop.BadFile (bad.Length need got)
+file_stop (file.BadElement place) = stop.BadFile (bad.BadElement place)
+file_stop file.ZeroKey = stop.BadFile bad.ZeroKey
+file_stop file.BadDigest = stop.BadFile bad.BadDigest
 file_stop file.NoMemory = stop.NoMemory
 
 -- whose session takes too many units

@@ -4,10 +4,14 @@ ghost use Rattle.std.specs.Option.{option_map};
 ghost use Rattle.zk_model.specs.Dealing.{dealt_prover};
 ghost use Rattle.zk_model.specs.FileBytes.{prover_file_bytes, verifier_file_bytes};
 ghost use Rattle.zk_model.specs.Files.{AreParams};
+ghost use Rattle.zk_model.specs.Journals.{blank_journal_bytes, ceiling_slots, claim_slots};
+ghost use Rattle.zk_model.specs.declared.JournalKind.TheVariants.{Claims, Ceilings};
 ghost use Rattle.zk_port.specs.Files.{stored};
-ghost use Rattle.zk_cli.specs.Changes.{shelf_change, sink_change, CountsStay, OnlyStores};
-ghost use Rattle.zk_cli.specs.DealRuns.{DealLines, IsDealName, StoreStop, StoresDealt};
-ghost use Rattle.zk_cli.specs.DealRuns.{ending, file_lines, kind_name, with_files, with_journals};
+ghost use Rattle.zk_port.specs.Changes.{change};
+ghost use Rattle.zk_cli.specs.Changes.{CountsStay, OnlyStores};
+ghost use Rattle.zk_cli.specs.Commands.{Deals};
+ghost use Rattle.zk_cli.specs.DealRuns.{DealLines, IsDealName, StopsAt, StopsStoring, StoresDealt};
+ghost use Rattle.zk_cli.specs.DealRuns.{all_stored, dealt_stores, ending, file_lines, file_stores, kind_name};
 ghost use Rattle.zk_cli.specs.declared.deal_command.Stored.TheVariants as kinds;
 ghost use Rattle.zk_cli.specs.Stops.{PrintsMade};
 ghost use Rattle.command_words.specs.Words.{deal_ask};
@@ -58,13 +62,13 @@ fn store_as<F: Shelf>(
     file: Stored,
     bytes: &[u8],
 ) -> Result<(), Stop>
-    ensures stored { OnOk result (F.told shelf.new
-        ≡ option_map (stored (name.now ++ ending file) bytes.now) (F.told shelf.old)) }
-    ensures quiet { OnOk result (CountsStay (shelf_change F.told F.faults F.faults_of shelf.old shelf.new)) }
+    ensures stored { OnOk result ((F.state shelf.new).told
+        ≡ option_map (stored (name.now ++ ending file) bytes.now) (F.state shelf.old).told) }
+    ensures quiet { OnOk result (CountsStay (change (F.state shelf.old) (F.state shelf.new))) }
     ensures stop { IfErr result
-        (StoreStop name.now (shelf_change F.told F.faults F.faults_of shelf.old shelf.new)) }
+        (StopsAt (name.now ++ ending file) (change (F.state shelf.old) (F.state shelf.new))) }
     ensures kept { OnlyStores (IsDealName name.now)
-        (shelf_change F.told F.faults F.faults_of shelf.old shelf.new) }
+        (change (F.state shelf.old) (F.state shelf.new)) }
 {
     let whole = name_of(alloc, name, file)?;
     shelf.store(alloc, &whole, bytes)?;
@@ -78,13 +82,14 @@ fn store_prover<F: Shelf>(
     name: &str,
     prover: &ProverFile,
 ) -> Result<(), Stop>
-    ensures stored { OnOk result (F.told shelf.new ≡ option_map
-        (stored (name.now ++ ending kinds.ProverFile) (prover_file_bytes prover.now)) (F.told shelf.old)) }
-    ensures quiet { OnOk result (CountsStay (shelf_change F.told F.faults F.faults_of shelf.old shelf.new)) }
+    ensures stored { OnOk result ((F.state shelf.new).told ≡ option_map
+        (stored (name.now ++ ending kinds.ProverFile) (prover_file_bytes prover.now)) (F.state shelf.old).told) }
+    ensures quiet { OnOk result (CountsStay (change (F.state shelf.old) (F.state shelf.new))) }
     ensures stop { IfErr result
-        (StoreStop name.now (shelf_change F.told F.faults F.faults_of shelf.old shelf.new)) }
+        (StopsAt (name.now ++ ending kinds.ProverFile)
+        (change (F.state shelf.old) (F.state shelf.new))) }
     ensures kept { OnlyStores (IsDealName name.now)
-        (shelf_change F.told F.faults F.faults_of shelf.old shelf.new) }
+        (change (F.state shelf.old) (F.state shelf.new)) }
 {
     let bytes = prover.encode(alloc)?;
     store_as(alloc, shelf, name, Stored::ProverFile, &bytes)
@@ -97,45 +102,73 @@ fn store_verifier<F: Shelf>(
     name: &str,
     verifier: &VerifierFile,
 ) -> Result<(), Stop>
-    ensures stored { OnOk result (F.told shelf.new ≡ option_map
-        (stored (name.now ++ ending kinds.VerifierFile) (verifier_file_bytes verifier.now)) (F.told shelf.old)) }
-    ensures quiet { OnOk result (CountsStay (shelf_change F.told F.faults F.faults_of shelf.old shelf.new)) }
+    ensures stored { OnOk result ((F.state shelf.new).told ≡ option_map
+        (stored (name.now ++ ending kinds.VerifierFile) (verifier_file_bytes verifier.now)) (F.state shelf.old).told) }
+    ensures quiet { OnOk result (CountsStay (change (F.state shelf.old) (F.state shelf.new))) }
     ensures stop { IfErr result
-        (StoreStop name.now (shelf_change F.told F.faults F.faults_of shelf.old shelf.new)) }
+        (StopsAt (name.now ++ ending kinds.VerifierFile)
+        (change (F.state shelf.old) (F.state shelf.new))) }
     ensures kept { OnlyStores (IsDealName name.now)
-        (shelf_change F.told F.faults F.faults_of shelf.old shelf.new) }
+        (change (F.state shelf.old) (F.state shelf.new)) }
 {
     let bytes = verifier.encode(alloc)?;
     store_as(alloc, shelf, name, Stored::VerifierFile, &bytes)
 }
 
-/// Stores both journals, in which nothing is written yet.
-fn store_journals<F: Shelf>(
+/// Stores the prover's journal, in which nothing is written yet.
+fn store_claims<F: Shelf>(
     alloc: Global,
     shelf: &mut F,
     name: &str,
-    id: &[u8; 32],
-    total: u64,
+    prover: &ProverFile,
 ) -> Result<(), Stop>
-    requires { total ≤ 2 ^ 32 }
-    ensures stored { OnOk result (F.told shelf.new ≡ option_map
-        (with_journals name.now id.now total) (F.told shelf.old)) }
-    ensures quiet { OnOk result (CountsStay (shelf_change F.told F.faults F.faults_of shelf.old shelf.new)) }
+    ensures stored { OnOk result ((F.state shelf.new).told ≡ option_map (stored (name.now ++ ending kinds.ProverJournal)
+        (blank_journal_bytes Claims prover.now.id prover.now.params.total (claim_slots prover.now.params.total)))
+        (F.state shelf.old).told) }
+    ensures quiet { OnOk result (CountsStay (change (F.state shelf.old) (F.state shelf.new))) }
     ensures stop { IfErr result
-        (StoreStop name.now (shelf_change F.told F.faults F.faults_of shelf.old shelf.new)) }
+        (StopsAt (name.now ++ ending kinds.ProverJournal)
+        (change (F.state shelf.old) (F.state shelf.new))) }
     ensures kept { OnlyStores (IsDealName name.now)
-        (shelf_change F.told F.faults F.faults_of shelf.old shelf.new) }
+        (change (F.state shelf.old) (F.state shelf.new)) }
 {
-    let claims = blank(alloc, JournalKind::Claims, id, total, claim_slots(total))?;
-    let ceilings = blank(
+    let total = prover.total();
+    let bytes = blank(
+        alloc,
+        JournalKind::Claims,
+        &prover.id(),
+        total,
+        claim_slots(total),
+    )?;
+    store_as(alloc, shelf, name, Stored::ProverJournal, &bytes)
+}
+
+/// Stores the verifier's journal, in which nothing is written yet.
+fn store_ceilings<F: Shelf>(
+    alloc: Global,
+    shelf: &mut F,
+    name: &str,
+    prover: &ProverFile,
+) -> Result<(), Stop>
+    ensures stored { OnOk result ((F.state shelf.new).told ≡ option_map (stored (name.now ++ ending kinds.VerifierJournal)
+        (blank_journal_bytes Ceilings prover.now.id prover.now.params.total (ceiling_slots prover.now.params.total)))
+        (F.state shelf.old).told) }
+    ensures quiet { OnOk result (CountsStay (change (F.state shelf.old) (F.state shelf.new))) }
+    ensures stop { IfErr result
+        (StopsAt (name.now ++ ending kinds.VerifierJournal)
+        (change (F.state shelf.old) (F.state shelf.new))) }
+    ensures kept { OnlyStores (IsDealName name.now)
+        (change (F.state shelf.old) (F.state shelf.new)) }
+{
+    let total = prover.total();
+    let bytes = blank(
         alloc,
         JournalKind::Ceilings,
-        id,
+        &prover.id(),
         total,
         ceiling_slots(total),
     )?;
-    store_as(alloc, shelf, name, Stored::ProverJournal, &claims)?;
-    store_as(alloc, shelf, name, Stored::VerifierJournal, &ceilings)
+    store_as(alloc, shelf, name, Stored::VerifierJournal, &bytes)
 }
 
 /// Stores both files and both journals.
@@ -146,17 +179,19 @@ fn store_dealt<F: Shelf>(
     prover: &ProverFile,
     verifier: &VerifierFile,
 ) -> Result<(), Stop>
-    ensures stored { OnOk result (F.told shelf.new ≡ option_map
-        (with_files name.now prover.now verifier.now) (F.told shelf.old)) }
-    ensures quiet { OnOk result (CountsStay (shelf_change F.told F.faults F.faults_of shelf.old shelf.new)) }
+    ensures stored { OnOk result ((F.state shelf.new).told ≡ option_map
+        (all_stored (file_stores name.now prover.now verifier.now)) (F.state shelf.old).told) }
+    ensures quiet { OnOk result (CountsStay (change (F.state shelf.old) (F.state shelf.new))) }
     ensures stop { IfErr result
-        (StoreStop name.now (shelf_change F.told F.faults F.faults_of shelf.old shelf.new)) }
+        (StopsStoring (file_stores name.now prover.now verifier.now)
+        (change (F.state shelf.old) (F.state shelf.new))) }
     ensures kept { OnlyStores (IsDealName name.now)
-        (shelf_change F.told F.faults F.faults_of shelf.old shelf.new) }
+        (change (F.state shelf.old) (F.state shelf.new)) }
 {
     store_prover(alloc, shelf, name, prover)?;
     store_verifier(alloc, shelf, name, verifier)?;
-    store_journals(alloc, shelf, name, &prover.id(), prover.total())
+    store_claims(alloc, shelf, name, prover)?;
+    store_ceilings(alloc, shelf, name, prover)
 }
 
 /// The name of a kind.
@@ -183,7 +218,7 @@ fn write_dealt(alloc: Global, prover: &ProverFile) -> Result<String, AllocError>
 /// Says what is stored, or that there is no memory for it, and answers the status.
 fn say_dealt<O: Sink>(alloc: Global, out: &mut O, prover: &ProverFile) -> u8
     ensures { PrintsMade 0 (file_lines prover.now) result
-        (sink_change O.written O.faults out.old out.new) }
+        (change (O.state out.old) (O.state out.new)) }
 {
     match write_dealt(alloc, prover) {
         Ok(lines) => say(alloc, out, lines.as_bytes(), 0),
@@ -202,20 +237,21 @@ fn deal_files<F: Shelf>(
     requires { AreParams params.now }
     ensures prover { IfOk result (λ prover. prover ≡ dealt_prover params.now seed.now) }
     ensures stores { OnOk result (StoresDealt (deal_ask name.now params.now) seed.now
-        (shelf_change F.told F.faults F.faults_of shelf.old shelf.new)) }
+        (change (F.state shelf.old) (F.state shelf.new))) }
     ensures stop { IfErr result
-        (StoreStop name.now (shelf_change F.told F.faults F.faults_of shelf.old shelf.new)) }
+        (StopsStoring (dealt_stores (deal_ask name.now params.now) seed.now)
+        (change (F.state shelf.old) (F.state shelf.new))) }
     ensures kept { OnlyStores (IsDealName name.now)
-        (shelf_change F.told F.faults F.faults_of shelf.old shelf.new) }
+        (change (F.state shelf.old) (F.state shelf.new)) }
 {
     let (prover, verifier) = deal(alloc, params, seed)?;
     store_dealt(alloc, shelf, name, &prover, &verifier)?;
     Ok(prover)
 }
 
-/// Deals files for these numbers from the seed, stores them under the name with their journals, says the id and the
-/// units, or why they are not stored, and answers the status.
-pub fn run_deal<F: Shelf, O: Sink>(
+/// Deals files for these numbers from the seed, stores them under the name with their journals, and says the id and the
+/// units, or why they are not stored.
+fn deal_and_say<F: Shelf, O: Sink>(
     alloc: Global,
     shelf: &mut F,
     out: &mut O,
@@ -225,13 +261,27 @@ pub fn run_deal<F: Shelf, O: Sink>(
 ) -> u8
     requires { AreParams params.now }
     ensures lines { DealLines (deal_ask name.now params.now) seed.now result
-        (shelf_change F.told F.faults F.faults_of shelf.old shelf.new)
-        (sink_change O.written O.faults out.old out.new) }
-    ensures kept { OnlyStores (IsDealName name.now)
-        (shelf_change F.told F.faults F.faults_of shelf.old shelf.new) }
+        (change (F.state shelf.old) (F.state shelf.new)) (change (O.state out.old) (O.state out.new)) }
+    ensures kept { OnlyStores (IsDealName name.now) (change (F.state shelf.old) (F.state shelf.new)) }
 {
     match deal_files(alloc, shelf, name, params, seed) {
         Ok(prover) => say_dealt(alloc, out, &prover),
         Err(stop) => say_stop(alloc, out, stop),
     }
+}
+
+/// `deal NAME --units N [--trees T --height H --base K]`, with its status.
+pub fn run_deal<F: Shelf, O: Sink>(
+    alloc: Global,
+    shelf: &mut F,
+    out: &mut O,
+    name: &str,
+    params: &Params,
+    seed: &[u8; 32],
+) -> u8
+    requires { AreParams params.now }
+    ensures { Deals (deal_ask name.now params.now) seed.now result
+        (change (F.state shelf.old) (F.state shelf.new)) (change (O.state out.old) (O.state out.new)) }
+{
+    deal_and_say(alloc, shelf, out, name, params, seed)
 }

@@ -1,6 +1,8 @@
 // `eval CIRCUIT BITS`
 ghost use Rattle.std.specs.Prelude.{◌≡◌, IfOk, IfErr, string_bytes};
-ghost use Rattle.zk_cli.specs.Changes.{shelf_change, sink_change, OnlyLoads};
+ghost use Rattle.zk_port.specs.Changes.{change};
+ghost use Rattle.zk_cli.specs.Changes.{OnlyLoads};
+ghost use Rattle.zk_cli.specs.Commands.{Evaluates};
 ghost use Rattle.zk_cli.specs.CircuitFiles.{GivesOutputs};
 ghost use Rattle.zk_cli.specs.EvalRuns.{EvalLines, EvalStop, outputs_line};
 ghost use Rattle.zk_cli.specs.Stops.{PrintsMade};
@@ -10,6 +12,7 @@ use crate::circuit_file::load_circuit;
 use crate::say::{say, say_memory, say_stop};
 use crate::stop::Stop;
 use bool_eval::eval;
+use bristol_reader::one_circuit;
 use command_words::write_bits;
 use std::alloc::{AllocError, Global};
 use zk_port::{Shelf, Sink};
@@ -22,10 +25,10 @@ fn eval_file<F: Shelf>(
     bits: &[bool],
 ) -> Result<Vec<bool>, Stop>
     ensures gives { IfOk result (λ outputs.
-        GivesOutputs (F.told shelf.old) name.now bits.now outputs.items) }
+        GivesOutputs (F.state shelf.old).told name.now bits.now outputs.items) }
     ensures stop { IfErr result (EvalStop (eval_ask name.now bits.now)
-        (shelf_change F.told F.faults F.faults_of shelf.old shelf.new)) }
-    ensures kept { OnlyLoads name.now (shelf_change F.told F.faults F.faults_of shelf.old shelf.new) }
+        (change (F.state shelf.old) (F.state shelf.new))) }
+    ensures kept { OnlyLoads name.now (change (F.state shelf.old) (F.state shelf.new)) }
 {
     let circuit = load_circuit(alloc, shelf, name)?;
     Ok(eval(alloc, &circuit, bits)?)
@@ -42,7 +45,7 @@ fn write_outputs(alloc: Global, outputs: &[bool]) -> Result<String, AllocError>
 /// Says the outputs, or that there is no memory for their line, and answers the status.
 fn say_outputs<O: Sink>(alloc: Global, out: &mut O, outputs: &[bool]) -> u8
     ensures { PrintsMade 0 (outputs_line outputs.now) result
-        (sink_change O.written O.faults out.old out.new) }
+        (change (O.state out.old) (O.state out.new)) }
 {
     match write_outputs(alloc, outputs) {
         Ok(line) => say(alloc, out, line.as_bytes(), 0),
@@ -50,9 +53,8 @@ fn say_outputs<O: Sink>(alloc: Global, out: &mut O, outputs: &[bool]) -> u8
     }
 }
 
-/// Evaluates the circuit of this name at these bits, says the outputs, or why there are none, and answers the
-/// status.
-pub fn run_eval<F: Shelf, O: Sink>(
+/// Evaluates the circuit of this name at these bits, and says the outputs, or why there are none.
+fn eval_and_say<F: Shelf, O: Sink>(
     alloc: Global,
     shelf: &mut F,
     out: &mut O,
@@ -60,12 +62,26 @@ pub fn run_eval<F: Shelf, O: Sink>(
     bits: &[bool],
 ) -> u8
     ensures lines { EvalLines (eval_ask name.now bits.now) result
-        (shelf_change F.told F.faults F.faults_of shelf.old shelf.new)
-        (sink_change O.written O.faults out.old out.new) }
-    ensures kept { OnlyLoads name.now (shelf_change F.told F.faults F.faults_of shelf.old shelf.new) }
+        (change (F.state shelf.old) (F.state shelf.new)) (change (O.state out.old) (O.state out.new)) }
+    ensures kept { OnlyLoads name.now (change (F.state shelf.old) (F.state shelf.new)) }
 {
     match eval_file(alloc, shelf, name, bits) {
         Ok(outputs) => say_outputs(alloc, out, &outputs),
         Err(stop) => say_stop(alloc, out, stop),
     }
+}
+
+/// `eval CIRCUIT BITS`, with its status.
+pub fn run_eval<F: Shelf, O: Sink>(
+    alloc: Global,
+    shelf: &mut F,
+    out: &mut O,
+    name: &str,
+    bits: &[bool],
+) -> u8
+    ensures { Evaluates (eval_ask name.now bits.now) result
+        (change (F.state shelf.old) (F.state shelf.new)) (change (O.state out.old) (O.state out.new)) }
+{
+    one_circuit();
+    eval_and_say(alloc, shelf, out, name, bits)
 }

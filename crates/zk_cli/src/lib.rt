@@ -5,6 +5,7 @@ mod circuit_file;
 mod deal_command;
 mod eval_command;
 mod finish;
+mod laws;
 mod note_lines;
 mod rehearse_command;
 mod run;
@@ -14,6 +15,7 @@ mod stop;
 
 pub use command_words::FILE_LIMIT;
 pub use finish::{Finish, Part};
+pub use laws::headline_is_of_accepted_log;
 pub use run::run_zk;
 pub use session_rehearsal::{Bits, Rehearsal, RehearseFault, Verdict};
-pub use stop::Stop;
+pub use stop::{BadFile, Stop};

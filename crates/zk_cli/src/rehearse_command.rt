@@ -1,6 +1,8 @@
 // `rehearse CIRCUIT BITS [--section G] [--extended]`
 ghost use Rattle.std.specs.Prelude.{◌≡◌, ◌≤◌, ◌^◌, IfOk, IfErr, string_bytes};
-ghost use Rattle.zk_cli.specs.Changes.{shelf_change, sink_change, OnlyLoads};
+ghost use Rattle.zk_port.specs.Changes.{change};
+ghost use Rattle.zk_cli.specs.Changes.{OnlyLoads};
+ghost use Rattle.zk_cli.specs.Commands.{Rehearses};
 ghost use Rattle.zk_cli.specs.Made.{IfRehearsed, effects};
 ghost use Rattle.zk_cli.specs.RehearseRuns.{RehearseLines, RehearseStop, IsRehearsed};
 ghost use Rattle.zk_cli.specs.RehearseRuns.{named_numbers, counts_line, rehearsal_lines};
@@ -11,6 +13,7 @@ use crate::circuit_file::load_circuit;
 use crate::finish::{Ending, Part};
 use crate::say::{say, say_memory, say_stop};
 use crate::stop::Stop;
+use bristol_reader::one_circuit;
 use command_words::write_bits;
 use dealer_files::Kind;
 use session_rehearsal::{Rehearsal, Verdict, rehearse};
@@ -30,10 +33,10 @@ fn rehearse_file<F: Shelf>(
     requires some { 1 ≤ section }
     requires most { section ≤ 2 ^ 20 }
     ensures rehearsed { IfOk result
-        (IsRehearsed (F.told shelf.old) (rehearse_ask name.now bits.now kind section) seed.now) }
+        (IsRehearsed (F.state shelf.old).told (rehearse_ask name.now bits.now kind section) seed.now) }
     ensures stop { IfErr result (RehearseStop (rehearse_ask name.now bits.now kind section)
-        (shelf_change F.told F.faults F.faults_of shelf.old shelf.new)) }
-    ensures kept { OnlyLoads name.now (shelf_change F.told F.faults F.faults_of shelf.old shelf.new) }
+        (change (F.state shelf.old) (F.state shelf.new))) }
+    ensures kept { OnlyLoads name.now (change (F.state shelf.old) (F.state shelf.new)) }
 {
     let circuit = load_circuit(alloc, shelf, name)?;
     Ok(rehearse(alloc, circuit, bits, kind, section, seed)?)
@@ -109,7 +112,7 @@ fn status_of(verdict: Verdict) -> u8
 
 /// Rehearses a session over the circuit of this name at these bits, says what came of it and hands it back, or
 /// says why there is no rehearsal.
-pub fn run_rehearse<F: Shelf, O: Sink, L: Drop>(
+fn rehearse_and_say<F: Shelf, O: Sink, L: Drop>(
     alloc: Global,
     shelf: &mut F,
     out: &mut O,
@@ -122,11 +125,11 @@ pub fn run_rehearse<F: Shelf, O: Sink, L: Drop>(
     requires some { 1 ≤ section }
     requires most { section ≤ 2 ^ 20 }
     ensures made { IfRehearsed result.part
-        (IsRehearsed (F.told shelf.old) (rehearse_ask name.now bits.now kind section) seed.now) }
+        (IsRehearsed (F.state shelf.old).told (rehearse_ask name.now bits.now kind section) seed.now) }
     ensures lines { RehearseLines (rehearse_ask name.now bits.now kind section)
-        (effects result.status result.part (shelf_change F.told F.faults F.faults_of shelf.old shelf.new)
-        (sink_change O.written O.faults out.old out.new)) }
-    ensures kept { OnlyLoads name.now (shelf_change F.told F.faults F.faults_of shelf.old shelf.new) }
+        (effects result.status result.part (change (F.state shelf.old) (F.state shelf.new))
+        (change (O.state out.old) (O.state out.new))) }
+    ensures kept { OnlyLoads name.now (change (F.state shelf.old) (F.state shelf.new)) }
 {
     match rehearse_file(alloc, shelf, name, bits, kind, section, seed) {
         Ok(rehearsal) => {
@@ -144,4 +147,26 @@ pub fn run_rehearse<F: Shelf, O: Sink, L: Drop>(
             part: Part::Plain,
         },
     }
+}
+
+/// `rehearse CIRCUIT BITS [--section G] [--extended]`, with its status and what it hands back.
+pub fn run_rehearse<F: Shelf, O: Sink, L: Drop>(
+    alloc: Global,
+    shelf: &mut F,
+    out: &mut O,
+    name: &str,
+    bits: &[bool],
+    kind: Kind,
+    section: u32,
+    seed: &[u8; 32],
+) -> Ending<L>
+    requires some { 1 ≤ section }
+    requires most { section ≤ 2 ^ 20 }
+    ensures { Rehearses (rehearse_ask name.now bits.now kind section) seed.now
+        (effects result.status result.part (change (F.state shelf.old) (F.state shelf.new))
+        (change (O.state out.old) (O.state out.new))) }
+{
+    one_circuit();
+    let ending = rehearse_and_say(alloc, shelf, out, name, bits, kind, section, seed);
+    ending
 }

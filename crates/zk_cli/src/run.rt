@@ -1,24 +1,11 @@
 // The top call.
-ghost use Rattle.std.specs.Prelude.{◌≡◌, ℕ, List, None};
-ghost use Rattle.zk_model.specs.Circuit.{Circuit};
-ghost use Rattle.zk_cli.specs.Changes.{shelf_change, sink_change, OnlyLoads, OnlyLoadsBoth, OnlyStores};
-ghost use Rattle.zk_cli.specs.Guards.{OnUsage, OnDeal, OnEval, OnRehearse, OnServe};
-ghost use Rattle.zk_cli.specs.Made.{IsPlain, IfRehearsed, EachNote, effects};
-ghost use Rattle.zk_cli.specs.Outcomes.{IsRehearseStatus, Accepts, IsRefused, HasFailed, TakesTooMany};
-ghost use Rattle.zk_cli.specs.Outcomes.{IsReady, AnswersFor, IsEvalStatus, WritesOutputs, IsDone};
-ghost use Rattle.zk_cli.specs.Outcomes.{IsDealStatus, DealsAll, HasStoreFailed};
-ghost use Rattle.zk_cli.specs.DealRuns.{DealLines, IsDealName};
-ghost use Rattle.zk_cli.specs.EvalRuns.{EvalLines};
-ghost use Rattle.session_rehearsal.specs.Rehearsals.{rehearsal_units};
-ghost use Rattle.zk_cli.specs.RehearseRuns.{HasOutputs, HasNumbers, IsRehearsed, RehearseLines};
-ghost use Rattle.session_pool.specs.Doors.{door_state};
-ghost use Rattle.session_verifier.specs.Stages.{moment_at};
+ghost use Rattle.std.specs.Prelude.{◌≡◌, None, Some};
+ghost use Rattle.zk_port.specs.Changes.{change};
 ghost use Rattle.session_verifier.specs.declared.note.VerifierOutcome.TheVariants.{Accepted};
-ghost use Rattle.zk_cli.specs.ServeRuns.{ServeLines, serve_effects, door_change};
-ghost use Rattle.zk_cli.specs.ServeStatuses.{ServeMeans, IsServable, HasServeFailed, IsWithHonestPeer};
-ghost use Rattle.zk_cli.specs.ServedNotes.{IsHeadline, IsServedNote};
-ghost use Rattle.zk_cli.specs.Stops.{PrintsUsage};
-ghost use Rattle.command_words.specs.Words.{texts, asked};
+ghost use Rattle.command_words.specs.Words.{Ask, ServeAsk, serve, texts, asked};
+ghost use Rattle.zk_cli.specs.Made.{EachNote};
+ghost use Rattle.zk_cli.specs.Meets.{Meets, SaysUsage, run_of};
+ghost use Rattle.zk_cli.specs.ServedNotes.{IsHeadline};
 
 use crate::deal_command::run_deal;
 use crate::eval_command::run_eval;
@@ -29,7 +16,6 @@ use crate::serve_command::{ServeWords, run_serve};
 use crate::stop::Stop;
 use bristol_reader::one_circuit;
 use command_words::{Command, read_words};
-use session_laws::extracted_shows_outputs;
 use std::alloc::Global;
 use std::sync::Wait;
 use std::thread::Threads;
@@ -66,157 +52,26 @@ where
     O: Sink,
     G: Gate + Sync + Drop,
 
-    // Words of no command: the usage line is written, or `memory` where memory is wanting; nothing else is done.
-    ensures usage { OnUsage words.now
-        (PrintsUsage result.status (sink_change O.written O.faults out.old out.new)) }
-    ensures usage_kept { OnUsage words.now (IsPlain result.part × (shelf.new ≡ shelf.old)
-        × (result.journal ≡ journal) × (result.door ≡ door)) }
+    // Words of no command.
+    ensures usage { asked (texts words.now) ≡ None → SaysUsage (run_of F.state D.state D.Link.state
+        result.status result.part (change shelf.old shelf.new) (change (O.state out.old) (O.state out.new))
+        (change journal result.journal) (change door result.door)) }
     ensures usage_2 { result.status ≡ 2 → asked (texts words.now) ≡ None }
 
-    // `rehearse CIRCUIT BITS [--section G] [--extended]`: the rehearsal that is handed back, if one is. Its outputs are the only
-    // ones that the circuit gives at the bits, its numbers are the circuit's, and its log is that of an honest
-    // session of that circuit over the files of the seed.
-    ensures rehearse_outputs { OnRehearse words.now
-        (λ ask. IfRehearsed result.part (HasOutputs (F.told shelf.old) ask)) }
-    ensures rehearse_numbers { OnRehearse words.now
-        (λ ask. IfRehearsed result.part (HasNumbers (F.told shelf.old) ask)) }
-    ensures rehearse_log { OnRehearse words.now
-        (λ ask. IfRehearsed result.part (IsRehearsed (F.told shelf.old) ask seed.now)) }
+    // Words of a command: its record holds of this run.
+    ensures meets { (ask : Ask) → asked (texts words.now) ≡ Some ask → Meets ask seed.now
+        (run_of F.state D.state D.Link.state
+        result.status result.part (change shelf.old shelf.new) (change (O.state out.old) (O.state out.new))
+        (change journal result.journal) (change door result.door)) }
 
-    // Its lines are written; or nothing is handed back, and the line of a stop with its cause is written.
-    ensures rehearse_lines { OnRehearse words.now (λ ask. RehearseLines ask
-        (effects result.status result.part (shelf_change F.told F.faults F.faults_of shelf.old shelf.new)
-        (sink_change O.written O.faults out.old out.new))) }
-
-    // Nothing but the circuit's file is asked of the shelf; the disk and the door are as they were.
-    ensures rehearse_kept { OnRehearse words.now (λ ask.
-        OnlyLoads ask.circuit (shelf_change F.told F.faults F.faults_of shelf.old shelf.new)
-        × (result.journal ≡ journal) × (result.door ≡ door)) }
-
-    // What each status says. 7, for want of memory, says nothing else.
-    ensures rehearse_statuses { OnRehearse words.now (λ ask. IsRehearseStatus result.status) }
-    ensures rehearse_0 { OnRehearse words.now (λ ask. result.status ≡ 0 →
-        Accepts result.part (sink_change O.written O.faults out.old out.new)) }
-    ensures rehearse_3 { OnRehearse words.now (λ ask. result.status ≡ 3 →
-        IsRefused (F.told shelf.old) ask.circuit ask.bits) }
-    ensures rehearse_4 { OnRehearse words.now (λ ask. result.status ≡ 4 →
-        HasFailed ask.circuit (shelf_change F.told F.faults F.faults_of shelf.old shelf.new)
-        (sink_change O.written O.faults out.old out.new)) }
-    ensures rehearse_9 { OnRehearse words.now (λ ask. result.status ≡ 9 →
-        TakesTooMany (F.told shelf.old) ask) }
-
-    // Where a shelf tells a circuit's text, the bits fit it and neither the load nor a write fails, the rehearsal
-    // is accepted unless memory runs out, or too many units are asked for.
-    ensures rehearse_done { OnRehearse words.now (λ ask. (circuit : Circuit) →
-        IsReady (F.told shelf.old) ask.circuit ask.bits circuit →
-        ¬ HasFailed ask.circuit (shelf_change F.told F.faults F.faults_of shelf.old shelf.new)
-        (sink_change O.written O.faults out.old out.new) →
-        AnswersFor (rehearsal_units circuit ask.kind ask.section) result.status) }
-
-    // `eval CIRCUIT BITS`: the line of the only outputs that the circuit gives at the bits is written, or that of a
-    // stop with its cause.
-    ensures eval_lines { OnEval words.now (λ ask. EvalLines ask result.status
-        (shelf_change F.told F.faults F.faults_of shelf.old shelf.new)
-        (sink_change O.written O.faults out.old out.new)) }
-
-    // Nothing is handed back, nothing but the circuit's file is asked of the shelf, and the disk and the door are as
-    // they were.
-    ensures eval_kept { OnEval words.now (λ ask. IsPlain result.part
-        × OnlyLoads ask.circuit (shelf_change F.told F.faults F.faults_of shelf.old shelf.new)
-        × (result.journal ≡ journal) × (result.door ≡ door)) }
-
-    // What each status says. 7, for want of memory, says nothing else.
-    ensures eval_statuses { OnEval words.now (λ ask. IsEvalStatus result.status) }
-    ensures eval_0 { OnEval words.now (λ ask. result.status ≡ 0 →
-        WritesOutputs (F.told shelf.old) ask (sink_change O.written O.faults out.old out.new)) }
-    ensures eval_3 { OnEval words.now (λ ask. result.status ≡ 3 →
-        IsRefused (F.told shelf.old) ask.circuit ask.bits) }
-    ensures eval_4 { OnEval words.now (λ ask. result.status ≡ 4 →
-        HasFailed ask.circuit (shelf_change F.told F.faults F.faults_of shelf.old shelf.new)
-        (sink_change O.written O.faults out.old out.new)) }
-
-    // Where a shelf tells a circuit's text, the bits fit it and neither the load nor a write fails, the outputs are
-    // written unless memory runs out.
-    ensures eval_done { OnEval words.now (λ ask. (circuit : Circuit) →
-        IsReady (F.told shelf.old) ask.circuit ask.bits circuit →
-        ¬ HasFailed ask.circuit (shelf_change F.told F.faults F.faults_of shelf.old shelf.new)
-        (sink_change O.written O.faults out.old out.new) →
-        IsDone result.status) }
-
-    // `deal NAME --units N [--trees T --height H --base K]`: the files of the seed and their journals are stored under
-    // the four names, and their lines are written; or the line of a stop with its cause is.
-    ensures deal_lines { OnDeal words.now (λ ask. DealLines ask seed.now result.status
-        (shelf_change F.told F.faults F.faults_of shelf.old shelf.new)
-        (sink_change O.written O.faults out.old out.new)) }
-
-    // Nothing is handed back, nothing but the four files is asked of the shelf or changed there, and the disk and the
-    // door are as they were.
-    ensures deal_kept { OnDeal words.now (λ ask. IsPlain result.part
-        × OnlyStores (IsDealName ask.name) (shelf_change F.told F.faults F.faults_of shelf.old shelf.new)
-        × (result.journal ≡ journal) × (result.door ≡ door)) }
-
-    // What each status says. 7, for want of memory, says nothing else.
-    ensures deal_statuses { OnDeal words.now (λ ask. IsDealStatus result.status) }
-    ensures deal_0 { OnDeal words.now (λ ask. result.status ≡ 0 → DealsAll ask seed.now
-        (shelf_change F.told F.faults F.faults_of shelf.old shelf.new)
-        (sink_change O.written O.faults out.old out.new)) }
-    ensures deal_4 { OnDeal words.now (λ ask. result.status ≡ 4 → HasStoreFailed ask.name
-        (shelf_change F.told F.faults F.faults_of shelf.old shelf.new)
-        (sink_change O.written O.faults out.old out.new)) }
-
-    // Where neither a store nor a write fails, all is stored and said unless memory runs out.
-    ensures deal_done { OnDeal words.now (λ ask. ¬ HasStoreFailed ask.name
-        (shelf_change F.told F.faults F.faults_of shelf.old shelf.new)
-        (sink_change O.written O.faults out.old out.new) → IsDone result.status) }
-
-    // `serve ADDRESS FILE CIRCUIT OUTPUTS --sessions 1 [--section G]`: what an accepted session shows. For every prover's file
-    // that is dealt with the verifier's, the input bits that this file and its frames fix make the circuit give the claimed
-    // outputs, or the challenge is a root of a named nonzero polynomial of at most the number of products in degree, or the
-    // key is one of a named nonzero polynomial of degree two at most.
-    ensures serve_headline { OnServe words.now (λ ask. EachNote result.part (λ note. note.outcome ≡ Accepted →
-        IsHeadline (F.told shelf.old) ask note.granted note.log)) }
-
-    // What each note says: the units that were leased, the verdict, what the verifier sent, that its keys fit the pairs of
-    // whatever prover, why the session ended, and that with an honest peer it is accepted.
-    ensures serve_notes { OnServe words.now (λ ask. EachNote result.part (λ note.
-        IsServedNote (F.told shelf.old) ask note.granted note.outcome
-        (moment_at note.log (D.Link.log note.link) (D.Link.to_come note.link)
-        (D.Link.ended note.link) (D.Link.receives note.link) (D.Link.faults note.link)))) }
-
-    // One session at most is served, with a peer that called, and its lines are written; or nothing is handed back, and the
-    // line of a stop with its cause is written.
-    ensures serve_lines { OnServe words.now (λ ask. ServeLines ask
-        (serve_effects result.status result.part (shelf_change F.told F.faults F.faults_of shelf.old shelf.new)
-        (sink_change O.written O.faults out.old out.new)
-        (door_change (D.offers door 1) (door_state (D.left door) (D.faults door))
-        (door_state (D.left result.door) (D.faults result.door))))) }
-
-    // What the status says: that of the sessions, or of a stop which has a cause.
-    ensures serve_status { OnServe words.now (λ ask. ServeMeans ask
-        (serve_effects result.status result.part (shelf_change F.told F.faults F.faults_of shelf.old shelf.new)
-        (sink_change O.written O.faults out.old out.new)
-        (door_change (D.offers door 1) (door_state (D.left door) (D.faults door))
-        (door_state (D.left result.door) (D.faults result.door))))) }
-
-    // Where a shelf tells a circuit and a file with room for its session, nothing fails and the peer that called, if one did,
-    // is honest, all is done unless memory runs out.
-    ensures serve_done { OnServe words.now (λ ask. IsServable (F.told shelf.old) ask →
-        ¬ HasServeFailed ask (shelf_change F.told F.faults F.faults_of shelf.old shelf.new)
-        (sink_change O.written O.faults out.old out.new)
-        (door_change (D.offers door 1) (door_state (D.left door) (D.faults door))
-        (door_state (D.left result.door) (D.faults result.door))) →
-        EachNote result.part (λ note. IsWithHonestPeer (F.told shelf.old) ask note.outcome
-        (moment_at note.log (D.Link.log note.link) (D.Link.to_come note.link)
-        (D.Link.ended note.link) (D.Link.receives note.link) (D.Link.faults note.link))) →
-        IsDone result.status) }
-
-    // Nothing but the files of the circuit and of the verifier is asked of the shelf; the disk is as it was.
-    ensures serve_kept { OnServe words.now (λ ask.
-        OnlyLoadsBoth ask.circuit ask.file (shelf_change F.told F.faults F.faults_of shelf.old shelf.new)
-        × (result.journal ≡ journal)) }
+    // The headline: what an accepted session shows. For every prover's file that is dealt with the verifier's, the input bits
+    // that this file and its frames fix make the circuit give the claimed outputs, or the challenge is a root of a named
+    // nonzero polynomial of at most the number of products in degree, or the key is one of a named nonzero polynomial of
+    // degree two at most.
+    ensures headline { (ask : ServeAsk) → asked (texts words.now) ≡ Some (serve ask) → EachNote result.part
+        (λ note. note.outcome ≡ Accepted → IsHeadline (F.state shelf.old).told ask note.granted note.log) }
 {
     one_circuit();
-    extracted_shows_outputs();
     let found = match read_words(alloc, words) {
         Ok(found) => found,
         Err(_) => {

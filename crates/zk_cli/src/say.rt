@@ -1,22 +1,21 @@
 // Writes what a run has to say.
 ghost use Rattle.std.specs.Prelude.{◌≡◌, ◌++◌, IfOk, codes, string_bytes};
 ghost use Rattle.std.specs.Fmt.{decimal};
-ghost use Rattle.zk_cli.specs.Changes.{sink_change};
+ghost use Rattle.zk_port.specs.Changes.{change};
 ghost use Rattle.zk_cli.specs.FaultLines.{fault_name, fault_number, fault_place, fault_line};
 ghost use Rattle.zk_cli.specs.FileLines.{file_fault_line};
 ghost use Rattle.zk_cli.specs.Prints.{Prints};
 ghost use Rattle.zk_cli.specs.Stops.{PrintsStop, PrintsMade, stop_line, stop_status};
 ghost use Rattle.zk_cli.specs.declared.stop.Stop.TheVariants.{NoMemory};
 
-use crate::stop::Stop;
+use crate::stop::{BadFile, Stop};
 use bristol_reader::ReadFault;
-use dealer_files::FileFault;
 use std::alloc::{AllocError, Global};
 use zk_port::{PortFault, Sink};
 
 /// Writes the text, and answers the status, or what a fault of the sink makes of it.
 pub fn say<O: Sink>(alloc: Global, out: &mut O, text: &[u8], status: u8) -> u8
-    ensures { Prints status text.now result (sink_change O.written O.faults out.old out.new) }
+    ensures { Prints status text.now result (change (O.state out.old) (O.state out.new)) }
 {
     match out.put(alloc, text) {
         Ok(()) => status,
@@ -54,20 +53,19 @@ fn write_fault(alloc: Global, fault: ReadFault) -> Result<String, AllocError>
 }
 
 /// The line that says the fault of a verifier's file.
-fn write_file_fault(alloc: Global, fault: FileFault) -> Result<String, AllocError>
+fn write_file_fault(alloc: Global, fault: BadFile) -> Result<String, AllocError>
     ensures { IfOk result (λ line. string_bytes line ≡ file_fault_line fault) }
 {
     match fault {
-        FileFault::BadMagic => String::from_str(alloc, "refused BadMagic 1\n"),
-        FileFault::BadKind => String::from_str(alloc, "refused BadKind 2\n"),
-        FileFault::BadParam => String::from_str(alloc, "refused BadParam 3\n"),
-        FileFault::Length { need, got } => write_pair(alloc, "refused Length 4", need, got),
-        FileFault::BadElement { place } => {
+        BadFile::BadMagic => String::from_str(alloc, "refused BadMagic 1\n"),
+        BadFile::BadKind => String::from_str(alloc, "refused BadKind 2\n"),
+        BadFile::BadParam => String::from_str(alloc, "refused BadParam 3\n"),
+        BadFile::Length { need, got } => write_pair(alloc, "refused Length 4", need, got),
+        BadFile::BadElement { place } => {
             Ok(format!(in alloc; "refused BadElement 5 {place}\n")?)
         }
-        FileFault::ZeroKey => String::from_str(alloc, "refused ZeroKey 6\n"),
-        FileFault::BadDigest => String::from_str(alloc, "refused BadDigest 7\n"),
-        FileFault::NoMemory => String::from_str(alloc, "refused memory\n"),
+        BadFile::ZeroKey => String::from_str(alloc, "refused ZeroKey 6\n"),
+        BadFile::BadDigest => String::from_str(alloc, "refused BadDigest 7\n"),
     }
 }
 
@@ -121,7 +119,7 @@ fn status_of(stop: Stop) -> u8
 
 /// Writes the line that says that memory is wanting, for which it needs none, and answers its status.
 pub fn say_memory<O: Sink>(alloc: Global, out: &mut O) -> u8
-    ensures { PrintsStop NoMemory result (sink_change O.written O.faults out.old out.new) }
+    ensures { PrintsStop NoMemory result (change (O.state out.old) (O.state out.new)) }
 {
     say(alloc, out, b"memory\n", 7)
 }
@@ -130,7 +128,7 @@ pub fn say_memory<O: Sink>(alloc: Global, out: &mut O) -> u8
 /// line.
 pub fn say_stop<O: Sink>(alloc: Global, out: &mut O, stop: Stop) -> u8
     ensures { PrintsMade (stop_status stop) (stop_line stop) result
-        (sink_change O.written O.faults out.old out.new) }
+        (change (O.state out.old) (O.state out.new)) }
 {
     match write_stop(alloc, stop) {
         Ok(line) => say(alloc, out, line.as_bytes(), status_of(stop)),

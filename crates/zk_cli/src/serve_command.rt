@@ -2,25 +2,29 @@
 ghost use Rattle.std.specs.Prelude.{◌≡◌, ◌≤◌, ◌^◌, All, IfOk, IfErr, OnErr, length};
 ghost use Rattle.zk_model.specs.Circuit.{Circuit};
 ghost use Rattle.session_core.specs.Jobs.{units_of_job, verifier_of};
-ghost use Rattle.session_pool.specs.Doors.{door_state, TakesOneAtMost};
+ghost use Rattle.session_pool.specs.Doors.{TakesOneAtMost};
 ghost use Rattle.session_pool.specs.Notes.{IsNote};
-ghost use Rattle.session_verifier.specs.Stages.{moment_at};
-ghost use Rattle.zk_cli.specs.Changes.{shelf_change, sink_change, OnlyLoads, OnlyLoadsBoth};
+ghost use Rattle.session_verifier.specs.declared.note.VerifierOutcome.TheVariants.{Accepted};
+ghost use Rattle.zk_port.specs.Doors.{after_listen};
+ghost use Rattle.zk_port.specs.Changes.{change};
+ghost use Rattle.zk_cli.specs.Changes.{OnlyLoads, OnlyLoadsBoth};
 ghost use Rattle.zk_cli.specs.Made.{EachNote};
 ghost use Rattle.zk_cli.specs.NoteLines.{served_text, served_status};
 ghost use Rattle.zk_cli.specs.Prints.{Prints};
 ghost use Rattle.zk_cli.specs.ServeRuns.{IsClaim, IsVerifierFileAt, ClaimStop, FileStop, OpeningStop, ServeStop, ServeLines};
-ghost use Rattle.zk_cli.specs.ServeRuns.{door_change, serve_effects, serve_words};
-ghost use Rattle.zk_cli.specs.ServedNotes.{IsServedNote};
+ghost use Rattle.zk_cli.specs.ServeRuns.{LeadsSessions, serve_effects, serve_words};
+ghost use Rattle.zk_cli.specs.ServeStatuses.{Serves};
+ghost use Rattle.zk_cli.specs.ServedNotes.{IsHeadline};
 
 use crate::circuit_file::load_file;
 use crate::finish::{Ending, Part};
 use crate::note_lines::{served_status, write_served};
 use crate::say::{say, say_stop};
 use crate::stop::Stop;
-use bristol_reader::read;
+use bristol_reader::{one_circuit, read};
 use dealer_files::{VerifierFile, decode_verifier};
 use session_core::{CircuitClaim, VerifierJob};
+use session_laws::extracted_shows_outputs;
 use session_pool::{Served, serve_first};
 use sha2::{Digest, Sha256};
 use std::alloc::Global;
@@ -43,10 +47,10 @@ fn load_claim<F: Shelf>(
     words: &ServeWords<'_>,
 ) -> Result<CircuitClaim, Stop>
     ensures claim { IfOk result (λ claim. (circuit : Circuit)
-        × IsClaim (F.told shelf.old) (serve_words words.now) circuit claim) }
+        × IsClaim (F.state shelf.old).told (serve_words words.now) circuit claim) }
     ensures stop { IfErr result (ClaimStop (serve_words words.now)
-        (shelf_change F.told F.faults F.faults_of shelf.old shelf.new)) }
-    ensures kept { OnlyLoads words.now.circuit.now (shelf_change F.told F.faults F.faults_of shelf.old shelf.new) }
+        (change (F.state shelf.old) (F.state shelf.new))) }
+    ensures kept { OnlyLoads words.now.circuit.now (change (F.state shelf.old) (F.state shelf.new)) }
 {
     let text = load_file(alloc, shelf, words.circuit)?;
     let circuit = read(alloc, &text)?;
@@ -62,10 +66,10 @@ fn load_claim<F: Shelf>(
 
 /// The verifier's file of this name.
 fn load_verifier<F: Shelf>(alloc: Global, shelf: &mut F, name: &str) -> Result<VerifierFile, Stop>
-    ensures file { IfOk result (IsVerifierFileAt (F.told shelf.old) name.now) }
+    ensures file { IfOk result (IsVerifierFileAt (F.state shelf.old).told name.now) }
     ensures stop { IfErr result
-        (FileStop (shelf_change F.told F.faults F.faults_of shelf.old shelf.new) name.now) }
-    ensures kept { OnlyLoads name.now (shelf_change F.told F.faults F.faults_of shelf.old shelf.new) }
+        (FileStop (change (F.state shelf.old) (F.state shelf.new)) name.now) }
+    ensures kept { OnlyLoads name.now (change (F.state shelf.old) (F.state shelf.new)) }
 {
     let bytes = load_file(alloc, shelf, name)?;
     let file = decode_verifier(alloc, &bytes)?;
@@ -85,17 +89,14 @@ where
     D::Link: Drop,
     requires some { 1 ≤ words.now.section }
     requires most { words.now.section ≤ 2 ^ 20 }
-    ensures notes { IfOk result (λ served. All (λ note.
-        IsNote (verifier_of claim.now file.now words.now.section) note.granted note.outcome
-        (moment_at note.log (D.Link.log note.link) (D.Link.to_come note.link)
-        (D.Link.ended note.link) (D.Link.receives note.link) (D.Link.faults note.link))) served.notes.items) }
+    ensures notes { IfOk result (λ served. All
+        (IsNote D.Link.state (verifier_of claim.now file.now words.now.section)) served.notes.items) }
     ensures few { IfOk result (λ _. units_of_job (verifier_of claim.now file.now words.now.section) ≤ 4096) }
     ensures taken { IfOk result (λ served. TakesOneAtMost (length served.notes.items)
-        served.door_failed served.memory_failed (door_state (D.offers door.old 1) (D.faults door.old))
-        (door_state (D.left door.new) (D.faults door.new))) }
+        served.door_failed served.memory_failed
+        (after_listen words.now.address.now 1 (D.state door.old)) (D.state door.new)) }
     ensures stop { IfErr result (OpeningStop (verifier_of claim.now file.now words.now.section)
-        (D.faults door.old) (D.faults door.new)) }
-    ensures left { OnErr result (D.left door.new ≡ D.left door.old) }
+        words.now.address.now (change (D.state door.old) (D.state door.new))) }
 {
     let statement = claim.statement();
     let job = VerifierJob::fit(&statement, file, words.section)?;
@@ -118,20 +119,13 @@ where
     D::Link: Drop,
     requires some { 1 ≤ words.now.section }
     requires most { words.now.section ≤ 2 ^ 20 }
-    ensures notes { IfOk result (λ served. All (λ note.
-        IsServedNote (F.told shelf.old) (serve_words words.now) note.granted note.outcome
-        (moment_at note.log (D.Link.log note.link) (D.Link.to_come note.link)
-        (D.Link.ended note.link) (D.Link.receives note.link) (D.Link.faults note.link))) served.notes.items) }
-    ensures taken { IfOk result (λ served. TakesOneAtMost (length served.notes.items)
-        served.door_failed served.memory_failed (door_state (D.offers door.old 1) (D.faults door.old))
-        (door_state (D.left door.new) (D.faults door.new))) }
+    ensures leads { IfOk result (λ served. LeadsSessions D.Link.state (serve_words words.now)
+        served.notes.items served.door_failed served.memory_failed
+        (F.state shelf.old).told (change (D.state door.old) (D.state door.new))) }
     ensures stop { IfErr result (ServeStop (serve_words words.now)
-        (shelf_change F.told F.faults F.faults_of shelf.old shelf.new)
-        (door_change (D.offers door.old 1) (door_state (D.left door.old) (D.faults door.old))
-        (door_state (D.left door.new) (D.faults door.new)))) }
-    ensures left { OnErr result (D.left door.new ≡ D.left door.old) }
+        (change (F.state shelf.old) (F.state shelf.new)) (change (D.state door.old) (D.state door.new))) }
     ensures kept { OnlyLoadsBoth words.now.circuit.now words.now.file.now
-        (shelf_change F.told F.faults F.faults_of shelf.old shelf.new) }
+        (change (F.state shelf.old) (F.state shelf.new)) }
 {
     let claim = load_claim(alloc, shelf, words)?;
     let file = load_verifier(alloc, shelf, words.file)?;
@@ -142,7 +136,7 @@ where
 fn say_notes<O: Sink, L>(alloc: Global, out: &mut O, served: &Served<L>) -> u8
     ensures { Prints (served_status served.now.notes.items served.now.door_failed served.now.memory_failed)
         (served_text served.now.notes.items served.now.door_failed) result
-        (sink_change O.written O.faults out.old out.new) }
+        (change (O.state out.old) (O.state out.new)) }
 {
     let Ok(text) = write_served(alloc, &served.notes, served.door_failed) else {
         return 7;
@@ -152,6 +146,37 @@ fn say_notes<O: Sink, L>(alloc: Global, out: &mut O, served: &Served<L>) -> u8
 }
 
 /// Serves one session about what the words name, says what came of it and hands it back, or says why none is served.
+fn serve_and_say<F: Shelf, D: Door, O: Sink, G: Gate>(
+    alloc: Global,
+    shelf: &mut F,
+    door: &mut D,
+    gate: &G,
+    out: &mut O,
+    words: &ServeWords<'_>,
+) -> Ending<D::Link>
+where
+    D::Link: Drop,
+    requires some { 1 ≤ words.now.section }
+    requires most { words.now.section ≤ 2 ^ 20 }
+    ensures lines { ServeLines D.Link.state (serve_words words.now) (serve_effects result.status result.part
+        (change (F.state shelf.old) (F.state shelf.new)) (change (O.state out.old) (O.state out.new))
+        (change (D.state door.old) (D.state door.new))) }
+    ensures kept { OnlyLoadsBoth words.now.circuit.now words.now.file.now
+        (change (F.state shelf.old) (F.state shelf.new)) }
+{
+    match serve_files(alloc, shelf, words, door, gate) {
+        Ok(served) => Ending {
+            status: say_notes(alloc, out, &served),
+            part: Part::Served(served.notes),
+        },
+        Err(stop) => Ending {
+            status: say_stop(alloc, out, stop),
+            part: Part::Plain,
+        },
+    }
+}
+
+/// `serve ADDRESS FILE CIRCUIT OUTPUTS --sessions 1 [--section G]`, with its status and what it hands back.
 pub fn run_serve<F: Shelf, D: Door, O: Sink, G: Gate>(
     alloc: Global,
     shelf: &mut F,
@@ -164,26 +189,14 @@ where
     D::Link: Drop,
     requires some { 1 ≤ words.now.section }
     requires most { words.now.section ≤ 2 ^ 20 }
-    ensures notes { EachNote result.part (λ note.
-        IsServedNote (F.told shelf.old) (serve_words words.now) note.granted note.outcome
-        (moment_at note.log (D.Link.log note.link) (D.Link.to_come note.link)
-        (D.Link.ended note.link) (D.Link.receives note.link) (D.Link.faults note.link))) }
-    ensures lines { ServeLines (serve_words words.now) (serve_effects result.status result.part
-        (shelf_change F.told F.faults F.faults_of shelf.old shelf.new)
-        (sink_change O.written O.faults out.old out.new)
-        (door_change (D.offers door.old 1) (door_state (D.left door.old) (D.faults door.old))
-        (door_state (D.left door.new) (D.faults door.new)))) }
-    ensures kept { OnlyLoadsBoth words.now.circuit.now words.now.file.now
-        (shelf_change F.told F.faults F.faults_of shelf.old shelf.new) }
+    ensures serves { Serves D.Link.state (serve_words words.now) (serve_effects result.status result.part
+        (change (F.state shelf.old) (F.state shelf.new)) (change (O.state out.old) (O.state out.new))
+        (change (D.state door.old) (D.state door.new))) }
+    ensures headline { EachNote result.part (λ note. note.outcome ≡ Accepted →
+        IsHeadline (F.state shelf.old).told (serve_words words.now) note.granted note.log) }
 {
-    match serve_files(alloc, shelf, words, door, gate) {
-        Ok(served) => Ending {
-            status: say_notes(alloc, out, &served),
-            part: Part::Served(served.notes),
-        },
-        Err(stop) => Ending {
-            status: say_stop(alloc, out, stop),
-            part: Part::Plain,
-        },
-    }
+    one_circuit();
+    extracted_shows_outputs();
+    let ending = serve_and_say(alloc, shelf, door, gate, out, words);
+    ending
 }

@@ -17,8 +17,8 @@ pub enum Stop {
     Usage,
     /// A circuit's text is refused.
     BadText(ReadFault),
-    /// A verifier's file is refused; this is never for want of memory.
-    BadFile(FileFault),
+    /// A verifier's file is refused.
+    BadFile(BadFile),
     /// A file has more bytes than this.
     TooLong { limit: u64 },
     /// There are `got` bits in place of `need`.
@@ -33,6 +33,18 @@ pub enum Stop {
     DoorFailed,
     /// Memory was wanting.
     NoMemory,
+}
+
+/// Why bytes are no dealt file: the fault that decoding finds first.
+#[derive(Clone, Copy, Debug, PartialEq, Eq)]
+pub enum BadFile {
+    BadMagic,
+    BadKind,
+    BadParam,
+    Length { need: u64, got: u64 },
+    BadElement { place: u64 },
+    ZeroKey,
+    BadDigest,
 }
 
 impl From<AllocError> for Stop {
@@ -120,8 +132,14 @@ impl From<FileFault> for Stop {
 
     fn from(fault: FileFault) -> Self {
         match fault {
+            FileFault::BadMagic => Stop::BadFile(BadFile::BadMagic),
+            FileFault::BadKind => Stop::BadFile(BadFile::BadKind),
+            FileFault::BadParam => Stop::BadFile(BadFile::BadParam),
+            FileFault::Length { need, got } => Stop::BadFile(BadFile::Length { need, got }),
+            FileFault::BadElement { place } => Stop::BadFile(BadFile::BadElement { place }),
+            FileFault::ZeroKey => Stop::BadFile(BadFile::ZeroKey),
+            FileFault::BadDigest => Stop::BadFile(BadFile::BadDigest),
             FileFault::NoMemory => Stop::NoMemory,
-            fault => Stop::BadFile(fault),
         }
     }
 }

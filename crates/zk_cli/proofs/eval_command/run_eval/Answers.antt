@@ -1,5 +1,5 @@
-use Rattle.zk_cli.proofs.EvalOutcomes.{says_eval_stop}
+use Rattle.zk_cli.proofs.EvalOutcomes.{evaluates}
 use Rattle.zk_cli.proofs.eval_command.run_eval.Goals as goal
 
-pub returns-in-Err-clause-lines : goal.returns-in-Err-clause-lines
-returns-in-Err-clause-lines g c = says_eval_stop _ _ _ _ c.in-Err.stop c.in-Err.ensures.stop c.say_stop.ensures
+pub returns : goal.returns
+returns g c = evaluates c.one_circuit.ensures _ _ _ _ c.eval_and_say.ensures.lines c.eval_and_say.ensures.kept
