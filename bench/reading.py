@@ -8,33 +8,21 @@
   - 64 MiB, the most that is loaded, of `1 `, which is refused at a token near its start.
 """
 import pathlib
-import random
 import sys
 import tempfile
 
+from circuits import INPUTS, random_circuit
 from costs import compare, row, table_head
 
-INPUTS = 128
-OUTPUTS = 64
 BITS = "01" * (INPUTS // 2)
-
-
-def circuit(gates: int) -> str:
-    """A circuit of so many gates, which set the wires in order."""
-    draw = random.Random(gates)
-    rows = [f"{gates} {INPUTS + gates}", f"1 {INPUTS}", f"1 {OUTPUTS}", ""]
-    for output in range(INPUTS, INPUTS + gates):
-        name = draw.choice(["XOR", "XOR", "AND", "INV"])
-        reads = [draw.randrange(output) for _ in range(1 if name == "INV" else 2)]
-        rows.append(f"{len(reads)} 1 {' '.join(map(str, reads))} {output} {name}")
-    return "\n".join(rows) + "\n"
+NAMES = ["XOR", "XOR", "AND", "INV"]
 
 
 def main() -> None:
     given = sys.argv[1:]
     if len(given) != 2:
         sys.exit("reading.py PROGRAM OTHER")
-    texts = [(f"{gates:,} gates", circuit(gates)) for gates in (131_000, 1_000_000)]
+    texts = [(f"{gates:,} gates", random_circuit(gates, gates, NAMES)) for gates in (131_000, 1_000_000)]
     print(table_head("Text"))
     with tempfile.TemporaryDirectory() as folder:
         file = f"{folder}/text"

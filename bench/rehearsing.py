@@ -4,7 +4,7 @@
 `rehearsing.py PROGRAM OTHER [--extended]` runs `rehearse FILE BITS` of both, in sections of the default length and over files of
 the one kind or the other, as `costs.py` says, and prints the best of five times (elapsed seconds of the whole run) and the
 largest resident memory of each. The circuits are chains: of AND gates, each of the wire before and input 0, half and all of
-131,000, and in kind extended a million; and of INV gates, half a million and a million. Others are those of `generated.py`, of
+131,000, and in kind extended a million; and of INV gates, half a million and a million. Others are random ones of `circuits.py`, of
 131,000 gates, and in kind extended a million.
 """
 import pathlib
@@ -12,8 +12,8 @@ import sys
 import tempfile
 from typing import Iterator, NamedTuple
 
+from circuits import INPUTS, MIXED, chain, random_circuit
 from costs import compare, row, table_head
-from generated import INPUTS, circuit
 
 SEED = 1
 
@@ -26,15 +26,7 @@ class Rehearsed(NamedTuple):
     bits: str
 
 
-def chain(gates: int, name: str) -> str:
-    """A circuit of two inputs and so many gates of this name, each of which reads the wire before it."""
-    first = "2 1 0" if name == "AND" else "1 1"
-    rows = [f"{gates} {gates + 2}", "1 2", "1 1", ""]
-    rows += [f"{first} {wire} {wire + 1} {name}" for wire in range(1, gates + 1)]
-    return "\n".join(rows) + "\n"
-
-
-def circuits(extended: bool) -> Iterator[Rehearsed]:
+def rehearsed(extended: bool) -> Iterator[Rehearsed]:
     """What is rehearsed over files of one kind."""
     chains = [(65_500, "AND"), (131_000, "AND"), (500_000, "INV"), (1_000_000, "INV")]
     drawn = [131_000]
@@ -42,9 +34,9 @@ def circuits(extended: bool) -> Iterator[Rehearsed]:
         chains.append((1_000_000, "AND"))
         drawn.append(1_000_000)
     for gates, name in chains:
-        yield Rehearsed(f"{gates:,} {name}", chain(gates, name), "11")
+        yield Rehearsed(f"{gates:,} {name}", chain(gates, [name]), "11")
     for gates in drawn:
-        yield Rehearsed(f"{gates:,} generated", circuit(gates, SEED), "01" * (INPUTS // 2))
+        yield Rehearsed(f"{gates:,} generated", random_circuit(gates, SEED, MIXED), "01" * (INPUTS // 2))
 
 
 def main() -> None:
@@ -54,7 +46,7 @@ def main() -> None:
     print(table_head("Circuit"))
     with tempfile.TemporaryDirectory() as folder:
         file = f"{folder}/text"
-        for name, text, bits in circuits(bool(kind)):
+        for name, text, bits in rehearsed(bool(kind)):
             pathlib.Path(file).write_text(text)
             print(row(name, compare(given, ["rehearse", file, bits, *kind], folder)), flush=True)
 

@@ -1,9 +1,11 @@
 """ChaCha20 of 20 rounds in its first form (Bernstein, ChaCha, a variant of Salsa20, 2008), with a block counter and a stream
 number of 64 bits each. A stream's words of 32 bits are counted through its blocks from 0, as the crate rand_chacha counts
 them, and two of them make a coin of 64 bits."""
+import functools
 import struct
 
 
+@functools.lru_cache(maxsize=1024)
 def chacha_block(key, counter, stream):
     """The 16 words of a block."""
     start = list(struct.unpack("<4I", b"expand 32-byte k")) + list(struct.unpack("<8I", key))

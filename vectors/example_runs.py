@@ -17,6 +17,10 @@ import sys
 from typing import List, NamedTuple, Optional, Tuple
 
 import bristol
+import common
+
+# The id of files that are dealt from 32 bytes 7.
+FILE_ID = common.FILE_ID.hex()
 
 TOP = pathlib.Path(__file__).resolve().parent.parent
 CRATE = TOP / "crates" / "example_runs"
@@ -75,9 +79,6 @@ FAULTS = [
 ]
 
 # Words of no command.
-# The id of files that are dealt from 32 bytes 7 (`dealt_files.py`).
-FILE_ID = "f400927857aaf64114f561baacb379708c79a1dc1476ab573216a4020764bde5"
-
 WRONG_WORDS = [
     "eval and.txt",
     "eval and.txt 12",
