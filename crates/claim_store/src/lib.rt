@@ -13,7 +13,6 @@ mod reading;
 mod store;
 
 pub use fault::StoreFault;
-pub use lease_core::Span;
 pub use store::ClaimStore;
 use thiserror::Error;
 

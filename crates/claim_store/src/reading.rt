@@ -8,9 +8,9 @@ ghost use Rattle.claim_store.specs.declared.fault.StoreFault.TheVariants as stor
 ghost use Rattle.lease_journal.specs.declared.fault.StartFault.TheVariants as start;
 
 use crate::fault::StoreFault;
-use lease_core::Span;
 use lease_journal::{Journal, StartFault};
 use std::alloc::Global;
+use zk_model::Span;
 use zk_port::Disk;
 
 /// Whether two spans have a unit in common.

@@ -16,10 +16,10 @@ ghost use Rattle.lease_journal.specs.declared.fault.StartFault.TheVariants as st
 use crate::ClaimFault;
 use crate::fault::StoreFault;
 use crate::reading::{first_met, read_claims};
-use lease_core::Span;
 use lease_journal::{Journal, JournalKind};
 use std::alloc::Global;
 use std::marker::Model;
+use zk_model::Span;
 use zk_port::Disk;
 
 /// The claims that a journal on a disk keeps. Contracts see of it the disk, the total, the number of slots, the kept

@@ -2,10 +2,11 @@
 ghost use Rattle.std.specs.Prelude.{◌≡◌, ◌≤◌, ℕ, List, Some, None, false, IfOk};
 ghost use Rattle.zk_model.specs.Journals.{IsTidy, slots_at};
 
-use crate::{ClaimFault, ClaimStore, Span, StoreFault};
+use crate::{ClaimFault, ClaimStore, StoreFault};
 use lease_journal::{JournalKind, StartFault, blank, blank_says_nothing};
 use std::alloc::Global;
 use std::test::Fail;
+use zk_model::Span;
 use zk_port::{Disk, FailAt, Failed, FaultPlan, Leftover, MemoryDisk, StopAt, SureDisk};
 
 const ID: [u8; 32] = [7; 32];

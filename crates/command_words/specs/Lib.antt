@@ -1,4 +1,4 @@
-pub mod Arranged
+pub mod Arguments
 pub mod BitWords
 pub mod Commands
 pub mod Numbers

@@ -1,15 +1,15 @@
 -- The words behind a command's name, as they may stand.
 use Rattle.std.specs.Prelude.{◌≡◌, ℕ, List, [], ◌∷◌, false}
-use Rattle.command_words.specs.Arranged.{kind_of, begins_with_dash, Word}
-use Rattle.command_words.specs.declared.arrange.Kind.TheVariants.{Place, Valued, Flag}
+use Rattle.command_words.specs.Arguments.{kind_of, begins_with_dash, Word}
+use Rattle.command_words.specs.declared.arrange.WordKind.TheVariants.{Positional, Valued, Flag}
 
 -- places in their order, and options anywhere among them in theirs
 pub data StandsAmong : List (List ℕ) → List (List ℕ) → List Word → Type 0 where
   nothing : StandsAmong [] [] []
-  place : {word : List ℕ} {words places : List (List ℕ)} {options : List Word}
-      → kind_of word ≡ Place → StandsAmong words places options → StandsAmong (word ∷ words) (word ∷ places) options
-  valued : {word value : List ℕ} {words places : List (List ℕ)} {options : List Word}
-      → kind_of word ≡ Valued → begins_with_dash value ≡ false → StandsAmong words places options
-      → StandsAmong (word ∷ value ∷ words) places ((word, value) ∷ options)
-  flag : {word : List ℕ} {words places : List (List ℕ)} {options : List Word}
-      → kind_of word ≡ Flag → StandsAmong words places options → StandsAmong (word ∷ words) places ((word, []) ∷ options)
+  place : {word : List ℕ} {words positional : List (List ℕ)} {options : List Word}
+      → kind_of word ≡ Positional → StandsAmong words positional options → StandsAmong (word ∷ words) (word ∷ positional) options
+  valued : {word value : List ℕ} {words positional : List (List ℕ)} {options : List Word}
+      → kind_of word ≡ Valued → begins_with_dash value ≡ false → StandsAmong words positional options
+      → StandsAmong (word ∷ value ∷ words) positional ((word, value) ∷ options)
+  flag : {word : List ℕ} {words positional : List (List ℕ)} {options : List Word}
+      → kind_of word ≡ Flag → StandsAmong words positional options → StandsAmong (word ∷ words) positional ((word, []) ∷ options)

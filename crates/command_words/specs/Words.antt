@@ -12,7 +12,7 @@ use Rattle.zk_model.specs.declared.Side.TheVariants.{Prover, Verifier}
 use Rattle.command_words.specs.declared.TheConstants.{FILE_LIMIT}
 use Rattle.command_words.specs.BitWords.{bits_of}
 use Rattle.command_words.specs.Numbers.{number_within}
-use Rattle.command_words.specs.Arranged.{arranged, option_named, stand_once, Word}
+use Rattle.command_words.specs.Arguments.{arranged, option_named, stand_once, Word}
 
 -- the words as their bytes
 abbrev pub texts : List (String Global) → List (List ℕ)
@@ -92,12 +92,12 @@ abbrev pub rehearse_of : List (List ℕ) → List Word → Option Ask
 rehearse_of (circuit ∷ bits ∷ []) options =
     option_and_then (λ section. option_map (λ read. rehearse (rehearse_ask circuit read (rehearsed_kind options) section))
     (bits_of bits)) (section_of options)
-rehearse_of places options = None
+rehearse_of positional options = None
 
 -- `eval CIRCUIT BITS`
 abbrev pub eval_of : List (List ℕ) → List Word → Option Ask
 eval_of (circuit ∷ bits ∷ []) [] = option_map (λ read. eval (eval_ask circuit read)) (bits_of bits)
-eval_of places options = None
+eval_of positional options = None
 
 -- what files of so many units are made for, of kind direct, and of kind extended
 abbrev pub direct_params : ℕ → Params
@@ -140,7 +140,7 @@ abbrev pub deal_of : List (List ℕ) → List Word → Option Ask
 deal_of (name ∷ []) options =
     if stand_once_among deal_options options then option_map (λ params. deal (deal_ask name params)) (params_of options)
     else None
-deal_of places options = None
+deal_of positional options = None
 
 -- how many sessions are served: one, for now
 abbrev pub sessions_of : List Word → Option ℕ
@@ -161,7 +161,7 @@ abbrev pub serve_of : List (List ℕ) → List Word → Option Ask
 serve_of (address ∷ file ∷ circuit ∷ outputs ∷ []) options =
     option_and_then (λ section. option_map (λ read. serve (serve_ask address file circuit read section))
     (bits_of outputs)) (serve_section_of options)
-serve_of places options = None
+serve_of positional options = None
 
 -- what the words ask for, if they are valid
 abbrev pub asked : List (List ℕ) → Option Ask

@@ -5,15 +5,15 @@ ghost use Rattle.std.specs.List.{list_any};
 ghost use Rattle.std.specs.Str.{bytes_eq};
 ghost use Rattle.command_words.specs.PartsOf.{parts_of, word_of};
 ghost use Rattle.command_words.specs.Words.{texts};
-ghost use Rattle.command_words.specs.Arranged.{kind_of, is_valued, is_flag, begins_with_dash, arranged, stand_once, option_named};
+ghost use Rattle.command_words.specs.Arguments.{kind_of, is_valued, is_flag, begins_with_dash, arranged, stand_once, option_named};
 
 use std::alloc::{AllocError, Global};
 
 /// What a word behind the name is, by itself.
 #[derive(Clone, Copy, Debug, PartialEq, Eq)]
-pub enum Kind {
+pub enum WordKind {
     /// A word that stands in its place.
-    Place,
+    Positional,
     /// An option that a value follows.
     Valued,
     /// An option that stands by itself.
@@ -31,8 +31,8 @@ pub struct Named<'a> {
 
 /// The words in their places, and the options with their values.
 #[derive(Drop)]
-pub struct Arranged<'a> {
-    pub places: Vec<&'a str>,
+pub struct Arguments<'a> {
+    pub positional: Vec<&'a str>,
     pub options: Vec<Named<'a>>,
 }
 
@@ -63,32 +63,32 @@ fn is_flag(word: &str) -> bool
 }
 
 /// What a word behind the name is, by itself.
-fn word_kind(word: &str) -> Kind
+fn word_kind(word: &str) -> WordKind
     ensures { result ≡ kind_of word.now }
 {
     if is_valued(word) {
-        Kind::Valued
+        WordKind::Valued
     } else if is_flag(word) {
-        Kind::Flag
+        WordKind::Flag
     } else if has_dash(word) {
-        Kind::Unknown
+        WordKind::Unknown
     } else {
-        Kind::Place
+        WordKind::Positional
     }
 }
 
 /// The places and options of these words, if they are such.
-pub fn arrange(alloc: Global, words: &[String]) -> Result<Option<Arranged<'_>>, AllocError>
+pub fn arrange(alloc: Global, words: &[String]) -> Result<Option<Arguments<'_>>, AllocError>
     ensures { IfOk result (λ found. option_map parts_of found ≡ arranged (texts words.now)) }
 {
-    let mut places = Vec::new(alloc);
+    let mut positional = Vec::new(alloc);
     let mut options = Vec::new(alloc);
     let mut rest = words;
     while let [word, behind @ ..] = rest {
         rest = behind;
         match word_kind(word) {
-            Kind::Place => places.push(word.as_str())?,
-            Kind::Valued => {
+            WordKind::Positional => positional.push(word.as_str())?,
+            WordKind::Valued => {
                 let [value, behind @ ..] = rest else {
                     return Ok(None);
                 };
@@ -101,14 +101,17 @@ pub fn arrange(alloc: Global, words: &[String]) -> Result<Option<Arranged<'_>>, 
                 })?;
                 rest = behind;
             }
-            Kind::Flag => options.push(Named {
+            WordKind::Flag => options.push(Named {
                 name: word.as_str(),
                 value: "",
             })?,
-            Kind::Unknown => return Ok(None),
+            WordKind::Unknown => return Ok(None),
         }
     }
-    Ok(Some(Arranged { places, options }))
+    Ok(Some(Arguments {
+        positional,
+        options,
+    }))
 }
 
 /// The value of the first option of this name, if there is one.

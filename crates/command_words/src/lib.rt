@@ -4,7 +4,7 @@
 //! single words; `laws` says in plain terms which words have which meaning. As the top call uses it:
 //!
 //!     let Some(command) = read_words(alloc, words)? else {
-//!         return say_stop(alloc, out, Stop::Usage);
+//!         return say_stop(alloc, out, Refusal::Usage);
 //!     };
 #![tactic(auto)]
 

@@ -8,16 +8,17 @@ ghost use Rattle.zk_model.specs.FileFaults.{file_length};
 ghost use Rattle.zk_model.specs.Files.{AreParams};
 ghost use Rattle.zk_model.specs.declared.Side.TheVariants.{Prover, Verifier};
 ghost use Rattle.command_words.specs.declared.TheConstants.{FILE_LIMIT};
-ghost use Rattle.command_words.specs.Arranged.{option_named};
+ghost use Rattle.command_words.specs.Arguments.{option_named};
 ghost use Rattle.command_words.specs.PartsOf.{word_of};
 ghost use Rattle.command_words.specs.Commands.{ask_of, IsWithinLimits, IsSectionSize};
 
 use crate::FILE_LIMIT;
-use crate::arrange::{Arranged, Named, are_once, arrange, find_option};
+use crate::arrange::{Arguments, Named, are_once, arrange, find_option};
 use crate::bits::read_bits;
 use crate::numbers::read_number;
-use dealer_files::{Kind, Params, Side, file_length};
+use dealer_files::file_length;
 use std::alloc::{AllocError, Global};
+use zk_model::{Kind, Params, Side};
 
 /// How many products a section has at most, and where nothing is said.
 const MOST_SECTION: u32 = 1 << 20;
@@ -63,12 +64,15 @@ pub fn read_words(alloc: Global, words: &[String]) -> Result<Option<Command<'_>>
     let Some(found) = arrange(alloc, rest)? else {
         return Ok(None);
     };
-    let Arranged { places, options } = found;
+    let Arguments {
+        positional,
+        options,
+    } = found;
     match name.as_str() {
-        "rehearse" => read_rehearse(alloc, &places, &options),
-        "eval" => read_eval(alloc, &places, &options),
-        "deal" => Ok(read_deal(&places, &options)),
-        "serve" => read_serve(alloc, &places, &options),
+        "rehearse" => read_rehearse(alloc, &positional, &options),
+        "eval" => read_eval(alloc, &positional, &options),
+        "deal" => Ok(read_deal(&positional, &options)),
+        "serve" => read_serve(alloc, &positional, &options),
         _ => Ok(None),
     }
 }
@@ -76,14 +80,14 @@ pub fn read_words(alloc: Global, words: &[String]) -> Result<Option<Command<'_>>
 /// `CIRCUIT BITS [--section G] [--extended]`
 fn read_rehearse<'a>(
     alloc: Global,
-    places: &[&'a str],
+    positional: &[&'a str],
     options: &[Named],
 ) -> Result<Option<Command<'a>>, AllocError>
     ensures asked { IfOk result (λ found. option_map ask_of found
-        ≡ rehearse_of (map (λ p. p.now) places.now) (map word_of options.now)) }
+        ≡ rehearse_of (map (λ p. p.now) positional.now) (map word_of options.now)) }
     ensures limits { IfOk result (λ found. IfSome found IsWithinLimits) }
 {
-    let [circuit, word] = places else {
+    let [circuit, word] = positional else {
         return Ok(None);
     };
     let Some(section) = read_section(options) else {
@@ -103,14 +107,14 @@ fn read_rehearse<'a>(
 /// `CIRCUIT BITS`, and no option
 fn read_eval<'a>(
     alloc: Global,
-    places: &[&'a str],
+    positional: &[&'a str],
     options: &[Named],
 ) -> Result<Option<Command<'a>>, AllocError>
     ensures asked { IfOk result (λ found. option_map ask_of found
-        ≡ eval_of (map (λ p. p.now) places.now) (map word_of options.now)) }
+        ≡ eval_of (map (λ p. p.now) positional.now) (map word_of options.now)) }
     ensures limits { IfOk result (λ found. IfSome found IsWithinLimits) }
 {
-    let [circuit, word] = places else {
+    let [circuit, word] = positional else {
         return Ok(None);
     };
     if !options.is_empty() {
@@ -157,14 +161,14 @@ fn read_length(options: &[Named]) -> Option<u32>
 /// `ADDRESS FILE CIRCUIT OUTPUTS --sessions 1 [--section G]`
 fn read_serve<'a>(
     alloc: Global,
-    places: &[&'a str],
+    positional: &[&'a str],
     options: &[Named],
 ) -> Result<Option<Command<'a>>, AllocError>
     ensures asked { IfOk result (λ found. option_map ask_of found
-        ≡ serve_of (map (λ p. p.now) places.now) (map word_of options.now)) }
+        ≡ serve_of (map (λ p. p.now) positional.now) (map word_of options.now)) }
     ensures limits { IfOk result (λ found. IfSome found IsWithinLimits) }
 {
-    let [address, file, circuit, word] = places else {
+    let [address, file, circuit, word] = positional else {
         return Ok(None);
     };
     let Some(section) = read_serve_section(options) else {
@@ -202,12 +206,12 @@ fn read_sessions(options: &[Named]) -> Option<u64>
 }
 
 /// `NAME --units N [--trees T --height H --base K]`
-fn read_deal<'a>(places: &[&'a str], options: &[Named]) -> Option<Command<'a>>
+fn read_deal<'a>(positional: &[&'a str], options: &[Named]) -> Option<Command<'a>>
     ensures asked { option_map ask_of result
-        ≡ deal_of (map (λ p. p.now) places.now) (map word_of options.now) }
+        ≡ deal_of (map (λ p. p.now) positional.now) (map word_of options.now) }
     ensures limits { IfSome result IsWithinLimits }
 {
-    let [name] = places else {
+    let [name] = positional else {
         return None;
     };
     if !are_once(options, &["--units", "--trees", "--height", "--base"]) {

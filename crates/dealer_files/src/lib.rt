@@ -31,4 +31,3 @@ pub use head::file_length;
 pub use prover_file::ProverFile;
 pub use transfer::{Pads, Transfer};
 pub use verifier_file::VerifierFile;
-pub use zk_model::{Kind, Params, Side, Span};

@@ -15,7 +15,6 @@ mod storing;
 pub use event::{Drawn, Event, Moment};
 pub use running::{leases_are_safe, run};
 pub use state::State;
-pub use zk_model::Span;
 
 #[cfg(test)]
 mod tests;

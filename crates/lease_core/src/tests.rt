@@ -1,7 +1,8 @@
 // Eras, crashes and claims.
-use crate::{Event, Moment, Span, State, run};
+use crate::{Event, Moment, State, run};
 use std::alloc::AllocError;
 use std::test::Fail;
+use zk_model::Span;
 
 const OPEN: u8 = 0x5A;
 

@@ -11,8 +11,9 @@ use crate::fault::TryFault;
 use crate::name::LeaseName;
 use crate::store::LeaseStore;
 use lease_journal::JournalFault;
-use lease_words::{Exhausted, Pass, Span};
+use lease_words::{Exhausted, Pass};
 use std::sync::Wait;
+use zk_model::Span;
 use zk_port::Disk;
 
 impl<B: Disk, N: LeaseName> LeaseStore<B, N> {

@@ -15,7 +15,6 @@ mod store;
 
 pub use desk::Desk;
 pub use fault::{StoreFault, TryFault};
-pub use lease_core::Span;
 pub use name::LeaseName;
 pub use parts::LeaseParts;
 pub use store::LeaseStore;

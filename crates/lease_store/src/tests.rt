@@ -7,7 +7,7 @@ ghost use Rattle.lease_journal.specs.Causes.{SaysSlots};
 ghost use Rattle.lease_store.specs.Desks.{Begins};
 ghost use Rattle.lease_store.specs.Leases.{IsClosed, IsPassAt};
 
-use crate::{LeaseFault, LeaseName, LeaseParts, LeaseStore, Span, StoreFault, TryFault};
+use crate::{LeaseFault, LeaseName, LeaseParts, LeaseStore, StoreFault, TryFault};
 use lease_journal::{JournalKind, StartFault, blank, blank_says_nothing};
 use lease_words::Pass;
 use std::alloc::{AllocError, Global};
@@ -15,6 +15,7 @@ use std::marker::Brand;
 use std::sync::Wait;
 use std::test::Fail;
 use std::thread::{Threads, join};
+use zk_model::Span;
 use zk_port::{Disk, FailAt, Failed, FaultPlan, Leftover, MemoryDisk, StopAt, SureDisk};
 
 const ID: [u8; 32] = [7; 32];

@@ -25,7 +25,6 @@ pub use pass::{JournalSeat, Pass};
 pub use rule::Leases;
 pub use table::Words;
 pub use view::{Bounds, Entry, Report, View};
-pub use zk_model::Span;
 
 #[cfg(test)]
 mod tests;

@@ -2,10 +2,11 @@
 ghost use Rattle.std.specs.Prelude.{◌≡◌, ◌≤◌, length, IfOk, All};
 ghost use Rattle.lease_words.specs.Calls.{journal_view, IsPassOf, IsSeatOf};
 
-use crate::{Exhausted, JournalSeat, Pass, Span, Words, start};
+use crate::{Exhausted, JournalSeat, Pass, Words, start};
 use std::alloc::{AllocError, Global};
 use std::test::Fail;
 use std::thread::{Threads, join};
+use zk_model::Span;
 
 /// Draws as often as asked.
 fn draw_often(

@@ -9,7 +9,7 @@ use Rattle.zk_model.specs.Files.{ProverFile, VerifierFile}
 use Rattle.zk_model.specs.Transcript.{Grant, units_for}
 use Rattle.zk_model.specs.ServedVerifier.{VerifierTask}
 use Rattle.zk_model.specs.declared.Params.{Params}
-use Rattle.session_core.specs.declared.verifier_job.TooManyUnits.{TooManyUnits}
+use Rattle.session_core.specs.declared.verifier_job.TooLarge.{TooLarge}
 
 -- a verifier's file and statement, and how many products its sections have
 pub record VerifierJob : Type 0 where
@@ -68,7 +68,7 @@ pub record Suits (params : Params) (program : Program) (grant : Grant) : Type 0 
   pub count_most : grant.count ≤ 4096
 
 -- the session of such a job would take more than 4,096 units
-pub record IsTooLarge (job : VerifierJob) (found : TooManyUnits) : Type 0 where
+pub record IsTooLarge (job : VerifierJob) (found : TooLarge) : Type 0 where
   pub need : found.need ≡ correlations_needed job.task.statement.program job.section_length
   pub units : found.units ≡ units_of_job job
   pub many : 4096 < found.units

@@ -16,13 +16,14 @@ ghost use Rattle.session_core.specs.Extending.{asks_in, replies_in, asks_of, rep
 ghost use Rattle.session_core.specs.Fixing.{AreFirstPairs};
 
 use crate::verifier_job::correlations_per_unit;
-use dealer_files::{Params, ProverFile, VerifierFile};
+use dealer_files::{ProverFile, VerifierFile};
 use linear_code::Columns;
 use mersenne_field::{Fe, Pair};
 use proof_frames::{Frame, Grant};
 use std::alloc::{AllocError, Global};
 use tree_messages::{TreeAsk, TreeReply};
 use vole_extend::{ProverRound, UnitReply, VerifierRound};
+use zk_model::Params;
 
 /// What a verifier makes of the asks for all units of its grant: a frame of replies for each, and its keys.
 #[derive(Debug, Drop)]

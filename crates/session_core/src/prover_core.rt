@@ -17,7 +17,6 @@ use crate::extending::{ask_units, finish_unit};
 use crate::fault::ProverFault;
 use crate::prover_job::ProverJob;
 use crate::verifier_core::one_frame;
-use dealer_files::{Kind, Params};
 use linear_code::Columns;
 use mersenne_field::Pair;
 use proof_frames::{Frame, Grant};
@@ -26,7 +25,7 @@ use std::marker::Model;
 use std::mem;
 use vole_extend::columns_of;
 use wire_auth::{Correlations, ProverWires};
-use zk_model::Expect;
+use zk_model::{Expect, Kind, Params};
 
 /// What the prover waits for, with the grant, the pairs of so many units that replies have made, or the pairs of all wires, which it has fixed.
 #[derive(Debug, Drop)]

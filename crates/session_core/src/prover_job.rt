@@ -14,14 +14,15 @@ ghost use Rattle.session_core.specs.Jobs.{AreValues, IsProverJob, Suits, prover_
 ghost use Rattle.session_core.specs.Fixing.{AreEnough, IsFixedUnder};
 
 use crate::statement::Statement;
-use crate::verifier_job::{MOST_UNITS, units_for};
-use dealer_files::{ProverFile, Span};
+use crate::verifier_job::{MAX_UNITS, units_for};
+use dealer_files::ProverFile;
 use mersenne_field::{Fe, Pair};
 use mult_check::prover_sums;
 use proof_frames::{Grant, Hello};
 use std::alloc::{AllocError, Global};
 use std::marker::Model;
 use wire_auth::{Correlations, ProverWires};
+use zk_model::Span;
 
 /// The most products of a section.
 const MOST_SECTION: u32 = 1 << 20;
@@ -144,7 +145,7 @@ impl<'a> ProverJob<'a> {
         }
         let need = self.statement.program().need(u64::from(grant.section));
         let count = u64::from(grant.count);
-        count == units_for(&self.file.params(), need) && count <= MOST_UNITS
+        count == units_for(&self.file.params(), need) && count <= MAX_UNITS
     }
 
     /// The pairs that are dealt in the units of a grant: those of its session in kind direct.

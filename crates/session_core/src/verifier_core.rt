@@ -19,7 +19,6 @@ use crate::extending::reply_units;
 use crate::fault::{HelloDiffers, VerifierFault};
 use crate::judgement::Judgement;
 use crate::verifier_job::VerifierJob;
-use dealer_files::{Kind, Params};
 use mersenne_field::Fe;
 use proof_frames::{Frame, Hello};
 use std::alloc::{AllocError, Global};
@@ -27,7 +26,7 @@ use std::marker::Model;
 use std::mem;
 use vole_extend::columns_of;
 use wire_auth::Correlations;
-use zk_model::{Expect, Span, Verdict};
+use zk_model::{Expect, Kind, Params, Span, Verdict};
 
 /// What the verifier waits for, with the first unit of its grant, what it has taken since, and its keys once they are fixed.
 #[derive(Debug, Drop)]

@@ -14,7 +14,7 @@ ghost use Rattle.session_core.specs.Judgements.{HasSides, Finds, verdict_in};
 use crate::judgement::Judgement;
 use crate::prover_job::{masks_of, units_of};
 use crate::statement::Statement;
-use dealer_files::{Kind, Params, VerifierFile};
+use dealer_files::VerifierFile;
 use mersenne_field::Fe;
 use mult_check::{check, check_openings};
 use proof_frames::Grant;
@@ -22,9 +22,10 @@ use std::alloc::{AllocError, Global};
 use std::marker::Model;
 use thiserror::Error;
 use wire_auth::VerifierWires;
+use zk_model::{Kind, Params};
 
 /// The most units of a session.
-pub const MOST_UNITS: u64 = 4096;
+pub const MAX_UNITS: u64 = 4096;
 
 /// How many correlations a unit gives to a session.
 pub(crate) fn correlations_per_unit(params: &Params) -> u64
@@ -57,7 +58,7 @@ pub fn units_for(params: &Params, need: u64) -> u64
 /// A session needs so many correlations, and units of them above 4,096.
 #[derive(Clone, Copy, Debug, PartialEq, Eq, Error)]
 #[error("the session takes {need} correlations in {units} units")]
-pub struct TooManyUnits {
+pub struct TooLarge {
     pub need: u64,
     pub units: u64,
 }
@@ -132,7 +133,7 @@ impl<'a> VerifierJob<'a> {
         statement: &'a Statement<'a>,
         file: &'a VerifierFile,
         section: u32,
-    ) -> Result<Self, TooManyUnits>
+    ) -> Result<Self, TooLarge>
         requires some { 1 ≤ section }
         requires most { section ≤ 2 ^ 20 }
         ensures fits { IfOk result (λ job. job ≡ verifier_of statement.now file.now section) }
@@ -141,8 +142,8 @@ impl<'a> VerifierJob<'a> {
     {
         let need = statement.program().need(u64::from(section));
         let units = units_for(&file.params(), need);
-        if units > MOST_UNITS {
-            return Err(TooManyUnits { need, units });
+        if units > MAX_UNITS {
+            return Err(TooLarge { need, units });
         }
         Ok(VerifierJob::new(statement, file, section))
     }

@@ -2,8 +2,9 @@
 ghost use Rattle.std.specs.Prelude.{◌≡◌};
 ghost use Rattle.session_pool.specs.FirstUnits.{IsFirstLease};
 
-use lease_store::{LeaseFault, Span};
+use lease_store::LeaseFault;
 use session_verifier::Grantor;
+use zk_model::Span;
 
 /// Leases the units from the first on, where the total has as many: for the one session of a run.
 #[derive(Drop)]

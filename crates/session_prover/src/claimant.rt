@@ -1,7 +1,8 @@
 // Who claims units for a session.
 ghost use Rattle.std.specs.Prelude.{◌≡◌, ◌+◌, ◌≤◌, None, Some, IfOk};
 
-use claim_store::{ClaimFault, Span};
+use claim_store::ClaimFault;
+use zk_model::Span;
 
 /// Claims units, once: it is made for one session.
 pub trait Claimant {

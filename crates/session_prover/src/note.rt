@@ -2,9 +2,10 @@
 ghost use Rattle.std.specs.Prelude.{◌≡◌};
 ghost use Rattle.session_prover.specs.Outcomes.{claim_outcome, line_outcome, session_outcome};
 
-use claim_store::{ClaimFault, Span};
+use claim_store::ClaimFault;
 use frame_link::{LineFault, Log};
 use session_core::ProverFault;
+use zk_model::Span;
 
 /// How a session ended for the prover.
 #[derive(Clone, Copy, Debug, PartialEq, Eq)]

@@ -16,13 +16,13 @@ ghost use Rattle.session_prover.specs.declared.note.ProverOutcome.TheVariants.{A
 use crate::claimant::Claimant;
 use crate::course::{answer_grant, greet, take_grant};
 use crate::note::{ProverNote, ProverOutcome};
-use claim_store::{ClaimFault, Span};
+use claim_store::ClaimFault;
 use frame_link::Line;
 use proof_frames::{Frame, Grant};
 use session_core::{ProverCore, ProverJob};
 use session_laws::honest_verdict;
 use std::alloc::Global;
-use zk_model::Side;
+use zk_model::{Side, Span};
 use zk_port::Link;
 
 /// Has the units of a grant claimed.

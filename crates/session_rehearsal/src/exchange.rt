@@ -15,7 +15,7 @@ ghost use Rattle.session_rehearsal.specs.Exchanges.{IsNoted, IsShortExchange, Ar
 ghost use Rattle.session_rehearsal.specs.Answers.{IsAnswered, IsCounted};
 ghost use Rattle.session_rehearsal.specs.Holding.{AreRoundsHeld, HoldsRounds, IsSessionOf, ends_of, ends_from};
 
-use dealer_files::{Kind, ProverFile, VerifierFile};
+use dealer_files::{ProverFile, VerifierFile};
 use mersenne_field::{Fe, Pair};
 use proof_frames::{Frame, Grant, Hello};
 use session_core::{
@@ -25,7 +25,7 @@ use session_core::{
 use session_laws::{asks_are_in_range, replies_are_in_range};
 use std::alloc::{AllocError, Global};
 use vole_extend::columns_of;
-use zk_model::Verdict;
+use zk_model::{Kind, Verdict};
 
 /// All that both ends of a session say, in order.
 #[derive(Debug, Drop)]

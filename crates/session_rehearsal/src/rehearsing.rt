@@ -17,10 +17,11 @@ use crate::noting::note;
 use crate::rehearsal::{Rehearsal, RehearseFault};
 use bool_eval::eval_wires;
 use bristol_reader::Circuit;
-use dealer_files::{Kind, Params, deal};
-use session_core::{CircuitClaim, MOST_UNITS, Statement, units_for, wire_bits_are_values};
+use dealer_files::deal;
+use session_core::{CircuitClaim, MAX_UNITS, Statement, units_for, wire_bits_are_values};
 use std::alloc::{AllocError, Global};
 use zk_laws::{bits_solve, honest_session_is_accepted, one_outcome};
+use zk_model::{Kind, Params};
 
 /// The bits of a circuit's output wires, from those of all wires.
 fn output_bits<'a>(circuit: &Circuit, bits: &'a [bool]) -> &'a [bool]
@@ -105,7 +106,7 @@ fn rehearse_claim(
     let program = statement.program();
     let need = program.need(g);
     let units = units_for(&rehearsed_params(kind, 1), need);
-    if units > MOST_UNITS {
+    if units > MAX_UNITS {
         return Err(RehearseFault::TooLarge { need, units });
     }
     let exchange = exchange_dealt(alloc, &statement, bits, kind, section, units, seed)?;

@@ -9,13 +9,13 @@ use crate::scene::{
 };
 use bool_eval::eval_wires;
 use bristol_reader::Circuit;
-use claim_store::{ClaimFault, Span};
+use claim_store::ClaimFault;
 use proof_frames::{Grant, encode_grant, encode_verdict};
 use session_core::{ProverJob, wire_bits_are_values};
 use session_prover::{Claimant, ProverNote, ProverOutcome, prove_session};
 use std::alloc::{AllocError, Global};
 use std::test::Fail;
-use zk_model::Side;
+use zk_model::{Side, Span};
 use zk_port::{FailAt, FaultPlan, Link, NoFault, ScriptedLink};
 
 /// Claims the units that it is asked for, or answers by a fault.

@@ -5,13 +5,13 @@ ghost use Rattle.proof_frames.specs.Readings.{IsShortPlace};
 use crate::scene::{
     LONG, Rehearsal, Scene, and_gate, circuit_of, claim_of, files_of, refusal, rehearsed,
 };
-use lease_store::{LeaseFault, Span};
+use lease_store::LeaseFault;
 use proof_frames::{BadFrame, Decoder, Expect};
 use session_core::{HelloDiffers, VerifierJob};
 use session_verifier::{Grantor, SessionNote, VerifierOutcome, verify_session};
 use std::alloc::Global;
 use std::test::Fail;
-use zk_model::FrameKind;
+use zk_model::{FrameKind, Span};
 use zk_port::{FailAt, FaultPlan, Link, NoFault, QuietGate, ScriptedLink};
 
 /// Leases units from 0 on, or answers by a fault.

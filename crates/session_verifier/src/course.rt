@@ -10,11 +10,11 @@ ghost use Rattle.session_verifier.specs.Stages.{IsHeldJob, IsLineAt, IsStopped, 
 
 use crate::note::VerifierOutcome;
 use frame_link::{Line, LineFault};
-use lease_store::Span;
 use proof_frames::{Expect, Frame};
 use session_core::{Judgement, VerifierCore, VerifierFault};
 use session_laws::replies_are_in_range;
 use std::alloc::Global;
+use zk_model::Span;
 use zk_port::Link;
 
 /// How many bytes a refusal has.

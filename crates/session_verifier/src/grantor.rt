@@ -1,7 +1,8 @@
 // Who leases units to sessions.
 ghost use Rattle.std.specs.Prelude.{◌≡◌, ◌+◌, ◌≤◌, None, Some, IfOk};
 
-use lease_store::{LeaseFault, Span};
+use lease_store::LeaseFault;
+use zk_model::Span;
 
 /// Leases units, once: it is made for one session.
 pub trait Grantor {

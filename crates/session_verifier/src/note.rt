@@ -3,9 +3,10 @@ ghost use Rattle.std.specs.Prelude.{◌≡◌};
 ghost use Rattle.session_verifier.specs.Outcomes.{lease_outcome, line_outcome, session_outcome, judgement_outcome};
 
 use frame_link::{LineFault, Log};
-use lease_store::{LeaseFault, Span};
+use lease_store::LeaseFault;
 use mersenne_field::Fe;
 use session_core::{HelloDiffers, Judgement, VerifierFault};
+use zk_model::Span;
 
 /// How a session ended for the verifier.
 #[derive(Clone, Copy, Debug, PartialEq, Eq)]

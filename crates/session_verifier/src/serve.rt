@@ -9,11 +9,11 @@ ghost use Rattle.session_verifier.specs.Stages.{asks_due, IsHeldJob, IsLineAt, I
 use crate::course::{give_grant, judge, meet, refuse, take_asks};
 use crate::grantor::Grantor;
 use crate::note::VerifierOutcome;
-use dealer_files::Kind;
 use frame_link::Line;
-use lease_store::{LeaseFault, Span};
+use lease_store::LeaseFault;
 use session_core::{Judgement, VerifierCore, VerifierJob};
 use std::alloc::Global;
+use zk_model::{Kind, Span};
 use zk_port::{Gate, Link, Phase};
 
 /// What was granted, and how the session ended.

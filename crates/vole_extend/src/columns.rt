@@ -4,9 +4,9 @@ ghost use Rattle.zk_model.specs.Files.{AreParams};
 ghost use Rattle.zk_model.specs.declared.Kind.TheVariants.{Extended};
 ghost use Rattle.vole_extend.specs.Rounds.{unit_code};
 
-use dealer_files::Params;
 use linear_code::Columns;
 use std::alloc::{AllocError, Global};
+use zk_model::Params;
 
 /// The columns of the code of a file of kind extended: for each leaf of all trees of a unit ten of the first base
 /// correlations of that unit. They are the same for every unit, so make them once a session.

@@ -9,7 +9,7 @@ ghost use Rattle.zk_model.specs.declared.Kind.TheVariants.{Extended};
 ghost use Rattle.vole_extend.specs.Rounds.{unit_code, tree_transfers, tree_base, tree_ask, asked_view, asked_round, IsNoiseOfTrees};
 
 use crate::levels::{asked_flips, chosen_sums};
-use dealer_files::{Params, ProverFile, Span, Transfer};
+use dealer_files::{ProverFile, Transfer};
 use ggm_tree::puncture;
 use linear_code::Columns;
 use mersenne_field::{Fe, Pair};
@@ -17,6 +17,7 @@ use sparse_vole::{prover_ask, prover_finish};
 use std::alloc::{AllocError, Global};
 use std::marker::Model;
 use tree_messages::{TreeAsk, TreeReply};
+use zk_model::{Params, Span};
 
 /// A prover's round over a unit of a file of kind extended. What it asks hides in each tree a place and a value, which its
 /// coins choose, so the same unit always asks the same.

@@ -10,7 +10,7 @@ ghost use Rattle.ggm_tree.specs.Sums.{tree_sums};
 ghost use Rattle.vole_extend.specs.Rounds.{unit_code, tree_pads, first_replies, first_leaves};
 
 use crate::levels::masked_sums;
-use dealer_files::{Pads, Params, Span, VerifierFile};
+use dealer_files::{Pads, VerifierFile};
 use ggm_tree::{GrownTree, grow};
 use linear_code::Columns;
 use mersenne_field::Fe;
@@ -18,6 +18,7 @@ use sparse_vole::verifier_reply;
 use std::alloc::{AllocError, Global};
 use std::marker::Model;
 use tree_messages::{TreeAsk, TreeReply};
+use zk_model::{Params, Span};
 
 /// A verifier's round over a unit of a file of kind extended.
 #[derive(Debug, Drop)]

@@ -4,8 +4,8 @@ use Rattle.std.proofs.lemmas.Bool.Decides.{nat_tests}
 use Rattle.zk_cli.specs.Changes.{SinkChange}
 use Rattle.zk_cli.specs.Prints.{Prints, after_sink_fault}
 use Rattle.zk_cli.specs.Stops.{PrintsStop, stop_status, stop_line}
-use Rattle.zk_cli.specs.declared.stop.Stop.{Stop}
-use Rattle.zk_cli.specs.declared.stop.Stop.TheVariants as stop
+use Rattle.zk_cli.specs.declared.refusal.Refusal.{Refusal}
+use Rattle.zk_cli.specs.declared.refusal.Refusal.TheVariants as stop
 
 -- a status above 1 is left by a fault of the sink
 high_stays : (status : ℕ) → 2 ≤ status → after_sink_fault status ≡ status
@@ -25,7 +25,7 @@ stop_answers status text answer sink high (inl whole) = inl whole.answered
 stop_answers status text answer sink high (inr (inl fault)) = inl (fault.answered ∙ high_stays status high)
 stop_answers status text answer sink high (inr (inr short)) = inr short.answered
 
-pub high_stop : (stop : Stop) → 2 ≤ stop_status stop
+pub high_stop : (stop : Refusal) → 2 ≤ stop_status stop
 high_stop stop.Usage = omega arith
 high_stop (stop.BadText fault) = omega arith
 high_stop (stop.BadFile fault) = omega arith

@@ -14,8 +14,8 @@ use Rattle.zk_cli.specs.Outcomes.{DealsAll, HasStoreFailed}
 use Rattle.zk_cli.proofs.Storing.{between}
 use Rattle.zk_cli.specs.Stops.{PrintsMade, stop_status, stop_line}
 use Rattle.command_words.specs.Words.{DealAsk}
-use Rattle.zk_cli.specs.declared.stop.Stop.{Stop}
-use Rattle.zk_cli.specs.declared.stop.Stop.TheVariants as stop
+use Rattle.zk_cli.specs.declared.refusal.Refusal.{Refusal}
+use Rattle.zk_cli.specs.declared.refusal.Refusal.TheVariants as stop
 use Rattle.zk_cli.proofs.Answering.{stop_answers, high_stop, memory_answers}
 
 -- ---- a stop
@@ -34,7 +34,7 @@ stores_none ask seed a = record {
     same (Some files) = λ other not. refl
 
 -- where storing stops there is memory for the line of that or not
-pub says_deal_stop : (ask : DealAsk) (seed : List ℕ) (status : ℕ) (shelf : ShelfChange) (sink : SinkChange) (why : Stop)
+pub says_deal_stop : (ask : DealAsk) (seed : List ℕ) (status : ℕ) (shelf : ShelfChange) (sink : SinkChange) (why : Refusal)
     → StopsStoring (dealt_stores ask seed) shelf why → PrintsMade (stop_status why) (stop_line why) status sink
     → DealLines ask seed status shelf sink
 says_deal_stop ask seed status shelf sink why stops (inl prints) = inr record { stop = why; cause = stops; prints = prints }
@@ -58,7 +58,7 @@ stores_dealt ask seed prover verifier shelf is_prover is_verifier files counts =
   counts = counts;
 }
 
-pub stops_dealt : (ask : DealAsk) (seed : List ℕ) (prover : model.ProverFile) (verifier : model.VerifierFile) (shelf : ShelfChange) (why : Stop)
+pub stops_dealt : (ask : DealAsk) (seed : List ℕ) (prover : model.ProverFile) (verifier : model.VerifierFile) (shelf : ShelfChange) (why : Refusal)
     → prover ≡ dealt_prover ask.params seed → verifier ≡ dealt_verifier ask.params seed
     → StopsStoring (file_stores ask.name prover verifier) shelf why → StopsStoring (dealt_stores ask seed) shelf why
 stops_dealt ask seed prover verifier shelf why is_prover is_verifier stops =
@@ -87,7 +87,7 @@ next_is_one name prover verifier (suc (suc zero)) some = (ProverJournal, refl)
 next_is_one name prover verifier (suc (suc (suc zero))) some = (VerifierJournal, refl)
 next_is_one name prover verifier (suc (suc (suc (suc more)))) some = absurd (omega (arith, some))
 
-deal_stopped : (ask : DealAsk) (seed : List ℕ) (status : ℕ) (shelf : ShelfChange) (sink : SinkChange) (why : Stop)
+deal_stopped : (ask : DealAsk) (seed : List ℕ) (status : ℕ) (shelf : ShelfChange) (sink : SinkChange) (why : Refusal)
     → StopsStoring (dealt_stores ask seed) shelf why → (status ≡ stop_status why) ⊎ (status ≡ 7) → DealMeans ask seed status shelf sink
 deal_stopped ask seed status shelf sink why stops (inr e) = inr (inr e)
 deal_stopped ask seed status shelf sink why stops (inl e) = elim stops.cause [

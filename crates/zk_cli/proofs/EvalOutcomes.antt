@@ -14,8 +14,8 @@ use Rattle.zk_cli.specs.Outcomes.{IsEvalStatus, WritesOutputs, IsRefused, IsRead
 use Rattle.zk_cli.specs.Stops.{PrintsStop, PrintsMade, stop_status, stop_line}
 use Rattle.zk_cli.specs.StopsOf.{eval_stop}
 use Rattle.command_words.specs.Words.{EvalAsk}
-use Rattle.zk_cli.specs.declared.stop.Stop.{Stop}
-use Rattle.zk_cli.specs.declared.stop.Stop.TheVariants as stop
+use Rattle.zk_cli.specs.declared.refusal.Refusal.{Refusal}
+use Rattle.zk_cli.specs.declared.refusal.Refusal.TheVariants as stop
 use Rattle.zk_cli.proofs.Answering.{stop_answers, high_stop, memory_answers}
 use Rattle.zk_cli.proofs.Refusals.{CircuitMeans, circuit_stop_means}
 use Rattle.zk_cli.proofs.ToldCircuits.{not_refused}
@@ -31,7 +31,7 @@ says_eval_memory ask status shelf sink prints =
     inr record { stop = stop.NoMemory; cause = eval_lacks_memory ask shelf; prints = prints }
 
 -- a stop whose line is written, or for which there is no memory
-pub says_eval_stop : (ask : EvalAsk) (status : ℕ) (shelf : ShelfChange) (sink : SinkChange) (why : Stop)
+pub says_eval_stop : (ask : EvalAsk) (status : ℕ) (shelf : ShelfChange) (sink : SinkChange) (why : Refusal)
     → EvalStop ask shelf why → PrintsMade (stop_status why) (stop_line why) status sink → EvalLines ask status shelf sink
 says_eval_stop ask status shelf sink why cause (inl prints) = inr record { stop = why; cause = cause; prints = prints }
 says_eval_stop ask status shelf sink why cause (inr prints) = says_eval_memory ask status shelf sink prints
@@ -50,7 +50,7 @@ unevaluated_means ask shelf circuit (WrongLength need got) file cause =
     )
 unevaluated_means ask shelf circuit NoMemory file cause = inr (inr refl)
 
-eval_stop_means : (ask : EvalAsk) (shelf : ShelfChange) (why : Stop) → EvalStop ask shelf why
+eval_stop_means : (ask : EvalAsk) (shelf : ShelfChange) (why : Refusal) → EvalStop ask shelf why
     → CircuitMeans ask.circuit ask.bits shelf (stop_status why)
 eval_stop_means ask shelf why (inl cause) = circuit_stop_means ask.circuit ask.bits shelf why cause
 eval_stop_means ask shelf why (inr cause) =

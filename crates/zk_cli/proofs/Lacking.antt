@@ -12,7 +12,7 @@ use Rattle.zk_cli.specs.Meets.{Meets, run_of}
 use Rattle.zk_cli.specs.ServeRuns.{serve_effects}
 use Rattle.zk_cli.specs.Stops.{PrintsStop}
 use Rattle.zk_cli.specs.declared.finish.Part.TheVariants.{Plain}
-use Rattle.zk_cli.specs.declared.stop.Stop.TheVariants.{NoMemory}
+use Rattle.zk_cli.specs.declared.refusal.Refusal.TheVariants.{NoMemory}
 use Rattle.zk_cli.proofs.DealOutcomes.{deals, says_deal_stop, stores_none}
 use Rattle.zk_cli.proofs.EvalOutcomes.{evaluates, says_eval_memory}
 use Rattle.zk_cli.proofs.Outcomes.{rehearses}

@@ -19,7 +19,7 @@ use Rattle.session_rehearsal.specs.declared.rehearsal.Rehearsal.{Rehearsal}
 use Rattle.session_rehearsal.specs.declared.rehearsal.RehearseFault.{RehearseFault}
 use Rattle.session_rehearsal.specs.declared.rehearsal.RehearseFault.TheVariants as session
 use Rattle.zk_model.specs.declared.Verdict.TheVariants.{Accepted}
-use Rattle.zk_cli.specs.declared.stop.Stop.{Stop}
+use Rattle.zk_cli.specs.declared.refusal.Refusal.{Refusal}
 use Rattle.zk_cli.proofs.Answering.{stop_answers, high_stop, memory_answers}
 use Rattle.zk_cli.proofs.Refusals.{CircuitMeans, circuit_stop_means}
 use Rattle.zk_cli.proofs.ToldCircuits.{told_circuit, not_refused}
@@ -82,7 +82,7 @@ unrehearsed_means ask shelf circuit (session.TooLarge need units) file cause =
     )
 unrehearsed_means ask shelf circuit session.NoMemory file cause = inl (inr (inr refl))
 
-stop_means : (ask : RehearseAsk) (shelf : ShelfChange) (stop : Stop) → RehearseStop ask shelf stop
+stop_means : (ask : RehearseAsk) (shelf : ShelfChange) (stop : Refusal) → RehearseStop ask shelf stop
     → StopMeans ask shelf (stop_status stop)
 stop_means ask shelf stop (inl why) = inl (circuit_stop_means ask.circuit ask.bits shelf stop why)
 stop_means ask shelf stop (inr why) =

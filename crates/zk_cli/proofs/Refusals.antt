@@ -12,7 +12,7 @@ use Rattle.zk_cli.specs.Outcomes.{IsRefused}
 use Rattle.zk_cli.specs.Stops.{stop_status}
 use Rattle.zk_cli.specs.StopsOf.{load_stop, read_stop}
 use Rattle.command_words.specs.declared.TheConstants.{FILE_LIMIT}
-use Rattle.zk_cli.specs.declared.stop.Stop.{Stop}
+use Rattle.zk_cli.specs.declared.refusal.Refusal.{Refusal}
 
 -- the status with what it stands for
 abbrev pub CircuitMeans : List ℕ → List Bool → ShelfChange → ℕ → Type 0
@@ -32,7 +32,7 @@ unread_means name bits shelf text (read.Fault fault) loaded cause =
     inl (refl, inr (inl record { text = text; loaded = loaded; fault = fault; only = cause }))
 unread_means name bits shelf text read.NoMemory loaded cause = inr (inr refl)
 
-pub circuit_stop_means : (name : List ℕ) (bits : List Bool) (shelf : ShelfChange) (stop : Stop) → CircuitStop shelf name stop
+pub circuit_stop_means : (name : List ℕ) (bits : List Bool) (shelf : ShelfChange) (stop : Refusal) → CircuitStop shelf name stop
     → CircuitMeans name bits shelf (stop_status stop)
 circuit_stop_means name bits shelf stop (inl why) =
     subst (λ s. CircuitMeans name bits shelf (stop_status s)) (sym why.stops)

@@ -40,7 +40,7 @@ use Rattle.zk_cli.specs.Stops.{stop_status}
 use Rattle.zk_cli.specs.StopsOf.{load_stop, file_stop}
 use Rattle.zk_cli.specs.declared.finish.Part.{Part}
 use Rattle.zk_cli.specs.declared.finish.Part.TheVariants.{Plain, Rehearsed, Served}
-use Rattle.zk_cli.specs.declared.stop.Stop.{Stop}
+use Rattle.zk_cli.specs.declared.refusal.Refusal.{Refusal}
 use Rattle.zk_cli.proofs.Refusals.{CircuitMeans, circuit_stop_means}
 use Rattle.zk_cli.proofs.ToldCircuits.{told_text, told_circuit, no_longer, not_refused}
 
@@ -81,7 +81,7 @@ undecoded_7 bytes file.ZeroKey dealt first = absurd (first.2 dealt.key)
 undecoded_7 bytes file.BadDigest dealt first = absurd (first.3 dealt.digest)
 undecoded_7 bytes file.NoMemory dealt first = refl
 
-claim_7 : OneCircuit → (ask : ServeAsk) (shelf : ShelfChange) (stop : Stop) → (ready : IsServable shelf.old.told ask)
+claim_7 : OneCircuit → (ask : ServeAsk) (shelf : ShelfChange) (stop : Refusal) → (ready : IsServable shelf.old.told ask)
     → ¬ Rose (shelf.old.faults_of ask.circuit) (shelf.new.faults_of ask.circuit) → ClaimStop ask shelf stop → stop_status stop ≡ 7
 claim_7 one ask shelf stop ready calm (inl why) =
     of_means (circuit_stop_means ask.circuit bits shelf stop why)
@@ -101,7 +101,7 @@ claim_7 one ask shelf stop ready calm (inr (inl why)) =
     absurd (why.differ (ready.outputs ∙ sym (ap (λ c. c.outputs) same)))
 claim_7 one ask shelf stop ready calm (inr (inr is)) = ap stop_status is
 
-file_7 : (ask : ServeAsk) (shelf : ShelfChange) (stop : Stop) → (ready : IsServable shelf.old.told ask)
+file_7 : (ask : ServeAsk) (shelf : ShelfChange) (stop : Refusal) → (ready : IsServable shelf.old.told ask)
     → ¬ Rose (shelf.old.faults_of ask.file) (shelf.new.faults_of ask.file) → FileStop shelf ask.file stop → stop_status stop ≡ 7
 file_7 ask shelf stop ready calm (inl why) =
     ap stop_status why.stops ∙ unloaded_7 shelf.old.told ask.file ready.bytes (shelf.old.faults_of ask.file) (shelf.new.faults_of ask.file)
@@ -110,7 +110,7 @@ file_7 ask shelf stop ready calm (inr why) =
     let same = told_text shelf.old.told ask.file ready.bytes why.bytes ready.stands why.loaded.stands in
     ap stop_status why.stops ∙ undecoded_7 ready.bytes why.fault ready.dealt (subst (λ (b : List ℕ). IsFirstFault Verifier b why.fault) same why.first)
 
-stop_7 : OneCircuit → (ask : ServeAsk) (shelf : ShelfChange) (sink : SinkChange) (door : DoorChange) (stop : Stop) → (ready : IsServable shelf.old.told ask)
+stop_7 : OneCircuit → (ask : ServeAsk) (shelf : ShelfChange) (sink : SinkChange) (door : DoorChange) (stop : Refusal) → (ready : IsServable shelf.old.told ask)
     → ¬ HasServeFailed ask shelf sink door → ServeStop ask shelf door stop → stop_status stop ≡ 7
 stop_7 one ask shelf sink door stop ready calm (inl (inl why, unasked)) = claim_7 one ask shelf stop ready (λ rose. calm (inl rose)) why
 stop_7 one ask shelf sink door stop ready calm (inl (inr why, unasked)) = file_7 ask shelf stop ready (λ rose. calm (inr (inl rose))) why.cause

@@ -38,7 +38,7 @@ use Rattle.zk_cli.specs.Made.{EachNote}
 use Rattle.zk_cli.specs.ServedNotes.{IsHeadline, HeadlineIsOfAcceptedLog}
 use Rattle.zk_cli.specs.declared.finish.Part.{Part}
 use Rattle.zk_cli.specs.declared.finish.Part.TheVariants.{Plain, Rehearsed, Served}
-use Rattle.zk_cli.specs.declared.stop.Stop.{Stop}
+use Rattle.zk_cli.specs.declared.refusal.Refusal.{Refusal}
 
 -- a count that rose since a moment rose since any before
 rose_since : (first before now : ℕ) → first ≤ before → Rose before now → Rose first now
@@ -52,7 +52,7 @@ load_cause_since old mid name first before now (load.TooLong limit) same earlier
     (cause.0, subst (λ told. StandsLonger told name FILE_LIMIT) same cause.1)
 
 -- a file that can't be had of a shelf at a later moment, with the same files, can't be had
-pub file_stop_since : (old mid new : ShelfState) (name : List ℕ) (stop : Stop) → mid.told ≡ old.told
+pub file_stop_since : (old mid new : ShelfState) (name : List ℕ) (stop : Refusal) → mid.told ≡ old.told
     → old.faults_of name ≤ mid.faults_of name → FileStop (record { old = mid; new = new }) name stop
     → FileStop (record { old = old; new = new }) name stop
 file_stop_since old mid new name stop same earlier (inl why) = inl record {
@@ -77,7 +77,7 @@ says_nothing status text sink = inr (inr record {
 
 -- the sessions of a job that a claim and a file make are those of what was asked
 pub leads_sessions : {L : Type 0} (link_tells : L → LinkState) (told : Option Files) (ask : ServeAsk) (circuit : Circuit)
-    (claim : Statement) (file : VerifierFile) (result : Result (pool.Served L) Stop) (door : DoorChange)
+    (claim : Statement) (file : VerifierFile) (result : Result (pool.Served L) Refusal) (door : DoorChange)
     → IsClaim told ask circuit claim → IsVerifierFileAt told ask.file file
     → IfOk result (λ _. units_of_job (verifier_of claim file ask.section) ≤ 4096)
     → IfOk result (λ served. All (IsNote link_tells (verifier_of claim file ask.section)) served.notes.items)

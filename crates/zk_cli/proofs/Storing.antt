@@ -8,7 +8,7 @@ use Rattle.zk_port.specs.Shelves.{ShelfState}
 use Rattle.zk_cli.specs.Changes.{ShelfChange, CountsStay, SomeFailed, OthersStay, OnlyStores}
 use Rattle.zk_cli.specs.DealRuns.{StopsAt, StopsStoring, IsDealName, all_stored, next_name, ending}
 use Rattle.zk_cli.specs.declared.deal_command.Stored.{Stored}
-use Rattle.zk_cli.specs.declared.stop.Stop.{Stop}
+use Rattle.zk_cli.specs.declared.refusal.Refusal.{Refusal}
 
 -- from one state to another
 abbrev pub between : ShelfState → ShelfState → ShelfChange
@@ -46,7 +46,7 @@ failed_before IsNamed a b c failed later = (
 -- ---- stops
 
 -- a store that stops is the first of some that do
-pub stops_first : (one : List ℕ × List ℕ) (more : List (List ℕ × List ℕ)) (stop : Stop) (a b : ShelfState)
+pub stops_first : (one : List ℕ × List ℕ) (more : List (List ℕ × List ℕ)) (stop : Refusal) (a b : ShelfState)
     → StopsAt one.0 (between a b) stop → StopsStoring (one ∷ more) (between a b) stop
 stops_first one more stop a b at = record {
   done = 0;
@@ -60,7 +60,7 @@ stops_first one more stop a b at = record {
     nothing_stored (Some files) = refl
 
 -- stores that stop behind one that is done
-pub stops_behind : (one : List ℕ × List ℕ) (more : List (List ℕ × List ℕ)) (stop : Stop) (a b c : ShelfState)
+pub stops_behind : (one : List ℕ × List ℕ) (more : List (List ℕ × List ℕ)) (stop : Refusal) (a b c : ShelfState)
     → b.told ≡ option_map (stored one.0 one.1) a.told → CountsStay (between a b)
     → StopsStoring more (between b c) stop → StopsStoring (one ∷ more) (between a c) stop
 stops_behind one more stop a b c is quiet behind = record {
@@ -83,14 +83,14 @@ stops_behind one more stop a b c is quiet behind = record {
         both (Some files) = refl
 
 -- the same behind a second that is done, and behind a third
-pub stops_behind_two : (one two : List ℕ × List ℕ) (more : List (List ℕ × List ℕ)) (stop : Stop) (a b c d : ShelfState)
+pub stops_behind_two : (one two : List ℕ × List ℕ) (more : List (List ℕ × List ℕ)) (stop : Refusal) (a b c d : ShelfState)
     → b.told ≡ option_map (stored one.0 one.1) a.told → CountsStay (between a b)
     → c.told ≡ option_map (stored two.0 two.1) b.told → CountsStay (between b c)
     → StopsStoring more (between c d) stop → StopsStoring (one ∷ two ∷ more) (between a d) stop
 stops_behind_two one two more stop a b c d first quiet second still behind =
     stops_behind one (two ∷ more) stop a b d first quiet (stops_behind two more stop b c d second still behind)
 
-pub stops_last : {T : Type 0} (result : Result T Stop) (one two three four : List ℕ × List ℕ) (a b c d e : ShelfState)
+pub stops_last : {T : Type 0} (result : Result T Refusal) (one two three four : List ℕ × List ℕ) (a b c d e : ShelfState)
     → b.told ≡ option_map (stored one.0 one.1) a.told → CountsStay (between a b)
     → c.told ≡ option_map (stored two.0 two.1) b.told → CountsStay (between b c)
     → d.told ≡ option_map (stored three.0 three.1) c.told → CountsStay (between c d)
@@ -102,7 +102,7 @@ stops_last (Err stop) one two three four a b c d e first quiet second still thir
     (stops_behind three (four ∷ []) stop c d e third calm (stops_first four [] stop d e at))
 
 -- all four are done
-pub stored_all : {T : Type 0} (result : Result T Stop) (one two three four : List ℕ × List ℕ) (a b c d e : Option Files)
+pub stored_all : {T : Type 0} (result : Result T Refusal) (one two three four : List ℕ × List ℕ) (a b c d e : Option Files)
     → b ≡ option_map (stored one.0 one.1) a → c ≡ option_map (stored two.0 two.1) b → d ≡ option_map (stored three.0 three.1) c
     → OnOk result (e ≡ option_map (stored four.0 four.1) d)
     → OnOk result (e ≡ option_map (all_stored (one ∷ two ∷ three ∷ four ∷ [])) a)

@@ -8,7 +8,7 @@ use Rattle.bristol_reader.specs.Reads.{ReadCause}
 use Rattle.bristol_reader.specs.declared.fault.ReadError.{ReadError}
 use Rattle.zk_cli.specs.Changes.{ShelfChange}
 use Rattle.zk_cli.specs.StopsOf.{load_stop, read_stop}
-use Rattle.zk_cli.specs.declared.stop.Stop.{Stop}
+use Rattle.zk_cli.specs.declared.refusal.Refusal.{Refusal}
 use Rattle.command_words.specs.declared.TheConstants.{FILE_LIMIT}
 
 -- where a shelf tells, this text stands under the name, and it may be loaded
@@ -30,14 +30,14 @@ pub record GivesOutputs (told : Option Files) (name : List ℕ) (bits outputs : 
   pub only : (others : List Bool) → Satisfies circuit bits others → others ≡ outputs
 
 -- the file of this name can't be loaded
-pub record IsUnloaded (shelf : ShelfChange) (name : List ℕ) (stop : Stop) : Type 0 where
+pub record IsUnloaded (shelf : ShelfChange) (name : List ℕ) (stop : Refusal) : Type 0 where
   pub fault : LoadFault
   pub cause : LoadCause shelf.old.told name FILE_LIMIT
       (shelf.old.faults_of name) (shelf.new.faults_of name) fault
   pub stops : stop ≡ load_stop fault
 
 -- the text under the name can't be read
-pub record IsUnread (shelf : ShelfChange) (name : List ℕ) (stop : Stop) : Type 0 where
+pub record IsUnread (shelf : ShelfChange) (name : List ℕ) (stop : Refusal) : Type 0 where
   pub text : List ℕ
   pub loaded : IsLoaded shelf.old.told name text
   pub fault : ReadError
@@ -45,7 +45,7 @@ pub record IsUnread (shelf : ShelfChange) (name : List ℕ) (stop : Stop) : Type
   pub stops : stop ≡ read_stop fault
 
 -- why a run stops that needs the circuit under this name: the shelf's refusal, or the reader's
-abbrev pub CircuitStop : ShelfChange → List ℕ → Stop → Type 0
+abbrev pub CircuitStop : ShelfChange → List ℕ → Refusal → Type 0
 CircuitStop shelf name stop = IsUnloaded shelf name stop ⊎ IsUnread shelf name stop
 
 -- a shelf that tells has this text under the name, it may be loaded, and it says this circuit

@@ -17,8 +17,8 @@ use Rattle.zk_cli.specs.Stops.{PrintsStop, PrintsMade}
 use Rattle.command_words.specs.Words.{DealAsk}
 use Rattle.zk_cli.specs.declared.deal_command.Stored.{Stored}
 use Rattle.zk_cli.specs.declared.deal_command.Stored.TheVariants.{ProverFile, VerifierFile, ProverJournal, VerifierJournal}
-use Rattle.zk_cli.specs.declared.stop.Stop.{Stop}
-use Rattle.zk_cli.specs.declared.stop.Stop.TheVariants.{ShelfFailed, NoMemory}
+use Rattle.zk_cli.specs.declared.refusal.Refusal.{Refusal}
+use Rattle.zk_cli.specs.declared.refusal.Refusal.TheVariants.{ShelfFailed, NoMemory}
 
 -- ---- what is stored
 
@@ -73,7 +73,7 @@ abbrev pub dealt_lines : Params → List ℕ → List ℕ
 dealt_lines params seed = file_lines (dealt_prover params seed)
 
 -- a store for this name stops: it failed, or memory is missing; all other names have what they had
-pub record StopsAt (name : List ℕ) (shelf : ShelfChange) (stop : Stop) : Type 0 where
+pub record StopsAt (name : List ℕ) (shelf : ShelfChange) (stop : Refusal) : Type 0 where
   pub others : OthersStay name shelf.old.told shelf.new.told
   pub cause : (stop ≡ NoMemory) ⊎ ((stop ≡ ShelfFailed) × NameFailed name shelf)
 
@@ -82,7 +82,7 @@ abbrev pub next_name : ℕ → List (List ℕ × List ℕ) → List ℕ
 next_name done stores = (get_or stores done ([], [])).0
 
 -- Storing stops: the first of the stores, so many, are done; the next is the one that stops; and all other names have what they had.
-pub record StopsStoring (stores : List (List ℕ × List ℕ)) (shelf : ShelfChange) (stop : Stop) : Type 0 where
+pub record StopsStoring (stores : List (List ℕ × List ℕ)) (shelf : ShelfChange) (stop : Refusal) : Type 0 where
   pub done : ℕ
   pub some : done < length stores
   pub others : OthersStay (next_name done stores) (option_map (all_stored (take done stores)) shelf.old.told) shelf.new.told
@@ -96,7 +96,7 @@ pub record SaysDealt (ask : DealAsk) (seed : List ℕ) (status : ℕ) (shelf : S
 
 -- the line of a stop is written, and this is why, and what was stored until then
 pub record SaysUndealt (ask : DealAsk) (seed : List ℕ) (status : ℕ) (shelf : ShelfChange) (sink : SinkChange) : Type 0 where
-  pub stop : Stop
+  pub stop : Refusal
   pub cause : StopsStoring (dealt_stores ask seed) shelf stop
   pub prints : PrintsStop stop status sink
 

@@ -10,14 +10,14 @@ use Rattle.zk_cli.specs.CircuitFiles.{IsCircuitFile, GivesOutputs, CircuitStop}
 use Rattle.zk_cli.specs.Stops.{PrintsStop, PrintsMade}
 use Rattle.zk_cli.specs.StopsOf.{eval_stop}
 use Rattle.command_words.specs.Words.{EvalAsk}
-use Rattle.zk_cli.specs.declared.stop.Stop.{Stop}
+use Rattle.zk_cli.specs.declared.refusal.Refusal.{Refusal}
 
 -- the outputs, on one line
 abbrev pub outputs_line : List Bool → List ℕ
 outputs_line outputs = bits_word outputs ++ codes "\n"
 
 -- the circuit under the name can't be evaluated at the bits
-pub record IsUnevaluated (told : Option Files) (ask : EvalAsk) (stop : Stop) : Type 0 where
+pub record IsUnevaluated (told : Option Files) (ask : EvalAsk) (stop : Refusal) : Type 0 where
   pub circuit : Circuit
   pub file : IsCircuitFile told ask.circuit circuit
   pub fault : EvalFault
@@ -25,7 +25,7 @@ pub record IsUnevaluated (told : Option Files) (ask : EvalAsk) (stop : Stop) : T
   pub stops : stop ≡ eval_stop fault
 
 -- why there are no outputs: the circuit can't be had, or can't be evaluated
-abbrev pub EvalStop : EvalAsk → ShelfChange → Stop → Type 0
+abbrev pub EvalStop : EvalAsk → ShelfChange → Refusal → Type 0
 EvalStop ask shelf stop = CircuitStop shelf ask.circuit stop ⊎ IsUnevaluated shelf.old.told ask stop
 
 -- the line of outputs is written, and the circuit gives them
@@ -36,7 +36,7 @@ pub record SaysOutputs (ask : EvalAsk) (status : ℕ) (shelf : ShelfChange) (sin
 
 -- the line of a stop is written, and this is why
 pub record SaysNoOutputs (ask : EvalAsk) (status : ℕ) (shelf : ShelfChange) (sink : SinkChange) : Type 0 where
-  pub stop : Stop
+  pub stop : Refusal
   pub cause : EvalStop ask shelf stop
   pub prints : PrintsStop stop status sink
 

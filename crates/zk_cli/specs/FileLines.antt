@@ -1,8 +1,8 @@
 -- How a fault of a dealt file is said.
 use Rattle.std.specs.Prelude.{ℕ, List, ◌++◌, codes}
 use Rattle.std.specs.Fmt.{decimal}
-use Rattle.zk_cli.specs.declared.stop.BadFile.{BadFile}
-use Rattle.zk_cli.specs.declared.stop.BadFile.TheVariants.{BadMagic, BadKind, BadParam, Length, BadElement, ZeroKey, BadDigest}
+use Rattle.zk_cli.specs.declared.refusal.BadFile.{BadFile}
+use Rattle.zk_cli.specs.declared.refusal.BadFile.TheVariants.{BadMagic, BadKind, BadParam, Length, BadElement, ZeroKey, BadDigest}
 
 -- its name, its number and its fields
 abbrev pub file_fault_words : BadFile → List ℕ

@@ -19,7 +19,7 @@ use Rattle.session_rehearsal.specs.declared.rehearsal.Rehearsal.{Rehearsal}
 use Rattle.session_rehearsal.specs.declared.rehearsal.RehearseFault.{RehearseFault}
 use Rattle.zk_model.specs.declared.Verdict.{Verdict}
 use Rattle.zk_model.specs.declared.Verdict.TheVariants.{Accepted, RejectedSum, RejectedOpening}
-use Rattle.zk_cli.specs.declared.stop.Stop.{Stop}
+use Rattle.zk_cli.specs.declared.refusal.Refusal.{Refusal}
 
 -- ---- the lines
 
@@ -77,7 +77,7 @@ pub record IsRehearsed (told : Option Files) (ask : RehearseAsk) (seed : List �
 -- ---- what is said
 
 -- the circuit under the name can't be rehearsed at the bits
-pub record IsUnrehearsed (told : Option Files) (ask : RehearseAsk) (stop : Stop) : Type 0 where
+pub record IsUnrehearsed (told : Option Files) (ask : RehearseAsk) (stop : Refusal) : Type 0 where
   pub circuit : Circuit
   pub file : IsCircuitFile told ask.circuit circuit
   pub fault : RehearseFault
@@ -85,12 +85,12 @@ pub record IsUnrehearsed (told : Option Files) (ask : RehearseAsk) (stop : Stop)
   pub stops : stop ≡ rehearse_stop fault
 
 -- why there is no rehearsal: the circuit can't be had, or can't be rehearsed
-abbrev pub RehearseStop : RehearseAsk → ShelfChange → Stop → Type 0
+abbrev pub RehearseStop : RehearseAsk → ShelfChange → Refusal → Type 0
 RehearseStop ask shelf stop = CircuitStop shelf ask.circuit stop ⊎ IsUnrehearsed shelf.old.told ask stop
 
 -- the line of a stop is written, and this is why
 pub record SaysStop (ask : RehearseAsk) (status : ℕ) (shelf : ShelfChange) (sink : SinkChange) : Type 0 where
-  pub stop : Stop
+  pub stop : Refusal
   pub cause : RehearseStop ask shelf stop
   pub prints : PrintsStop stop status sink
 

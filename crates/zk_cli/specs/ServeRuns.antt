@@ -14,7 +14,7 @@ use Rattle.zk_port.specs.Links.{LinkState}
 use Rattle.dealer_files.specs.Faults.{IsFirstFault}
 use Rattle.dealer_files.specs.declared.fault.FileFault.{FileFault}
 use Rattle.session_core.specs.Jobs.{VerifierJob, IsTooLarge, units_of_job}
-use Rattle.session_core.specs.declared.verifier_job.TooManyUnits.{TooManyUnits}
+use Rattle.session_core.specs.declared.verifier_job.TooLarge.{TooLarge}
 use Rattle.session_pool.specs.Doors.{TakesOneAtMost}
 use Rattle.session_pool.specs.Notes.{IsNote}
 use Rattle.session_verifier.specs.declared.note.SessionNote.{SessionNote}
@@ -28,8 +28,8 @@ use Rattle.zk_cli.specs.StopsOf.{file_stop, units_stop}
 use Rattle.zk_cli.specs.declared.finish.Part.{Part}
 use Rattle.zk_cli.specs.declared.finish.Part.TheVariants.{Plain, Served}
 use Rattle.zk_cli.specs.declared.serve_command.ServeWords.{ServeWords}
-use Rattle.zk_cli.specs.declared.stop.Stop.{Stop}
-use Rattle.zk_cli.specs.declared.stop.Stop.TheVariants.{WrongOutputs, DoorFailed, NoMemory}
+use Rattle.zk_cli.specs.declared.refusal.Refusal.{Refusal}
+use Rattle.zk_cli.specs.declared.refusal.Refusal.TheVariants.{WrongOutputs, DoorFailed, NoMemory}
 
 -- what is asked for
 abbrev pub serve_words : ServeWords → ServeAsk
@@ -66,19 +66,19 @@ abbrev pub IsUnasked : DoorChange → Type 0
 IsUnasked door = door.new ≡ door.old
 
 -- the circuit under the name has another number of outputs
-pub record HasOtherOutputs (told : Option Files) (ask : ServeAsk) (stop : Stop) : Type 0 where
+pub record HasOtherOutputs (told : Option Files) (ask : ServeAsk) (stop : Refusal) : Type 0 where
   pub circuit : Circuit
   pub file : IsCircuitFile told ask.circuit circuit
   pub differ : length ask.outputs ≢ circuit.outputs
   pub stops : stop ≡ WrongOutputs circuit.outputs (length ask.outputs)
 
 -- why there is no claim: the circuit can't be had, or has another number of outputs
-abbrev pub ClaimStop : ServeAsk → ShelfChange → Stop → Type 0
+abbrev pub ClaimStop : ServeAsk → ShelfChange → Refusal → Type 0
 ClaimStop ask shelf stop =
     CircuitStop shelf ask.circuit stop ⊎ HasOtherOutputs shelf.old.told ask stop ⊎ (stop ≡ NoMemory)
 
 -- the bytes under the name are no verifier's file
-pub record IsUndecoded (told : Option Files) (name : List ℕ) (stop : Stop) : Type 0 where
+pub record IsUndecoded (told : Option Files) (name : List ℕ) (stop : Refusal) : Type 0 where
   pub bytes : List ℕ
   pub loaded : IsLoaded told name bytes
   pub fault : FileFault
@@ -86,44 +86,44 @@ pub record IsUndecoded (told : Option Files) (name : List ℕ) (stop : Stop) : T
   pub stops : stop ≡ file_stop fault
 
 -- why the verifier's file under this name can't be had
-abbrev pub FileStop : ShelfChange → List ℕ → Stop → Type 0
+abbrev pub FileStop : ShelfChange → List ℕ → Refusal → Type 0
 FileStop shelf name stop =
     IsUnloaded shelf name stop ⊎ IsUndecoded shelf.old.told name stop
 
 -- there is a claim, but no file for it
-pub record LacksFile (ask : ServeAsk) (shelf : ShelfChange) (stop : Stop) : Type 0 where
+pub record LacksFile (ask : ServeAsk) (shelf : ShelfChange) (stop : Refusal) : Type 0 where
   pub circuit : Circuit
   pub statement : Statement
   pub claim : IsClaim shelf.old.told ask circuit statement
   pub cause : FileStop shelf ask.file stop
 
 -- the session would take too many units
-pub record TakesTooMuch (job : VerifierJob) (stop : Stop) : Type 0 where
-  pub found : TooManyUnits
+pub record TakesTooMuch (job : VerifierJob) (stop : Refusal) : Type 0 where
+  pub found : TooLarge
   pub large : IsTooLarge job found
   pub stops : stop ≡ units_stop found
 
 -- the door was asked to listen at the address, and failed
-pub record IsUnheard (job : VerifierJob) (address : List ℕ) (door : DoorChange) (stop : Stop) : Type 0 where
+pub record IsUnheard (job : VerifierJob) (address : List ℕ) (door : DoorChange) (stop : Refusal) : Type 0 where
   pub few : units_of_job job ≤ 4096
   pub refused : RefusesListen address door.old door.new
   pub failed : Rose door.old.listen_faults door.new.listen_faults
   pub stops : stop ≡ DoorFailed
 
 -- it was asked, and found no memory
-pub record FindsNoMemory (job : VerifierJob) (address : List ℕ) (door : DoorChange) (stop : Stop) : Type 0 where
+pub record FindsNoMemory (job : VerifierJob) (address : List ℕ) (door : DoorChange) (stop : Refusal) : Type 0 where
   pub few : units_of_job job ≤ 4096
   pub refused : RefusesListen address door.old door.new
   pub quiet : door.new.listen_faults ≡ door.old.listen_faults
   pub stops : stop ≡ NoMemory
 
 -- why no session is opened: it is too large, and nothing is asked of the door; or the door does not listen
-abbrev pub OpeningStop : VerifierJob → List ℕ → DoorChange → Stop → Type 0
+abbrev pub OpeningStop : VerifierJob → List ℕ → DoorChange → Refusal → Type 0
 OpeningStop job address door stop =
     (TakesTooMuch job stop × IsUnasked door) ⊎ IsUnheard job address door stop ⊎ FindsNoMemory job address door stop
 
 -- there is a claim and a file, but no session is opened
-pub record LacksSession (told : Option Files) (ask : ServeAsk) (door : DoorChange) (stop : Stop) : Type 0 where
+pub record LacksSession (told : Option Files) (ask : ServeAsk) (door : DoorChange) (stop : Refusal) : Type 0 where
   pub circuit : Circuit
   pub job : VerifierJob
   pub served : IsServeJob told ask circuit job
@@ -131,7 +131,7 @@ pub record LacksSession (told : Option Files) (ask : ServeAsk) (door : DoorChang
 
 -- Why nothing is served, the first of these: the circuit can't be had, or has another number of outputs; the file can't be had;
 -- the session is too large; the door does not listen. Before that nothing is asked of the door.
-abbrev pub ServeStop : ServeAsk → ShelfChange → DoorChange → Stop → Type 0
+abbrev pub ServeStop : ServeAsk → ShelfChange → DoorChange → Refusal → Type 0
 ServeStop ask shelf door stop =
     ((ClaimStop ask shelf stop ⊎ LacksFile ask shelf stop) × IsUnasked door) ⊎ LacksSession shelf.old.told ask door stop
 
@@ -151,7 +151,7 @@ serve_effects status part shelf sink door =
 
 -- the line of a stop is written, and this is why; the line of another want of memory may be written in its place
 pub record SaysNoService (ask : ServeAsk) (status : ℕ) (shelf : ShelfChange) (sink : SinkChange) (door : DoorChange) : Type 0 where
-  pub stop : Stop
+  pub stop : Refusal
   pub cause : ServeStop ask shelf door stop
   pub prints : PrintsMade (stop_status stop) (stop_line stop) status sink
 

@@ -30,7 +30,7 @@ use Rattle.zk_cli.specs.ServeRuns.{IsServeJob, ServeEffects, ServeStop, ServeLin
 use Rattle.zk_cli.specs.Stops.{stop_status}
 use Rattle.zk_cli.specs.declared.finish.Part.{Part}
 use Rattle.zk_cli.specs.declared.finish.Part.TheVariants.{Plain, Served}
-use Rattle.zk_cli.specs.declared.stop.Stop.{Stop}
+use Rattle.zk_cli.specs.declared.refusal.Refusal.{Refusal}
 
 -- a call of the door that `serve` makes failed: to listen, or to give the next link
 abbrev pub DoorFailed : DoorChange → Type 0
@@ -57,7 +57,7 @@ NotesMean notes status sink door =
 
 -- before that, that of a stop which has a cause, or 7
 pub record StopMeans (ask : ServeAsk) (status : ℕ) (shelf : ShelfChange) (door : DoorChange) : Type 0 where
-  pub stop : Stop
+  pub stop : Refusal
   pub cause : ServeStop ask shelf door stop
   pub answered : (status ≡ stop_status stop) ⊎ (status ≡ 7)
 

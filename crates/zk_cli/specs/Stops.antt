@@ -5,11 +5,11 @@ use Rattle.zk_cli.specs.Changes.{SinkChange}
 use Rattle.zk_cli.specs.FaultLines.{fault_line}
 use Rattle.zk_cli.specs.FileLines.{file_fault_line}
 use Rattle.zk_cli.specs.Prints.{Prints}
-use Rattle.zk_cli.specs.declared.stop.Stop.{Stop}
-use Rattle.zk_cli.specs.declared.stop.Stop.TheVariants.{Usage, BadText, BadFile, TooLong, WrongLength, WrongOutputs, TooLarge, ShelfFailed, DoorFailed, NoMemory}
+use Rattle.zk_cli.specs.declared.refusal.Refusal.{Refusal}
+use Rattle.zk_cli.specs.declared.refusal.Refusal.TheVariants.{Usage, BadText, BadFile, TooLong, WrongLength, WrongOutputs, TooLarge, ShelfFailed, DoorFailed, NoMemory}
 
 -- the status that is answered
-abbrev pub stop_status : Stop → ℕ
+abbrev pub stop_status : Refusal → ℕ
 stop_status Usage = 2
 stop_status (BadText fault) = 3
 stop_status (BadFile fault) = 3
@@ -22,7 +22,7 @@ stop_status NoMemory = 7
 stop_status (TooLarge need units) = 9
 
 -- the line that is written
-abbrev pub stop_line : Stop → List ℕ
+abbrev pub stop_line : Refusal → List ℕ
 stop_line Usage = codes "usage: zk deal, eval, rehearse, prove, serve or audit\n"
 stop_line (BadText fault) = fault_line fault
 stop_line (BadFile fault) = file_fault_line fault
@@ -38,7 +38,7 @@ stop_line (TooLarge need units) =
     codes "too large " ++ decimal need ++ codes " " ++ decimal units ++ codes "\n"
 
 -- the line of this stop is written
-abbrev pub PrintsStop : Stop → ℕ → SinkChange → Type 0
+abbrev pub PrintsStop : Refusal → ℕ → SinkChange → Type 0
 PrintsStop stop = Prints (stop_status stop) (stop_line stop)
 
 -- the text is written, or that there was no memory to make it

@@ -4,14 +4,14 @@ ghost use Rattle.zk_port.specs.Changes.{change};
 ghost use Rattle.zk_cli.specs.Changes.{OnlyLoads};
 ghost use Rattle.zk_cli.specs.CircuitFiles.{IsLoaded, IsUnloaded, IsCircuitFile, CircuitStop};
 
-use crate::stop::Stop;
+use crate::refusal::Refusal;
 use bristol_reader::{Circuit, read};
 use command_words::FILE_LIMIT;
 use std::alloc::Global;
 use zk_port::Shelf;
 
 /// The bytes of the file of this name.
-pub fn load_file<F: Shelf>(alloc: Global, shelf: &mut F, name: &str) -> Result<Vec<u8>, Stop>
+pub fn load_file<F: Shelf>(alloc: Global, shelf: &mut F, name: &str) -> Result<Vec<u8>, Refusal>
     ensures loaded { IfOk result (λ bytes. IsLoaded (F.state shelf.old).told name.now bytes.items) }
     ensures stop { IfErr result
         (IsUnloaded (change (F.state shelf.old) (F.state shelf.new)) name.now) }
@@ -21,7 +21,7 @@ pub fn load_file<F: Shelf>(alloc: Global, shelf: &mut F, name: &str) -> Result<V
 }
 
 /// The circuit that the file of this name says.
-pub fn load_circuit<F: Shelf>(alloc: Global, shelf: &mut F, name: &str) -> Result<Circuit, Stop>
+pub fn load_circuit<F: Shelf>(alloc: Global, shelf: &mut F, name: &str) -> Result<Circuit, Refusal>
     ensures file { IfOk result (IsCircuitFile (F.state shelf.old).told name.now) }
     ensures stop { IfErr result
         (CircuitStop (change (F.state shelf.old) (F.state shelf.new)) name.now) }

@@ -16,11 +16,12 @@ ghost use Rattle.zk_cli.specs.declared.deal_command.Stored.TheVariants as kinds;
 ghost use Rattle.zk_cli.specs.Stops.{PrintsMade};
 ghost use Rattle.command_words.specs.Words.{deal_ask};
 
+use crate::refusal::Refusal;
 use crate::say::{say, say_memory, say_stop};
-use crate::stop::Stop;
-use dealer_files::{Kind, Params, ProverFile, VerifierFile, deal};
+use dealer_files::{ProverFile, VerifierFile, deal};
 use lease_journal::{JournalKind, blank, ceiling_slots, claim_slots};
 use std::alloc::{AllocError, Global};
+use zk_model::{Kind, Params};
 use zk_port::{Shelf, Sink};
 
 /// The files that are stored.
@@ -61,7 +62,7 @@ fn store_as<F: Shelf>(
     name: &str,
     file: Stored,
     bytes: &[u8],
-) -> Result<(), Stop>
+) -> Result<(), Refusal>
     ensures stored { OnOk result ((F.state shelf.new).told
         ≡ option_map (stored (name.now ++ ending file) bytes.now) (F.state shelf.old).told) }
     ensures quiet { OnOk result (CountsStay (change (F.state shelf.old) (F.state shelf.new))) }
@@ -81,7 +82,7 @@ fn store_prover<F: Shelf>(
     shelf: &mut F,
     name: &str,
     prover: &ProverFile,
-) -> Result<(), Stop>
+) -> Result<(), Refusal>
     ensures stored { OnOk result ((F.state shelf.new).told ≡ option_map
         (stored (name.now ++ ending kinds.ProverFile) (prover_file_bytes prover.now)) (F.state shelf.old).told) }
     ensures quiet { OnOk result (CountsStay (change (F.state shelf.old) (F.state shelf.new))) }
@@ -101,7 +102,7 @@ fn store_verifier<F: Shelf>(
     shelf: &mut F,
     name: &str,
     verifier: &VerifierFile,
-) -> Result<(), Stop>
+) -> Result<(), Refusal>
     ensures stored { OnOk result ((F.state shelf.new).told ≡ option_map
         (stored (name.now ++ ending kinds.VerifierFile) (verifier_file_bytes verifier.now)) (F.state shelf.old).told) }
     ensures quiet { OnOk result (CountsStay (change (F.state shelf.old) (F.state shelf.new))) }
@@ -121,7 +122,7 @@ fn store_claims<F: Shelf>(
     shelf: &mut F,
     name: &str,
     prover: &ProverFile,
-) -> Result<(), Stop>
+) -> Result<(), Refusal>
     ensures stored { OnOk result ((F.state shelf.new).told ≡ option_map (stored (name.now ++ ending kinds.ProverJournal)
         (blank_journal_bytes Claims prover.now.id prover.now.params.total (claim_slots prover.now.params.total)))
         (F.state shelf.old).told) }
@@ -149,7 +150,7 @@ fn store_ceilings<F: Shelf>(
     shelf: &mut F,
     name: &str,
     prover: &ProverFile,
-) -> Result<(), Stop>
+) -> Result<(), Refusal>
     ensures stored { OnOk result ((F.state shelf.new).told ≡ option_map (stored (name.now ++ ending kinds.VerifierJournal)
         (blank_journal_bytes Ceilings prover.now.id prover.now.params.total (ceiling_slots prover.now.params.total)))
         (F.state shelf.old).told) }
@@ -178,7 +179,7 @@ fn store_dealt<F: Shelf>(
     name: &str,
     prover: &ProverFile,
     verifier: &VerifierFile,
-) -> Result<(), Stop>
+) -> Result<(), Refusal>
     ensures stored { OnOk result ((F.state shelf.new).told ≡ option_map
         (all_stored (file_stores name.now prover.now verifier.now)) (F.state shelf.old).told) }
     ensures quiet { OnOk result (CountsStay (change (F.state shelf.old) (F.state shelf.new))) }
@@ -233,7 +234,7 @@ fn deal_files<F: Shelf>(
     name: &str,
     params: &Params,
     seed: &[u8; 32],
-) -> Result<ProverFile, Stop>
+) -> Result<ProverFile, Refusal>
     requires { AreParams params.now }
     ensures prover { IfOk result (λ prover. prover ≡ dealt_prover params.now seed.now) }
     ensures stores { OnOk result (StoresDealt (deal_ask name.now params.now) seed.now

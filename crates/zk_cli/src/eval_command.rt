@@ -9,8 +9,8 @@ ghost use Rattle.zk_cli.specs.Stops.{PrintsMade};
 ghost use Rattle.command_words.specs.Words.{eval_ask};
 
 use crate::circuit_file::load_circuit;
+use crate::refusal::Refusal;
 use crate::say::{say, say_memory, say_stop};
-use crate::stop::Stop;
 use bool_eval::eval;
 use bristol_reader::one_circuit;
 use command_words::write_bits;
@@ -23,7 +23,7 @@ fn eval_file<F: Shelf>(
     shelf: &mut F,
     name: &str,
     bits: &[bool],
-) -> Result<Vec<bool>, Stop>
+) -> Result<Vec<bool>, Refusal>
     ensures gives { IfOk result (λ outputs.
         GivesOutputs (F.state shelf.old).told name.now bits.now outputs.items) }
     ensures stop { IfErr result (EvalStop (eval_ask name.now bits.now)

@@ -7,15 +7,15 @@ mod eval_command;
 mod finish;
 mod laws;
 mod note_lines;
+mod refusal;
 mod rehearse_command;
 mod run;
 mod say;
 mod serve_command;
-mod stop;
 
 pub use command_words::FILE_LIMIT;
 pub use finish::{Finish, Part};
 pub use laws::headline_is_of_accepted_log;
+pub use refusal::{BadFile, Refusal};
 pub use run::run_zk;
 pub use session_rehearsal::{Bits, Rehearsal, RehearseFault, Verdict};
-pub use stop::{BadFile, Stop};

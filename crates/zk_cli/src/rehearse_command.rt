@@ -11,13 +11,13 @@ ghost use Rattle.command_words.specs.Words.{rehearse_ask};
 
 use crate::circuit_file::load_circuit;
 use crate::finish::{Ending, Part};
+use crate::refusal::Refusal;
 use crate::say::{say, say_memory, say_stop};
-use crate::stop::Stop;
 use bristol_reader::one_circuit;
 use command_words::write_bits;
-use dealer_files::Kind;
 use session_rehearsal::{Rehearsal, Verdict, rehearse};
 use std::alloc::{AllocError, Global};
+use zk_model::Kind;
 use zk_port::{Shelf, Sink};
 
 /// A rehearsal of the circuit that the file of this name says, at these bits.
@@ -29,7 +29,7 @@ fn rehearse_file<F: Shelf>(
     kind: Kind,
     section: u32,
     seed: &[u8; 32],
-) -> Result<Rehearsal, Stop>
+) -> Result<Rehearsal, Refusal>
     requires some { 1 ≤ section }
     requires most { section ≤ 2 ^ 20 }
     ensures rehearsed { IfOk result

@@ -10,10 +10,10 @@ ghost use Rattle.zk_cli.specs.ServedNotes.{IsHeadline};
 use crate::deal_command::run_deal;
 use crate::eval_command::run_eval;
 use crate::finish::{Ending, Finish, Part};
+use crate::refusal::Refusal;
 use crate::rehearse_command::run_rehearse;
 use crate::say::{say_memory, say_stop};
 use crate::serve_command::{ServeWords, run_serve};
-use crate::stop::Stop;
 use bristol_reader::one_circuit;
 use command_words::{Command, read_words};
 use std::alloc::Global;
@@ -85,7 +85,7 @@ where
     };
     let Some(command) = found else {
         return Finish {
-            status: say_stop(alloc, out, Stop::Usage),
+            status: say_stop(alloc, out, Refusal::Usage),
             journal,
             door,
             part: Part::Plain,

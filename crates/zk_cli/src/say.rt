@@ -6,9 +6,9 @@ ghost use Rattle.zk_cli.specs.FaultLines.{fault_name, fault_number, fault_place,
 ghost use Rattle.zk_cli.specs.FileLines.{file_fault_line};
 ghost use Rattle.zk_cli.specs.Prints.{Prints};
 ghost use Rattle.zk_cli.specs.Stops.{PrintsStop, PrintsMade, stop_line, stop_status};
-ghost use Rattle.zk_cli.specs.declared.stop.Stop.TheVariants.{NoMemory};
+ghost use Rattle.zk_cli.specs.declared.refusal.Refusal.TheVariants.{NoMemory};
 
-use crate::stop::{BadFile, Stop};
+use crate::refusal::{BadFile, Refusal};
 use bristol_reader::ReadFault;
 use std::alloc::{AllocError, Global};
 use zk_port::{PortFault, Sink};
@@ -78,42 +78,42 @@ fn write_pair(alloc: Global, words: &str, first: u64, second: u64) -> Result<Str
 }
 
 /// The line of the stop.
-fn write_stop(alloc: Global, stop: Stop) -> Result<String, AllocError>
+fn write_stop(alloc: Global, stop: Refusal) -> Result<String, AllocError>
     ensures { IfOk result (λ line. string_bytes line ≡ stop_line stop) }
 {
     match stop {
-        Stop::Usage => {
+        Refusal::Usage => {
             String::from_str(
                 alloc,
                 "usage: zk deal, eval, rehearse, prove, serve or audit\n",
             )
         }
-        Stop::BadText(fault) => write_fault(alloc, fault),
-        Stop::BadFile(fault) => write_file_fault(alloc, fault),
-        Stop::TooLong { limit } => Ok(format!(in alloc; "refused TooLong 0 {limit}\n")?),
-        Stop::WrongLength { need, got } => write_pair(alloc, "refused bits", need, got),
-        Stop::WrongOutputs { need, got } => write_pair(alloc, "refused outputs", need, got),
-        Stop::TooLarge { need, units } => write_pair(alloc, "too large", need, units),
-        Stop::ShelfFailed => String::from_str(alloc, "failed shelf\n"),
-        Stop::DoorFailed => String::from_str(alloc, "failed door\n"),
-        Stop::NoMemory => String::from_str(alloc, "memory\n"),
+        Refusal::BadText(fault) => write_fault(alloc, fault),
+        Refusal::BadFile(fault) => write_file_fault(alloc, fault),
+        Refusal::TooLong { limit } => Ok(format!(in alloc; "refused TooLong 0 {limit}\n")?),
+        Refusal::WrongLength { need, got } => write_pair(alloc, "refused bits", need, got),
+        Refusal::WrongOutputs { need, got } => write_pair(alloc, "refused outputs", need, got),
+        Refusal::TooLarge { need, units } => write_pair(alloc, "too large", need, units),
+        Refusal::ShelfFailed => String::from_str(alloc, "failed shelf\n"),
+        Refusal::DoorFailed => String::from_str(alloc, "failed door\n"),
+        Refusal::NoMemory => String::from_str(alloc, "memory\n"),
     }
 }
 
 /// The status of the stop.
-fn status_of(stop: Stop) -> u8
+fn status_of(stop: Refusal) -> u8
     ensures { result ≡ stop_status stop }
 {
     match stop {
-        Stop::Usage => 2,
-        Stop::BadText(_)
-        | Stop::BadFile(_)
-        | Stop::TooLong { .. }
-        | Stop::WrongLength { .. }
-        | Stop::WrongOutputs { .. } => 3,
-        Stop::ShelfFailed | Stop::DoorFailed => 4,
-        Stop::NoMemory => 7,
-        Stop::TooLarge { .. } => 9,
+        Refusal::Usage => 2,
+        Refusal::BadText(_)
+        | Refusal::BadFile(_)
+        | Refusal::TooLong { .. }
+        | Refusal::WrongLength { .. }
+        | Refusal::WrongOutputs { .. } => 3,
+        Refusal::ShelfFailed | Refusal::DoorFailed => 4,
+        Refusal::NoMemory => 7,
+        Refusal::TooLarge { .. } => 9,
     }
 }
 
@@ -126,7 +126,7 @@ pub fn say_memory<O: Sink>(alloc: Global, out: &mut O) -> u8
 
 /// Writes the line that says why the run stops, and answers its status; or says that there is no memory for the
 /// line.
-pub fn say_stop<O: Sink>(alloc: Global, out: &mut O, stop: Stop) -> u8
+pub fn say_stop<O: Sink>(alloc: Global, out: &mut O, stop: Refusal) -> u8
     ensures { PrintsMade (stop_status stop) (stop_line stop) result
         (change (O.state out.old) (O.state out.new)) }
 {

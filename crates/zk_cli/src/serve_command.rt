@@ -19,8 +19,8 @@ ghost use Rattle.zk_cli.specs.ServedNotes.{IsHeadline};
 use crate::circuit_file::load_file;
 use crate::finish::{Ending, Part};
 use crate::note_lines::{served_status, write_served};
+use crate::refusal::Refusal;
 use crate::say::{say, say_stop};
-use crate::stop::Stop;
 use bristol_reader::{one_circuit, read};
 use dealer_files::{VerifierFile, decode_verifier};
 use session_core::{CircuitClaim, VerifierJob};
@@ -45,7 +45,7 @@ fn load_claim<F: Shelf>(
     alloc: Global,
     shelf: &mut F,
     words: &ServeWords<'_>,
-) -> Result<CircuitClaim, Stop>
+) -> Result<CircuitClaim, Refusal>
     ensures claim { IfOk result (λ claim. (circuit : Circuit)
         × IsClaim (F.state shelf.old).told (serve_words words.now) circuit claim) }
     ensures stop { IfErr result (ClaimStop (serve_words words.now)
@@ -55,7 +55,7 @@ fn load_claim<F: Shelf>(
     let text = load_file(alloc, shelf, words.circuit)?;
     let circuit = read(alloc, &text)?;
     if words.outputs.len() != circuit.outputs() {
-        return Err(Stop::WrongOutputs {
+        return Err(Refusal::WrongOutputs {
             need: circuit.outputs() as u64,
             got: words.outputs.len() as u64,
         });
@@ -65,7 +65,11 @@ fn load_claim<F: Shelf>(
 }
 
 /// The verifier's file of this name.
-fn load_verifier<F: Shelf>(alloc: Global, shelf: &mut F, name: &str) -> Result<VerifierFile, Stop>
+fn load_verifier<F: Shelf>(
+    alloc: Global,
+    shelf: &mut F,
+    name: &str,
+) -> Result<VerifierFile, Refusal>
     ensures file { IfOk result (IsVerifierFileAt (F.state shelf.old).told name.now) }
     ensures stop { IfErr result
         (FileStop (change (F.state shelf.old) (F.state shelf.new)) name.now) }
@@ -84,7 +88,7 @@ fn serve_claim<D: Door, G: Gate>(
     words: &ServeWords<'_>,
     door: &mut D,
     gate: &G,
-) -> Result<Served<D::Link>, Stop>
+) -> Result<Served<D::Link>, Refusal>
 where
     D::Link: Drop,
     requires some { 1 ≤ words.now.section }
@@ -102,8 +106,8 @@ where
     let job = VerifierJob::fit(&statement, file, words.section)?;
     match door.listen(alloc, words.address, 1) {
         Ok(()) => Ok(serve_first(alloc, &job, door, gate)),
-        Err(PortFault::Failed) => Err(Stop::DoorFailed),
-        Err(PortFault::NoMemory) => Err(Stop::NoMemory),
+        Err(PortFault::Failed) => Err(Refusal::DoorFailed),
+        Err(PortFault::NoMemory) => Err(Refusal::NoMemory),
     }
 }
 
@@ -114,7 +118,7 @@ fn serve_files<F: Shelf, D: Door, G: Gate>(
     words: &ServeWords<'_>,
     door: &mut D,
     gate: &G,
-) -> Result<Served<D::Link>, Stop>
+) -> Result<Served<D::Link>, Refusal>
 where
     D::Link: Drop,
     requires some { 1 ≤ words.now.section }

@@ -1,7 +1,7 @@
 use Rattle.std.proofs.Common.{◌≡◌, map, length, ℕ, List}
 use Rattle.std.specs.List.{list_any}
 use Rattle.std.specs.Str.{bytes_eq}
-use Rattle.command_words.specs.Arranged.{stand_once}
+use Rattle.command_words.specs.Arguments.{stand_once}
 use Rattle.command_words.specs.PartsOf.{word_of}
 use Rattle.command_words.proofs.arrange.are_once.Given as goal
 

@@ -1,5 +1,5 @@
 use Rattle.std.proofs.Common.{◌≡◌, map, length}
-use Rattle.command_words.specs.Arranged.{option_named}
+use Rattle.command_words.specs.Arguments.{option_named}
 use Rattle.command_words.specs.PartsOf.{word_of}
 use Rattle.command_words.proofs.arrange.find_option.Given as goal
 

@@ -2,8 +2,8 @@
 use Rattle.std.specs.Prelude.{ℕ, List, [], ◌∷◌, ◌++◌, Bool, true, false, if◌then◌else◌, Option, Some, None, codes, is_some, not, ◌&&◌, ◌||◌}
 use Rattle.std.specs.Option.{option_map}
 use Rattle.std.specs.Str.{bytes_eq}
-use Rattle.command_words.specs.declared.arrange.Kind.{Kind}
-use Rattle.command_words.specs.declared.arrange.Kind.TheVariants.{Place, Valued, Flag, Unknown}
+use Rattle.command_words.specs.declared.arrange.WordKind.{WordKind}
+use Rattle.command_words.specs.declared.arrange.WordKind.TheVariants.{Positional, Valued, Flag, Unknown}
 
 -- the first byte is a dash
 abbrev pub begins_with_dash : List ℕ → Bool
@@ -21,9 +21,9 @@ abbrev pub is_flag : List ℕ → Bool
 is_flag word = bytes_eq word (codes "--extended")
 
 -- what a word is, by itself
-abbrev pub kind_of : List ℕ → Kind
+abbrev pub kind_of : List ℕ → WordKind
 kind_of word =
-    if is_valued word then Valued else if is_flag word then Flag else if begins_with_dash word then Unknown else Place
+    if is_valued word then Valued else if is_flag word then Flag else if begins_with_dash word then Unknown else Positional
 
 -- an option's name and its value, which is empty where none follows it
 abbrev pub Word : Type 0
@@ -35,18 +35,18 @@ Parts = List (List ℕ) × List Word
 
 -- these, and then the parts
 abbrev pub before : List (List ℕ) → List Word → Parts → Parts
-before places options parts = (places ++ parts.0, options ++ parts.1)
+before positional options parts = (positional ++ parts.0, options ++ parts.1)
 
 -- a last word
-abbrev pub alone : Kind → List ℕ → Option Parts
-alone Place word = Some (word ∷ [], [])
+abbrev pub alone : WordKind → List ℕ → Option Parts
+alone Positional word = Some (word ∷ [], [])
 alone Valued word = None
 alone Flag word = Some ([], (word, []) ∷ [])
 alone Unknown word = None
 
 -- a word, the one behind it, and what comes from the latter on and behind it
-abbrev pub step : Kind → List ℕ → List ℕ → Option Parts → Option Parts → Option Parts
-step Place word value next behind = option_map (before (word ∷ []) []) next
+abbrev pub step : WordKind → List ℕ → List ℕ → Option Parts → Option Parts → Option Parts
+step Positional word value next behind = option_map (before (word ∷ []) []) next
 step Valued word value next behind =
     if begins_with_dash value then None else option_map (before [] ((word, value) ∷ [])) behind
 step Flag word value next behind = option_map (before [] ((word, []) ∷ [])) next

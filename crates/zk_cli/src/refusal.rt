@@ -1,18 +1,18 @@
 // Why a run stops before its work is done.
 ghost use Rattle.std.specs.Prelude.{◌≡◌};
-ghost use Rattle.zk_cli.specs.declared.stop.Stop.TheVariants as stop;
+ghost use Rattle.zk_cli.specs.declared.refusal.Refusal.TheVariants as stop;
 
 use bool_eval::EvalFault;
 use bristol_reader::{ReadError, ReadFault};
 use dealer_files::FileFault;
-use session_core::TooManyUnits;
+use session_core::TooLarge;
 use session_rehearsal::RehearseFault;
 use std::alloc::AllocError;
 use zk_port::{LoadFault, PortFault};
 
 /// Why a run stops before its work is done; each has its status and its line.
 #[derive(Clone, Copy, Debug, PartialEq, Eq)]
-pub enum Stop {
+pub enum Refusal {
     /// The words ask for nothing.
     Usage,
     /// A circuit's text is refused.
@@ -47,110 +47,110 @@ pub enum BadFile {
     BadDigest,
 }
 
-impl From<AllocError> for Stop {
+impl From<AllocError> for Refusal {
     ghost from_gives = { λ _ e. e ≡ stop.NoMemory };
 
     fn from(_: AllocError) -> Self {
-        Stop::NoMemory
+        Refusal::NoMemory
     }
 }
 
-impl From<LoadFault> for Stop {
+impl From<LoadFault> for Refusal {
     ghost use Rattle.zk_cli.specs.StopsOf.{load_stop};
 
     ghost from_gives = { λ fault e. e ≡ load_stop fault };
 
     fn from(fault: LoadFault) -> Self {
         match fault {
-            LoadFault::Failed => Stop::ShelfFailed,
-            LoadFault::NoMemory => Stop::NoMemory,
-            LoadFault::TooLong { limit } => Stop::TooLong { limit },
+            LoadFault::Failed => Refusal::ShelfFailed,
+            LoadFault::NoMemory => Refusal::NoMemory,
+            LoadFault::TooLong { limit } => Refusal::TooLong { limit },
         }
     }
 }
 
-impl From<ReadError> for Stop {
+impl From<ReadError> for Refusal {
     ghost use Rattle.zk_cli.specs.StopsOf.{read_stop};
 
     ghost from_gives = { λ fault e. e ≡ read_stop fault };
 
     fn from(fault: ReadError) -> Self {
         match fault {
-            ReadError::Fault(fault) => Stop::BadText(fault),
-            ReadError::NoMemory => Stop::NoMemory,
+            ReadError::Fault(fault) => Refusal::BadText(fault),
+            ReadError::NoMemory => Refusal::NoMemory,
         }
     }
 }
 
-impl From<RehearseFault> for Stop {
+impl From<RehearseFault> for Refusal {
     ghost use Rattle.zk_cli.specs.StopsOf.{rehearse_stop};
 
     ghost from_gives = { λ fault e. e ≡ rehearse_stop fault };
 
     fn from(fault: RehearseFault) -> Self {
         match fault {
-            RehearseFault::WrongLength { need, got } => Stop::WrongLength { need, got },
-            RehearseFault::TooLarge { need, units } => Stop::TooLarge { need, units },
-            RehearseFault::NoMemory => Stop::NoMemory,
+            RehearseFault::WrongLength { need, got } => Refusal::WrongLength { need, got },
+            RehearseFault::TooLarge { need, units } => Refusal::TooLarge { need, units },
+            RehearseFault::NoMemory => Refusal::NoMemory,
         }
     }
 }
 
-impl From<EvalFault> for Stop {
+impl From<EvalFault> for Refusal {
     ghost use Rattle.zk_cli.specs.StopsOf.{eval_stop};
 
     ghost from_gives = { λ fault e. e ≡ eval_stop fault };
 
     fn from(fault: EvalFault) -> Self {
         match fault {
-            EvalFault::WrongLength { need, got } => Stop::WrongLength {
+            EvalFault::WrongLength { need, got } => Refusal::WrongLength {
                 need: need as u64,
                 got: got as u64,
             },
-            EvalFault::NoMemory => Stop::NoMemory,
+            EvalFault::NoMemory => Refusal::NoMemory,
         }
     }
 }
 
-impl From<PortFault> for Stop {
+impl From<PortFault> for Refusal {
     ghost use Rattle.zk_cli.specs.StopsOf.{store_stop};
 
     ghost from_gives = { λ fault e. e ≡ store_stop fault };
 
     fn from(fault: PortFault) -> Self {
         match fault {
-            PortFault::Failed => Stop::ShelfFailed,
-            PortFault::NoMemory => Stop::NoMemory,
+            PortFault::Failed => Refusal::ShelfFailed,
+            PortFault::NoMemory => Refusal::NoMemory,
         }
     }
 }
 
-impl From<FileFault> for Stop {
+impl From<FileFault> for Refusal {
     ghost use Rattle.zk_cli.specs.StopsOf.{file_stop};
 
     ghost from_gives = { λ fault e. e ≡ file_stop fault };
 
     fn from(fault: FileFault) -> Self {
         match fault {
-            FileFault::BadMagic => Stop::BadFile(BadFile::BadMagic),
-            FileFault::BadKind => Stop::BadFile(BadFile::BadKind),
-            FileFault::BadParam => Stop::BadFile(BadFile::BadParam),
-            FileFault::Length { need, got } => Stop::BadFile(BadFile::Length { need, got }),
-            FileFault::BadElement { place } => Stop::BadFile(BadFile::BadElement { place }),
-            FileFault::ZeroKey => Stop::BadFile(BadFile::ZeroKey),
-            FileFault::BadDigest => Stop::BadFile(BadFile::BadDigest),
-            FileFault::NoMemory => Stop::NoMemory,
+            FileFault::BadMagic => Refusal::BadFile(BadFile::BadMagic),
+            FileFault::BadKind => Refusal::BadFile(BadFile::BadKind),
+            FileFault::BadParam => Refusal::BadFile(BadFile::BadParam),
+            FileFault::Length { need, got } => Refusal::BadFile(BadFile::Length { need, got }),
+            FileFault::BadElement { place } => Refusal::BadFile(BadFile::BadElement { place }),
+            FileFault::ZeroKey => Refusal::BadFile(BadFile::ZeroKey),
+            FileFault::BadDigest => Refusal::BadFile(BadFile::BadDigest),
+            FileFault::NoMemory => Refusal::NoMemory,
         }
     }
 }
 
-impl From<TooManyUnits> for Stop {
+impl From<TooLarge> for Refusal {
     ghost use Rattle.zk_cli.specs.StopsOf.{units_stop};
 
     ghost from_gives = { λ found e. e ≡ units_stop found };
 
-    fn from(found: TooManyUnits) -> Self {
-        Stop::TooLarge {
+    fn from(found: TooLarge) -> Self {
+        Refusal::TooLarge {
             need: found.need,
             units: found.units,
         }
