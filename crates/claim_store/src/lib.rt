@@ -15,6 +15,7 @@ mod store;
 pub use fault::StoreFault;
 pub use store::ClaimStore;
 use thiserror::Error;
+use zk_model::Span;
 
 /// Why a span of units is not claimed.
 #[derive(Clone, Copy, Debug, PartialEq, Eq, Error)]

@@ -6,9 +6,7 @@ mod chains;
 #[cfg(test)]
 mod prover_tests;
 #[cfg(test)]
-mod published;
 #[cfg(test)]
-mod published_tests;
 #[cfg(test)]
 mod round_tests;
 #[cfg(test)]

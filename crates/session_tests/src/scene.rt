@@ -1,5 +1,5 @@
 // What both ends of a session have: the claim of what a circuit gives, files, and the log of a rehearsal.
-ghost use Rattle.std.specs.Prelude.{◌≡◌, ℕ, Bool, List, IfOk};
+ghost use Rattle.std.specs.Prelude.{◌≡◌, Bool, List, replicate, IfOk};
 ghost use Rattle.zk_model.specs.Statement.{circuit_statement};
 ghost use Rattle.zk_model.specs.declared.Kind.TheVariants.{Extended};
 
@@ -71,13 +71,13 @@ pub fn circuit_of(alloc: Global, scene: &Scene<'_>) -> Result<Circuit, Fail> {
 
 /// The claim that a scene's circuit gives what it gives.
 pub fn claim_of(alloc: Global, scene: &Scene<'_>, circuit: &Circuit) -> Result<CircuitClaim, Fail>
-    ensures { IfOk result (λ claim. (digest : List ℕ) × (outputs : List Bool)
-        × (claim ≡ circuit_statement circuit.now digest outputs)) }
+    ensures { IfOk result (λ claim. (outputs : List Bool)
+        × (claim ≡ circuit_statement circuit.now (replicate 32 0) outputs)) }
 {
     let Ok(outputs) = eval(alloc, circuit, scene.bits) else {
         return Err(Fail::new("no outputs"));
     };
-    let claim = CircuitClaim::new(alloc, circuit, scene.digest, &outputs)?;
+    let claim = CircuitClaim::new(alloc, circuit, [0; 32], &outputs)?;
     Ok(claim)
 }
 
