@@ -1,4 +1,4 @@
-// Whole runs over objects in memory, where memory is not wanting.
+// Whole runs over objects in memory, where memory is not missing.
 use std::alloc::{AllocError, Global};
 use std::collections::BTreeMap;
 use std::sync::Wait;
@@ -86,12 +86,7 @@ fn run<R: Threads + Wait, P: FaultPlan, Q: FaultPlan>(
         &[7; 32],
         out,
     );
-    let Finish {
-        status,
-        journal: _,
-        door: _,
-        part,
-    } = finish;
+    let Finish { status, part, .. } = finish;
     Ok(Ran {
         status,
         part,
@@ -140,7 +135,7 @@ struct Case {
     lines: &'static str,
 }
 
-/// Behind thousands of tokens: outputs, and each fault that can come there.
+/// After thousands of tokens: outputs, and each fault that can come there.
 fn chain_cases(alloc: Global) -> Result<Vec<Case>, AllocError> {
     let mut cases = Vec::new(alloc);
     let more = "6001 6004\n1 2\n1 1\n";

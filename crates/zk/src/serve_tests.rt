@@ -61,7 +61,7 @@ struct Ran {
     stage: u64,
 }
 
-/// Runs `serve` with these words behind the address over these files, with a door that fails at these calls and a sink that
+/// Runs `serve` with these words after the address over these files, with a door that fails at these calls and a sink that
 /// fails at this one; a third load would fail.
 fn served<R: Threads + Wait>(
     rt: &R,
@@ -98,12 +98,7 @@ fn served<R: Threads + Wait>(
         &SEED,
         &mut out,
     );
-    let Finish {
-        status,
-        journal: _,
-        door: _,
-        part,
-    } = finish;
+    let Finish { status, part, .. } = finish;
     let mut ran = Ran {
         status,
         written: out.bytes().to_vec(alloc)?,
@@ -226,7 +221,7 @@ fn a_rehearsals_prover_is_accepted(rt: HostRuntime) -> Result<(), Fail> {
     Ok(())
 }
 
-/// The prover's bytes of the and gate's session with one of them changed, or cut, or with others behind the hello.
+/// The prover's bytes of the and gate's session with one of them changed, or cut, or with others after the hello.
 fn changed_script(
     alloc: Global,
     script: &[u8],

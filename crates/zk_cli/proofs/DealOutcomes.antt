@@ -6,22 +6,20 @@ use Rattle.zk_model.specs.Dealing.{dealt_prover, dealt_verifier}
 use Rattle.zk_port.specs.Files.{Files}
 use Rattle.zk_port.specs.Files as port
 use Rattle.zk_port.specs.Shelves.{ShelfState}
-use Rattle.zk_cli.specs.Changes.{ShelfChange, SinkChange, CountsStay, OnlyStores}
-use Rattle.zk_cli.specs.Commands.{Deals}
-use Rattle.zk_cli.specs.DealRuns.{DealLines, IsDealName, StopsStoring, StoresDealt, all_stored, dealt_lines, dealt_stores, file_lines, file_stores, next_name}
+use Rattle.zk_cli.specs.Runs.{ShelfChange, Effects, CountsStay, SomeFailed, OnlyStores, HasFailed, IsDone}
+use Rattle.zk_cli.specs.DealRuns.{Deals, DealLines, IsDealName, StopsStoring, StoresDealt, all_stored, dealt_lines, dealt_stores, file_lines, file_stores, next_name}
 use Rattle.zk_cli.specs.declared.deal_command.Stored.TheVariants.{ProverFile, VerifierFile, ProverJournal, VerifierJournal}
-use Rattle.zk_cli.specs.Outcomes.{DealsAll, HasStoreFailed}
-use Rattle.zk_cli.proofs.Storing.{between}
-use Rattle.zk_cli.specs.Stops.{PrintsMade, stop_status, stop_line}
+use Rattle.zk_port.specs.Changes.{change}
+use Rattle.zk_cli.specs.Stops.{PrintsMade, WritesAll, StatusMeans, IsOfStop, stop_status}
 use Rattle.command_words.specs.Words.{DealAsk}
 use Rattle.zk_cli.specs.declared.refusal.Refusal.{Refusal}
 use Rattle.zk_cli.specs.declared.refusal.Refusal.TheVariants as stop
-use Rattle.zk_cli.proofs.Answering.{stop_answers, high_stop, memory_answers}
+use Rattle.zk_cli.proofs.Means.{made_means, stop_means}
 
 -- ---- a stop
 
 -- nothing is stored, for want of memory
-pub stores_none : (ask : DealAsk) (seed : List ℕ) (a : ShelfState) → StopsStoring (dealt_stores ask seed) (between a a) stop.NoMemory
+pub stores_none : (ask : DealAsk) (seed : List ℕ) (a : ShelfState) → StopsStoring (dealt_stores ask seed) (change a a) stop.NoMemory
 stores_none ask seed a = record {
   done = 0;
   some = omega arith;
@@ -32,18 +30,6 @@ stores_none ask seed a = record {
     same : (told : Option Files) → port.OthersStay (next_name 0 (dealt_stores ask seed)) (option_map (all_stored []) told) told
     same None = refl
     same (Some files) = λ other not. refl
-
--- where storing stops there is memory for the line of that or not
-pub says_deal_stop : (ask : DealAsk) (seed : List ℕ) (status : ℕ) (shelf : ShelfChange) (sink : SinkChange) (why : Refusal)
-    → StopsStoring (dealt_stores ask seed) shelf why → PrintsMade (stop_status why) (stop_line why) status sink
-    → DealLines ask seed status shelf sink
-says_deal_stop ask seed status shelf sink why stops (inl prints) = inr record { stop = why; cause = stops; prints = prints }
-says_deal_stop ask seed status shelf sink why stops (inr prints) =
-    inr record {
-      stop = stop.NoMemory;
-      cause = record { done = stops.done; some = stops.some; others = stops.others; cause = inl refl };
-      prints = prints;
-    }
 
 -- ---- what is stored
 
@@ -65,18 +51,13 @@ stops_dealt ask seed prover verifier shelf why is_prover is_verifier stops =
     subst (λ v. StopsStoring (file_stores ask.name (dealt_prover ask.params seed) v) shelf why) is_verifier
     (subst (λ p. StopsStoring (file_stores ask.name p verifier) shelf why) is_prover stops)
 
-pub says_dealt : (ask : DealAsk) (seed : List ℕ) (prover : model.ProverFile) (status : ℕ) (shelf : ShelfChange) (sink : SinkChange)
-    → prover ≡ dealt_prover ask.params seed → StoresDealt ask seed shelf → PrintsMade 0 (file_lines prover) status sink
-    → DealLines ask seed status shelf sink
-says_dealt ask seed prover status shelf sink is_prover stores prints =
-    inl record { stores = stores; prints = subst (λ p. PrintsMade 0 (file_lines p) status sink) is_prover prints }
+pub says_dealt : (ask : DealAsk) (seed : List ℕ) (prover : model.ProverFile) (run : Effects)
+    → prover ≡ dealt_prover ask.params seed → StoresDealt ask seed run.shelf → PrintsMade 0 (file_lines prover) run.status run.sink
+    → DealLines ask seed run
+says_dealt ask seed prover run is_prover stores prints =
+    inl (stores, subst (λ p. PrintsMade 0 (file_lines p) run.status run.sink) is_prover prints)
 
 -- ---- what a run means
-
--- the status with what it stands for
-abbrev DealMeans : DealAsk → List ℕ → ℕ → ShelfChange → SinkChange → Type 0
-DealMeans ask seed status shelf sink =
-    ((status ≡ 0) × DealsAll ask seed shelf sink) ⊎ ((status ≡ 4) × HasStoreFailed ask.name shelf sink) ⊎ (status ≡ 7)
 
 -- the store that stops is for one of the four names
 next_is_one : (name : List ℕ) (prover : model.ProverFile) (verifier : model.VerifierFile) (done : ℕ)
@@ -87,67 +68,83 @@ next_is_one name prover verifier (suc (suc zero)) some = (ProverJournal, refl)
 next_is_one name prover verifier (suc (suc (suc zero))) some = (VerifierJournal, refl)
 next_is_one name prover verifier (suc (suc (suc (suc more)))) some = absurd (omega (arith, some))
 
-deal_stopped : (ask : DealAsk) (seed : List ℕ) (status : ℕ) (shelf : ShelfChange) (sink : SinkChange) (why : Refusal)
-    → StopsStoring (dealt_stores ask seed) shelf why → (status ≡ stop_status why) ⊎ (status ≡ 7) → DealMeans ask seed status shelf sink
-deal_stopped ask seed status shelf sink why stops (inr e) = inr (inr e)
-deal_stopped ask seed status shelf sink why stops (inl e) = elim stops.cause [
-  | inl memory ↦ inr (inr (e ∙ ap stop_status memory))
-  | inr failed ↦ inr (inl (
-    e ∙ ap stop_status failed.0,
-    inl (
-      next_name stops.done (dealt_stores ask seed),
-      next_is_one ask.name (dealt_prover ask.params seed) (dealt_verifier ask.params seed) stops.done stops.some,
-      failed.1,
-    ),
-  ))
+-- a stop of storing has one of two statuses
+of_storing : (stores : List (List ℕ × List ℕ)) (shelf : ShelfChange) (why : Refusal) → StopsStoring stores shelf why
+    → (stop_status why ≡ 7) ⊎ (why ≡ stop.ShelfFailed)
+of_storing stores shelf why stops = elim stops.cause [ inl e ↦ inl (ap stop_status e) | inr failed ↦ inr failed.0 ]
+
+undoored : stop.DoorFailed ≡ stop.ShelfFailed → ⊥
+undoored same = cc
+
+failed_store : (ask : DealAsk) (seed : List ℕ) (shelf : ShelfChange) → StopsStoring (dealt_stores ask seed) shelf stop.ShelfFailed
+    → SomeFailed (IsDealName ask.name) shelf
+failed_store ask seed shelf stops = elim stops.cause [
+  | inl e ↦ let s : 4 ≡ 7 = ap stop_status e in absurd (omega (arith, s))
+  | inr failed ↦ (
+    next_name stops.done (dealt_stores ask seed),
+    next_is_one ask.name (dealt_prover ask.params seed) (dealt_verifier ask.params seed) stops.done stops.some,
+    failed.1,
+  )
 ]
 
-deal_written : (ask : DealAsk) (seed : List ℕ) (status : ℕ) (shelf : ShelfChange) (sink : SinkChange)
-    → StoresDealt ask seed shelf → PrintsMade 0 (dealt_lines ask.params seed) status sink → DealMeans ask seed status shelf sink
-deal_written ask seed status shelf sink stores (inl (inl whole)) =
-    inl (whole.answered, record { stores = stores; written = whole.written; quiet = whole.quiet })
-deal_written ask seed status shelf sink stores (inl (inr (inl fault))) = inr (inl (fault.answered, inr fault.failed))
-deal_written ask seed status shelf sink stores (inl (inr (inr short))) = inr (inr short.answered)
-deal_written ask seed status shelf sink stores (inr prints) = inr (inr (memory_answers status sink prints))
+abbrev Does : DealAsk → List ℕ → Effects → Type 0
+Does ask seed run = StoresDealt ask seed run.shelf × WritesAll (dealt_lines ask seed) run.sink
 
-deal_means : (ask : DealAsk) (seed : List ℕ) (status : ℕ) (shelf : ShelfChange) (sink : SinkChange)
-    → DealLines ask seed status shelf sink → DealMeans ask seed status shelf sink
-deal_means ask seed status shelf sink (inl says) = deal_written ask seed status shelf sink says.stores says.prints
-deal_means ask seed status shelf sink (inr says) =
-    deal_stopped ask seed status shelf sink says.stop says.cause
-    (stop_answers (stop_status says.stop) (stop_line says.stop) status sink (high_stop says.stop) says.prints)
+abbrev Means : DealAsk → List ℕ → Effects → Type 0
+Means ask seed run = StatusMeans (Does ask seed run) (StopsStoring (dealt_stores ask seed) run.shelf) (IsDealName ask.name) run
 
--- ---- what each status says
+means : (ask : DealAsk) (seed : List ℕ) (run : Effects) → DealLines ask seed run → Means ask seed run
+means ask seed run (inl says) =
+    made_means (Does ask seed run) (StopsStoring (dealt_stores ask seed) run.shelf) (IsDealName ask.name)
+    (dealt_lines ask seed) run (λ all. (says.0, all)) says.1
+means ask seed run (inr says) =
+    stop_means (Does ask seed run) (StopsStoring (dealt_stores ask seed) run.shelf) (IsDealName ask.name) run
+    no_usage no_door (failed_store ask seed run.shelf) says
+  where
+    no_usage : ¬ StopsStoring (dealt_stores ask seed) run.shelf stop.Usage
+    no_usage stops = elim (of_storing (dealt_stores ask seed) run.shelf stop.Usage stops) [
+      | inl e ↦ omega (arith, e)
+      | inr e ↦ let s : 2 ≡ 4 = ap stop_status e in omega (arith, s)
+    ]
 
-each_deal_means : (ask : DealAsk) (seed : List ℕ) (status : ℕ) (shelf : ShelfChange) (sink : SinkChange)
-    → DealLines ask seed status shelf sink → OnlyStores (IsDealName ask.name) shelf → DealMeans ask seed status shelf sink
-    → Deals ask seed status shelf sink
-each_deal_means ask seed status shelf sink says kept (inl m) = let at = m.0 in record {
-  lines = says;
-  kept = kept;
-  statuses = inl at;
-  on_0 = λ e. m.1;
-  on_4 = λ e. absurd (omega (arith, at, e));
-  done = λ calm. inl at;
-}
-each_deal_means ask seed status shelf sink says kept (inr (inl m)) = let at = m.0 in record {
-  lines = says;
-  kept = kept;
-  statuses = inr (inl at);
-  on_0 = λ e. absurd (omega (arith, at, e));
-  on_4 = λ e. m.1;
-  done = λ calm. absurd (calm m.1);
-}
-each_deal_means ask seed status shelf sink says kept (inr (inr at)) = record {
-  lines = says;
-  kept = kept;
-  statuses = inr (inr at);
-  on_0 = λ e. absurd (omega (arith, at, e));
-  on_4 = λ e. absurd (omega (arith, at, e));
-  done = λ calm. inr at;
-}
+    no_door : ¬ StopsStoring (dealt_stores ask seed) run.shelf stop.DoorFailed
+    no_door stops = elim (of_storing (dealt_stores ask seed) run.shelf stop.DoorFailed stops) [
+      | inl e ↦ omega (arith, e)
+      | inr e ↦ undoored e
+    ]
 
-pub deals : (ask : DealAsk) (seed : List ℕ) (status : ℕ) (shelf : ShelfChange) (sink : SinkChange)
-    → DealLines ask seed status shelf sink → OnlyStores (IsDealName ask.name) shelf → Deals ask seed status shelf sink
-deals ask seed status shelf sink says kept =
-    each_deal_means ask seed status shelf sink says kept (deal_means ask seed status shelf sink says)
+-- no other status is that of a stop of storing
+four_or_seven : (ask : DealAsk) (seed : List ℕ) (shelf : ShelfChange) (status : ℕ)
+    → IsOfStop (StopsStoring (dealt_stores ask seed) shelf) status → (status ≡ 7) ⊎ (status ≡ 4)
+four_or_seven ask seed shelf status found = elim (of_storing (dealt_stores ask seed) shelf found.0 found.1) [
+  | inl e ↦ inl (found.2 ∙ e)
+  | inr e ↦ inr (found.2 ∙ ap stop_status e)
+]
+
+statuses : (ask : DealAsk) (seed : List ℕ) (run : Effects) → Means ask seed run
+    → (run.status ≡ 0) ⊎ (run.status ≡ 4) ⊎ (run.status ≡ 7)
+statuses ask seed run (inl m) = inl m.0
+statuses ask seed run (inr (inl m)) = absurd (elim (four_or_seven ask seed run.shelf 3 m.1) [ inl e ↦ omega (arith, e) | inr e ↦ omega (arith, e) ])
+statuses ask seed run (inr (inr (inl m))) = inr (inl m.0)
+statuses ask seed run (inr (inr (inr (inl at)))) = inr (inr at)
+statuses ask seed run (inr (inr (inr (inr m)))) =
+    absurd (elim (four_or_seven ask seed run.shelf 9 m.1) [ inl e ↦ omega (arith, e) | inr e ↦ omega (arith, e) ])
+
+done : (ask : DealAsk) (seed : List ℕ) (run : Effects) → ¬ HasFailed (IsDealName ask.name) run → Means ask seed run → IsDone run.status
+done ask seed run calm (inl m) = inl m.0
+done ask seed run calm (inr (inl m)) = absurd (elim (four_or_seven ask seed run.shelf 3 m.1) [ inl e ↦ omega (arith, e) | inr e ↦ omega (arith, e) ])
+done ask seed run calm (inr (inr (inl m))) = absurd (calm m.1)
+done ask seed run calm (inr (inr (inr (inl at)))) = inr at
+done ask seed run calm (inr (inr (inr (inr m)))) =
+    absurd (elim (four_or_seven ask seed run.shelf 9 m.1) [ inl e ↦ omega (arith, e) | inr e ↦ omega (arith, e) ])
+
+pub deals : (ask : DealAsk) (seed : List ℕ) (run : Effects) → DealLines ask seed run → OnlyStores (IsDealName ask.name) run.shelf
+    → Deals ask seed run
+deals ask seed run lines kept =
+    let all = means ask seed run lines in record {
+      lines = lines;
+      kept = kept;
+      statuses = statuses ask seed run all;
+      means = all;
+      done = λ calm. done ask seed run calm all;
+    }

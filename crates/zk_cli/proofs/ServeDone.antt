@@ -1,76 +1,43 @@
 -- Where nothing is refused and nothing fails, and a peer is honest, what was asked for is done.
-use Rattle.std.proofs.Common.{◌≡◌, ◌⊎◌, ◌≤◌, ◌<◌, ℕ, Bool, true, false, List, [], ◌∷◌, All, length, replicate, Option, Some, IsSomeAnd, Result, Ok, Err, nat_le, refl, ap, sym, ◌∙◌, subst, inl, inr, arith}
+use Rattle.std.proofs.Common.{◌≡◌, ◌⊎◌, ◌≤◌, ℕ, Bool, true, false, List, [], ◌∷◌, All, length, Option, Some, Result, Ok, Err, nat_le, refl, ap, sym, ◌∙◌, subst, inl, inr, arith}
 use Rattle.std.proofs.lemmas.Bool.Decides.{nat_tests}
-use Rattle.std.proofs.lemmas.List.{length-replicate}
 use Rattle.std.specs.Prelude.{◌==◌, ◌||◌, ◌≢◌, if◌then◌else◌}
-use Rattle.lease_store.specs.declared.LeaseFault.TheVariants as lease
 use Rattle.zk_model.specs.Circuit.{Circuit}
-use Rattle.zk_model.specs.Program.{correlations_needed}
-use Rattle.zk_model.specs.Transcript.{units_for}
-use Rattle.zk_model.specs.Boolean.{circuit_program}
-use Rattle.zk_model.specs.declared.Span.{Span}
 use Rattle.zk_model.specs.declared.Side.TheVariants.{Verifier}
+use Rattle.zk_model.specs.declared.Span.{Span}
+use Rattle.zk_model.specs.declared.limits.TheConstants.{MAX_UNITS}
 use Rattle.zk_port.specs.Counts.{Rose}
-use Rattle.zk_port.specs.Files.{Files, LoadCause}
-use Rattle.zk_port.specs.declared.fault.LoadFault.{LoadFault}
-use Rattle.zk_port.specs.declared.fault.LoadFault.TheVariants as load
+use Rattle.zk_port.specs.Files.{Files}
+use Rattle.zk_port.specs.Links.{LinkState}
 use Rattle.bristol_reader.specs.Laws.{OneCircuit}
 use Rattle.dealer_files.specs.Faults.{IsDealtFile, IsFirstFault}
 use Rattle.dealer_files.specs.declared.fault.FileFault.{FileFault}
 use Rattle.dealer_files.specs.declared.fault.FileFault.TheVariants as file
 use Rattle.lease_store.specs.declared.LeaseFault.{LeaseFault}
+use Rattle.lease_store.specs.declared.LeaseFault.TheVariants as lease
 use Rattle.session_core.specs.Jobs.{VerifierJob, units_of_job}
 use Rattle.session_pool.specs.FirstUnits.{first_units}
-use Rattle.session_pool.specs.Notes.{IsLeaseOf, IsNote, IsSessionOf}
-use Rattle.zk_port.specs.Links.{LinkState}
-use Rattle.zk_model.specs.declared.Side.{Side}
+use Rattle.session_pool.specs.Notes.{IsLeaseOf, IsNote}
 use Rattle.session_verifier.specs.declared.note.SessionNote.{SessionNote}
 use Rattle.session_verifier.specs.declared.note.VerifierOutcome.{VerifierOutcome}
 use Rattle.session_verifier.specs.declared.note.VerifierOutcome.TheVariants.{Accepted, NoMemory}
 use Rattle.command_words.specs.Words.{ServeAsk}
-use Rattle.command_words.specs.declared.TheConstants.{FILE_LIMIT}
-use Rattle.zk_cli.specs.Changes.{ShelfChange, SinkChange, DoorChange, OnlyLoadsBoth}
-use Rattle.zk_cli.specs.Made.{EachNote}
 use Rattle.zk_cli.specs.NoteLines.{has_status, outcome_status}
-use Rattle.zk_cli.specs.Outcomes.{IsReady, IsDone}
-use Rattle.zk_cli.specs.ServeRuns.{IsServeJob, ClaimStop, FileStop, OpeningStop, ServeStop, LeadsSessions, SaysServed, ServeEffects, ServeLines}
-use Rattle.zk_cli.specs.ServeStatuses.{IsServable, HasRoom, HasServeFailed, IsWithHonestPeer, NotesMean, PartMeans, Serves}
-use Rattle.zk_cli.proofs.ServeOutcomes.{serve_means}
+use Rattle.zk_cli.specs.Runs.{ShelfChange, DoorChange, Effects, NameFailed, OnlyLoads, EachNote, IsDone}
+use Rattle.zk_cli.specs.ServeRuns.{IsServeJob, IsServeName, ClaimStop, FileStop, OpeningStop, ServeStop, LeadsSessions, ServeLines}
+use Rattle.zk_cli.specs.ServeRuns.{IsServable, HasServeFailed, IsWithHonestPeer, NotesMean, ServeMeans, Serves}
 use Rattle.zk_cli.specs.Stops.{stop_status}
-use Rattle.zk_cli.specs.StopsOf.{load_stop, file_stop}
 use Rattle.zk_cli.specs.declared.finish.Part.{Part}
 use Rattle.zk_cli.specs.declared.finish.Part.TheVariants.{Plain, Rehearsed, Served}
 use Rattle.zk_cli.specs.declared.refusal.Refusal.{Refusal}
-use Rattle.zk_cli.proofs.Refusals.{CircuitMeans, circuit_stop_means}
-use Rattle.zk_cli.proofs.ToldCircuits.{told_text, told_circuit, no_longer, not_refused}
-
--- ---- what is there is what is told
-
--- the file of a job is the one that is told, and it has room for the job's units
-job_room : OneCircuit → (told : Option Files) (ask : ServeAsk) (circuit : Circuit) (job : VerifierJob) → (ready : IsServable told ask)
-    → IsServeJob told ask circuit job → (units_of_job job ≤ 4096) × (units_of_job job ≤ job.task.file.params.total)
-job_room one told ask circuit job ready served =
-    let bytes = told_text told ask.file ready.bytes served.file.bytes ready.stands served.file.loaded.stands in
-    let room : HasRoom ready.circuit ask.section job.task.file = ready.room job.task.file served.file.valid (served.file.says ∙ bytes) in
-    let same : circuit ≡ ready.circuit = told_circuit one told ask.circuit ready.circuit circuit ready.text
-    (record { text = served.claim.text; loaded = served.claim.loaded; says = served.claim.says }) in
-    let units : units_of_job job ≡ units_for job.task.file.params (correlations_needed (circuit_program 0 ready.circuit) ask.section) =
-    ap (λ statement. units_for job.task.file.params (correlations_needed statement.program job.section_length)) served.claim.statement_is
-    ∙ ap (λ section. units_for job.task.file.params (correlations_needed (circuit_program 0 circuit) section)) served.section
-    ∙ ap (λ c. units_for job.task.file.params (correlations_needed (circuit_program 0 c) ask.section)) same in
-    (subst (λ n. n ≤ 4096) (sym units) room.few, subst (λ n. n ≤ job.task.file.params.total) (sym units) room.room)
+use Rattle.zk_cli.specs.declared.refusal.Refusal.TheVariants as stop
+use Rattle.zk_cli.proofs.Causes.{told_text, told_circuit, load_lacks, circuit_lacks}
+use Rattle.zk_cli.proofs.ServeOutcomes.{serve_means}
 
 -- ---- why a run stops: for want of memory alone
 
-unloaded_7 : (told : Option Files) (name bytes : List ℕ) (before now : ℕ) (fault : LoadFault)
-    → IsSomeAnd told (λ files. files name ≡ Some bytes) → length bytes ≤ FILE_LIMIT → ¬ Rose before now
-    → LoadCause told name FILE_LIMIT before now fault → stop_status (load_stop fault) ≡ 7
-unloaded_7 told name bytes before now load.Failed stands fits calm cause = absurd (calm cause)
-unloaded_7 told name bytes before now load.NoMemory stands fits calm cause = refl
-unloaded_7 told name bytes before now (load.TooLong limit) stands fits calm cause = absurd (no_longer told name bytes stands fits cause.1)
-
 undecoded_7 : (bytes : List ℕ) (fault : FileFault) → IsDealtFile Verifier bytes → IsFirstFault Verifier bytes fault
-    → stop_status (file_stop fault) ≡ 7
+    → stop_status (stop.BadFile fault) ≡ 7
 undecoded_7 bytes file.BadMagic dealt first = absurd (first dealt.body.head.magic)
 undecoded_7 bytes file.BadKind dealt first = absurd (first.2 dealt.body.head.of_side)
 undecoded_7 bytes file.BadParam dealt first = absurd (first.3 dealt.body.head.params)
@@ -81,51 +48,41 @@ undecoded_7 bytes file.ZeroKey dealt first = absurd (first.2 dealt.key)
 undecoded_7 bytes file.BadDigest dealt first = absurd (first.3 dealt.digest)
 undecoded_7 bytes file.NoMemory dealt first = refl
 
-claim_7 : OneCircuit → (ask : ServeAsk) (shelf : ShelfChange) (stop : Refusal) → (ready : IsServable shelf.old.told ask)
-    → ¬ Rose (shelf.old.faults_of ask.circuit) (shelf.new.faults_of ask.circuit) → ClaimStop ask shelf stop → stop_status stop ≡ 7
-claim_7 one ask shelf stop ready calm (inl why) =
-    of_means (circuit_stop_means ask.circuit bits shelf stop why)
-  where
-    bits : List Bool
-    bits = replicate ready.circuit.inputs false
+claim_lacks : OneCircuit → (ask : ServeAsk) (shelf : ShelfChange) → IsServable shelf.old.told ask → ¬ NameFailed ask.circuit shelf
+    → (why : Refusal) → ClaimStop ask shelf why → why ≡ stop.NoMemory
+claim_lacks one ask shelf ready calm (stop.WrongOutputs need got) cause =
+    let is = ready.circuit in
+    let same = told_circuit one shelf.old.told ask.circuit is.circuit cause.circuit ready.tells is.file cause.file in
+    absurd (cause.is.2 (cause.is.0 ∙ ap (λ c. c.outputs) same ∙ sym is.is ∙ sym cause.is.1))
+claim_lacks one ask shelf ready calm other cause =
+    circuit_lacks one ask.circuit shelf ready.circuit.circuit ready.tells ready.circuit.file calm other cause
 
-    is_ready : IsReady shelf.old.told ask.circuit bits ready.circuit
-    is_ready = record { file = ready.text; inputs = length-replicate ready.circuit.inputs false }
+file_7 : (ask : ServeAsk) (shelf : ShelfChange) → IsServable shelf.old.told ask → ¬ NameFailed ask.file shelf
+    → (why : Refusal) → FileStop ask.file shelf why → stop_status why ≡ 7
+file_7 ask shelf ready calm (stop.BadFile fault) cause =
+    let same = told_text shelf.old.told ask.file ready.file.text cause.text ready.tells ready.file.loaded.stands cause.loaded.stands in
+    undecoded_7 ready.file.text fault ready.file.says (subst (λ (b : List ℕ). IsFirstFault Verifier b fault) same cause.says)
+file_7 ask shelf ready calm other cause =
+    ap stop_status (load_lacks ask.file shelf ready.file.text ready.tells ready.file.loaded calm other cause)
 
-    of_means : CircuitMeans ask.circuit bits shelf (stop_status stop) → stop_status stop ≡ 7
-    of_means (inl refused) = absurd (not_refused one shelf.old.told ask.circuit bits ready.circuit is_ready refused.1)
-    of_means (inr (inl failed)) = absurd (calm failed.1)
-    of_means (inr (inr is)) = is
-claim_7 one ask shelf stop ready calm (inr (inl why)) =
-    let same = told_circuit one shelf.old.told ask.circuit ready.circuit why.circuit ready.text why.file in
-    absurd (why.differ (ready.outputs ∙ sym (ap (λ c. c.outputs) same)))
-claim_7 one ask shelf stop ready calm (inr (inr is)) = ap stop_status is
+opening_7 : (job : VerifierJob) (address : List ℕ) (door : DoorChange) → units_of_job job ≤ MAX_UNITS
+    → ¬ Rose door.old.listen_faults door.new.listen_faults → (why : Refusal) → OpeningStop job address door why → stop_status why ≡ 7
+opening_7 job address door few calm (stop.TooLarge need units) cause =
+    let many = cause.0.many in
+    let same = cause.0.units in
+    absurd (omega (arith, many, same, few))
+opening_7 job address door few calm stop.DoorFailed cause = absurd (calm cause.2)
+opening_7 job address door few calm stop.NoMemory cause = refl
+opening_7 job address door few calm other cause = absurd cause
 
-file_7 : (ask : ServeAsk) (shelf : ShelfChange) (stop : Refusal) → (ready : IsServable shelf.old.told ask)
-    → ¬ Rose (shelf.old.faults_of ask.file) (shelf.new.faults_of ask.file) → FileStop shelf ask.file stop → stop_status stop ≡ 7
-file_7 ask shelf stop ready calm (inl why) =
-    ap stop_status why.stops ∙ unloaded_7 shelf.old.told ask.file ready.bytes (shelf.old.faults_of ask.file) (shelf.new.faults_of ask.file)
-    why.fault ready.stands ready.fits calm why.cause
-file_7 ask shelf stop ready calm (inr why) =
-    let same = told_text shelf.old.told ask.file ready.bytes why.bytes ready.stands why.loaded.stands in
-    ap stop_status why.stops ∙ undecoded_7 ready.bytes why.fault ready.dealt (subst (λ (b : List ℕ). IsFirstFault Verifier b why.fault) same why.first)
-
-stop_7 : OneCircuit → (ask : ServeAsk) (shelf : ShelfChange) (sink : SinkChange) (door : DoorChange) (stop : Refusal) → (ready : IsServable shelf.old.told ask)
-    → ¬ HasServeFailed ask shelf sink door → ServeStop ask shelf door stop → stop_status stop ≡ 7
-stop_7 one ask shelf sink door stop ready calm (inl (inl why, unasked)) = claim_7 one ask shelf stop ready (λ rose. calm (inl rose)) why
-stop_7 one ask shelf sink door stop ready calm (inl (inr why, unasked)) = file_7 ask shelf stop ready (λ rose. calm (inr (inl rose))) why.cause
-stop_7 one ask shelf sink door stop ready calm (inr why) = of_cause why.cause
-  where
-    few : units_of_job why.job ≤ 4096
-    few = (job_room one shelf.old.told ask why.circuit why.job ready why.served).0
-
-    of_cause : OpeningStop why.job ask.address door stop → stop_status stop ≡ 7
-    of_cause (inl (large, unasked)) =
-        let many : 4096 < large.found.units = large.large.many in
-        let units = large.large.units in
-        absurd (omega (arith, many, units, few))
-    of_cause (inr (inl unheard)) = absurd (calm (inr (inr (inl (inl unheard.failed)))))
-    of_cause (inr (inr lacks)) = ap stop_status lacks.stops
+stop_7 : OneCircuit → (ask : ServeAsk) (door : DoorChange) (run : Effects) → IsServable run.shelf.old.told ask
+    → ¬ HasServeFailed ask door run → (why : Refusal) → ServeStop ask run.shelf door why → stop_status why ≡ 7
+stop_7 one ask door run ready calm why (inl (inl cause, unasked)) =
+    ap stop_status (claim_lacks one ask run.shelf ready (λ rose. calm (inl (inl (ask.circuit, inl refl, rose)))) why cause)
+stop_7 one ask door run ready calm why (inl (inr cause, unasked)) =
+    file_7 ask run.shelf ready (λ rose. calm (inl (inl (ask.file, inr refl, rose)))) why cause.3
+stop_7 one ask door run ready calm why (inr cause) =
+    opening_7 cause.1 ask.address door (ready.few cause.0 cause.1 cause.2) (λ rose. calm (inr (inl rose))) why cause.3
 
 -- ---- sessions with honest peers
 
@@ -139,14 +96,13 @@ leased_whole count total fault fits same = by_test (nat_le count total) refl sam
     by_test true is e = cc
     by_test false is e = grind (arith, nat_tests, fits, is)
 
-note_done : OneCircuit → (told : Option Files) (ask : ServeAsk) (circuit : Circuit) (job : VerifierJob) → IsServeJob told ask circuit job
-    → (granted : Option Span) (outcome : VerifierOutcome) (log : List (Side × ℕ)) (link : LinkState)
-    → IsServable told ask → IsSessionOf job granted outcome log link → IsWithHonestPeer told ask outcome log link
-    → (outcome ≡ Accepted) ⊎ (outcome ≡ NoMemory)
-note_done one told ask circuit job served granted outcome log link ready is honest =
+note_done : {L : Type 0} (link_tells : L → LinkState) (told : Option Files) (ask : ServeAsk) (circuit : Circuit) (job : VerifierJob)
+    → IsServeJob told ask circuit job → (note : SessionNote L) → IsServable told ask → IsNote link_tells job note
+    → IsWithHonestPeer link_tells told ask note → (note.outcome ≡ Accepted) ⊎ (note.outcome ≡ NoMemory)
+note_done link_tells told ask circuit job served note ready is honest =
     let peer = honest.honest circuit job served in
     is.complete peer.0 peer.1 unrefused
-    (λ rose. honest.calm (subst (λ (n : ℕ). Rose n link.faults) is.fresh.unfailed rose))
+    (λ rose. honest.calm (subst (λ (n : ℕ). Rose n (link_tells note.link).faults) is.fresh.unfailed rose))
   where
     unrefused : (fault : LeaseFault) → ¬ (is.answer ≡ Some (Err fault))
     unrefused fault same = of_lease is.leased
@@ -154,71 +110,66 @@ note_done one told ask circuit job served granted outcome log link ready is hone
         of_lease : IsLeaseOf job is.answer → ⊥
         of_lease (inl none) = cc
         of_lease (inr first) = leased_whole (units_of_job job) job.task.file.params.total fault
-            (job_room one told ask circuit job ready served).1 (cc)
+            (ready.room circuit job served) (cc)
 
 no_status : (status : ℕ) (outcome : VerifierOutcome) → (outcome ≡ Accepted) ⊎ (outcome ≡ NoMemory) → status ≢ 0 → status ≢ 7
     → (outcome_status outcome == status || false) ≡ true → ⊥
 no_status status outcome (inl is) some other same = grind (arith, nat_tests, is, some, other, same)
 no_status status outcome (inr is) some other same = grind (arith, nat_tests, is, some, other, same)
 
-no_status_in : {L : Type 0} (link_tells : L → LinkState) → OneCircuit → (told : Option Files) (ask : ServeAsk) (circuit : Circuit) (job : VerifierJob)
+no_status_in : {L : Type 0} (link_tells : L → LinkState) (told : Option Files) (ask : ServeAsk) (circuit : Circuit) (job : VerifierJob)
     → IsServeJob told ask circuit job → (notes : List (SessionNote L)) (status : ℕ) → IsServable told ask → length notes ≤ 1
-    → All (IsNote link_tells job) notes
-    → All (λ note. IsWithHonestPeer told ask note.outcome note.log (link_tells note.link)) notes
+    → All (IsNote link_tells job) notes → All (IsWithHonestPeer link_tells told ask) notes
     → status ≢ 0 → status ≢ 7 → has_status notes status ≡ true → ⊥
-no_status_in link_tells one told ask circuit job served [] status ready most each honest some other same = cc
-no_status_in link_tells one told ask circuit job served (note ∷ []) status ready most each honest some other same =
+no_status_in link_tells told ask circuit job served [] status ready most each honest some other same = cc
+no_status_in link_tells told ask circuit job served (note ∷ []) status ready most each honest some other same =
     no_status status note.outcome
-    (note_done one told ask circuit job served note.granted note.outcome note.log (link_tells note.link) ready
-    (each 0 note (omega arith)) (honest 0 note (omega arith)))
+    (note_done link_tells told ask circuit job served note ready (each 0 note (omega arith)) (honest 0 note (omega arith)))
     some other same
-no_status_in link_tells one told ask circuit job served (note ∷ next ∷ notes) status ready most each honest some other same =
+no_status_in link_tells told ask circuit job served (note ∷ next ∷ notes) status ready most each honest some other same =
     absurd (omega (arith, most))
 
 -- ---- the run
 
-notes_done : {L : Type 0} (link_tells : L → LinkState) → OneCircuit → (ask : ServeAsk) (notes : List (SessionNote L)) (status : ℕ)
-    (shelf : ShelfChange) (sink : SinkChange) (door : DoorChange) (door_failed memory_failed : Bool) → IsServable shelf.old.told ask
-    → LeadsSessions link_tells ask notes door_failed memory_failed shelf.old.told door
-    → All (λ note. IsWithHonestPeer shelf.old.told ask note.outcome note.log (link_tells note.link)) notes
-    → ¬ HasServeFailed ask shelf sink door → NotesMean notes status sink door → IsDone status
-notes_done link_tells one ask notes status shelf sink door door_failed memory_failed ready leads honest calm means = of_means means
+notes_done : {L : Type 0} (link_tells : L → LinkState) (ask : ServeAsk) (notes : List (SessionNote L)) (door : DoorChange) (run : Effects)
+    (door_failed memory_failed : Bool) → IsServable run.shelf.old.told ask
+    → LeadsSessions link_tells ask notes door_failed memory_failed run.shelf.old.told door
+    → All (IsWithHonestPeer link_tells run.shelf.old.told ask) notes
+    → ¬ HasServeFailed ask door run → NotesMean notes door run → IsDone run.status
+notes_done link_tells ask notes door run door_failed memory_failed ready leads honest calm means = of_means means
   where
     none : (other : ℕ) → other ≢ 0 → other ≢ 7 → has_status notes other ≡ true → ⊥
-    none other some seven same = no_status_in link_tells one shelf.old.told ask leads.circuit leads.job leads.served notes other ready
+    none other some seven same = no_status_in link_tells run.shelf.old.told ask leads.circuit leads.job leads.served notes other ready
         leads.taken.most leads.each honest some seven same
 
-    of_means : NotesMean notes status sink door → IsDone status
+    of_means : NotesMean notes door run → IsDone run.status
     of_means (inl accepted) = inl accepted.0
     of_means (inr (inl some)) = absurd (none 1 (λ e. absurd (omega (arith, e))) (λ e. absurd (omega (arith, e))) some.1)
-    of_means (inr (inr (inl (at, inl failed)))) = absurd (calm (inr (inr (inl failed))))
-    of_means (inr (inr (inl (at, inr (inl failed))))) = absurd (calm (inr (inr (inr failed))))
+    of_means (inr (inr (inl (at, inl failed)))) = absurd (calm (inr failed))
+    of_means (inr (inr (inl (at, inr (inl failed))))) = absurd (calm (inl (inr failed)))
     of_means (inr (inr (inl (at, inr (inr some))))) =
         absurd (none 4 (λ e. absurd (omega (arith, e))) (λ e. absurd (omega (arith, e))) some)
     of_means (inr (inr (inr (inl some)))) = absurd (none 6 (λ e. absurd (omega (arith, e))) (λ e. absurd (omega (arith, e))) some.1)
     of_means (inr (inr (inr (inr seven)))) = inr seven
 
-serve_is_done : {L : Type 0} (link_tells : L → LinkState) → OneCircuit → (ask : ServeAsk) (part : Part L) (status : ℕ)
-    (shelf : ShelfChange) (sink : SinkChange) (door : DoorChange)
-    → SaysServed link_tells part ask status shelf sink door → PartMeans part ask status shelf sink door
-    → IsServable shelf.old.told ask → ¬ HasServeFailed ask shelf sink door
-    → EachNote part (λ note. IsWithHonestPeer shelf.old.told ask note.outcome note.log (link_tells note.link)) → IsDone status
-serve_is_done link_tells one ask (Served notes) status shelf sink door says means ready calm honest =
-    notes_done link_tells one ask notes.items status shelf sink door says.door_failed says.memory_failed ready says.leads honest calm means
-serve_is_done link_tells one ask Plain status shelf sink door says means ready calm honest =
-    elim means.answered [
-      | inl e ↦ inr (e ∙ stop_7 one ask shelf sink door means.stop ready calm means.cause)
-      | inr e ↦ inr e
-    ]
-serve_is_done link_tells one ask (Rehearsed r) status shelf sink door says means ready calm honest = absurd says
+serve_is_done : {L : Type 0} (link_tells : L → LinkState) → OneCircuit → (ask : ServeAsk) (part : Part L) (door : DoorChange) (run : Effects)
+    → ServeLines link_tells ask part door run → ServeMeans ask part door run
+    → IsServable run.shelf.old.told ask → ¬ HasServeFailed ask door run
+    → EachNote part (IsWithHonestPeer link_tells run.shelf.old.told ask) → IsDone run.status
+serve_is_done link_tells one ask (Served notes) door run says means ready calm honest =
+    notes_done link_tells ask notes.items door run says.door_failed says.memory_failed ready says.leads honest calm means
+serve_is_done link_tells one ask Plain door run says means ready calm honest = elim means [
+  | inl stopped ↦ inr (stopped.2 ∙ stop_7 one ask door run ready calm stopped.0 stopped.1)
+  | inr seven ↦ inr seven
+]
+serve_is_done link_tells one ask (Rehearsed r) door run says means ready calm honest = absurd says
 
-pub serves : {L : Type 0} (link_tells : L → LinkState) → OneCircuit → (ask : ServeAsk) (run : ServeEffects L)
-    → ServeLines link_tells ask run → OnlyLoadsBoth ask.circuit ask.file run.shelf → Serves link_tells ask run
-serves link_tells one ask run lines kept =
-    let means = serve_means link_tells ask run.part run.status run.shelf run.sink run.door lines in record {
+pub serves : {L : Type 0} (link_tells : L → LinkState) → OneCircuit → (ask : ServeAsk) (part : Part L) (door : DoorChange) (run : Effects)
+    → ServeLines link_tells ask part door run → OnlyLoads (IsServeName ask) run.shelf → Serves link_tells ask part door run
+serves link_tells one ask part door run lines kept =
+    let means = serve_means link_tells ask part door run lines in record {
       lines = lines;
       means = means;
-      done = λ ready calm honest.
-          serve_is_done link_tells one ask run.part run.status run.shelf run.sink run.door lines means ready calm honest;
+      done = λ ready calm honest. serve_is_done link_tells one ask part door run lines means ready calm honest;
       kept = kept;
     }

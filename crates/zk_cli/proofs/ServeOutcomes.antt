@@ -18,15 +18,13 @@ use Rattle.session_verifier.specs.declared.note.SessionNote.{SessionNote}
 use Rattle.session_verifier.specs.declared.note.VerifierOutcome.{VerifierOutcome}
 use Rattle.session_verifier.specs.declared.note.VerifierOutcome.TheVariants.{Accepted, RejectedSum, RejectedOpening, PeerEnded, BadFrame, BadHello, Exhausted, Device, Broken, Link, NoMemory}
 use Rattle.command_words.specs.Words.{ServeAsk}
-use Rattle.zk_cli.specs.Changes.{ShelfChange, SinkChange, DoorChange}
+use Rattle.zk_cli.specs.Runs.{DoorChange, Effects}
 use Rattle.zk_cli.specs.NoteLines.{has_status, served_status, served_text, outcome_status}
-use Rattle.zk_cli.specs.Prints.{Prints, after_sink_fault}
-use Rattle.zk_cli.specs.ServeRuns.{SaysServed}
-use Rattle.zk_cli.specs.ServeStatuses.{NotesMean, PartMeans}
-use Rattle.zk_cli.specs.Stops.{PrintsMade, stop_status, stop_line}
+use Rattle.zk_cli.specs.ServeRuns.{ServeLines, NotesMean, ServeMeans}
+use Rattle.zk_cli.specs.Stops.{Prints, after_sink_fault}
 use Rattle.zk_cli.specs.declared.finish.Part.{Part}
 use Rattle.zk_cli.specs.declared.finish.Part.TheVariants.{Plain, Rehearsed, Served}
-use Rattle.zk_cli.proofs.Answering.{stop_answers, high_stop, memory_answers}
+use Rattle.zk_cli.proofs.Means.{stop_answers}
 
 true_is_false : true ≡ false → ⊥
 true_is_false same = cc
@@ -87,40 +85,43 @@ all_accepted (note ∷ other ∷ notes) most one four five six seven = absurd (o
 
 -- ---- what the status says
 
-mean_written : {L : Type 0} (address : List ℕ) (notes : List (SessionNote L)) (door_failed memory_failed : Bool) (answer : ℕ) (sink : SinkChange) (door : DoorChange)
+mean_written : {L : Type 0} (address : List ℕ) (notes : List (SessionNote L)) (door_failed memory_failed : Bool) (door : DoorChange) (run : Effects)
     → TakesOneAtMost (length notes) door_failed memory_failed (after_listen address 1 door.old) door.new
     → has_status notes 5 ≡ false
     → ChainMeans door_failed (has_status notes 1) (has_status notes 4) (has_status notes 6) (has_status notes 7) (served_status notes door_failed memory_failed)
-    → Prints (served_status notes door_failed memory_failed) (served_text notes door_failed) answer sink → NotesMean notes answer sink door
-mean_written address notes door_failed memory_failed answer sink door taken no_five means (inr (inr short)) = inr (inr (inr (inr short.answered)))
-mean_written address notes door_failed memory_failed answer sink door taken no_five (inl zero_is) (inl whole) =
+    → Prints (served_status notes door_failed memory_failed) (served_text notes door_failed) run.status run.sink
+    → NotesMean notes door run
+mean_written address notes door_failed memory_failed door run taken no_five means (inr (inr short)) = inr (inr (inr (inr short.0)))
+mean_written address notes door_failed memory_failed door run taken no_five (inl zero_is) (inl whole) =
     inl (
-      whole.answered ∙ zero_is.0,
+      whole.0 ∙ zero_is.0,
       record {
         each = all_accepted notes taken.most zero_is.2 zero_is.3 no_five zero_is.4 zero_is.5;
-        written = whole.written ∙ ap (λ failed. appended (served_text notes failed) sink.old.written) zero_is.1;
-        sink_quiet = whole.quiet;
+        lines = record {
+          written = whole.1.written ∙ ap (λ failed. appended (served_text notes failed) run.sink.old.written) zero_is.1;
+          quiet = whole.1.quiet;
+        };
         listen_quiet = ap (λ (s : DoorState). s.listen_faults) taken.rest;
         next_quiet = taken.calm zero_is.1;
       },
     )
-mean_written address notes door_failed memory_failed answer sink door taken no_five (inr (inl one)) (inl whole) = inr (inl (whole.answered ∙ one.0, one.1))
-mean_written address notes door_failed memory_failed answer sink door taken no_five (inr (inr (inl four))) (inl whole) =
-    inr (inr (inl (whole.answered ∙ four.0, elim four.1 [ inl failed ↦ inl (inr (taken.failed failed)) | inr link ↦ inr (inr link) ])))
-mean_written address notes door_failed memory_failed answer sink door taken no_five (inr (inr (inr (inl six)))) (inl whole) =
-    inr (inr (inr (inl (whole.answered ∙ six.0, six.1))))
-mean_written address notes door_failed memory_failed answer sink door taken no_five (inr (inr (inr (inr seven)))) (inl whole) =
-    inr (inr (inr (inr (whole.answered ∙ seven))))
-mean_written address notes door_failed memory_failed answer sink door taken no_five (inl zero_is) (inr (inl fault)) =
-    inr (inr (inl (fault.answered ∙ ap after_sink_fault zero_is.0, inr (inl fault.failed))))
-mean_written address notes door_failed memory_failed answer sink door taken no_five (inr (inl one)) (inr (inl fault)) =
-    inr (inr (inl (fault.answered ∙ ap after_sink_fault one.0, inr (inl fault.failed))))
-mean_written address notes door_failed memory_failed answer sink door taken no_five (inr (inr (inl four))) (inr (inl fault)) =
-    inr (inr (inl (fault.answered ∙ ap after_sink_fault four.0, inr (inl fault.failed))))
-mean_written address notes door_failed memory_failed answer sink door taken no_five (inr (inr (inr (inl six)))) (inr (inl fault)) =
-    inr (inr (inr (inl (fault.answered ∙ ap after_sink_fault six.0, six.1))))
-mean_written address notes door_failed memory_failed answer sink door taken no_five (inr (inr (inr (inr seven)))) (inr (inl fault)) =
-    inr (inr (inr (inr (fault.answered ∙ ap after_sink_fault seven))))
+mean_written address notes door_failed memory_failed door run taken no_five (inr (inl one)) (inl whole) = inr (inl (whole.0 ∙ one.0, one.1))
+mean_written address notes door_failed memory_failed door run taken no_five (inr (inr (inl four))) (inl whole) =
+    inr (inr (inl (whole.0 ∙ four.0, elim four.1 [ inl failed ↦ inl (inr (taken.failed failed)) | inr link ↦ inr (inr link) ])))
+mean_written address notes door_failed memory_failed door run taken no_five (inr (inr (inr (inl six)))) (inl whole) =
+    inr (inr (inr (inl (whole.0 ∙ six.0, six.1))))
+mean_written address notes door_failed memory_failed door run taken no_five (inr (inr (inr (inr seven)))) (inl whole) =
+    inr (inr (inr (inr (whole.0 ∙ seven))))
+mean_written address notes door_failed memory_failed door run taken no_five (inl zero_is) (inr (inl fault)) =
+    inr (inr (inl (fault.0 ∙ ap after_sink_fault zero_is.0, inr (inl fault.2))))
+mean_written address notes door_failed memory_failed door run taken no_five (inr (inl one)) (inr (inl fault)) =
+    inr (inr (inl (fault.0 ∙ ap after_sink_fault one.0, inr (inl fault.2))))
+mean_written address notes door_failed memory_failed door run taken no_five (inr (inr (inl four))) (inr (inl fault)) =
+    inr (inr (inl (fault.0 ∙ ap after_sink_fault four.0, inr (inl fault.2))))
+mean_written address notes door_failed memory_failed door run taken no_five (inr (inr (inr (inl six)))) (inr (inl fault)) =
+    inr (inr (inr (inl (fault.0 ∙ ap after_sink_fault six.0, six.1))))
+mean_written address notes door_failed memory_failed door run taken no_five (inr (inr (inr (inr seven)))) (inr (inl fault)) =
+    inr (inr (inr (inr (fault.0 ∙ ap after_sink_fault seven))))
 
 -- ---- no lease of the first units is refused by a device
 
@@ -164,22 +165,16 @@ none_five link_tells job (note ∷ []) each most =
     ap (λ b. b || false) (not_five job is.answer note.outcome (snapshot Verifier [] is.first) (snapshot Verifier note.log (link_tells note.link)) is.leased is.cause)
 none_five link_tells job (note ∷ other ∷ notes) each most = absurd (omega (arith, most))
 
-pub serve_means : {L : Type 0} (link_tells : L → LinkState) (ask : ServeAsk) (part : Part L) (status : ℕ)
-    (shelf : ShelfChange) (sink : SinkChange) (door : DoorChange)
-    → SaysServed link_tells part ask status shelf sink door → PartMeans part ask status shelf sink door
-serve_means link_tells ask (Served notes) status shelf sink door says =
+pub serve_means : {L : Type 0} (link_tells : L → LinkState) (ask : ServeAsk) (part : Part L) (door : DoorChange) (run : Effects)
+    → ServeLines link_tells ask part door run → ServeMeans ask part door run
+serve_means link_tells ask (Served notes) door run says =
     let no_five = none_five link_tells says.leads.job notes.items says.leads.each says.leads.taken.most in
-    mean_written ask.address notes.items says.door_failed says.memory_failed status sink door says.leads.taken no_five
+    mean_written ask.address notes.items says.door_failed says.memory_failed door run says.leads.taken no_five
     (chain_means says.door_failed says.memory_failed (has_status notes.items 1) (has_status notes.items 4) (has_status notes.items 5)
     (has_status notes.items 6) (has_status notes.items 7) no_five)
     says.prints
-serve_means link_tells ask Plain status shelf sink door says = record {
-  stop = says.stop;
-  cause = says.cause;
-  answered = answers says.prints;
-}
-  where
-    answers : PrintsMade (stop_status says.stop) (stop_line says.stop) status sink → (status ≡ stop_status says.stop) ⊎ (status ≡ 7)
-    answers (inl prints) = stop_answers (stop_status says.stop) (stop_line says.stop) status sink (high_stop says.stop) prints
-    answers (inr prints) = inr (memory_answers status sink prints)
-serve_means link_tells ask (Rehearsed r) status shelf sink door says = absurd says
+serve_means link_tells ask Plain door run says = elim (stop_answers says.stop run.status run.sink says.prints) [
+  | inl e ↦ inl (says.stop, says.cause, e)
+  | inr e ↦ inr e
+]
+serve_means link_tells ask (Rehearsed r) door run says = absurd says

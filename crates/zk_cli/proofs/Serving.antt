@@ -1,5 +1,5 @@
 -- What a verifier that serves composes: its files, its notes, and what it says.
-use Rattle.std.proofs.Common.{◌≡◌, ◌≤◌, ℕ, List, length, All, Result, Ok, Err, IfOk, Option, Some, None, get_or, append-nil, refl, sym, ap, subst, inl, inr, arith}
+use Rattle.std.proofs.Common.{◌≡◌, ◌≤◌, ℕ, Bool, List, length, All, Result, Ok, Err, IfOk, IfErr, Option, Some, None, get_or, append-nil, refl, sym, ap, subst, inl, inr, arith}
 use Rattle.std.specs.Prelude.{take}
 use Rattle.zk_port.specs.Logs.{appended}
 use Rattle.zk_model.specs.Circuit.{Circuit}
@@ -14,10 +14,11 @@ use Rattle.zk_model.specs.Headline.{ShowsOutputs}
 use Rattle.zk_model.specs.Statement.{Statement}
 use Rattle.zk_model.specs.declared.Side.{Side}
 use Rattle.zk_model.specs.declared.Span.{Span}
+use Rattle.zk_port.specs.Changes.{change}
 use Rattle.zk_port.specs.Counts.{Rose}
-use Rattle.zk_port.specs.Files.{Files, LoadCause, StandsLonger}
-use Rattle.zk_port.specs.declared.fault.LoadFault.{LoadFault}
-use Rattle.zk_port.specs.declared.fault.LoadFault.TheVariants as load
+use Rattle.dealer_files.specs.Faults.{IsFirstFault}
+use Rattle.zk_model.specs.declared.Side.TheVariants.{Verifier}
+use Rattle.zk_port.specs.Files.{Files, StandsLonger}
 use Rattle.session_core.specs.Jobs.{units_of_job, verifier_of}
 use Rattle.session_core.specs.Jobs.{VerifierJob}
 use Rattle.session_pool.specs.Doors.{TakesOneAtMost}
@@ -28,52 +29,75 @@ use Rattle.zk_port.specs.Links.{LinkState}
 use Rattle.zk_port.specs.Shelves.{ShelfState}
 use Rattle.zk_port.specs.Sinks.{SinkState}
 use Rattle.session_pool.specs.declared.served.Served as pool
+use Rattle.session_verifier.specs.declared.note.SessionNote.{SessionNote}
 use Rattle.session_verifier.specs.declared.note.VerifierOutcome.TheVariants.{Accepted}
 use Rattle.command_words.specs.Words.{ServeAsk}
-use Rattle.command_words.specs.declared.TheConstants.{FILE_LIMIT}
-use Rattle.zk_cli.specs.Changes.{DoorChange}
-use Rattle.zk_cli.specs.Prints.{Prints}
-use Rattle.zk_cli.specs.ServeRuns.{IsClaim, IsVerifierFileAt, IsServeJob, FileStop, IsUndecoded, LeadsSessions, SaysServed, ServeEffects, ServeLines}
-use Rattle.zk_cli.specs.Made.{EachNote}
+use Rattle.zk_model.specs.declared.limits.TheConstants.{FILE_LIMIT}
+use Rattle.zk_cli.specs.Runs.{ShelfChange, DoorChange, OnlyLoads, IsName}
+use Rattle.zk_cli.specs.ServeRuns.{IsClaim, IsVerifierFileAt, IsServeJob, IsServeName, LeadsSessions}
+use Rattle.zk_cli.specs.ServeRuns.{ClaimStop, FileStop, OpeningStop, ServeStop}
+use Rattle.zk_cli.proofs.Asking.{loads_among, loads_both}
 use Rattle.zk_cli.specs.ServedNotes.{IsHeadline, HeadlineIsOfAcceptedLog}
-use Rattle.zk_cli.specs.declared.finish.Part.{Part}
-use Rattle.zk_cli.specs.declared.finish.Part.TheVariants.{Plain, Rehearsed, Served}
+use Rattle.zk_cli.specs.Stops.{Prints, HasText, LoadStop, CircuitStop}
 use Rattle.zk_cli.specs.declared.refusal.Refusal.{Refusal}
+use Rattle.zk_cli.specs.declared.refusal.Refusal.TheVariants as stop
 
 -- a count that rose since a moment rose since any before
 rose_since : (first before now : ℕ) → first ≤ before → Rose before now → Rose first now
 rose_since first before now earlier rose = grind (arith, earlier, rose)
 
-load_cause_since : (old mid : Option Files) (name : List ℕ) (first before now : ℕ) (fault : LoadFault) → mid ≡ old → first ≤ before
-    → LoadCause mid name FILE_LIMIT before now fault → LoadCause old name FILE_LIMIT first now fault
-load_cause_since old mid name first before now load.Failed same earlier cause = rose_since first before now earlier cause
-load_cause_since old mid name first before now load.NoMemory same earlier cause = tt
-load_cause_since old mid name first before now (load.TooLong limit) same earlier cause =
-    (cause.0, subst (λ told. StandsLonger told name FILE_LIMIT) same cause.1)
-
 -- a file that can't be had of a shelf at a later moment, with the same files, can't be had
-pub file_stop_since : (old mid new : ShelfState) (name : List ℕ) (stop : Refusal) → mid.told ≡ old.told
-    → old.faults_of name ≤ mid.faults_of name → FileStop (record { old = mid; new = new }) name stop
-    → FileStop (record { old = old; new = new }) name stop
-file_stop_since old mid new name stop same earlier (inl why) = inl record {
-  fault = why.fault;
-  cause = load_cause_since old.told mid.told name (old.faults_of name) (mid.faults_of name) (new.faults_of name) why.fault same earlier why.cause;
-  stops = why.stops;
-}
-file_stop_since old mid new name stop same earlier (inr why) =
-    inr (subst (λ (told : Option Files). IsUndecoded told name stop) same why)
+pub file_stop_since : (name : List ℕ) (old mid new : ShelfState) → mid.told ≡ old.told → old.faults_of name ≤ mid.faults_of name
+    → (why : Refusal) → FileStop name (change mid new) why → FileStop name (change old new) why
+file_stop_since name old mid new same earlier (stop.BadFile fault) cause =
+    subst (λ (told : Option Files). HasText told name (λ bytes. IsFirstFault Verifier bytes fault)) same cause
+file_stop_since name old mid new same earlier stop.ShelfFailed cause =
+    rose_since (old.faults_of name) (mid.faults_of name) (new.faults_of name) earlier cause
+file_stop_since name old mid new same earlier (stop.TooLong limit) cause =
+    (cause.0, subst (λ (told : Option Files). StandsLonger told name FILE_LIMIT) same cause.1)
+file_stop_since name old mid new same earlier stop.NoMemory cause = tt
+file_stop_since name old mid new same earlier other cause = absurd cause
+
+-- ---- causes of a stop
+
+pub claim_of_circuit : (ask : ServeAsk) (shelf : ShelfChange) (why : Refusal) → CircuitStop ask.circuit shelf why → ClaimStop ask shelf why
+claim_of_circuit ask shelf (stop.WrongOutputs need got) cause = absurd cause
+claim_of_circuit ask shelf other cause = cause
+
+pub file_of_load : (name : List ℕ) (shelf : ShelfChange) (why : Refusal) → LoadStop name shelf why → FileStop name shelf why
+file_of_load name shelf (stop.BadFile fault) cause = absurd cause
+file_of_load name shelf other cause = cause
 
 -- where nothing is written for want of memory, a first part of the text is
-pub says_nothing : (status : ℕ) (text : List ℕ) (sink : SinkState) → Prints status text 7 (record { old = sink; new = sink })
-says_nothing status text sink = inr (inr record {
-  answered = refl;
-  written = record { count = 0; part = append_nothing sink.written };
-  quiet = refl;
-})
+pub says_nothing : (status : ℕ) (text : List ℕ) (sink : SinkState) → Prints status text 7 (change sink sink)
+says_nothing status text sink = inr (inr (refl, record { count = 0; part = append_nothing sink.written }, refl))
   where
     append_nothing : (written : Option (List ℕ)) → written ≡ appended (take 0 text) written
     append_nothing None = refl
     append_nothing (Some before) = ap Some (sym (append-nil before))
+
+-- ---- which files are asked for
+
+pub loads_claim : (ask : ServeAsk) (a b : ShelfState) → OnlyLoads (IsName ask.circuit) (change a b)
+    → OnlyLoads (IsServeName ask) (change a b)
+loads_claim ask a b loads = loads_among (IsName ask.circuit) (IsServeName ask) (change a b) (λ name is. inl is) loads
+
+pub loads_files : (ask : ServeAsk) (a b c : ShelfState) → OnlyLoads (IsName ask.circuit) (change a b)
+    → OnlyLoads (IsName ask.file) (change b c) → OnlyLoads (IsServeName ask) (change a c)
+loads_files ask a b c claim file =
+    loads_both (IsServeName ask) a b c (loads_claim ask a b claim)
+    (loads_among (IsName ask.file) (IsServeName ask) (change b c) (λ name is. inr is) file)
+
+-- ---- sessions
+
+-- a session of a job that a claim and a file make is not opened
+pub lacks_session : {T : Type 0} (ask : ServeAsk) (shelf : ShelfChange) (circuit : Circuit) (claim : Statement) (file : VerifierFile)
+    (result : Result T Refusal) (door : DoorChange) → IsClaim shelf.old.told ask circuit claim
+    → IsVerifierFileAt shelf.old.told ask.file file → IfErr result (OpeningStop (verifier_of claim file ask.section) ask.address door)
+    → IfErr result (ServeStop ask shelf door)
+lacks_session ask shelf circuit claim file (Ok value) door is_claim is_file stops = tt
+lacks_session ask shelf circuit claim file (Err why) door is_claim is_file stops =
+    inr (circuit, verifier_of claim file ask.section, record { claim = is_claim; file = is_file; section = refl }, stops)
 
 -- the sessions of a job that a claim and a file make are those of what was asked
 pub leads_sessions : {L : Type 0} (link_tells : L → LinkState) (told : Option Files) (ask : ServeAsk) (circuit : Circuit)
@@ -120,19 +144,13 @@ headline law told ask circuit job served granted log shown =
     }
 
 -- of each note that is handed back
-pub headlines : {L : Type 0} (link_tells : L → LinkState) → ExtractedShowsOutputs → (ask : ServeAsk) (run : ServeEffects L)
-    → ServeLines link_tells ask run
-    → EachNote run.part (λ note. note.outcome ≡ Accepted → IsHeadline run.shelf.old.told ask note.granted note.log)
-headlines link_tells law ask run lines = of_part run.part lines
-  where
-    of_part : (part : Part _) → SaysServed link_tells part ask run.status run.shelf run.sink run.door
-        → EachNote part (λ note. note.outcome ≡ Accepted → IsHeadline run.shelf.old.told ask note.granted note.log)
-    of_part (Served notes) says = λ k default within accepted.
-        let note = get_or notes.items k default in
-        headline law run.shelf.old.told ask says.leads.circuit says.leads.job says.leads.served note.granted note.log
-        ((says.leads.each k default within).shown accepted)
-    of_part Plain says = tt
-    of_part (Rehearsed r) says = tt
+pub headlines : {L : Type 0} (link_tells : L → LinkState) → ExtractedShowsOutputs → (told : Option Files) (ask : ServeAsk)
+    (notes : List (SessionNote L)) (door : DoorChange) (door_failed memory_failed : Bool)
+    → LeadsSessions link_tells ask notes door_failed memory_failed told door
+    → All (λ note. note.outcome ≡ Accepted → IsHeadline told ask note.granted note.log) notes
+headlines link_tells law told ask notes door door_failed memory_failed leads = λ k default within accepted.
+    let note = get_or notes k default in
+    headline law told ask leads.circuit leads.job leads.served note.granted note.log ((leads.each k default within).shown accepted)
 
 -- ---- what the headline's record holds
 
@@ -145,16 +163,11 @@ of_commitment prover verifier statement t dealt whole =
 pub of_accepted_log : NoErrorSolves → HeadlineIsOfAcceptedLog
 of_accepted_log solves told ask granted log shown = (
   record { t = shown.t; in_order = shown.in_order; checks = shown.checks; said = shown.said },
-  λ prover valid dealt.
-      let shows : ShowsOutputs shown.circuit ask.outputs prover shown.job.task.file.key shown.job.task.statement shown.t =
-      shown.shows prover valid dealt in
-      record {
-        finding = shows.finding;
-        found = shows.found;
-        says = shows.says;
-        solves = λ view seen right.
-            solves prover shown.job.task.statement shown.t.commitment view valid shown.in_order.stated
-            (of_commitment prover shown.job.task.file shown.job.task.statement shown.t dealt shown.in_order.transcript) seen right;
-        claims = λ view seen claimed. claims_are shown.job.task.statement view shown.in_order.stated claimed;
-      },
+  λ prover valid dealt. record {
+    shows = shown.shows prover valid dealt;
+    solves = λ view seen right.
+        solves prover shown.job.task.statement shown.t.commitment view valid shown.in_order.stated
+        (of_commitment prover shown.job.task.file shown.job.task.statement shown.t dealt shown.in_order.transcript) seen right;
+    claims = λ view seen claimed. claims_are shown.job.task.statement view shown.in_order.stated claimed;
+  },
 )

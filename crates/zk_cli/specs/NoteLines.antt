@@ -1,5 +1,6 @@
 -- How a note of a session is said.
-use Rattle.std.specs.Prelude.{◌==◌, ◌||◌, ℕ, List, [], ◌++◌, codes, flat_map, Bool, true, false, if◌then◌else◌, Option, None, Some}
+use Rattle.std.specs.Prelude.{◌==◌, ◌||◌, ℕ, List, [], ◌++◌, codes, flat_map, Bool, true, false, if◌then◌else◌}
+use Rattle.std.specs.Prelude.{Option, None, Some}
 use Rattle.std.specs.Fmt.{decimal}
 use Rattle.std.specs.List.{list_any}
 use Rattle.zk_model.specs.declared.Span.{Span}
@@ -7,7 +8,7 @@ use Rattle.session_core.specs.declared.fault.HelloDiffers.{HelloDiffers}
 use Rattle.session_core.specs.declared.fault.HelloDiffers.TheVariants.{Id, Circuit, Outputs, Version}
 use Rattle.session_verifier.specs.declared.note.SessionNote.{SessionNote}
 use Rattle.session_verifier.specs.declared.note.VerifierOutcome.{VerifierOutcome}
-use Rattle.session_verifier.specs.declared.note.VerifierOutcome.TheVariants.{Accepted, RejectedSum, RejectedOpening, PeerEnded, BadFrame, BadHello, Exhausted, Device, Broken, Link, NoMemory}
+use Rattle.session_verifier.specs.declared.note.VerifierOutcome.TheVariants as ended
 
 -- the field of a hello that differs
 abbrev pub field_words : HelloDiffers → List ℕ
@@ -18,32 +19,25 @@ field_words (Version want got) = codes "version"
 
 -- how a session ended
 abbrev pub outcome_words : VerifierOutcome → List ℕ
-outcome_words Accepted = codes "accepted"
-outcome_words (RejectedSum section left right) = codes "rejected sum " ++ decimal section
-outcome_words (RejectedOpening output left right) = codes "rejected opening " ++ decimal output
-outcome_words (PeerEnded at) = codes "ended " ++ decimal at
-outcome_words (BadFrame place) = codes "frame " ++ decimal place
-outcome_words (BadHello differs) = codes "hello " ++ field_words differs
-outcome_words (Exhausted at count total) =
+outcome_words ended.Accepted = codes "accepted"
+outcome_words (ended.RejectedSum section left right) = codes "rejected sum " ++ decimal section
+outcome_words (ended.RejectedOpening output left right) = codes "rejected opening " ++ decimal output
+outcome_words (ended.PeerEnded at) = codes "ended " ++ decimal at
+outcome_words (ended.BadFrame place) = codes "frame " ++ decimal place
+outcome_words (ended.BadHello differs) = codes "hello " ++ field_words differs
+outcome_words (ended.Exhausted at count total) =
     codes "exhausted " ++ decimal at ++ codes " " ++ decimal count ++ codes " " ++ decimal total
-outcome_words Device = codes "device"
-outcome_words (Broken first) = codes "journal " ++ decimal first
-outcome_words Link = codes "link"
-outcome_words NoMemory = codes "memory"
+outcome_words ended.Device = codes "device"
+outcome_words (ended.Broken first) = codes "journal " ++ decimal first
+outcome_words ended.Link = codes "link"
+outcome_words ended.NoMemory = codes "memory"
 
 -- the verifier has judged
 abbrev pub is_judged : VerifierOutcome → Bool
-is_judged Accepted = true
-is_judged (RejectedSum section left right) = true
-is_judged (RejectedOpening output left right) = true
-is_judged (PeerEnded at) = false
-is_judged (BadFrame place) = false
-is_judged (BadHello differs) = false
-is_judged (Exhausted at count total) = false
-is_judged Device = false
-is_judged (Broken first) = false
-is_judged Link = false
-is_judged NoMemory = false
+is_judged ended.Accepted = true
+is_judged (ended.RejectedSum section left right) = true
+is_judged (ended.RejectedOpening output left right) = true
+is_judged outcome = false
 
 -- the units that were granted, and how the session ended; or why none were
 abbrev pub note_line : Option Span → VerifierOutcome → List ℕ
@@ -52,28 +46,21 @@ note_line (Some span) outcome =
     codes "units " ++ decimal span.start ++ codes ".." ++ decimal span.end
     ++ (if is_judged outcome then codes " " else codes " broken ") ++ outcome_words outcome ++ codes "\n"
 
--- of a note
-abbrev pub line_of : {L : Type 0} → SessionNote L → List ℕ
-line_of note = note_line note.granted note.outcome
-
 -- a line for each session, and one where the door failed
 abbrev pub served_text : {L : Type 0} → List (SessionNote L) → Bool → List ℕ
 served_text notes door_failed =
-    flat_map line_of notes ++ (if door_failed then codes "door failed\n" else [])
+    flat_map (λ note. note_line note.granted note.outcome) notes
+    ++ (if door_failed then codes "door failed\n" else [])
 
--- the status of a session
+-- the status of a session: 1 where it was rejected, or its peer ended, or sent another frame or another hello
 abbrev pub outcome_status : VerifierOutcome → ℕ
-outcome_status Accepted = 0
-outcome_status (RejectedSum section left right) = 1
-outcome_status (RejectedOpening output left right) = 1
-outcome_status (PeerEnded at) = 1
-outcome_status (BadFrame place) = 1
-outcome_status (BadHello differs) = 1
-outcome_status (Exhausted at count total) = 6
-outcome_status Device = 5
-outcome_status (Broken first) = 5
-outcome_status Link = 4
-outcome_status NoMemory = 7
+outcome_status ended.Accepted = 0
+outcome_status ended.Link = 4
+outcome_status ended.Device = 5
+outcome_status (ended.Broken first) = 5
+outcome_status (ended.Exhausted at count total) = 6
+outcome_status ended.NoMemory = 7
+outcome_status outcome = 1
 
 -- one of the sessions has this status
 abbrev pub has_status : {L : Type 0} → List (SessionNote L) → ℕ → Bool

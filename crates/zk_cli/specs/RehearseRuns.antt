@@ -1,27 +1,22 @@
--- `rehearse CIRCUIT BITS [--section G] [--extended]`: what it hands back, and what it says.
-use Rattle.std.specs.Prelude.{◌≡◌, ◌⊎◌, ◌≤◌, ℕ, List, length, ◌++◌, codes, Option}
+-- `rehearse CIRCUIT BITS [--section G] [--extended]`: what it hands back and says, and what it promises of its run.
+use Rattle.std.specs.Prelude.{◌≡◌, ◌⊎◌, ◌<◌, ◌≤◌, ℕ, List, ◌++◌, codes, Option}
 use Rattle.std.specs.Fmt.{decimal}
 use Rattle.zk_model.specs.Circuit.{Circuit}
-use Rattle.zk_model.specs.Program.{section_count}
-use Rattle.zk_model.specs.Boolean.{circuit_products, circuit_program}
-use Rattle.zk_port.specs.Files.{Files}
-use Rattle.command_words.specs.BitWords.{bits_word}
-use Rattle.zk_cli.specs.Changes.{ShelfChange, SinkChange}
-use Rattle.zk_cli.specs.CircuitFiles.{IsCircuitFile, GivesOutputs, CircuitStop}
-use Rattle.zk_cli.specs.Made.{Effects}
-use Rattle.session_rehearsal.specs.Rehearsals.{IsRehearsalOf, RehearseCause, rehearsal_need, rehearsal_units}
-use Rattle.zk_cli.specs.Stops.{PrintsStop, PrintsMade}
-use Rattle.zk_cli.specs.StopsOf.{rehearse_stop}
-use Rattle.command_words.specs.Words.{RehearseAsk}
-use Rattle.zk_cli.specs.declared.finish.Part.{Part}
-use Rattle.zk_cli.specs.declared.finish.Part.TheVariants.{Plain, Rehearsed}
-use Rattle.session_rehearsal.specs.declared.rehearsal.Rehearsal.{Rehearsal}
-use Rattle.session_rehearsal.specs.declared.rehearsal.RehearseFault.{RehearseFault}
 use Rattle.zk_model.specs.declared.Verdict.{Verdict}
 use Rattle.zk_model.specs.declared.Verdict.TheVariants.{Accepted, RejectedSum, RejectedOpening}
+use Rattle.zk_model.specs.declared.limits.TheConstants.{MAX_UNITS}
+use Rattle.zk_port.specs.Files.{Files}
+use Rattle.command_words.specs.BitWords.{bits_word}
+use Rattle.command_words.specs.Words.{RehearseAsk}
+use Rattle.session_rehearsal.specs.Rehearsals.{IsRehearsalOf, IsWrongLength, IsTooLarge, EndsWithVerdict}
+use Rattle.session_rehearsal.specs.Rehearsals.{rehearsal_units}
+use Rattle.session_rehearsal.specs.declared.rehearsal.Rehearsal.{Rehearsal}
+use Rattle.zk_cli.specs.Runs.{ShelfChange, SinkChange, Effects, OnlyLoads, IsName, HasFailed}
+use Rattle.zk_cli.specs.Stops.{PrintsMade, WritesAll, SaysStop, StatusMeans, HasCircuit, IsReady, CircuitStop}
+use Rattle.zk_cli.specs.declared.finish.Part.{Part}
+use Rattle.zk_cli.specs.declared.finish.Part.TheVariants.{Plain, Rehearsed}
 use Rattle.zk_cli.specs.declared.refusal.Refusal.{Refusal}
-
--- ---- the lines
+use Rattle.zk_cli.specs.declared.refusal.Refusal.TheVariants.{WrongBits, TooLarge}
 
 -- 0 where the verifier accepts
 abbrev pub verdict_status : Verdict → ℕ
@@ -35,72 +30,58 @@ verdict_line Accepted = codes "accepted\n"
 verdict_line (RejectedSum section) = codes "rejected sum " ++ decimal section ++ codes "\n"
 verdict_line (RejectedOpening output) = codes "rejected opening " ++ decimal output ++ codes "\n"
 
--- two numbers behind their names
-abbrev pub named_numbers : List ℕ → ℕ → List ℕ → ℕ → List ℕ
-named_numbers name number other_name other_number =
-    name ++ codes " " ++ decimal number ++ codes " " ++ other_name ++ codes " " ++ decimal other_number
-
 -- what a session takes
 abbrev pub counts_line : Rehearsal → List ℕ
 counts_line r =
-    named_numbers (codes "products") r.products (codes "sections") r.sections ++ codes " "
-    ++ named_numbers (codes "correlations") r.need (codes "units") r.units ++ codes "\n"
+    codes "products " ++ decimal r.products ++ codes " sections " ++ decimal r.sections
+    ++ codes " correlations " ++ decimal r.need ++ codes " units " ++ decimal r.units ++ codes "\n"
 
 -- the outputs, the numbers and the verdict, a line each
 abbrev pub rehearsal_lines : Rehearsal → List ℕ
 rehearsal_lines r =
     codes "outputs " ++ bits_word r.outputs ++ codes "\n" ++ counts_line r ++ verdict_line r.verdict
 
--- ---- what is handed back
+-- this is a rehearsal of the circuit under the name: its outputs are the only ones at the bits, its numbers are the
+-- defined ones, and its log is that of an honest session over the files of the seed
+abbrev pub IsRehearsed : Option Files → RehearseAsk → List ℕ → Rehearsal → Type 0
+IsRehearsed told ask seed r =
+    HasCircuit told ask.circuit (λ circuit. IsRehearsalOf circuit ask.bits ask.kind ask.section seed r)
 
--- the outputs satisfy the circuit under the name at the bits, and no others do
-abbrev pub HasOutputs : Option Files → RehearseAsk → Rehearsal → Type 0
-HasOutputs told ask r = GivesOutputs told ask.circuit ask.bits r.outputs
-
--- the numbers are those of the circuit under the name
-pub record HasNumbers (told : Option Files) (ask : RehearseAsk) (r : Rehearsal) : Type 0 where
-  pub circuit : Circuit
-  pub file : IsCircuitFile told ask.circuit circuit
-  pub products : r.products ≡ length (circuit_products 0 circuit)
-  pub sections : r.sections ≡ section_count (circuit_program 0 circuit) ask.section
-  pub need : r.need ≡ rehearsal_need circuit ask.section
-  pub units : r.units ≡ rehearsal_units circuit ask.kind ask.section
-  pub units_most : r.units ≤ 4096
-
--- one circuit under the name has these outputs and numbers, and this log is that of an honest session over it
-pub record IsRehearsed (told : Option Files) (ask : RehearseAsk) (seed : List ℕ) (r : Rehearsal)
-    : Type 0 where
-  pub circuit : Circuit
-  pub file : IsCircuitFile told ask.circuit circuit
-  pub rehearsal : IsRehearsalOf circuit ask.bits ask.kind ask.section seed r
-
--- ---- what is said
-
--- the circuit under the name can't be rehearsed at the bits
-pub record IsUnrehearsed (told : Option Files) (ask : RehearseAsk) (stop : Refusal) : Type 0 where
-  pub circuit : Circuit
-  pub file : IsCircuitFile told ask.circuit circuit
-  pub fault : RehearseFault
-  pub cause : RehearseCause circuit ask.bits ask.kind ask.section fault
-  pub stops : stop ≡ rehearse_stop fault
-
--- why there is no rehearsal: the circuit can't be had, or can't be rehearsed
+-- why there is no rehearsal: the circuit has another number of inputs, takes too many units, or can't be had
 abbrev pub RehearseStop : RehearseAsk → ShelfChange → Refusal → Type 0
-RehearseStop ask shelf stop = CircuitStop shelf ask.circuit stop ⊎ IsUnrehearsed shelf.old.told ask stop
+RehearseStop ask shelf (WrongBits need got) =
+    HasCircuit shelf.old.told ask.circuit (λ circuit. IsWrongLength circuit ask.bits need got)
+RehearseStop ask shelf (TooLarge need units) =
+    HasCircuit shelf.old.told ask.circuit
+    (λ circuit. IsTooLarge circuit ask.bits ask.kind ask.section need units)
+RehearseStop ask shelf stop = CircuitStop ask.circuit shelf stop
 
--- the line of a stop is written, and this is why
-pub record SaysStop (ask : RehearseAsk) (status : ℕ) (shelf : ShelfChange) (sink : SinkChange) : Type 0 where
-  pub stop : Refusal
-  pub cause : RehearseStop ask shelf stop
-  pub prints : PrintsStop stop status sink
+-- a rehearsal is handed back, and its lines are written; or nothing is, and the line of a stop is, which has its cause
+abbrev pub RehearseLines : {L : Type 0} → RehearseAsk → List ℕ → Part L → Effects → Type 0
+RehearseLines ask seed (Rehearsed r) run =
+    IsRehearsed run.shelf.old.told ask seed r
+    × PrintsMade (verdict_status r.verdict) (rehearsal_lines r) run.status run.sink
+RehearseLines ask seed Plain run = SaysStop (RehearseStop ask run.shelf) run
+RehearseLines ask seed part run = ⊥
 
--- of a rehearsal its lines are written; where nothing is handed back, why there is none; nothing else is handed
--- back
-abbrev pub SaysPart : {L : Type 0} → Part L → RehearseAsk → ℕ → ShelfChange → SinkChange → Type 0
-SaysPart (Rehearsed r) ask status shelf sink =
-    PrintsMade (verdict_status r.verdict) (rehearsal_lines r) status sink
-SaysPart Plain ask status shelf sink = SaysStop ask status shelf sink
-SaysPart part ask status shelf sink = ⊥
+-- a rehearsal is handed back that is accepted, and its log ends with that; all lines are written, and the sink did not
+-- fail
+abbrev pub Accepts : {L : Type 0} → Part L → SinkChange → Type 0
+Accepts (Rehearsed r) sink =
+    (r.verdict ≡ Accepted) × EndsWithVerdict Accepted r.log × WritesAll (rehearsal_lines r) sink
+Accepts part sink = ⊥
 
-abbrev pub RehearseLines : {L : Type 0} → RehearseAsk → Effects L → Type 0
-RehearseLines ask run = SaysPart run.part ask run.status run.shelf run.sink
+-- memory aside, a session that takes so many units is rehearsed and accepted exactly where they are at most 4,096
+abbrev pub AnswersFor : ℕ → ℕ → Type 0
+AnswersFor units status =
+    ((status ≡ 0) × (units ≤ MAX_UNITS)) ⊎ ((status ≡ 9) × (MAX_UNITS < units)) ⊎ (status ≡ 7)
+
+-- What is handed back and said, or the line of a stop with its cause; nothing but the circuit's file is asked of the
+-- shelf; what the status says; and where the shelf tells a circuit that the bits fit, and nothing fails, the rehearsal
+-- is accepted, unless it takes too many units.
+pub record Rehearses {L : Type 0} (ask : RehearseAsk) (seed : List ℕ) (part : Part L) (run : Effects) : Type 0 where
+  pub lines : RehearseLines ask seed part run
+  pub kept : OnlyLoads (IsName ask.circuit) run.shelf
+  pub means : StatusMeans (Accepts part run.sink) (RehearseStop ask run.shelf) (IsName ask.circuit) run
+  pub done : (circuit : Circuit) → IsReady run.shelf.old.told ask.circuit ask.bits circuit
+      → ¬ HasFailed (IsName ask.circuit) run → AnswersFor (rehearsal_units circuit ask.kind ask.section) run.status

@@ -1,32 +1,53 @@
 // Files that are loaded, and circuits that stand as such.
-ghost use Rattle.std.specs.Prelude.{IfOk, IfErr};
+ghost use Rattle.std.specs.Prelude.{◌≡◌, ◌⊎◌, IfOk, IfErr};
+ghost use Rattle.zk_model.specs.Bristol.{IsText};
+ghost use Rattle.zk_model.specs.declared.ReadFault.{ReadFault};
 ghost use Rattle.zk_port.specs.Changes.{change};
-ghost use Rattle.zk_cli.specs.Changes.{OnlyLoads};
-ghost use Rattle.zk_cli.specs.CircuitFiles.{IsLoaded, IsUnloaded, IsCircuitFile, CircuitStop};
+ghost use Rattle.bristol_reader.specs.Reads.{IsOnlyFault};
+ghost use Rattle.zk_cli.specs.Runs.{OnlyLoads, IsName};
+ghost use Rattle.zk_cli.specs.Stops.{IsLoaded, IsCircuitFile, LoadStop, CircuitStop};
+ghost use Rattle.zk_cli.specs.declared.refusal.Refusal.TheVariants as stops;
 
 use crate::refusal::Refusal;
-use bristol_reader::{Circuit, read};
-use command_words::FILE_LIMIT;
+use bristol_reader::{Circuit, ReadError, read};
 use std::alloc::Global;
-use zk_port::Shelf;
+use zk_model::FILE_LIMIT;
+use zk_port::{LoadFault, Shelf};
 
 /// The bytes of the file of this name.
+#[tactic(auto, using(crate::proofs::Asking::loads_only))]
 pub fn load_file<F: Shelf>(alloc: Global, shelf: &mut F, name: &str) -> Result<Vec<u8>, Refusal>
     ensures loaded { IfOk result (λ bytes. IsLoaded (F.state shelf.old).told name.now bytes.items) }
-    ensures stop { IfErr result
-        (IsUnloaded (change (F.state shelf.old) (F.state shelf.new)) name.now) }
-    ensures kept { OnlyLoads name.now (change (F.state shelf.old) (F.state shelf.new)) }
+    ensures stop { IfErr result (LoadStop name.now (change (F.state shelf.old) (F.state shelf.new))) }
+    ensures kept { OnlyLoads (IsName name.now) (change (F.state shelf.old) (F.state shelf.new)) }
 {
-    Ok(shelf.load(alloc, name, FILE_LIMIT)?)
+    match shelf.load(alloc, name, FILE_LIMIT) {
+        Ok(bytes) => Ok(bytes),
+        Err(LoadFault::Failed) => Err(Refusal::ShelfFailed),
+        Err(LoadFault::TooLong { limit }) => Err(Refusal::TooLong { limit }),
+        Err(LoadFault::NoMemory) => Err(Refusal::NoMemory),
+    }
+}
+
+/// The circuit that a text says.
+pub fn read_circuit(alloc: Global, text: &[u8]) -> Result<Circuit, Refusal>
+    ensures says { IfOk result (λ circuit. IsText circuit text.now) }
+    ensures stop { IfErr result (λ stop. (stop ≡ stops.NoMemory)
+        ⊎ ((fault : ReadFault) × IsOnlyFault text.now fault × (stop ≡ stops.BadText fault))) }
+{
+    match read(alloc, text) {
+        Ok(circuit) => Ok(circuit),
+        Err(ReadError::Fault(fault)) => Err(Refusal::BadText(fault)),
+        Err(ReadError::NoMemory) => Err(Refusal::NoMemory),
+    }
 }
 
 /// The circuit that the file of this name says.
 pub fn load_circuit<F: Shelf>(alloc: Global, shelf: &mut F, name: &str) -> Result<Circuit, Refusal>
     ensures file { IfOk result (IsCircuitFile (F.state shelf.old).told name.now) }
-    ensures stop { IfErr result
-        (CircuitStop (change (F.state shelf.old) (F.state shelf.new)) name.now) }
-    ensures kept { OnlyLoads name.now (change (F.state shelf.old) (F.state shelf.new)) }
+    ensures stop { IfErr result (CircuitStop name.now (change (F.state shelf.old) (F.state shelf.new))) }
+    ensures kept { OnlyLoads (IsName name.now) (change (F.state shelf.old) (F.state shelf.new)) }
 {
     let text = load_file(alloc, shelf, name)?;
-    Ok(read(alloc, &text)?)
+    read_circuit(alloc, &text)
 }

@@ -1,17 +1,15 @@
 // `eval CIRCUIT BITS`
 ghost use Rattle.std.specs.Prelude.{◌≡◌, IfOk, IfErr, string_bytes};
 ghost use Rattle.zk_port.specs.Changes.{change};
-ghost use Rattle.zk_cli.specs.Changes.{OnlyLoads};
-ghost use Rattle.zk_cli.specs.Commands.{Evaluates};
-ghost use Rattle.zk_cli.specs.CircuitFiles.{GivesOutputs};
-ghost use Rattle.zk_cli.specs.EvalRuns.{EvalLines, EvalStop, outputs_line};
-ghost use Rattle.zk_cli.specs.Stops.{PrintsMade};
 ghost use Rattle.command_words.specs.Words.{eval_ask};
+ghost use Rattle.zk_cli.specs.EvalRuns.{Evaluates, EvalStop, GivesOutputs, outputs_line};
+ghost use Rattle.zk_cli.specs.Runs.{OnlyLoads, IsName, effects};
+ghost use Rattle.zk_cli.specs.Stops.{PrintsMade};
 
 use crate::circuit_file::load_circuit;
 use crate::refusal::Refusal;
 use crate::say::{say, say_memory, say_stop};
-use bool_eval::eval;
+use bool_eval::{EvalFault, eval};
 use bristol_reader::one_circuit;
 use command_words::write_bits;
 use std::alloc::{AllocError, Global};
@@ -25,13 +23,20 @@ fn eval_file<F: Shelf>(
     bits: &[bool],
 ) -> Result<Vec<bool>, Refusal>
     ensures gives { IfOk result (λ outputs.
-        GivesOutputs (F.state shelf.old).told name.now bits.now outputs.items) }
+        GivesOutputs (F.state shelf.old).told (eval_ask name.now bits.now) outputs.items) }
     ensures stop { IfErr result (EvalStop (eval_ask name.now bits.now)
         (change (F.state shelf.old) (F.state shelf.new))) }
-    ensures kept { OnlyLoads name.now (change (F.state shelf.old) (F.state shelf.new)) }
+    ensures kept { OnlyLoads (IsName name.now) (change (F.state shelf.old) (F.state shelf.new)) }
 {
     let circuit = load_circuit(alloc, shelf, name)?;
-    Ok(eval(alloc, &circuit, bits)?)
+    match eval(alloc, &circuit, bits) {
+        Ok(outputs) => Ok(outputs),
+        Err(EvalFault::WrongLength { need, got }) => Err(Refusal::WrongBits {
+            need: need as u64,
+            got: got as u64,
+        }),
+        Err(EvalFault::NoMemory) => Err(Refusal::NoMemory),
+    }
 }
 
 /// The line of the outputs.
@@ -53,25 +58,8 @@ fn say_outputs<O: Sink>(alloc: Global, out: &mut O, outputs: &[bool]) -> u8
     }
 }
 
-/// Evaluates the circuit of this name at these bits, and says the outputs, or why there are none.
-fn eval_and_say<F: Shelf, O: Sink>(
-    alloc: Global,
-    shelf: &mut F,
-    out: &mut O,
-    name: &str,
-    bits: &[bool],
-) -> u8
-    ensures lines { EvalLines (eval_ask name.now bits.now) result
-        (change (F.state shelf.old) (F.state shelf.new)) (change (O.state out.old) (O.state out.new)) }
-    ensures kept { OnlyLoads name.now (change (F.state shelf.old) (F.state shelf.new)) }
-{
-    match eval_file(alloc, shelf, name, bits) {
-        Ok(outputs) => say_outputs(alloc, out, &outputs),
-        Err(stop) => say_stop(alloc, out, stop),
-    }
-}
-
-/// `eval CIRCUIT BITS`, with its status.
+/// `eval CIRCUIT BITS`: evaluates the circuit of this name at these bits, says the outputs, or why there are none,
+/// and answers the status.
 pub fn run_eval<F: Shelf, O: Sink>(
     alloc: Global,
     shelf: &mut F,
@@ -79,9 +67,12 @@ pub fn run_eval<F: Shelf, O: Sink>(
     name: &str,
     bits: &[bool],
 ) -> u8
-    ensures { Evaluates (eval_ask name.now bits.now) result
-        (change (F.state shelf.old) (F.state shelf.new)) (change (O.state out.old) (O.state out.new)) }
+    ensures { Evaluates (eval_ask name.now bits.now) (effects result
+        (change (F.state shelf.old) (F.state shelf.new)) (change (O.state out.old) (O.state out.new))) }
 {
     one_circuit();
-    eval_and_say(alloc, shelf, out, name, bits)
+    match eval_file(alloc, shelf, name, bits) {
+        Ok(outputs) => say_outputs(alloc, out, &outputs),
+        Err(stop) => say_stop(alloc, out, stop),
+    }
 }

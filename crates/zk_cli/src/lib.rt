@@ -13,9 +13,9 @@ mod run;
 mod say;
 mod serve_command;
 
-pub use command_words::FILE_LIMIT;
 pub use finish::{Finish, Part};
 pub use laws::headline_is_of_accepted_log;
-pub use refusal::{BadFile, Refusal};
+pub use refusal::Refusal;
 pub use run::run_zk;
 pub use session_rehearsal::{Bits, Rehearsal, RehearseFault, Verdict};
+pub use zk_model::FILE_LIMIT;

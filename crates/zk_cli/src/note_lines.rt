@@ -1,7 +1,8 @@
 // How the sessions of a run are said.
 ghost use Rattle.std.specs.Prelude.{◌≡◌, ◌++◌, IfOk, codes, string_bytes};
 ghost use Rattle.std.specs.Fmt.{decimal};
-ghost use Rattle.zk_cli.specs.NoteLines.{field_words, outcome_words, is_judged, note_line, served_text, outcome_status, has_status, served_status};
+ghost use Rattle.zk_cli.specs.NoteLines.{field_words, outcome_words, is_judged, note_line, served_text};
+ghost use Rattle.zk_cli.specs.NoteLines.{outcome_status, has_status, served_status};
 
 use session_core::HelloDiffers;
 use session_pool::Served;
@@ -21,7 +22,7 @@ fn field_name(differs: &HelloDiffers) -> &'static str
     }
 }
 
-/// Which units are wanting, in words.
+/// Which units are missing, in words.
 fn write_exhausted(alloc: Global, at: u64, count: u32, total: u64) -> Result<String, AllocError>
     ensures { IfOk result (λ words. string_bytes words
         ≡ codes "exhausted " ++ decimal at ++ codes " " ++ decimal count ++ codes " " ++ decimal total) }
@@ -69,10 +70,11 @@ fn is_judged(outcome: &VerifierOutcome) -> bool
     )
 }
 
-/// The line of a session with these units, behind which stand these words.
+/// The line of a session with these units, after which stand these words.
 fn write_units(alloc: Global, span: Span, how: &str, words: &str) -> Result<String, AllocError>
     ensures { IfOk result (λ line. string_bytes line
-        ≡ codes "units " ++ decimal span.start ++ codes ".." ++ decimal span.end ++ how.now ++ words.now ++ codes "\n") }
+        ≡ codes "units " ++ decimal span.start ++ codes ".." ++ decimal span.end
+        ++ how.now ++ words.now ++ codes "\n") }
 {
     let Span { start, end } = span;
     Ok(format!(in alloc; "units {start}..{end}{how}{words}\n")?)

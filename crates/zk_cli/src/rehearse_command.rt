@@ -1,13 +1,12 @@
 // `rehearse CIRCUIT BITS [--section G] [--extended]`
 ghost use Rattle.std.specs.Prelude.{◌≡◌, ◌≤◌, ◌^◌, IfOk, IfErr, string_bytes};
+ghost use Rattle.zk_model.specs.declared.limits.TheConstants.{MAX_SECTION_LENGTH};
 ghost use Rattle.zk_port.specs.Changes.{change};
-ghost use Rattle.zk_cli.specs.Changes.{OnlyLoads};
-ghost use Rattle.zk_cli.specs.Commands.{Rehearses};
-ghost use Rattle.zk_cli.specs.Made.{IfRehearsed, effects};
-ghost use Rattle.zk_cli.specs.RehearseRuns.{RehearseLines, RehearseStop, IsRehearsed};
-ghost use Rattle.zk_cli.specs.RehearseRuns.{named_numbers, counts_line, rehearsal_lines};
-ghost use Rattle.zk_cli.specs.RehearseRuns.{verdict_line, verdict_status};
 ghost use Rattle.command_words.specs.Words.{rehearse_ask};
+ghost use Rattle.zk_cli.specs.RehearseRuns.{Rehearses, RehearseStop, IsRehearsed, counts_line, rehearsal_lines};
+ghost use Rattle.zk_cli.specs.RehearseRuns.{verdict_line, verdict_status};
+ghost use Rattle.zk_cli.specs.Runs.{OnlyLoads, IsName, effects};
+ghost use Rattle.zk_cli.specs.Stops.{PrintsMade};
 
 use crate::circuit_file::load_circuit;
 use crate::finish::{Ending, Part};
@@ -15,7 +14,7 @@ use crate::refusal::Refusal;
 use crate::say::{say, say_memory, say_stop};
 use bristol_reader::one_circuit;
 use command_words::write_bits;
-use session_rehearsal::{Rehearsal, Verdict, rehearse};
+use session_rehearsal::{Rehearsal, RehearseFault, Verdict, rehearse};
 use std::alloc::{AllocError, Global};
 use zk_model::Kind;
 use zk_port::{Shelf, Sink};
@@ -30,16 +29,21 @@ fn rehearse_file<F: Shelf>(
     section: u32,
     seed: &[u8; 32],
 ) -> Result<Rehearsal, Refusal>
-    requires some { 1 ≤ section }
-    requires most { section ≤ 2 ^ 20 }
+    requires at_least_one { 1 ≤ section }
+    requires at_most { section ≤ MAX_SECTION_LENGTH }
     ensures rehearsed { IfOk result
         (IsRehearsed (F.state shelf.old).told (rehearse_ask name.now bits.now kind section) seed.now) }
     ensures stop { IfErr result (RehearseStop (rehearse_ask name.now bits.now kind section)
         (change (F.state shelf.old) (F.state shelf.new))) }
-    ensures kept { OnlyLoads name.now (change (F.state shelf.old) (F.state shelf.new)) }
+    ensures kept { OnlyLoads (IsName name.now) (change (F.state shelf.old) (F.state shelf.new)) }
 {
     let circuit = load_circuit(alloc, shelf, name)?;
-    Ok(rehearse(alloc, circuit, bits, kind, section, seed)?)
+    match rehearse(alloc, circuit, bits, kind, section, seed) {
+        Ok(rehearsal) => Ok(rehearsal),
+        Err(RehearseFault::WrongLength { need, got }) => Err(Refusal::WrongBits { need, got }),
+        Err(RehearseFault::TooLarge { need, units }) => Err(Refusal::TooLarge { need, units }),
+        Err(RehearseFault::NoMemory) => Err(Refusal::NoMemory),
+    }
 }
 
 /// The line of the verdict.
@@ -55,39 +59,17 @@ fn write_verdict(alloc: Global, verdict: Verdict) -> Result<String, AllocError>
     }
 }
 
-/// Two numbers behind their names.
-fn write_named(
-    alloc: Global,
-    name: &str,
-    number: u64,
-    other_name: &str,
-    other_number: u64,
-) -> Result<String, AllocError>
-    ensures { IfOk result (λ text. string_bytes text
-        ≡ named_numbers name.now number other_name.now other_number) }
-{
-    Ok(format!(in alloc; "{name} {number} {other_name} {other_number}")?)
-}
-
 /// The line of the numbers.
 fn write_counts(alloc: Global, rehearsal: &Rehearsal) -> Result<String, AllocError>
     ensures { IfOk result (λ line. string_bytes line ≡ counts_line rehearsal.now) }
 {
-    let made = write_named(
-        alloc,
-        "products",
-        rehearsal.products,
-        "sections",
-        rehearsal.sections,
-    )?;
-    let taken = write_named(
-        alloc,
-        "correlations",
-        rehearsal.need,
-        "units",
-        rehearsal.units,
-    )?;
-    Ok(format!(in alloc; "{made} {taken}\n")?)
+    let products = rehearsal.products;
+    let sections = rehearsal.sections;
+    let need = rehearsal.need;
+    let units = rehearsal.units;
+    Ok(format!(in alloc;
+        "products {products} sections {sections} correlations {need} units {units}\n"
+    )?)
 }
 
 /// The lines of the rehearsal.
@@ -110,46 +92,19 @@ fn status_of(verdict: Verdict) -> u8
     }
 }
 
-/// Rehearses a session over the circuit of this name at these bits, says what came of it and hands it back, or
-/// says why there is no rehearsal.
-fn rehearse_and_say<F: Shelf, O: Sink, L: Drop>(
-    alloc: Global,
-    shelf: &mut F,
-    out: &mut O,
-    name: &str,
-    bits: &[bool],
-    kind: Kind,
-    section: u32,
-    seed: &[u8; 32],
-) -> Ending<L>
-    requires some { 1 ≤ section }
-    requires most { section ≤ 2 ^ 20 }
-    ensures made { IfRehearsed result.part
-        (IsRehearsed (F.state shelf.old).told (rehearse_ask name.now bits.now kind section) seed.now) }
-    ensures lines { RehearseLines (rehearse_ask name.now bits.now kind section)
-        (effects result.status result.part (change (F.state shelf.old) (F.state shelf.new))
-        (change (O.state out.old) (O.state out.new))) }
-    ensures kept { OnlyLoads name.now (change (F.state shelf.old) (F.state shelf.new)) }
+/// Says what came of the rehearsal, or that there is no memory for its lines, and answers the status.
+fn say_rehearsal<O: Sink>(alloc: Global, out: &mut O, rehearsal: &Rehearsal) -> u8
+    ensures { PrintsMade (verdict_status rehearsal.now.verdict) (rehearsal_lines rehearsal.now) result
+        (change (O.state out.old) (O.state out.new)) }
 {
-    match rehearse_file(alloc, shelf, name, bits, kind, section, seed) {
-        Ok(rehearsal) => {
-            let status = match write_rehearsal(alloc, &rehearsal) {
-                Ok(lines) => say(alloc, out, lines.as_bytes(), status_of(rehearsal.verdict)),
-                Err(_) => say_memory(alloc, out),
-            };
-            Ending {
-                status,
-                part: Part::Rehearsed(rehearsal),
-            }
-        }
-        Err(stop) => Ending {
-            status: say_stop(alloc, out, stop),
-            part: Part::Plain,
-        },
+    match write_rehearsal(alloc, rehearsal) {
+        Ok(lines) => say(alloc, out, lines.as_bytes(), status_of(rehearsal.verdict)),
+        Err(_) => say_memory(alloc, out),
     }
 }
 
-/// `rehearse CIRCUIT BITS [--section G] [--extended]`, with its status and what it hands back.
+/// `rehearse CIRCUIT BITS [--section G] [--extended]`: rehearses a session over the circuit of this name at these
+/// bits, says what came of it and hands it back, or says why there is no rehearsal; with the status.
 pub fn run_rehearse<F: Shelf, O: Sink, L: Drop>(
     alloc: Global,
     shelf: &mut F,
@@ -160,13 +115,21 @@ pub fn run_rehearse<F: Shelf, O: Sink, L: Drop>(
     section: u32,
     seed: &[u8; 32],
 ) -> Ending<L>
-    requires some { 1 ≤ section }
-    requires most { section ≤ 2 ^ 20 }
-    ensures { Rehearses (rehearse_ask name.now bits.now kind section) seed.now
-        (effects result.status result.part (change (F.state shelf.old) (F.state shelf.new))
+    requires at_least_one { 1 ≤ section }
+    requires at_most { section ≤ MAX_SECTION_LENGTH }
+    ensures { Rehearses (rehearse_ask name.now bits.now kind section) seed.now result.part
+        (effects result.status (change (F.state shelf.old) (F.state shelf.new))
         (change (O.state out.old) (O.state out.new))) }
 {
     one_circuit();
-    let ending = rehearse_and_say(alloc, shelf, out, name, bits, kind, section, seed);
-    ending
+    match rehearse_file(alloc, shelf, name, bits, kind, section, seed) {
+        Ok(rehearsal) => Ending {
+            status: say_rehearsal(alloc, out, &rehearsal),
+            part: Part::Rehearsed(rehearsal),
+        },
+        Err(stop) => Ending {
+            status: say_stop(alloc, out, stop),
+            part: Part::Plain,
+        },
+    }
 }

@@ -3,8 +3,8 @@ ghost use Rattle.std.specs.Prelude.{◌≡◌, None, Some};
 ghost use Rattle.zk_port.specs.Changes.{change};
 ghost use Rattle.session_verifier.specs.declared.note.VerifierOutcome.TheVariants.{Accepted};
 ghost use Rattle.command_words.specs.Words.{Ask, ServeAsk, serve, texts, asked};
-ghost use Rattle.zk_cli.specs.Made.{EachNote};
-ghost use Rattle.zk_cli.specs.Meets.{Meets, SaysUsage, run_of};
+ghost use Rattle.zk_cli.specs.Meets.{Meets, SaysUsage};
+ghost use Rattle.zk_cli.specs.Runs.{EachNote, run_of};
 ghost use Rattle.zk_cli.specs.ServedNotes.{IsHeadline};
 
 use crate::deal_command::run_deal;
@@ -21,17 +21,17 @@ use std::sync::Wait;
 use std::thread::Threads;
 use zk_port::{Disk, Door, Gate, Shelf, Sink};
 
-/// Does what the words behind the program's name ask for, over these files, this disk, this door and this
+/// Does what the words after the program's name ask for, over these files, this disk, this door and this
 /// output, and hands back the status, the disk, the door and what was made. `deal` and `rehearse` use the seed.
 ///
-/// Words of no command end with 2, or with 7 where memory is wanting. `rehearse CIRCUIT BITS [--section G] [--extended]` ends
-/// with 0 where it is accepted; 3 where the file, or the bits for it, are refused; 4 where a load of the file
-/// failed, or the output before a 0; 7 where memory is wanting; 9 where the session would take more than 4,096
-/// units. `eval CIRCUIT BITS` ends with 0 where it wrote the outputs, and with 3, 4 and 7 in the same cases. `deal NAME
-/// --units N [--trees T --height H --base K]` ends with 0 where all is stored and said, 4 where a store or the output
-/// failed, and 7. `serve ADDRESS FILE CIRCUIT OUTPUTS --sessions 1 [--section G]` ends with 0 where each session is accepted, or
-/// no peer called; 1 where one is not; 3 where a file is refused, or the outputs for it; 4 where a load, the door, a link or the
-/// output failed; 6 where units are wanting; and with 7 and 9.
+/// Words of no command end with 2, or with 7 where memory is missing. `rehearse CIRCUIT BITS [--section G]
+/// [--extended]` ends with 0 where it is accepted; 3 where the file, or the bits for it, are refused; 4 where a load
+/// of the file failed, or the output before a 0; 7 where memory is missing; 9 where the session would take more than
+/// 4,096 units. `eval CIRCUIT BITS` ends with 0 where it wrote the outputs, and with 3, 4 and 7 in the same cases.
+/// `deal NAME --units N [--trees T --height H --base K]` ends with 0 where all is stored and said, 4 where a store or
+/// the output failed, and 7. `serve ADDRESS FILE CIRCUIT OUTPUTS --sessions 1 [--section G]` ends with 0 where each
+/// session is accepted, or no peer called; 1 where one is not; 3 where a file is refused, or the outputs for it; 4
+/// where a load, the door, a link or the output failed; 6 where units are missing; and with 7 and 9.
 pub fn run_zk<R, F, D, B, O, G>(
     _rt: &R,
     alloc: Global,
@@ -64,10 +64,10 @@ where
         result.status result.part (change shelf.old shelf.new) (change (O.state out.old) (O.state out.new))
         (change journal result.journal) (change door result.door)) }
 
-    // The headline: what an accepted session shows. For every prover's file that is dealt with the verifier's, the input bits
-    // that this file and its frames fix make the circuit give the claimed outputs, or the challenge is a root of a named
-    // nonzero polynomial of at most the number of products in degree, or the key is one of a named nonzero polynomial of
-    // degree two at most.
+    // The headline: what an accepted session shows. For every prover's file that is dealt with the verifier's, the
+    // input bits that this file and its frames fix make the circuit give the claimed outputs, or the challenge is a
+    // root of a named nonzero polynomial of at most the number of products in degree, or the key is one of a named
+    // nonzero polynomial of degree two at most.
     ensures headline { (ask : ServeAsk) → asked (texts words.now) ≡ Some (serve ask) → EachNote result.part
         (λ note. note.outcome ≡ Accepted → IsHeadline (F.state shelf.old).told ask note.granted note.log) }
 {

@@ -1,27 +1,26 @@
 // `serve ADDRESS FILE CIRCUIT OUTPUTS --sessions 1 [--section G]`
-ghost use Rattle.std.specs.Prelude.{◌≡◌, ◌≤◌, ◌^◌, All, IfOk, IfErr, OnErr, length};
+ghost use Rattle.std.specs.Prelude.{◌≡◌, ◌≤◌, ◌^◌, All, IfOk, IfErr, length};
 ghost use Rattle.zk_model.specs.Circuit.{Circuit};
+ghost use Rattle.zk_model.specs.declared.limits.TheConstants.{MAX_SECTION_LENGTH, MAX_UNITS};
+ghost use Rattle.zk_port.specs.Changes.{change};
+ghost use Rattle.zk_port.specs.Doors.{after_listen};
 ghost use Rattle.session_core.specs.Jobs.{units_of_job, verifier_of};
 ghost use Rattle.session_pool.specs.Doors.{TakesOneAtMost};
 ghost use Rattle.session_pool.specs.Notes.{IsNote};
 ghost use Rattle.session_verifier.specs.declared.note.VerifierOutcome.TheVariants.{Accepted};
-ghost use Rattle.zk_port.specs.Doors.{after_listen};
-ghost use Rattle.zk_port.specs.Changes.{change};
-ghost use Rattle.zk_cli.specs.Changes.{OnlyLoads, OnlyLoadsBoth};
-ghost use Rattle.zk_cli.specs.Made.{EachNote};
 ghost use Rattle.zk_cli.specs.NoteLines.{served_text, served_status};
-ghost use Rattle.zk_cli.specs.Prints.{Prints};
-ghost use Rattle.zk_cli.specs.ServeRuns.{IsClaim, IsVerifierFileAt, ClaimStop, FileStop, OpeningStop, ServeStop, ServeLines};
-ghost use Rattle.zk_cli.specs.ServeRuns.{LeadsSessions, serve_effects, serve_words};
-ghost use Rattle.zk_cli.specs.ServeStatuses.{Serves};
+ghost use Rattle.zk_cli.specs.Runs.{OnlyLoads, IsName, EachNote, effects};
+ghost use Rattle.zk_cli.specs.ServeRuns.{IsClaim, IsVerifierFileAt, IsServeName, LeadsSessions, Serves, serve_words};
+ghost use Rattle.zk_cli.specs.ServeRuns.{ClaimStop, FileStop, OpeningStop, ServeStop};
 ghost use Rattle.zk_cli.specs.ServedNotes.{IsHeadline};
+ghost use Rattle.zk_cli.specs.Stops.{Prints};
 
-use crate::circuit_file::load_file;
+use crate::circuit_file::{load_file, read_circuit};
 use crate::finish::{Ending, Part};
 use crate::note_lines::{served_status, write_served};
 use crate::refusal::Refusal;
 use crate::say::{say, say_stop};
-use bristol_reader::{one_circuit, read};
+use bristol_reader::one_circuit;
 use dealer_files::{VerifierFile, decode_verifier};
 use session_core::{CircuitClaim, VerifierJob};
 use session_laws::extracted_shows_outputs;
@@ -50,10 +49,10 @@ fn load_claim<F: Shelf>(
         × IsClaim (F.state shelf.old).told (serve_words words.now) circuit claim) }
     ensures stop { IfErr result (ClaimStop (serve_words words.now)
         (change (F.state shelf.old) (F.state shelf.new))) }
-    ensures kept { OnlyLoads words.now.circuit.now (change (F.state shelf.old) (F.state shelf.new)) }
+    ensures kept { OnlyLoads (IsName words.now.circuit.now) (change (F.state shelf.old) (F.state shelf.new)) }
 {
     let text = load_file(alloc, shelf, words.circuit)?;
-    let circuit = read(alloc, &text)?;
+    let circuit = read_circuit(alloc, &text)?;
     if words.outputs.len() != circuit.outputs() {
         return Err(Refusal::WrongOutputs {
             need: circuit.outputs() as u64,
@@ -72,8 +71,8 @@ fn load_verifier<F: Shelf>(
 ) -> Result<VerifierFile, Refusal>
     ensures file { IfOk result (IsVerifierFileAt (F.state shelf.old).told name.now) }
     ensures stop { IfErr result
-        (FileStop (change (F.state shelf.old) (F.state shelf.new)) name.now) }
-    ensures kept { OnlyLoads name.now (change (F.state shelf.old) (F.state shelf.new)) }
+        (FileStop name.now (change (F.state shelf.old) (F.state shelf.new))) }
+    ensures kept { OnlyLoads (IsName name.now) (change (F.state shelf.old) (F.state shelf.new)) }
 {
     let bytes = load_file(alloc, shelf, name)?;
     let file = decode_verifier(alloc, &bytes)?;
@@ -91,11 +90,12 @@ fn serve_claim<D: Door, G: Gate>(
 ) -> Result<Served<D::Link>, Refusal>
 where
     D::Link: Drop,
-    requires some { 1 ≤ words.now.section }
-    requires most { words.now.section ≤ 2 ^ 20 }
+    requires at_least_one { 1 ≤ words.now.section }
+    requires at_most { words.now.section ≤ MAX_SECTION_LENGTH }
     ensures notes { IfOk result (λ served. All
         (IsNote D.Link.state (verifier_of claim.now file.now words.now.section)) served.notes.items) }
-    ensures few { IfOk result (λ _. units_of_job (verifier_of claim.now file.now words.now.section) ≤ 4096) }
+    ensures bounded { IfOk result (λ _.
+        units_of_job (verifier_of claim.now file.now words.now.section) ≤ MAX_UNITS) }
     ensures taken { IfOk result (λ served. TakesOneAtMost (length served.notes.items)
         served.door_failed served.memory_failed
         (after_listen words.now.address.now 1 (D.state door.old)) (D.state door.new)) }
@@ -121,14 +121,14 @@ fn serve_files<F: Shelf, D: Door, G: Gate>(
 ) -> Result<Served<D::Link>, Refusal>
 where
     D::Link: Drop,
-    requires some { 1 ≤ words.now.section }
-    requires most { words.now.section ≤ 2 ^ 20 }
+    requires at_least_one { 1 ≤ words.now.section }
+    requires at_most { words.now.section ≤ MAX_SECTION_LENGTH }
     ensures leads { IfOk result (λ served. LeadsSessions D.Link.state (serve_words words.now)
         served.notes.items served.door_failed served.memory_failed
         (F.state shelf.old).told (change (D.state door.old) (D.state door.new))) }
     ensures stop { IfErr result (ServeStop (serve_words words.now)
         (change (F.state shelf.old) (F.state shelf.new)) (change (D.state door.old) (D.state door.new))) }
-    ensures kept { OnlyLoadsBoth words.now.circuit.now words.now.file.now
+    ensures kept { OnlyLoads (IsServeName (serve_words words.now))
         (change (F.state shelf.old) (F.state shelf.new)) }
 {
     let claim = load_claim(alloc, shelf, words)?;
@@ -149,38 +149,8 @@ fn say_notes<O: Sink, L>(alloc: Global, out: &mut O, served: &Served<L>) -> u8
     say(alloc, out, text.as_bytes(), status)
 }
 
-/// Serves one session about what the words name, says what came of it and hands it back, or says why none is served.
-fn serve_and_say<F: Shelf, D: Door, O: Sink, G: Gate>(
-    alloc: Global,
-    shelf: &mut F,
-    door: &mut D,
-    gate: &G,
-    out: &mut O,
-    words: &ServeWords<'_>,
-) -> Ending<D::Link>
-where
-    D::Link: Drop,
-    requires some { 1 ≤ words.now.section }
-    requires most { words.now.section ≤ 2 ^ 20 }
-    ensures lines { ServeLines D.Link.state (serve_words words.now) (serve_effects result.status result.part
-        (change (F.state shelf.old) (F.state shelf.new)) (change (O.state out.old) (O.state out.new))
-        (change (D.state door.old) (D.state door.new))) }
-    ensures kept { OnlyLoadsBoth words.now.circuit.now words.now.file.now
-        (change (F.state shelf.old) (F.state shelf.new)) }
-{
-    match serve_files(alloc, shelf, words, door, gate) {
-        Ok(served) => Ending {
-            status: say_notes(alloc, out, &served),
-            part: Part::Served(served.notes),
-        },
-        Err(stop) => Ending {
-            status: say_stop(alloc, out, stop),
-            part: Part::Plain,
-        },
-    }
-}
-
-/// `serve ADDRESS FILE CIRCUIT OUTPUTS --sessions 1 [--section G]`, with its status and what it hands back.
+/// `serve ADDRESS FILE CIRCUIT OUTPUTS --sessions 1 [--section G]`: serves one session about what the words name,
+/// says what came of it and hands it back, or says why none is served; with the status.
 pub fn run_serve<F: Shelf, D: Door, O: Sink, G: Gate>(
     alloc: Global,
     shelf: &mut F,
@@ -191,16 +161,24 @@ pub fn run_serve<F: Shelf, D: Door, O: Sink, G: Gate>(
 ) -> Ending<D::Link>
 where
     D::Link: Drop,
-    requires some { 1 ≤ words.now.section }
-    requires most { words.now.section ≤ 2 ^ 20 }
-    ensures serves { Serves D.Link.state (serve_words words.now) (serve_effects result.status result.part
-        (change (F.state shelf.old) (F.state shelf.new)) (change (O.state out.old) (O.state out.new))
-        (change (D.state door.old) (D.state door.new))) }
+    requires at_least_one { 1 ≤ words.now.section }
+    requires at_most { words.now.section ≤ MAX_SECTION_LENGTH }
+    ensures serves { Serves D.Link.state (serve_words words.now) result.part
+        (change (D.state door.old) (D.state door.new)) (effects result.status
+        (change (F.state shelf.old) (F.state shelf.new)) (change (O.state out.old) (O.state out.new))) }
     ensures headline { EachNote result.part (λ note. note.outcome ≡ Accepted →
         IsHeadline (F.state shelf.old).told (serve_words words.now) note.granted note.log) }
 {
     one_circuit();
     extracted_shows_outputs();
-    let ending = serve_and_say(alloc, shelf, door, gate, out, words);
-    ending
+    match serve_files(alloc, shelf, words, door, gate) {
+        Ok(served) => Ending {
+            status: say_notes(alloc, out, &served),
+            part: Part::Served(served.notes),
+        },
+        Err(stop) => Ending {
+            status: say_stop(alloc, out, stop),
+            part: Part::Plain,
+        },
+    }
 }

@@ -1,5 +1,11 @@
-use Rattle.zk_cli.proofs.DealOutcomes.{deals}
+use Rattle.std.proofs.Common.{inr}
+use Rattle.zk_cli.proofs.DealOutcomes.{deals, says_dealt}
 use Rattle.zk_cli.proofs.deal_command.run_deal.Goals as goal
 
-pub returns : goal.returns
-returns g c = deals _ _ _ _ _ c.deal_and_say.ensures.lines c.deal_and_say.ensures.kept
+pub returns-in-Ok : goal.returns-in-Ok
+returns-in-Ok g c =
+    deals _ _ _ (says_dealt _ _ _ _ c.in-Ok.ensures.prover c.in-Ok.ensures.stores c.say_dealt.ensures) c.in-Ok.ensures.kept
+
+pub returns-in-Err : goal.returns-in-Err
+returns-in-Err g c =
+    deals _ _ _ (inr record { stop = c.in-Err.stop; cause = c.in-Err.ensures.stop; prints = c.say_stop.ensures }) c.in-Err.ensures.kept

@@ -1,12 +1,11 @@
-use Rattle.zk_port.specs.Changes.{change}
-use Rattle.zk_cli.specs.Made.{effects}
-use Rattle.zk_cli.proofs.Outcomes.{rehearses}
+use Rattle.zk_cli.proofs.RehearseOutcomes.{rehearses}
 use Rattle.zk_cli.proofs.rehearse_command.run_rehearse.Goals as goal
 
-pub returns : goal.returns
-returns g c =
-    let ending = c.rehearse_and_say-ending.result in
-    let shelf = change (g.F.Shelf.state c.args.shelf.now) (g.F.Shelf.state c.rehearse_and_say-ending.new.shelf) in
-    let sink = change (g.O.Sink.state c.args.out.now) (g.O.Sink.state c.rehearse_and_say-ending.new.out) in
-    rehearses c.one_circuit.ensures _ c.args.seed.now (effects ending.status ending.part shelf sink)
-    c.rehearse_and_say-ending.ensures.made c.rehearse_and_say-ending.ensures.lines c.rehearse_and_say-ending.ensures.kept
+pub returns-in-Ok : goal.returns-in-Ok
+returns-in-Ok g c =
+    rehearses c.one_circuit.ensures _ c.args.seed.now _ _ (c.in-Ok.ensures.rehearsed, c.say_rehearsal.ensures) c.in-Ok.ensures.kept
+
+pub returns-in-Err : goal.returns-in-Err
+returns-in-Err g c =
+    rehearses c.one_circuit.ensures _ c.args.seed.now _ _
+    (record { stop = c.in-Err.stop; cause = c.in-Err.ensures.stop; prints = c.say_stop.ensures }) c.in-Err.ensures.kept

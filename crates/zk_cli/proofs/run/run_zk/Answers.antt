@@ -2,7 +2,7 @@ use Rattle.std.proofs.Common.{◌≡◌, rules, subst}
 use Rattle.command_words.specs.Words.{ServeAsk, serve_ask}
 use Rattle.session_verifier.specs.declared.note.SessionNote.{SessionNote}
 use Rattle.session_verifier.specs.declared.note.VerifierOutcome.TheVariants.{Accepted}
-use Rattle.zk_cli.specs.Made.{EachNote}
+use Rattle.zk_cli.specs.Runs.{EachNote}
 use Rattle.zk_cli.specs.ServedNotes.{IsHeadline}
 use Rattle.zk_cli.proofs.Lacking.{meets_memory}
 use Rattle.zk_cli.proofs.run.run_zk.Goals as goal

@@ -1,8 +1,32 @@
 use Rattle.std.proofs.Common.{sym, subst}
 use Rattle.sha2.proofs.Facts256.{length-sha256}
-use Rattle.zk_laws.proofs.Octets.{sha256_octets}
+use Rattle.frame_laws.proofs.Octets.{sha256_octets}
+use Rattle.frame_link.proofs.LineLemmas.{fails_at}
 use Rattle.zk_model.specs.Bytes.{AreBytes}
+use Rattle.zk_port.specs.Changes.{change}
+use Rattle.zk_cli.specs.ServeRuns.{serve_words}
+use Rattle.zk_cli.specs.Stops.{IsLoaded}
+use Rattle.zk_cli.proofs.Causes.{circuit_of_load, circuit_of_text}
+use Rattle.zk_cli.proofs.Serving.{claim_of_circuit}
 use Rattle.zk_cli.proofs.serve_command.load_claim.Goals as goal
 
 pub new-requires-clause-digest : goal.new-requires-clause-digest
 new-requires-clause-digest g c = subst (AreBytes 32) (sym c.digest-digest.ensures) (length-sha256 _, sha256_octets _)
+
+pub returns-in_err-text-clause-stop : goal.returns-in_err-text-clause-stop
+returns-in_err-text-clause-stop g c =
+    let shelf = change (g.F.Shelf.state c.args.shelf.now) (g.F.Shelf.state c.load_file.new.shelf) in
+    let why = c.in_err-text.field-0.0 in
+    fails_at _ c.from_residual.result why c.from_residual.ensures.1
+    (claim_of_circuit (serve_words c.args.words.now) shelf why
+    (circuit_of_load c.args.words.now.circuit.now shelf why c.in_err-text.ensures.stop))
+
+pub returns-in_err-circuit-clause-stop : goal.returns-in_err-circuit-clause-stop
+returns-in_err-circuit-clause-stop g c =
+    let shelf = change (g.F.Shelf.state c.args.shelf.now) (g.F.Shelf.state c.load_file.new.shelf) in
+    let why = c.in_err-circuit.field-0.0 in
+    fails_at _ c.from_residual-in_err-circuit.result why c.from_residual-in_err-circuit.ensures.1
+    (claim_of_circuit (serve_words c.args.words.now) shelf why
+    (circuit_of_text c.args.words.now.circuit.now shelf c.deref.result.now why
+    (subst (IsLoaded shelf.old.told c.args.words.now.circuit.now) (sym c.deref.ensures.value) c.in_ok-text.ensures.loaded)
+    c.in_err-circuit.ensures.stop))

@@ -1,17 +1,23 @@
-use Rattle.std.proofs.Common.{inr, refl, subst, ℕ, List}
+use Rattle.std.proofs.Common.{subst, ℕ, List}
 use Rattle.dealer_files.specs.Faults.{IsFirstFault}
 use Rattle.zk_model.specs.declared.Side.TheVariants.{Verifier}
 use Rattle.frame_link.proofs.LineLemmas.{fails_at}
-use Rattle.zk_cli.specs.StopsOf.{file_stop}
+use Rattle.zk_port.specs.Changes.{change}
+use Rattle.zk_cli.specs.declared.refusal.Refusal.TheVariants.{BadFile}
+use Rattle.zk_cli.proofs.Serving.{file_of_load}
 use Rattle.zk_cli.proofs.serve_command.load_verifier.Goals as goal
+
+pub returns-in_err-bytes-clause-stop : goal.returns-in_err-bytes-clause-stop
+returns-in_err-bytes-clause-stop g c =
+    let shelf = change (g.F.Shelf.state c.args.shelf.now) (g.F.Shelf.state c.load_file.new.shelf) in
+    fails_at _ c.from_residual.result c.in_err-bytes.field-0.0 c.from_residual.ensures.1
+    (file_of_load c.args.name.now shelf c.in_err-bytes.field-0.0 c.in_err-bytes.ensures.stop)
 
 pub returns-in_err-file-clause-stop : goal.returns-in_err-file-clause-stop
 returns-in_err-file-clause-stop g c =
-    fails_at _ c.from_residual-in_err-file.result (file_stop c.in_err-file.field-0.0) c.from_residual-in_err-file.ensures.1
-    (inr (record {
-      bytes = c.in_ok-bytes.bytes.items;
+    fails_at _ c.from_residual-in_err-file.result (BadFile c.in_err-file.field-0.0) c.from_residual-in_err-file.ensures.1
+    (record {
+      text = c.in_ok-bytes.bytes.items;
       loaded = c.in_ok-bytes.ensures.loaded;
-      fault = c.in_err-file.field-0.0;
-      first = subst (λ (bytes : List ℕ). IsFirstFault Verifier bytes c.in_err-file.field-0.0) c.deref.ensures.value c.in_err-file.ensures.fault;
-      stops = refl;
-    }))
+      says = subst (λ (bytes : List ℕ). IsFirstFault Verifier bytes c.in_err-file.field-0.0) c.deref.ensures.value c.in_err-file.ensures.fault;
+    })

@@ -1,23 +1,23 @@
-use Rattle.zk_port.specs.Changes.{change}
-use Rattle.zk_cli.specs.ServeRuns.{serve_effects}
 use Rattle.zk_cli.proofs.ServeDone.{serves}
 use Rattle.zk_cli.proofs.Serving.{headlines}
 use Rattle.zk_cli.proofs.serve_command.run_serve.Goals as goal
 
-pub returns-clause-serves : goal.returns-clause-serves
-returns-clause-serves g c =
-    let ending = c.serve_and_say-ending.result in
-    let new = c.serve_and_say-ending.new in
-    serves g.D.Link.Link.state c.one_circuit.ensures _ (serve_effects ending.status ending.part
-    (change (g.F.Shelf.state c.args.shelf.now) (g.F.Shelf.state new.shelf)) (change (g.O.Sink.state c.args.out.now) (g.O.Sink.state new.out))
-    (change (g.D.Door.state c.args.door.now) (g.D.Door.state new.door)))
-    c.serve_and_say-ending.ensures.lines c.serve_and_say-ending.ensures.kept
+pub returns-in-Ok-clause-serves : goal.returns-in-Ok-clause-serves
+returns-in-Ok-clause-serves g c =
+    serves g.D.Link.Link.state c.one_circuit.ensures _ _ _ _
+    (record {
+      door_failed = c.in-Ok.served.door_failed;
+      memory_failed = c.in-Ok.served.memory_failed;
+      leads = c.in-Ok.ensures.leads;
+      prints = c.say_notes.ensures;
+    })
+    c.in-Ok.ensures.kept
 
-pub returns-clause-headline : goal.returns-clause-headline
-returns-clause-headline g c =
-    let ending = c.serve_and_say-ending.result in
-    let new = c.serve_and_say-ending.new in
-    headlines g.D.Link.Link.state c.extracted_shows_outputs.ensures _ (serve_effects ending.status ending.part
-    (change (g.F.Shelf.state c.args.shelf.now) (g.F.Shelf.state new.shelf)) (change (g.O.Sink.state c.args.out.now) (g.O.Sink.state new.out))
-    (change (g.D.Door.state c.args.door.now) (g.D.Door.state new.door)))
-    c.serve_and_say-ending.ensures.lines
+pub returns-in-Ok-clause-headline : goal.returns-in-Ok-clause-headline
+returns-in-Ok-clause-headline g c =
+    headlines g.D.Link.Link.state c.extracted_shows_outputs.ensures _ _ _ _ _ _ c.in-Ok.ensures.leads
+
+pub returns-in-Err-clause-serves : goal.returns-in-Err-clause-serves
+returns-in-Err-clause-serves g c =
+    serves g.D.Link.Link.state c.one_circuit.ensures _ _ _ _
+    (record { stop = c.in-Err.stop; cause = c.in-Err.ensures.stop; prints = c.say_stop.ensures }) c.in-Err.ensures.kept

@@ -1,7 +1,7 @@
 use Rattle.std.proofs.Common.{ℕ, List, ap, subst, ◌∙◌}
 use Rattle.zk_port.specs.Changes.{change}
 use Rattle.zk_cli.specs.NoteLines.{served_text, served_status}
-use Rattle.zk_cli.specs.Prints.{Prints}
+use Rattle.zk_cli.specs.Stops.{Prints}
 use Rattle.zk_cli.proofs.serve_command.say_notes.Goals as goal
 
 pub returns : goal.returns

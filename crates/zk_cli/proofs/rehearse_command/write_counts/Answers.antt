@@ -1,5 +1,5 @@
 use Rattle.std.proofs.Common.{append_assoc}
-use Rattle.zk_cli.proofs.rehearse_command.write_named.Goals as goal
+use Rattle.zk_cli.proofs.rehearse_command.write_counts.Goals as goal
 
 pub returns : goal.returns
 returns c = simp append_assoc c.in_ok-format.ensures.ok

@@ -1,0 +1,66 @@
+-- What causes a stop, and what does not where a shelf tells what is wanted.
+use Rattle.std.proofs.Common.{◌≡◌, ◌⊎◌, ◌<◌, ℕ, List, length, Option, Some, None, IsSomeAnd, refl, sym, subst, inl, inr, arith}
+use Rattle.std.specs.Prelude.{◌≢◌}
+use Rattle.zk_model.specs.Bristol.{IsText}
+use Rattle.zk_model.specs.Circuit.{Circuit}
+use Rattle.zk_model.specs.declared.ReadFault.{ReadFault}
+use Rattle.zk_model.specs.declared.limits.TheConstants.{FILE_LIMIT}
+use Rattle.zk_port.specs.Files.{Files, StandsAs, StandsLonger}
+use Rattle.bristol_reader.specs.Laws.{OneCircuit}
+use Rattle.bristol_reader.specs.Reads.{IsOnlyFault}
+use Rattle.zk_cli.specs.Runs.{ShelfChange, NameFailed}
+use Rattle.zk_cli.specs.Stops.{IsLoaded, IsCircuitFile, LoadStop, CircuitStop}
+use Rattle.zk_cli.specs.declared.refusal.Refusal.{Refusal}
+use Rattle.zk_cli.specs.declared.refusal.Refusal.TheVariants as stop
+
+-- ---- a circuit that can't be had
+
+pub circuit_of_load : (name : List ℕ) (shelf : ShelfChange) (why : Refusal) → LoadStop name shelf why → CircuitStop name shelf why
+circuit_of_load name shelf (stop.BadText fault) cause = absurd cause
+circuit_of_load name shelf other cause = cause
+
+pub circuit_of_text : (name : List ℕ) (shelf : ShelfChange) (text : List ℕ) (why : Refusal) → IsLoaded shelf.old.told name text
+    → (why ≡ stop.NoMemory) ⊎ ((fault : ReadFault) × IsOnlyFault text fault × (why ≡ stop.BadText fault))
+    → CircuitStop name shelf why
+circuit_of_text name shelf text why loaded (inl e) = subst (CircuitStop name shelf) (sym e) tt
+circuit_of_text name shelf text why loaded (inr unread) =
+    subst (CircuitStop name shelf) (sym unread.2) (record { text = text; loaded = loaded; says = unread.1 })
+
+-- ---- where a shelf tells, nothing else stands under a name than what is told
+
+pub told_text : (told : Option Files) (name : List ℕ) (some other : List ℕ) → told ≢ None → StandsAs told name some
+    → StandsAs told name other → other ≡ some
+told_text None name some other tells is_told stands = absurd (tells refl)
+told_text (Some files) name some other tells is_told stands = cc
+
+pub told_circuit : OneCircuit → (told : Option Files) (name : List ℕ) (circuit other : Circuit) → told ≢ None
+    → IsCircuitFile told name circuit → IsCircuitFile told name other → other ≡ circuit
+told_circuit one told name circuit other tells is_told file =
+    let same = told_text told name is_told.text file.text tells is_told.loaded.stands file.loaded.stands in
+    one is_told.text other circuit (subst (IsText other) same file.says) is_told.says
+
+no_longer : (told : Option Files) (name text : List ℕ) → told ≢ None → IsLoaded told name text → StandsLonger told name FILE_LIMIT → ⊥
+no_longer None name text tells loaded longer = tells refl
+no_longer (Some files) name text tells loaded longer =
+    let lt : FILE_LIMIT < length text =
+    subst (λ o. IsSomeAnd o (λ bytes. FILE_LIMIT < length bytes)) loaded.stands longer in
+    let fits = loaded.fits in omega (arith, lt, fits)
+
+-- ---- where what is wanted stands there, and no call failed, only memory can be wanting
+
+pub load_lacks : (name : List ℕ) (shelf : ShelfChange) (text : List ℕ) → shelf.old.told ≢ None
+    → IsLoaded shelf.old.told name text → ¬ NameFailed name shelf → (why : Refusal) → LoadStop name shelf why → why ≡ stop.NoMemory
+load_lacks name shelf text tells loaded calm stop.ShelfFailed cause = absurd (calm cause)
+load_lacks name shelf text tells loaded calm (stop.TooLong limit) cause =
+    absurd (no_longer shelf.old.told name text tells loaded cause.1)
+load_lacks name shelf text tells loaded calm stop.NoMemory cause = refl
+load_lacks name shelf text tells loaded calm other cause = absurd cause
+
+pub circuit_lacks : OneCircuit → (name : List ℕ) (shelf : ShelfChange) (circuit : Circuit) → shelf.old.told ≢ None
+    → IsCircuitFile shelf.old.told name circuit → ¬ NameFailed name shelf → (why : Refusal) → CircuitStop name shelf why
+    → why ≡ stop.NoMemory
+circuit_lacks one name shelf circuit tells file calm (stop.BadText fault) cause =
+    let same = told_text shelf.old.told name file.text cause.text tells file.loaded.stands cause.loaded.stands in
+    absurd (cause.says.no_circuit circuit (subst (IsText circuit) (sym same) file.says))
+circuit_lacks one name shelf circuit tells file calm other cause =
+    load_lacks name shelf file.text tells file.loaded calm other cause

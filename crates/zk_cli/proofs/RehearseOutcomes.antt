@@ -1,0 +1,100 @@
+-- What is handed back and said of a rehearsal gives what its record promises.
+use Rattle.std.proofs.Common.{◌≡◌, ◌⊎◌, ◌<◌, ◌≤◌, ℕ, List, refl, ap, sym, ◌∙◌, subst, inl, inr, arith}
+use Rattle.zk_model.specs.Circuit.{Circuit}
+use Rattle.zk_model.specs.declared.limits.TheConstants.{MAX_UNITS}
+use Rattle.bristol_reader.specs.Laws.{OneCircuit}
+use Rattle.command_words.specs.Words.{RehearseAsk}
+use Rattle.session_rehearsal.specs.Rehearsals.{EndsWithVerdict, rehearsal_units}
+use Rattle.zk_cli.specs.RehearseRuns.{Rehearses, RehearseLines, RehearseStop, Accepts, AnswersFor, verdict_status, rehearsal_lines}
+use Rattle.zk_cli.specs.Runs.{ShelfChange, Effects, OnlyLoads, IsName, HasFailed, NameFailed}
+use Rattle.zk_cli.specs.Stops.{CircuitStop, IsOfStop, IsReady, PrintsMade, StatusMeans, stop_status}
+use Rattle.zk_cli.specs.declared.finish.Part.{Part}
+use Rattle.zk_cli.specs.declared.finish.Part.TheVariants.{Plain, Rehearsed, Served}
+use Rattle.zk_cli.specs.declared.refusal.Refusal.{Refusal}
+use Rattle.zk_cli.specs.declared.refusal.Refusal.TheVariants as stop
+use Rattle.zk_cli.proofs.Causes.{told_circuit, circuit_lacks}
+use Rattle.zk_cli.proofs.Means.{made_means, stop_means}
+
+pub rehearse_of_circuit : (ask : RehearseAsk) (shelf : ShelfChange) (why : Refusal) → CircuitStop ask.circuit shelf why
+    → RehearseStop ask shelf why
+rehearse_of_circuit ask shelf (stop.WrongBits need got) cause = absurd cause
+rehearse_of_circuit ask shelf (stop.TooLarge need units) cause = absurd cause
+rehearse_of_circuit ask shelf other cause = cause
+
+abbrev Means : {L : Type 0} → RehearseAsk → Part L → Effects → Type 0
+Means ask part run = StatusMeans (Accepts part run.sink) (RehearseStop ask run.shelf) (IsName ask.circuit) run
+
+means : {L : Type 0} (ask : RehearseAsk) (seed : List ℕ) (part : Part L) (run : Effects) → RehearseLines ask seed part run
+    → Means ask part run
+means {L} ask seed (Rehearsed r) run lines =
+    let is = lines.0.is in
+    made_means (Accepts {L = L} (Rehearsed r) run.sink) (RehearseStop ask run.shelf) (IsName ask.circuit) (rehearsal_lines r) run
+    (λ all. (is.accepted, subst (λ v. EndsWithVerdict v r.log) is.accepted is.ends, all))
+    (subst (λ v. PrintsMade (verdict_status v) (rehearsal_lines r) run.status run.sink) is.accepted lines.1)
+means {L} ask seed Plain run lines =
+    stop_means (Accepts {L = L} Plain run.sink) (RehearseStop ask run.shelf) (IsName ask.circuit) run
+    (λ cause. cause) (λ cause. cause) (λ failed. (ask.circuit, refl, failed)) lines
+means ask seed (Served notes) run lines = absurd lines
+
+-- why a run stops that a shelf tells a fitting circuit: for want of memory, or since it takes too many units
+lacks : OneCircuit → (ask : RehearseAsk) (shelf : ShelfChange) (circuit : Circuit)
+    → IsReady shelf.old.told ask.circuit ask.bits circuit → ¬ NameFailed ask.circuit shelf → (why : Refusal) → RehearseStop ask shelf why
+    → (stop_status why ≡ 7) ⊎ ((stop_status why ≡ 9) × (MAX_UNITS < rehearsal_units circuit ask.kind ask.section))
+lacks one ask shelf circuit ready calm (stop.WrongBits need got) cause =
+    let same = told_circuit one shelf.old.told ask.circuit circuit cause.circuit ready.tells ready.file cause.file in
+    absurd (cause.is.differ (cause.is.needed ∙ ap (λ c. c.inputs) same ∙ sym ready.inputs ∙ sym cause.is.given))
+lacks one ask shelf circuit ready calm (stop.TooLarge need units) cause =
+    let same = told_circuit one shelf.old.told ask.circuit circuit cause.circuit ready.tells ready.file cause.file in
+    inr (
+      refl,
+      subst (λ c. MAX_UNITS < rehearsal_units c ask.kind ask.section) same (subst (λ n. MAX_UNITS < n) cause.is.counted cause.is.many),
+    )
+lacks one ask shelf circuit ready calm other cause =
+    inl (ap stop_status (circuit_lacks one ask.circuit shelf circuit ready.tells ready.file calm other cause))
+
+-- a rehearsal that is handed back takes few enough units
+few_units : {L : Type 0} → OneCircuit → (ask : RehearseAsk) (seed : List ℕ) (part : Part L) (run : Effects) (circuit : Circuit)
+    → IsReady run.shelf.old.told ask.circuit ask.bits circuit → RehearseLines ask seed part run → Accepts part run.sink
+    → rehearsal_units circuit ask.kind ask.section ≤ MAX_UNITS
+few_units one ask seed (Rehearsed r) run circuit ready lines accepts =
+    let made = lines.0 in
+    let same = told_circuit one run.shelf.old.told ask.circuit circuit made.circuit ready.tells ready.file made.file in
+    subst (λ c. rehearsal_units c ask.kind ask.section ≤ MAX_UNITS) same (subst (λ n. n ≤ MAX_UNITS) made.is.units made.is.units_most)
+few_units one ask seed Plain run circuit ready lines accepts = absurd accepts
+few_units one ask seed (Served notes) run circuit ready lines accepts = absurd accepts
+
+done : {L : Type 0} → OneCircuit → (ask : RehearseAsk) (seed : List ℕ) (part : Part L) (run : Effects) (circuit : Circuit)
+    → RehearseLines ask seed part run → IsReady run.shelf.old.told ask.circuit ask.bits circuit → ¬ HasFailed (IsName ask.circuit) run
+    → Means ask part run → AnswersFor (rehearsal_units circuit ask.kind ask.section) run.status
+done {L} one ask seed part run circuit lines ready calm means = of_means means
+  where
+    of_stop : (status : ℕ) → IsOfStop (RehearseStop ask run.shelf) status
+        → (status ≡ 7) ⊎ ((status ≡ 9) × (MAX_UNITS < rehearsal_units circuit ask.kind ask.section))
+    of_stop status found =
+        elim (lacks one ask run.shelf circuit ready (λ failed. calm (inl (ask.circuit, refl, failed))) found.0 found.1) [
+          | inl seven ↦ inl (found.2 ∙ seven)
+          | inr nine ↦ inr (found.2 ∙ nine.0, nine.1)
+        ]
+
+    of_means : Means ask part run → AnswersFor (rehearsal_units circuit ask.kind ask.section) run.status
+    of_means (inl m) = inl (m.0, few_units one ask seed part run circuit ready lines m.1)
+    of_means (inr (inl m)) = elim (of_stop 3 m.1) [
+      | inl e ↦ absurd (omega (arith, e))
+      | inr nine ↦ let e = nine.0 in absurd (omega (arith, e))
+    ]
+    of_means (inr (inr (inl m))) = absurd (calm m.1)
+    of_means (inr (inr (inr (inl at)))) = inr (inr at)
+    of_means (inr (inr (inr (inr m)))) = elim (of_stop 9 m.1) [
+      | inl e ↦ absurd (omega (arith, e))
+      | inr nine ↦ inr (inl (m.0, nine.1))
+    ]
+
+pub rehearses : {L : Type 0} → OneCircuit → (ask : RehearseAsk) (seed : List ℕ) (part : Part L) (run : Effects)
+    → RehearseLines ask seed part run → OnlyLoads (IsName ask.circuit) run.shelf → Rehearses ask seed part run
+rehearses one ask seed part run lines kept =
+    let all = means ask seed part run lines in record {
+      lines = lines;
+      kept = kept;
+      means = all;
+      done = λ circuit ready calm. done one ask seed part run circuit lines ready calm all;
+    }

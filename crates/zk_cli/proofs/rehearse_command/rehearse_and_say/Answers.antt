@@ -1,5 +1,0 @@
-use Rattle.zk_cli.proofs.Stopping.{says_stop}
-use Rattle.zk_cli.proofs.rehearse_command.rehearse_and_say.Goals as goal
-
-pub returns-in-Err-clause-lines : goal.returns-in-Err-clause-lines
-returns-in-Err-clause-lines g c = says_stop _ _ _ _ c.in-Err.stop c.in-Err.ensures.stop c.say_stop.ensures
