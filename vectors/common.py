@@ -3,6 +3,7 @@
 It rests on public definitions alone: ChaCha20, as `chacha.py` has it; the integers modulo 2^61 - 1; SHA-256, from hashlib. All
 numbers have their low byte first. `docs/FORMATS.md` and `docs/PROTOCOL.md` say the same in prose.
 """
+import functools
 import hashlib
 import struct
 from typing import List, NamedTuple, Tuple
@@ -58,6 +59,7 @@ class Correlation(NamedTuple):
     k: int
 
 
+@functools.lru_cache(maxsize=None)
 def dealt_correlations(unit: int, count: int) -> List[Correlation]:
     """The first correlations of a unit."""
     found = []
@@ -67,6 +69,7 @@ def dealt_correlations(unit: int, count: int) -> List[Correlation]:
     return found
 
 
+@functools.lru_cache(maxsize=None)
 def dealt_transfers(unit: int, count: int) -> List[Tuple[List[bytes], int]]:
     """The first transfers of a unit: both pads, and the bit."""
     stream = 17 + 2 * unit

@@ -3,8 +3,8 @@
 
 Each is over the files that a seed of 32 bytes 7 gives, with just the units that it takes, and has the digest of the circuit's own
 file in its hello. `published.py` prints of each how many bytes its log has, and in hex SHA-256 of the log. It compares these with
-the table in that document, and the test's constants with `crates/session_tests/src/published.rt`; it ends with 1 where either
-differs. `published.py --rust` prints that file. `session.py` computes the sessions.
+the table in that document, and ends with 1 where any differs. `session.py` computes the sessions; `session_runs.py` has what both
+ends of the program must write of them.
 """
 import pathlib
 import sys
@@ -15,7 +15,6 @@ from common import sha256
 from session import LONG, Claim, Extended, accepted
 
 TOP = pathlib.Path(__file__).resolve().parent.parent
-CONSTANTS = TOP / "crates" / "session_tests" / "src" / "published.rt"
 
 FIVE_GATES = (
     b"6 10\n2 2 2\n1 3\n\n2 1 0 1 4 AND\n1 1 4 5 INV\n1 1 1 6 EQ\n2 1 2 6 7 XOR\n1 1 5 8 EQW\n2 1 7 3 9 XOR\n"
@@ -53,33 +52,7 @@ def log_of(given: Published) -> bytes:
     return b"".join(accepted(Claim(circuit, sha256(given.text), given.bits), given.params, given.section))
 
 
-def text_constant(what: str, name: str, text: bytes) -> str:
-    """A circuit's text as a constant, a line each."""
-    lines = text.decode().split("\n")[:-1]
-    return f'/// {what}\npub const {name}: &str = "\\\n' + "\n".join(f"{line}\\n\\" for line in lines)[:-1] + '";\n'
-
-
-def digest_constant(given: Published) -> str:
-    digest = sha256(log_of(given))
-    rows = [", ".join(f"0x{b:02x}" for b in digest[i : i + 16]) for i in (0, 16)]
-    return f"pub const {given.name}_DIGEST: [u8; 32] = [\n" + "".join(f"    {row},\n" for row in rows) + "];\n"
-
-
-def constants() -> str:
-    """The file of the test's constants."""
-    parts = [
-        "// Circuits and logs of published sessions: at the top of the repository `python3 vectors/published.py --rust` prints this file.\n",
-        text_constant("All five gates, of two values of two bits each.", "GATES", FIVE_GATES),
-        text_constant("The sum of two numbers of 64 bits.", "ADDER", ADDER),
-        *[digest_constant(given) for given in SESSIONS],
-    ]
-    return "\n".join(parts)
-
-
 def main() -> int:
-    if sys.argv[1:] == ["--rust"]:
-        sys.stdout.write(constants())
-        return 0
     document = (TOP / "docs" / "PROTOCOL.md").read_text()
     wrong = 0
     for given in SESSIONS:
@@ -89,9 +62,6 @@ def main() -> int:
         if f"| {len(log):,} | `{digest}` |" not in document:
             print(f"docs/PROTOCOL.md has another row of {given.name}")
             wrong += 1
-    if CONSTANTS.read_text() != constants():
-        print(f"{CONSTANTS.relative_to(TOP)} is not as it must be")
-        wrong += 1
     return 1 if wrong else 0
 
 

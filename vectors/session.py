@@ -4,6 +4,7 @@ Both ends are computed, from the files that the seed of 32 bytes 7 gives: what t
 the two sides of each equation must agree. It follows `docs/PROTOCOL.md`, and shares nothing with the program. Circuits are read
 by `bristol.py`.
 """
+import functools
 import struct
 from typing import List, NamedTuple, Optional, Tuple
 
@@ -83,12 +84,16 @@ def punctured(height: int, place: int, sums: List[bytes]) -> List[int]:
     return [0 if node is None else leaf(node) for node in row]
 
 
+@functools.lru_cache(maxsize=None)
+def columns(params: Extended) -> List[List[int]]:
+    """The ten places of each column of the code."""
+    count = params.trees * 2**params.height
+    return [[word(CODE_SEED, 0, 10 * j + i) % params.base for i in range(10)] for j in range(count)]
+
+
 def coded(params: Extended, base: List[int], noise: List[int]) -> List[int]:
     """Each entry of noise with the ten base elements of its column, for values, MACs or keys."""
-    return [
-        (sum(base[word(CODE_SEED, 0, 10 * j + i) % params.base] for i in range(10)) + entry) % P
-        for j, entry in enumerate(noise)
-    ]
+    return [(sum(base[i] for i in places) + entry) % P for places, entry in zip(columns(params), noise)]
 
 
 def extend(params: Extended, unit: int, wrong: Optional[str] = None) -> Tuple[bytes, bytes, List[Correlation]]:

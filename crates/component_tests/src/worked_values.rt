@@ -1,0 +1,429 @@
+// Each part of a session at rows that the program did not make.
+ghost use Rattle.std.specs.Prelude.{◌≡◌, ◌≤◌, Bool, List, length, IfOk};
+ghost use Rattle.zk_model.specs.Circuit.{AreWireBits};
+ghost use Rattle.zk_model.specs.Boolean.{circuit_program};
+ghost use Rattle.proof_frames.specs.Readings.{IsShortPlace};
+
+use crate::vectors::FILE_ID;
+use bool_eval::{eval, eval_wires};
+use bristol_reader::{Circuit, read};
+use circuit_laws::bits_solve;
+use dealer_files::{FileFault, NotDealt, Pads, deal, dealt, decode_prover, decode_verifier};
+use field_program::{FieldProgram, Step};
+use gate_translate::translate;
+use mersenne_field::{Fe, Pair};
+use mult_check::{check_openings, section_left, section_sums};
+use pad_transfer::Masked;
+use proof_frames::{
+    BadFrame, Decoder, Expect, Frame, encode_asks, encode_elements, encode_replies,
+};
+use std::alloc::{AllocError, Global};
+use std::test::Fail;
+use tree_messages::{TreeAsk, TreeReply};
+use wire_auth::{Correlations, KeyTriple, ProverWires, Triple, VerifierWires};
+use zk_coins::CoinBox;
+use zk_model::{FrameKind, Kind, Params, Span};
+
+/// The element of a small number.
+fn small(number: u64) -> Fe {
+    Fe::from_word(number)
+}
+
+/// The pair of two small numbers.
+fn small_pair(x: u64, m: u64) -> Pair {
+    Pair {
+        x: small(x),
+        m: small(m),
+    }
+}
+
+/// The circuit of a text.
+fn circuit_of(alloc: Global, text: &[u8]) -> Result<Circuit, Fail> {
+    let Ok(circuit) = read(alloc, text) else {
+        return Err(Fail::new("no circuit"));
+    };
+    Ok(circuit)
+}
+
+/// The pairs of all wires of a circuit's program at the bits of its wires, over dealt pairs, and the corrections.
+fn prover_wires<'a>(
+    alloc: Global,
+    circuit: &Circuit,
+    program: &'a FieldProgram,
+    bits: &'a [bool],
+    dealt: &'a [Pair],
+) -> Result<(ProverWires<'a>, Vec<Fe>), Fail>
+    requires translated { program.now ≡ circuit_program 0 circuit.now }
+    requires wires { (inputs : List Bool) × AreWireBits circuit.now inputs bits.now }
+    requires dealt { program.now.givens ≤ length dealt.now }
+    ensures program { IfOk result (λ r. r.0.program ≡ program.now) }
+    ensures one_each { IfOk result (λ r. length r.1.items ≡ program.now.givens) }
+{
+    bits_solve();
+    let _wires = circuit.wires();
+    Ok(ProverWires::run(alloc, program, &[], bits, Correlations::Dealt(dealt))?)
+}
+
+#[test]
+fn products_are_modulo_the_prime(rt: HostRuntime) -> Result<(), Fail> {
+    let prime: u64 = (1 << 61) - 1;
+    let last = Fe::from_word(prime - 1);
+    assert_eq!(rt; last * last, Fe::ONE);
+    assert_eq!(rt; Fe::from_word(1 << 60) * Fe::from_word(2), Fe::ONE);
+    assert_eq!(rt; Fe::from_le(&(prime - 1).to_le_bytes()), Some(last));
+    assert_eq!(rt; Fe::from_le(&prime.to_le_bytes()), None);
+    assert_eq!(rt;
+        Fe::from_word(0xd59d_71f7_ff08_4737).value(),
+        0x159d_71f7_ff08_4737
+    );
+    Ok(())
+}
+
+#[test]
+fn both_sides_of_a_check_agree(rt: HostRuntime) {
+    let key = small(5);
+    let triple = Triple {
+        a: small_pair(1, 10),
+        b: small_pair(1, 20),
+        c: small_pair(1, 7),
+    };
+    let keys = KeyTriple {
+        a: small(15),
+        b: small(25),
+        c: small(12),
+    };
+    let (u, v) = section_sums(&[triple], small(2), small_pair(4, 9));
+    assert_eq!(rt; (u, v), (small(409), small(50)));
+    assert_eq!(rt; section_left(&[keys], small(2), small(29), key), small(659));
+    assert_eq!(rt; u + v * key, small(659));
+}
+
+#[test]
+fn a_correction_changes_the_value_and_the_key(rt: HostRuntime) -> Result<(), Fail> {
+    let alloc = rt.alloc();
+    let circuit = circuit_of(alloc, b"0 1 1 1 1 1")?;
+    let program = translate(alloc, &circuit)?;
+    let Ok(bits) = eval_wires(alloc, &circuit, &[true]) else {
+        return Err(Fail::new("no bits"));
+    };
+    let key = small(5);
+    let pairs = [small_pair(3, 4)];
+    let keys = [small(19)];
+    if program.public() != 0 || program.givens() != 1 || program.opened().len() != 1 {
+        return Err(Fail::new("another program"));
+    }
+    let (prover, corrections) = prover_wires(alloc, &circuit, &program, &bits, &pairs)?;
+    assert_eq!(rt; corrections.as_slice(), [small((1 << 61) - 3)].as_slice());
+    assert_eq!(rt; prover.output(0), small_pair(1, 4));
+    let verifier = VerifierWires::run(alloc, &program, &[], &keys, key, &corrections)?;
+    assert_eq!(rt; verifier.output(0), small(9));
+    assert!(rt; check_openings(&verifier, key, &[small(4)], &[small(1)]).is_ok());
+    let Err(differs) = check_openings(&verifier, key, &[small(4)], &[small(0)]) else {
+        return Err(Fail::new("a wrong claim opens"));
+    };
+    assert_eq!(rt;
+        (differs.output, differs.left, differs.right),
+        (0, small(9), small(4))
+    );
+    Ok(())
+}
+
+#[test]
+fn a_circuit_gives_its_outputs(rt: HostRuntime) -> Result<(), Fail> {
+    let alloc = rt.alloc();
+    let circuit = circuit_of(alloc, b"2 4 1 2 1 2 2 1 0 1 2 AND 1 1 2 3 INV")?;
+    let Ok(outputs) = eval(alloc, &circuit, &[true, true]) else {
+        return Err(Fail::new("no outputs"));
+    };
+    assert_eq!(rt; outputs.as_slice(), [true, false].as_slice());
+    let Ok(wires) = eval_wires(alloc, &circuit, &[true, false]) else {
+        return Err(Fail::new("no wires"));
+    };
+    assert_eq!(rt; wires.as_slice(), [true, false, false, true].as_slice());
+    Ok(())
+}
+
+#[test]
+fn values_of_products_are_those_of_the_bits(rt: HostRuntime) -> Result<(), Fail> {
+    let alloc = rt.alloc();
+    let circuit = circuit_of(alloc, b"1 3\n2 1 1\n1 1\n\n2 1 0 1 2 AND\n")?;
+    let program = translate(alloc, &circuit)?;
+    let Ok(bits) = eval_wires(alloc, &circuit, &[true, false]) else {
+        return Err(Fail::new("no bits"));
+    };
+    assert_eq!(rt; bits.as_slice(), [true, false, false].as_slice());
+    let pairs = [small_pair(0, 10), small_pair(0, 20), small_pair(0, 30)];
+    if bits.len() != program.wires() || program.steps() != 1 || program.givens() != 3 {
+        return Err(Fail::new("another program"));
+    }
+    assert_eq!(rt;
+        program.step(0),
+        Step::Mul {
+            out: 2,
+            a: 0,
+            b: 1,
+            product: 2,
+        }
+    );
+    let (prover, values) = prover_wires(alloc, &circuit, &program, &bits, &pairs)?;
+    assert_eq!(rt;
+        values.as_slice(),
+        [small(1), small(0), small(0)].as_slice()
+    );
+    assert_eq!(rt;
+        prover.triple(2),
+        Triple {
+            a: small_pair(1, 10),
+            b: small_pair(0, 20),
+            c: small_pair(0, 30),
+        }
+    );
+    Ok(())
+}
+
+/// Files of kind direct with one unit.
+const DIRECT: Params = Params {
+    kind: Kind::Direct,
+    height: 0,
+    trees: 0,
+    base: 0,
+    total: 1,
+};
+
+/// Files of kind extended: trees of height 1, one a round, base pairs for one round, and two units.
+const EXTENDED: Params = Params {
+    kind: Kind::Extended,
+    height: 1,
+    trees: 1,
+    base: 10,
+    total: 2,
+};
+
+#[test]
+fn files_are_those_of_the_seed(rt: HostRuntime) -> Result<(), Fail> {
+    let (prover, verifier) = deal(rt.alloc(), &DIRECT, &[7; 32])?;
+    assert_eq!(rt; prover.id(), FILE_ID);
+    assert_eq!(rt; verifier.id(), FILE_ID);
+    assert_eq!(rt; verifier.key().value(), 0x0915_3ca4_4e32_ed06);
+    assert_eq!(rt; verifier.challenge(0).value(), 0x01bc_6ff4_e472_2734);
+    let whole = Span { start: 0, end: 1 };
+    let pairs = prover.pairs(whole);
+    let keys = verifier.keys(whole);
+    for (place, x, m, key) in [
+        (
+            0,
+            0x1c18_09bd_908f_f370,
+            0x1edc_cb76_5d6d_b1d9,
+            0x1af3_3887_b838_1960,
+        ),
+        (
+            1,
+            0x00fb_8ca3_403d_19bf,
+            0x1f7b_50c8_6eab_3d5f,
+            0x0928_91b6_a2ba_966d,
+        ),
+        (
+            63,
+            0x15ea_0783_fee7_1fbb,
+            0x196b_5f81_6bea_35f6,
+            0x005e_7969_eb96_b0ad,
+        ),
+    ] {
+        assert_eq!(rt; pairs.get(place), Some(&small_pair(x, m)), "{place}");
+        assert_eq!(rt; keys.get(place), Some(&small(key)), "{place}");
+    }
+    assert_eq!(rt; pairs.len(), 64);
+    assert_eq!(rt; keys.len(), 64);
+    Ok(())
+}
+
+#[test]
+fn files_of_one_dealing_are_told_from_others(rt: HostRuntime) -> Result<(), Fail> {
+    let alloc = rt.alloc();
+    let (prover, verifier) = deal(alloc, &EXTENDED, &[7; 32])?;
+    assert_eq!(rt; prover.params(), verifier.params());
+    assert_eq!(rt; prover.pairs(Span { start: 1, end: 2 }).len(), 11);
+    let pads: &[Pads] = verifier.pads(1);
+    assert_eq!(rt; prover.transfers(0).len(), pads.len());
+    assert_eq!(rt; prover.encode(alloc)?.len(), 353 + 193);
+    assert_eq!(rt; verifier.encode(alloc)?.len(), 288 + 120);
+    assert_eq!(rt; dealt(&prover, &verifier), Ok(()));
+    let (other, _) = deal(alloc, &EXTENDED, &[8; 32])?;
+    assert_eq!(rt; dealt(&other, &verifier), Err(NotDealt { unit: 0 }));
+    Ok(())
+}
+
+/// Whether files as bytes are read by their own side alone, and not with a byte after them.
+fn are_read_back(alloc: Global, prover: &[u8], verifier: &[u8]) -> Result<bool, AllocError> {
+    let mut longer = prover.to_vec(alloc)?;
+    longer.push(0)?;
+    Ok(
+        decode_prover(alloc, prover).is_ok()
+            && decode_verifier(alloc, verifier).is_ok()
+            && matches!(decode_prover(alloc, verifier), Err(FileFault::BadKind))
+            && matches!(decode_verifier(alloc, prover), Err(FileFault::BadKind))
+            && matches!(decode_prover(alloc, &longer), Err(FileFault::Length { .. })),
+    )
+}
+
+#[test]
+fn files_are_read_back(rt: HostRuntime) -> Result<(), Fail> {
+    let alloc = rt.alloc();
+    let (prover, verifier) = deal(alloc, &DIRECT, &[7; 32])?;
+    let left = prover.encode(alloc)?;
+    let right = verifier.encode(alloc)?;
+    assert_eq!(rt; (left.len(), right.len()), (1184, 680));
+    assert!(rt; are_read_back(alloc, &left, &right)?);
+    let (prover, verifier) = deal(alloc, &EXTENDED, &[7; 32])?;
+    let left = prover.encode(alloc)?;
+    let right = verifier.encode(alloc)?;
+    assert!(rt; are_read_back(alloc, &left, &right)?);
+    Ok(())
+}
+
+#[test]
+fn words_of_coins_stand_low_byte_first(rt: HostRuntime) {
+    let coins = CoinBox::new(&[7; 32]);
+    let id = coins.bytes(0);
+    assert_eq!(rt; id, FILE_ID);
+    assert_eq!(rt; coins.seed16(0, 0).as_slice(), &FILE_ID[..16]);
+    assert_eq!(rt; coins.seed16(0, 1).as_slice(), &FILE_ID[16..]);
+    assert_eq!(rt; coins.word(0, 0), 0x41f6_aa57_7892_00f4);
+}
+
+#[test]
+fn elements_are_framed(rt: HostRuntime) -> Result<(), Fail> {
+    let alloc = rt.alloc();
+    let challenge = encode_elements(alloc, FrameKind::Challenge, &[small(2)])?;
+    assert_eq!(rt;
+        challenge.as_slice(),
+        [6, 8, 0, 0, 0, 2, 0, 0, 0, 0, 0, 0, 0].as_slice()
+    );
+    let corrections = encode_elements(alloc, FrameKind::Corrections, &[])?;
+    assert_eq!(rt; corrections.as_slice(), [5, 0, 0, 0, 0].as_slice());
+    Ok(())
+}
+
+/// The place of the asks, or of the replies, for one tree of height 1.
+fn one_tree(asks: bool) -> Expect
+    ensures { IsShortPlace result }
+{
+    if asks {
+        Expect::Ask {
+            height: 1,
+            trees: 1,
+            units_left: 0,
+        }
+    } else {
+        Expect::Reply {
+            height: 1,
+            trees: 1,
+            units_left: 0,
+        }
+    }
+}
+
+/// The frame that bytes are at a place, read byte by byte.
+fn frame_at(alloc: Global, place: Expect, bytes: &[u8]) -> Result<Option<Frame>, Fail>
+    requires { IsShortPlace place }
+{
+    let mut decoder = Decoder::new(alloc);
+    decoder.expect(place)?;
+    for piece in bytes.chunks(1) {
+        if decoder.feed(piece).is_err() {
+            return Ok(None);
+        }
+    }
+    Ok(decoder.next())
+}
+
+/// The first bad byte of these at a place, read byte by byte.
+fn bad_byte(alloc: Global, place: Expect, bytes: &[u8]) -> Result<Option<BadFrame>, Fail>
+    requires { IsShortPlace place }
+{
+    let mut decoder = Decoder::new(alloc);
+    decoder.expect(place)?;
+    for piece in bytes.chunks(1) {
+        if let Err(bad) = decoder.feed(piece) {
+            return Ok(Some(bad));
+        }
+    }
+    Ok(None)
+}
+
+#[test]
+fn a_bad_byte_is_told_with_its_place_and_its_frame(rt: HostRuntime) -> Result<(), Fail> {
+    let alloc = rt.alloc();
+    let three = Expect::Corrections { count: 3 };
+    // A hello.
+    let (place, kind) = (0, FrameKind::Corrections);
+    let found = bad_byte(alloc, three, &[1, 97])?;
+    assert_eq!(rt; found, Some(BadFrame { place, kind }));
+    // The first element is the prime.
+    let prime = [5, 24, 0, 0, 0, 255, 255, 255, 255, 255, 255, 255, 31];
+    let place = 12;
+    let found = bad_byte(alloc, three, &prime)?;
+    assert_eq!(rt; found, Some(BadFrame { place, kind }));
+    // A refusal without a reason, and a grant of more bytes.
+    let (place, kind) = (5, FrameKind::Refuse);
+    let found = bad_byte(alloc, Expect::Grant, &[10, 1, 0, 0, 0, 0])?;
+    assert_eq!(rt; found, Some(BadFrame { place, kind }));
+    let (place, kind) = (1, FrameKind::Grant);
+    let found = bad_byte(alloc, Expect::Grant, &[2, 17, 0, 0, 0])?;
+    assert_eq!(rt; found, Some(BadFrame { place, kind }));
+    Ok(())
+}
+
+#[test]
+fn an_ask_is_framed(rt: HostRuntime) -> Result<(), Fail> {
+    let alloc = rt.alloc();
+    let mut flips = Vec::new(alloc);
+    flips.push(true)?;
+    let mut asks = Vec::new(alloc);
+    asks.push(TreeAsk {
+        flips,
+        base_correction: small(2),
+    })?;
+    let mut bytes = encode_asks(alloc, &asks)?;
+    assert_eq!(rt;
+        bytes.as_slice(),
+        [3, 9, 0, 0, 0, 1, 2, 0, 0, 0, 0, 0, 0, 0].as_slice()
+    );
+    let read = frame_at(alloc, one_tree(true), &bytes)?;
+    assert!(rt;
+        matches!(&read, Some(Frame::ExtendAsk(said))
+        if matches!(said.as_slice(), [ask] if ask.base_correction == small(2) && ask.flips.as_slice() == [true].as_slice()))
+    );
+    bytes[5] = 2;
+    assert!(rt; frame_at(alloc, one_tree(true), &bytes)?.is_none());
+    Ok(())
+}
+
+#[test]
+fn a_reply_is_framed(rt: HostRuntime) -> Result<(), Fail> {
+    let alloc = rt.alloc();
+    let mut messages = Vec::new(alloc);
+    messages.push(Masked {
+        left: [7; 16],
+        right: [9; 16],
+    })?;
+    let mut replies = Vec::new(alloc);
+    replies.push(TreeReply {
+        messages,
+        leaf_offset: small(3),
+    })?;
+    let bytes = encode_replies(alloc, &replies)?;
+    assert_eq!(rt; bytes.len(), 45);
+    assert_eq!(rt; &bytes[..6], [4, 40, 0, 0, 0, 7].as_slice());
+    assert_eq!(rt;
+        &bytes[20..38],
+        [7, 9, 9, 9, 9, 9, 9, 9, 9, 9, 9, 9, 9, 9, 9, 9, 9, 3].as_slice()
+    );
+    let read = frame_at(alloc, one_tree(false), &bytes)?;
+    assert!(rt;
+        matches!(&read, Some(Frame::ExtendReply(said))
+        if matches!(said.as_slice(), [reply] if reply.leaf_offset == small(3)
+            && matches!(reply.messages.as_slice(), [both] if both.left == [7; 16] && both.right == [9; 16])))
+    );
+    Ok(())
+}

@@ -1,0 +1,72 @@
+//! Sessions of either end over links in memory, with peers whose bytes are stated. Each line of standard input is a scenario:
+//! whose session it is, and words `name=value`. The line is written, and after it a line for each session.
+//!
+//! `stdin` has the scenarios and `stdout` what they must write, both by `vectors/session_runs.py`; `data` has the circuits.
+//!
+//! | Line | What it asks for |
+//! |---|---|
+//! | `verifier`, `prover` | sessions of this end, whose peer is honest but for what the words say |
+//! | `both` | the same of the one end, and then of the other |
+//! | `rehearsal` | a rehearsal, over files of its own |
+//!
+//! The honest peer's bytes are those of a session that both ends hold with each other. The seed of all files is 32 bytes 7.
+//!
+//! | Word | What it says | Else |
+//! |---|---|---|
+//! | `circuit=NAME` | the circuit, of whose text a hello has the digest | `and.txt` |
+//! | `bits=BITS` | the prover's bits: these over and over | `1` |
+//! | `outputs=BITS` | the claimed outputs | those of the bits |
+//! | `section=G` | how many products a section has | 2^20 |
+//! | `files=T,H,K` | extended files of T trees of height H and base K | direct ones |
+//! | `units=N` | how many units the files have | 1 |
+//! | `start=U` | the first unit that is leased | 0 |
+//! | `refuse=FAULT` | the fault by which a lease or a claim is refused, with its numbers after commas | none |
+//! | `keep=N` | so many of the honest peer's bytes are sent | all |
+//! | `more=HEX` | bytes that the peer sends after them | none |
+//! | `set=PLACE:BYTE` | one byte that is another | none |
+//! | `pieces=N` | how many bytes come at most in one receive, up to 4,096 | 4,096 |
+//!
+//! One word may have a session for each number of a range, from A up to B without B: `cut=A..B` has the peer end after so many
+//! bytes, `change=A..B:MASK` changes its byte at this place in the bits of the mask, and `fail=A..B` fails the call of the link of
+//! this number, counted from 1.
+//!
+//! A line of a session has its number, where there is a range; how it ended; what was asked of who has the units (how many, and
+//! at the prover from which one on); which ones were had; how many bytes each side sent in a row in the log, `p` the prover and
+//! `v` the verifier; how many bytes these are, and SHA-256 of them, one after the other; how many sends and receives the link had,
+//! and how many of its calls failed. Of a whole log that is the digest that `docs/PROTOCOL.md` publishes.
+#![tactic(auto)]
+
+mod piece_link;
+mod say;
+mod scenario;
+mod scene;
+mod sessions;
+mod units;
+
+use anyhow::Result;
+use port_os::FileShelf;
+use scenario::read_scenario;
+use sessions::text_lines;
+use std::alloc::Global;
+use std::rt::Files;
+use zk_model::FILE_LIMIT;
+use zk_port::Shelf;
+
+/// The lines of one line's scenario.
+fn scenario_lines<R: Files + AllocGlobal>(rt: &R, alloc: Global, line: &str) -> Result<String> {
+    let scenario = read_scenario(line)?;
+    let mut shelf = FileShelf::new(rt);
+    let text = shelf.load(alloc, scenario.circuit, FILE_LIMIT)?;
+    text_lines(alloc, &scenario, &text)
+}
+
+fn main(rt: HostRuntime) -> Result<()> {
+    let alloc: Global = rt.alloc();
+    for line in rt.lines(alloc) {
+        let line = line?;
+        let lines = scenario_lines(&rt, alloc, line.as_str())?;
+        println!(rt; "{}", line.as_str())?;
+        print!(rt; "{}", lines.as_str())?;
+    }
+    Ok(())
+}

@@ -1,0 +1,205 @@
+// What a line of words asks for.
+use anyhow::{Error, Result};
+
+/// Whose session it is.
+#[derive(Clone, Copy, PartialEq, Eq)]
+pub enum End {
+    Verifier,
+    Prover,
+    /// Each end with the bytes of the other.
+    Both,
+    /// A rehearsal of both.
+    Rehearsal,
+}
+
+/// What files are dealt for.
+#[derive(Clone, Copy)]
+pub enum Dealing {
+    Direct,
+    Extended { trees: u32, height: u8, base: u32 },
+}
+
+/// An answer in place of units: its name, and its numbers, 0 where there are fewer.
+#[derive(Clone, Copy)]
+pub struct Refusal<'a> {
+    pub name: &'a str,
+    pub numbers: [u64; 3],
+}
+
+/// What each number of a range changes.
+#[derive(Clone, Copy)]
+pub enum Sweep {
+    Nothing,
+    /// The peer ends after so many bytes.
+    Cut,
+    /// The peer's byte at this place, in these bits.
+    Change { mask: u8 },
+    /// The call of the link of this number, counted from 1, fails.
+    Fail,
+}
+
+/// Numbers from one up to another, which is not among them.
+#[derive(Clone, Copy)]
+pub struct Numbers {
+    pub from: u64,
+    pub to: u64,
+}
+
+/// The peer's bytes: so many of the honest ones, or all; with others after them, in hex; and one byte in place of another.
+#[derive(Clone, Copy)]
+pub struct Peer<'a> {
+    pub keep: Option<u64>,
+    pub more: &'a str,
+    pub set: Option<(u64, u8)>,
+}
+
+/// A line's scenario.
+#[derive(Clone, Copy)]
+pub struct Scenario<'a> {
+    pub end: End,
+    pub circuit: &'a str,
+    pub bits: &'a str,
+    pub outputs: Option<&'a str>,
+    pub section: u32,
+    pub dealing: Dealing,
+    pub units: u64,
+    pub start: u64,
+    pub refusal: Option<Refusal<'a>>,
+    pub peer: Peer<'a>,
+    pub piece: u64,
+    pub sweep: Sweep,
+    pub numbers: Numbers,
+}
+
+/// The scenario of a line without words.
+fn plain(end: End) -> Scenario<'static> {
+    Scenario {
+        end,
+        circuit: "and.txt",
+        bits: "1",
+        outputs: None,
+        section: 1 << 20,
+        dealing: Dealing::Direct,
+        units: 1,
+        start: 0,
+        refusal: None,
+        peer: Peer {
+            keep: None,
+            more: "",
+            set: None,
+        },
+        piece: 4096,
+        sweep: Sweep::Nothing,
+        numbers: Numbers { from: 0, to: 1 },
+    }
+}
+
+fn read_end(word: &str) -> Result<End> {
+    match word {
+        "verifier" => Ok(End::Verifier),
+        "prover" => Ok(End::Prover),
+        "both" => Ok(End::Both),
+        "rehearsal" => Ok(End::Rehearsal),
+        _ => Err(Error::msg("no end of a session")),
+    }
+}
+
+/// Two words around a sign.
+fn halves<'a>(text: &'a str, sign: &str) -> Result<(&'a str, &'a str)> {
+    match text.split_once(sign) {
+        Some(halves) => Ok(halves),
+        None => Err(Error::msg("a sign is missing")),
+    }
+}
+
+/// `direct`, or three numbers: trees, height and base.
+fn read_dealing(text: &str) -> Result<Dealing> {
+    if text == "direct" {
+        return Ok(Dealing::Direct);
+    }
+    let (trees, rest) = halves(text, ",")?;
+    let (height, base) = halves(rest, ",")?;
+    Ok(Dealing::Extended {
+        trees: trees.parse::<u32>()?,
+        height: height.parse::<u8>()?,
+        base: base.parse::<u32>()?,
+    })
+}
+
+/// A name, and up to three numbers.
+fn read_refusal(text: &str) -> Result<Refusal<'_>> {
+    let mut words = text.split(',');
+    let name = words.next().unwrap_or("");
+    let mut numbers = [0; 3];
+    for number in &mut numbers {
+        if let Some(word) = words.next() {
+            *number = word.parse::<u64>()?;
+        }
+    }
+    Ok(Refusal { name, numbers })
+}
+
+/// A range, as `0..7`.
+fn read_numbers(text: &str) -> Result<Numbers> {
+    let (from, to) = halves(text, "..")?;
+    Ok(Numbers {
+        from: from.parse::<u64>()?,
+        to: to.parse::<u64>()?,
+    })
+}
+
+/// Has each number of a range change something.
+fn set_sweep(scenario: &mut Scenario<'_>, sweep: Sweep, numbers: &str) -> Result<()> {
+    scenario.sweep = sweep;
+    scenario.numbers = read_numbers(numbers)?;
+    Ok(())
+}
+
+/// Sets what a word names, of the peer's bytes and the link.
+fn set_peer<'a>(scenario: &mut Scenario<'a>, name: &str, value: &'a str) -> Result<()> {
+    match name {
+        "keep" => scenario.peer.keep = Some(value.parse::<u64>()?),
+        "more" => scenario.peer.more = value,
+        "set" => {
+            let (place, byte) = halves(value, ":")?;
+            scenario.peer.set = Some((place.parse::<u64>()?, byte.parse::<u8>()?));
+        }
+        "pieces" => scenario.piece = value.parse::<u64>()?,
+        "cut" => set_sweep(scenario, Sweep::Cut, value)?,
+        "change" => {
+            let (numbers, mask) = halves(value, ":")?;
+            let mask = mask.parse::<u8>()?;
+            set_sweep(scenario, Sweep::Change { mask }, numbers)?;
+        }
+        "fail" => set_sweep(scenario, Sweep::Fail, value)?,
+        _ => return Err(Error::msg("no such word")),
+    }
+    Ok(())
+}
+
+/// Sets what a word names.
+fn set_word<'a>(scenario: &mut Scenario<'a>, name: &str, value: &'a str) -> Result<()> {
+    match name {
+        "circuit" => scenario.circuit = value,
+        "bits" => scenario.bits = value,
+        "outputs" => scenario.outputs = Some(value),
+        "section" => scenario.section = value.parse::<u32>()?,
+        "files" => scenario.dealing = read_dealing(value)?,
+        "units" => scenario.units = value.parse::<u64>()?,
+        "start" => scenario.start = value.parse::<u64>()?,
+        "refuse" => scenario.refusal = Some(read_refusal(value)?),
+        _ => set_peer(scenario, name, value)?,
+    }
+    Ok(())
+}
+
+/// The scenario of a line: whose session it is, and words `name=value`.
+pub fn read_scenario(line: &str) -> Result<Scenario<'_>> {
+    let mut words = line.split(' ');
+    let mut scenario = plain(read_end(words.next().unwrap_or(""))?);
+    for word in words {
+        let (name, value) = halves(word, "=")?;
+        set_word(&mut scenario, name, value)?;
+    }
+    Ok(scenario)
+}

@@ -1,0 +1,109 @@
+// What both ends of a session have: a circuit, bits, claimed outputs and files.
+ghost use Rattle.std.specs.Prelude.{◌≡◌, ℕ, Bool, List, length, IfOk};
+ghost use Rattle.zk_model.specs.Files.{AreParams};
+ghost use Rattle.zk_model.specs.Statement.{circuit_statement};
+ghost use Rattle.session_core.specs.Jobs.{AreValues};
+
+use crate::scenario::{Dealing, Scenario};
+use anyhow::{Error, Result};
+use bool_eval::{eval, eval_wires};
+use bristol_reader::Circuit;
+use command_words::read_bits;
+use session_core::wire_bits_are_values;
+use std::alloc::{AllocError, Global};
+use zk_model::{Kind, MAX_BASE, MAX_DEALT_UNITS, MAX_HEIGHT, MAX_TREES, Params};
+
+/// These bits over and over, so many in all; none where there are none.
+fn repeated(alloc: Global, bits: &[bool], count: usize) -> Result<Vec<bool>, AllocError> {
+    let mut all = Vec::new(alloc);
+    if bits.is_empty() {
+        return Ok(all);
+    }
+    for place in 0..count {
+        all.push(bits[place % bits.len()])?;
+    }
+    Ok(all)
+}
+
+/// The bits of a word.
+fn word_bits(alloc: Global, word: &str) -> Result<Vec<bool>> {
+    match read_bits(alloc, word)? {
+        Some(bits) => Ok(bits),
+        None => Err(Error::msg("no bits")),
+    }
+}
+
+/// The bits of a circuit's inputs: those of the word over and over.
+pub fn input_bits(alloc: Global, circuit: &Circuit, word: &str) -> Result<Vec<bool>> {
+    let bits = word_bits(alloc, word)?;
+    Ok(repeated(alloc, &bits, circuit.inputs())?)
+}
+
+/// The claimed outputs: those of the word, or what the circuit gives at the bits.
+pub fn claimed_outputs(
+    alloc: Global,
+    circuit: &Circuit,
+    word: Option<&str>,
+    bits: &[bool],
+) -> Result<Vec<bool>>
+    ensures { IfOk result (λ outputs. length outputs.items ≡ circuit.now.outputs) }
+{
+    let Some(word) = word else {
+        let outputs = eval(alloc, circuit, bits)?;
+        return Ok(outputs);
+    };
+    let outputs = word_bits(alloc, word)?;
+    if outputs.len() != circuit.outputs() {
+        return Err(Error::msg("another number of outputs"));
+    }
+    Ok(outputs)
+}
+
+/// The bits of all wires of a circuit, which are values of every claim about it.
+pub fn wires_of(alloc: Global, circuit: &Circuit, bits: &[bool]) -> Result<Vec<bool>>
+    ensures { IfOk result (λ wires. (digest : List ℕ) (outputs : List Bool)
+        → AreValues (circuit_statement circuit.now digest outputs) wires.items) }
+{
+    wire_bits_are_values();
+    let _wires = circuit.wires();
+    let wires = eval_wires(alloc, circuit, bits)?;
+    Ok(wires)
+}
+
+/// What the files of a scenario are dealt for.
+pub fn params_of(scenario: &Scenario<'_>) -> Result<Params>
+    ensures { IfOk result AreParams }
+{
+    let total = scenario.units;
+    if total < 1 || total > MAX_DEALT_UNITS {
+        return Err(Error::msg("no number of units"));
+    }
+    match scenario.dealing {
+        Dealing::Direct => Ok(Params {
+            kind: Kind::Direct,
+            height: 0,
+            trees: 0,
+            base: 0,
+            total,
+        }),
+        Dealing::Extended {
+            trees,
+            height,
+            base,
+        } => {
+            if trees < 1 || trees > MAX_TREES || height < 1 || height > MAX_HEIGHT {
+                return Err(Error::msg("no trees"));
+            }
+            if base < 10 || base > MAX_BASE {
+                return Err(Error::msg("no base"));
+            }
+            Ok(Params {
+                kind: Kind::Extended,
+                height,
+                trees,
+                base,
+                total,
+            })
+        }
+    }
+}

@@ -1,0 +1,367 @@
+#!/usr/bin/env python3
+"""What `crates/stored_runs` is run on and what it must write, computed apart from the program.
+
+That program takes a command line from each line of its input and writes what the command prints, then `status N`.
+`stored_runs.py --stdin` prints the command lines, `stored_runs.py --stdout` what must be written. With neither it
+compares both with the files `stdin` and `stdout` that stand there, and the circuits in `data` with those in `examples`;
+it prints what differs, and ends with 1 where anything does.
+
+Outputs come from what each circuit is for: sums, comparisons, the vectors of AES in FIPS 197 (2001). Faults stand here
+as they follow from the rules in `bristol.py`. That module must find the same of each; from it come the numbers of
+inputs and gates. A rehearsal has a product for each input wire and for each XOR and AND, a section for each product, a
+correlation for each product and each section, and units of 64 correlations, or in kind extended of 8 trees with 1,024 leaves
+each, but one unit at least. Nobody calls at the door, so a verifier that serves prints nothing, or why it does not listen.
+"""
+import pathlib
+import sys
+from typing import List, NamedTuple, Optional, Tuple
+
+import bristol
+import common
+
+# The id of files that are dealt from 32 bytes 7.
+FILE_ID = common.FILE_ID.hex()
+
+TOP = pathlib.Path(__file__).resolve().parent.parent
+CRATE = TOP / "crates" / "stored_runs"
+DATA = CRATE / "data"
+EXAMPLES = TOP / "examples"
+
+ONES = 2**64 - 1
+
+SUMS = [
+    (0, 0),
+    (ONES, ONES),
+    (ONES, 1),
+    (1, ONES),
+    (0x374BA069D849FE70, 0x1572AB84B8829382),
+    (0x42E35D5E58703871, 0x3F273BD7D74BCFDB),
+    (0x4B4A98BEAA16DDB3, 0x84A39E4A79F3B243),
+    (0xCEAE008DC5846781, 0xA425A984DE5F84A9),
+    (0x05DCD5181247660A, 0xD6CC1D688B6FE17E),
+    (0x29A23B69A0F35AFD, 0x515E08FA2E35685E),
+    (0x2228EE8D68FF4CAD, 0x83AB71980827C352),
+    (0x2473C2A2E504C468, 0x9429C529E2449311),
+]
+
+COMPARISONS = [
+    (0, 0),
+    (ONES, ONES),
+    (ONES, 1),
+    (1, ONES),
+    (18, 18),
+    (17, 18),
+    (35, 18),
+    (0x115480DCC1097517, 0x115480DCC1097517),
+    (0x115480DCC1097516, 0x115480DCC1097517),
+    (0x115480DCC1097517, 0x915480DCC1097517),
+    (0x115480DDC1097517, 0x115480DCC1097517),
+    (0x60914125E96A1B18, 0xDF426FC2AC2B7B05),
+]
+
+# Key, block and encrypted block.
+AES_B = ("2b7e151628aed2a6abf7158809cf4f3c", "3243f6a8885a308d313198a2e0370734", "3925841d02dc09fbdc118597196a0b32")
+AES_C_1 = ("000102030405060708090a0b0c0d0e0f", "00112233445566778899aabbccddeeff", "69c4e0d86a7b0430d8cdb78070b4c55a")
+
+# A file for each fault, the bits it is tried at, the fault, and its token or wire. `bad_number.txt` has a wire out of
+# range before it, `extra_text.txt` an output that is not set.
+FAULTS = [
+    ("short_text.txt", "11", "ShortText", 2),
+    ("bad_number.txt", "11", "BadNumber", 11),
+    ("too_large.txt", "1", "TooLarge", 1),
+    ("bad_gate.txt", "11", "BadGate", 12),
+    ("bad_constant.txt", "none", "BadConstant", 7),
+    ("wire_range.txt", "111", "WireRange", 4),
+    ("read_before_set.txt", "1", "ReadBeforeSet", 8),
+    ("set_twice.txt", "11", "SetTwice", 10),
+    ("output_unset.txt", "1", "OutputUnset", 1),
+    ("extra_text.txt", "1", "ExtraText", 6),
+]
+
+# Words of no command.
+WRONG_WORDS = [
+    "eval and.txt",
+    "eval and.txt 12",
+    "eval and.txt 1 1",
+    "eval and.txt 11 --section 1",
+    "rehearse and.txt 11 --section 0",
+    "rehearse and.txt 11 --section 1 --section 1",
+    "rehearse --section 1 11",
+    "reherse and.txt 11 --section 1",
+    "",
+    "rehearse",
+    "rehearse and.txt 11 --section",
+    "rehearse and.txt --section 1",
+    "rehearse and.txt 11 11 --section 1",
+    "rehearse and.txt 11 --section 1048577",
+    "rehearse and.txt 11 --section 36893488147419103233",
+    "rehearse and.txt 11 --section x",
+    "rehearse and.txt 11 --section ",
+    "rehearse and.txt 11 --section -1",
+    "rehearse and.txt 11 --section=1",
+    "rehearse and.txt 11 --sections 1",
+    "rehearse and.txt 12 --section 1",
+    "rehearse and.txt  --section 1",
+    "rehearse - 11 --section 1",
+    "--section 1 rehearse and.txt 11",
+    "Rehearse and.txt 11 --section 1",
+    "rehearse and.txt 11 --section 1 --units 1",
+    "eval and.txt 11 11",
+    "eval and.txt 1x",
+    "rehearse and.txt 11 --extended --extended",
+    "rehearse and.txt 11 --extended 1",
+    "rehearse and.txt 11 --extended --section",
+    "rehearse and.txt 11 --extended=1",
+    "--extended rehearse and.txt 11",
+    "eval and.txt 11 --extended",
+    "serve here z.verifier and.txt 1 --sessions 1 --extended",
+    "deal x --units 1 --extended",
+    "deal",
+    "deal x",
+    "deal x y --units 1",
+    "deal x --units",
+    "deal x --units 0",
+    "deal x --units 65536",
+    "deal x --units 4294967296",
+    "deal x --units 4294967297",
+    "deal x --units 18446744073709551617",
+    "deal x --units 1 --units 1",
+    "deal x --units 1 --trees 1",
+    "deal x --units 1 --trees 1 --height 1",
+    "deal x --units 1 --height 1 --base 10",
+    "deal x --trees 1 --height 1 --base 10",
+    "deal x --units 1 --trees 0 --height 1 --base 10",
+    "deal x --units 1 --trees 1025 --height 1 --base 10",
+    "deal x --units 1 --trees 1 --height 0 --base 10",
+    "deal x --units 1 --trees 1 --height 17 --base 10",
+    "deal x --units 1 --trees 1 --height 1 --base 9",
+    "deal x --units 1 --trees 1 --height 1 --base 65537",
+    "deal x --units 65535 --trees 1 --height 16 --base 65536",
+    "deal x --units 1 --section 1",
+    "prove x",
+    "serve x",
+    "serve here z.verifier and.txt 1",
+    "serve here z.verifier and.txt 1 --sessions 0",
+    "serve here z.verifier and.txt 1 --sessions 2",
+    "serve here z.verifier and.txt 1 --sessions 1 --sessions 1",
+    "serve here z.verifier and.txt 1 --sessions 1 --section 0",
+    "serve here z.verifier and.txt 2 --sessions 1",
+    "serve here z.verifier and.txt --sessions 1",
+    "serve here z.verifier and.txt 1 1 --sessions 1",
+    "audit x",
+]
+
+
+class Run(NamedTuple):
+    """A command line, the lines that it must print, and its status."""
+
+    words: str
+    lines: List[str]
+    status: int
+
+
+class Case(NamedTuple):
+    """A circuit, and the outputs that are due at these inputs."""
+
+    file: str
+    bits: str
+    outputs: str
+
+
+def low_first(number: int) -> str:
+    """The 64 bits of a number, the low one first."""
+    return f"{number:064b}"[::-1]
+
+
+def high_first(digits: str) -> str:
+    """The bits of hexadecimal digits, the high one of each first."""
+    return "".join(f"{int(digit, 16):04b}" for digit in digits)
+
+
+def gates_case(a: int, b: int) -> Case:
+    """The circuit of all five gates: the exclusive or, the AND, the first input inverted, the second, 0 and 1."""
+    return Case("gates.txt", f"{a}{b}", f"{a ^ b}{a & b}{1 - a}{b}01")
+
+
+def aes_case(key: str, block: str, encrypted: str) -> Case:
+    return Case("aes128.txt", high_first(key + block), high_first(encrypted))
+
+
+def small_cases() -> List[Case]:
+    """All cases but those of AES."""
+    pairs = [(a, b) for a in (0, 1) for b in (0, 1)]
+    cases = [Case(file, f"{a}{b}", f"{a & b}") for file in ("and.txt", "and_one_line.txt") for a, b in pairs]
+    cases += [gates_case(a, b) for a, b in pairs]
+    cases += [Case("constant.txt", "none", "1")] + [Case("no_outputs.txt", bit, "none") for bit in "01"]
+    cases += [Case("adder64.txt", low_first(a) + low_first(b), low_first((a + b) % 2**64)) for a, b in SUMS]
+    return cases + [Case("ge64.txt", low_first(a) + low_first(b), str(int(a >= b))) for a, b in COMPARISONS]
+
+
+def agree(words: str, line: str, status: int) -> None:
+    """`bristol.py` finds the same."""
+    name, file, bits = words.split(" ")
+    found = bristol.run([name, str(DATA / file), bits])
+    assert found == (line, status), f"{words[:100]}: {line}, status {status}, but bristol.py has {found}"
+
+
+def eval_run(file: str, bits: str, line: str, status: int) -> Run:
+    """A run of `eval`, of which `bristol.py` must find the same."""
+    words = f"eval {file} {bits}"
+    agree(words, line, status)
+    return Run(words, [line], status)
+
+
+def rehearse_words(file: str, bits: str) -> str:
+    return f"rehearse {file} {bits} --section 1"
+
+
+def rehearse_run(case: Case, section: Optional[int] = 1, extended: bool = False) -> Run:
+    """A rehearsal in sections of so many products, or of the greatest length, over files of either kind."""
+    circuit = bristol.read((DATA / case.file).read_bytes())
+    assert isinstance(circuit, bristol.Circuit)
+    products = circuit.inputs + sum(gate.name in ("XOR", "AND") for gate in circuit.gates)
+    sections = -(-products // (section or 2**20))
+    need = products + sections
+    units = max(1, -(-need // (8 * 1024 if extended else 64)))
+    counts = f"products {products} sections {sections} correlations {need} units {units}"
+    words = f"rehearse {case.file} {case.bits}" + (f" --section {section}" if section else "")
+    words += " --extended" if extended else ""
+    return Run(words, [f"outputs {case.outputs}", counts, "accepted"], 0)
+
+
+def refusals() -> List[Run]:
+    """Runs that end with another status than 0."""
+    runs = []
+    for file, bits, name, place in FAULTS:
+        line = f"refused {name} {bristol.NUMBERS[name]} {place}"
+        runs += [eval_run(file, bits, line, 3), Run(rehearse_words(file, bits), [line], 3)]
+    for file, bits, need, got in [("and.txt", "1", 2, 1), ("and.txt", "none", 2, 0), ("constant.txt", "0", 0, 1)]:
+        line = f"refused bits {need} {got}"
+        runs += [eval_run(file, bits, line, 3), Run(rehearse_words(file, bits), [line], 3)]
+    runs.append(eval_run("missing.txt", "11", "failed shelf", 4))
+    runs.append(Run(rehearse_words("missing.txt", "11"), ["failed shelf"], 4))
+    return runs + [Run(words, [bristol.USAGE], 2) for words in WRONG_WORDS]
+
+
+def orders() -> List[Run]:
+    """Words that may stand in other places, and other spellings of a number."""
+    lines = rehearse_run(small_cases()[0])
+    bits = small_cases()[0].bits
+    return [
+        Run(words.format(bits), lines.lines, 0)
+        for words in (
+            "rehearse --section 1 and.txt {}",
+            "rehearse and.txt --section 1 {}",
+            "rehearse and.txt {} --section 01",
+            "rehearse and.txt {} --section 0000000000000000000000001",
+            "rehearse --extended and.txt --section 1 {}",
+            "rehearse and.txt --extended {} --section 1",
+        )
+    ]
+
+
+def sections() -> List[Run]:
+    """Sections of every kind of length: one product more or less than there are, the ends, and none given."""
+    and_case = small_cases()[3]
+    adder = next(case for case in small_cases() if case.file == "adder64.txt")
+    aes = aes_case(*AES_C_1)
+    lengths: List[Tuple[Case, Optional[int]]] = [(and_case, length) for length in (None, 2, 3, 4, 2**20)]
+    lengths += [(adder, length) for length in (None, 7, 441, 442, 443)]
+    lengths += [(aes, length) for length in (None, 1000, 29832)]
+    return [rehearse_run(case, length) for case, length in lengths]
+
+
+def extensions() -> List[Run]:
+    """Rehearsals over files of kind extended: of one unit, of several, and at a refusal."""
+    small = [case for case in small_cases() if case.file in ("and.txt", "constant.txt", "no_outputs.txt", "gates.txt")]
+    adder = next(case for case in small_cases() if case.file == "adder64.txt")
+    aes = aes_case(*AES_B)
+    runs = [rehearse_run(case, None, True) for case in small]
+    runs += [rehearse_run(adder, length, True) for length in (1, None)]
+    runs += [rehearse_run(aes, length, True) for length in (1, 1000, None)]
+    line = f"refused {FAULTS[0][2]} {bristol.NUMBERS[FAULTS[0][2]]} {FAULTS[0][3]}"
+    return runs + [
+        Run(rehearse_words(FAULTS[0][0], FAULTS[0][1]) + " --extended", [line], 3),
+        Run(rehearse_words("and.txt", "1") + " --extended", ["refused bits 2 1"], 3),
+    ]
+
+
+def dealings() -> List[Run]:
+    """Files that are dealt, at the ends of what may be asked for."""
+    given = [
+        ("deal x --units 1", "1 direct"),
+        ("deal x --units 65535", "65535 direct"),
+        ("deal --units 0001 y --base 10 --trees 1 --height 1", "1 extended"),
+        ("deal y --units 1 --trees 1024 --height 16 --base 65536", "1 extended"),
+    ]
+    return [Run(words, [f"id {FILE_ID}", f"units {units}"], 0) for words, units in given]
+
+
+def services() -> List[Run]:
+    """Services over files of kind direct that are dealt for them, and over those of kind extended that `dealings` leaves."""
+    given: List[Tuple[str, List[str], int]] = [
+        ("z.verifier and.txt 1", [], 0),
+        ("z.verifier no_outputs.txt none", [], 0),
+        ("z.verifier and.txt 10", ["refused outputs 1 2"], 3),
+        ("z.verifier and.txt none", ["refused outputs 1 0"], 3),
+        ("z.prover and.txt 1", ["refused BadKind 2"], 3),
+        ("y.verifier and.txt 1", [], 0),
+        ("y.prover and.txt 1", ["refused BadKind 2"], 3),
+        ("and.txt and.txt 1", ["refused BadMagic 1"], 3),
+        ("z.verifier short_text.txt 1", ["refused ShortText 1 2"], 3),
+        ("missing and.txt 1", ["failed shelf"], 4),
+        ("z.verifier missing.txt 1", ["failed shelf"], 4),
+        # Outputs are counted before the verifier's file is read.
+        ("missing and.txt 10", ["refused outputs 1 2"], 3),
+    ]
+    runs = [Run("deal z --units 1", [f"id {FILE_ID}", "units 1 direct"], 0)]
+    runs += [Run(f"serve here {words} --sessions 1", lines, status) for words, lines, status in given]
+    return runs + [Run("serve --section 1 here z.verifier --sessions 01 and.txt 1", [], 0)]
+
+
+def too_large() -> List[Run]:
+    """A session of one unit more than there may be: a product for each input, and one section."""
+    file = "many_inputs.txt"
+    circuit = bristol.read((DATA / file).read_bytes())
+    assert isinstance(circuit, bristol.Circuit)
+    need = circuit.inputs + 1
+    line = f"too large {need} {-(-need // 64)}"
+    return [Run(f"serve here z.verifier {file} 1 --sessions 1", [line], 9)]
+
+
+def all_runs() -> List[Run]:
+    """All runs in order."""
+    aes = [aes_case(*AES_B), aes_case(*AES_C_1)]
+    runs = []
+    for case in small_cases():
+        runs += [eval_run(case.file, case.bits, case.outputs, 0), rehearse_run(case)]
+    runs += [eval_run(case.file, case.bits, case.outputs, 0) for case in aes]
+    runs += [rehearse_run(aes[1])] + refusals() + orders() + sections() + extensions() + dealings()
+    return runs + services() + too_large()
+
+
+def differences(given: str, written: str) -> List[str]:
+    """The files that are not as they must be."""
+    wrong = [name for name, text in (("stdin", given), ("stdout", written)) if (CRATE / name).read_text() != text]
+    copies = sorted(path.name for path in EXAMPLES.glob("*.txt"))
+    return wrong + [f"data/{name}" for name in copies if (DATA / name).read_bytes() != (EXAMPLES / name).read_bytes()]
+
+
+def main() -> int:
+    runs = all_runs()
+    given = "".join(run.words + "\n" for run in runs)
+    written = "".join("\n".join(run.lines + [f"status {run.status}"]) + "\n" for run in runs)
+    if sys.argv[1:] in (["--stdin"], ["--stdout"]):
+        sys.stdout.write(given if sys.argv[1] == "--stdin" else written)
+        return 0
+    if sys.argv[1:]:
+        sys.exit("stored_runs.py [--stdin | --stdout]")
+    wrong = differences(given, written)
+    for name in wrong:
+        print(f"crates/stored_runs/{name} is not as it must be")
+    print(f"{len(runs)} runs, {len(wrong)} files that differ")
+    return 1 if wrong else 0
+
+
+if __name__ == "__main__":
+    sys.exit(main())
