@@ -8,7 +8,8 @@ use Rattle.zk_model.specs.Bits.{exclusive_or}
 use Rattle.zk_model.specs.Circuit.{Circuit, IsSet, IsWellFormed, MeetsGate, AreWireBits, bit_of, wire_set, wires_read}
 use Rattle.zk_model.specs.declared.GateRow.{GateRow}
 use Rattle.zk_model.specs.declared.GateRow.TheVariants.{And, Xor, Inv, Eqw, Eq}
-use Rattle.bool_eval.specs.GateBits.{gate_bit, AreBlankBehind}
+use Rattle.circuit_laws.specs.GateBits.{gate_bit}
+use Rattle.bool_eval.specs.GateBits.{AreBlankBehind}
 use Rattle.bool_eval.proofs.GateOrder.{LeavesAlone, inputs_before, own_reads, earlier_apart, set_later}
 
 other_bit : (bits : List Bool) (wire other : ℕ) (bit : Bool) → other ≢ wire → bit_of (set bits wire bit) other ≡ bit_of bits other

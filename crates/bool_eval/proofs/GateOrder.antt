@@ -39,7 +39,7 @@ earlier_apart circuit k n earlier gate order less was is = record {
   reads = λ i d below. set_apart circuit n gate order is _ (set_later circuit k n _ (omega arith) (order.reads_set k earlier was i d below));
 }
 
--- a gate sets a wire behind the inputs
+-- a gate sets a wire after the inputs
 pub inputs_before : (circuit : Circuit) (n : ℕ) (gate : GateRow) → IsWellFormed circuit → slice_get circuit.gates n ≡ Some gate → circuit.inputs ≤ wire_set gate
 inputs_before circuit n gate order is =
     let no_input : wire_set gate < circuit.inputs → ⊥ = λ input. order.sets_once n gate is (inl input) in

@@ -8,7 +8,7 @@ use Rattle.bool_eval.specs.declared.EvalFault.TheVariants.{WrongLength, NoMemory
 abbrev pub AreOnlyOutputs : Circuit → List Bool → List Bool → Type 0
 AreOnlyOutputs circuit bits outputs = (others : List Bool) → Satisfies circuit bits others → others ≡ outputs
 
--- a wrong length names the circuit's number of inputs and the number of bits, which differ; memory is wanting only
+-- a wrong length names the circuit's number of inputs and the number of bits, which differ; memory is missing only
 -- where they agree
 abbrev pub IsCause : Circuit → List Bool → EvalFault → Type 0
 IsCause circuit bits (WrongLength need got) = (need ≡ circuit.inputs) × (got ≡ length bits) × (need ≢ got)

@@ -6,14 +6,6 @@ use Rattle.zk_model.specs.Circuit.{Circuit, IsSet, bit_of, wire_set, wires_read}
 use Rattle.zk_model.specs.declared.GateRow.{GateRow}
 use Rattle.zk_model.specs.declared.GateRow.TheVariants.{And, Xor, Inv, Eqw, Eq}
 
--- the bit of the wire that a gate sets
-abbrev pub gate_bit : List Bool → GateRow → Bool
-gate_bit bits (And a b out) = bit_of bits a && bit_of bits b
-gate_bit bits (Xor a b out) = exclusive_or (bit_of bits a) (bit_of bits b)
-gate_bit bits (Inv a out) = not (bit_of bits a)
-gate_bit bits (Eqw a out) = bit_of bits a
-gate_bit bits (Eq bit out) = bit
-
 -- the wires of a gate are below a number of wires
 abbrev pub IsWithin : ℕ → GateRow → Type 0
 IsWithin wires gate = (wire_set gate < wires) × AllByRecursion (λ wire. wire < wires) (wires_read gate)

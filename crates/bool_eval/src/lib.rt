@@ -8,14 +8,15 @@
 
 ghost use Rattle.std.specs.Prelude.{◌≡◌, Bool, List, length, take, IfOk, IfErr, slice_set};
 ghost use Rattle.zk_model.specs.Circuit.{AreWireBits, Satisfies, wire_set};
-ghost use Rattle.bool_eval.specs.GateBits.{gate_bit, IsWithin, AreBlankBehind, LeavesUnset};
+ghost use Rattle.circuit_laws.specs.GateBits.{gate_bit};
+ghost use Rattle.bool_eval.specs.GateBits.{IsWithin, AreBlankBehind, LeavesUnset};
 ghost use Rattle.bool_eval.specs.Answers.{IsCause, AreOnlyOutputs};
 ghost use Rattle.bool_eval.specs.declared.EvalFault.TheVariants as fault;
 
 use bristol_reader::{Circuit, GateRow};
+use circuit_laws::one_outcome;
 use std::alloc::{AllocError, Global};
 use thiserror::Error;
-use zk_laws::one_outcome;
 
 /// Why a circuit is not evaluated.
 #[derive(Clone, Copy, Debug, PartialEq, Eq, Error)]
@@ -70,7 +71,7 @@ pub fn eval_wires(alloc: Global, circuit: &Circuit, bits: &[bool]) -> Result<Vec
     Ok(wires)
 }
 
-/// Sets the bits behind the inputs, gate by gate.
+/// Sets the bits after the inputs, gate by gate.
 fn set_gates(circuit: &Circuit, bits: &mut [bool])
     requires whole { length bits.old ≡ circuit.now.wires }
     requires blank { AreBlankBehind circuit.now.inputs bits.old }

@@ -25,7 +25,7 @@ text_left : (text : List ℕ) → left_of text ≡ lexemes text
 unfolding left_of
 text_left text = refl
 
--- a fault behind the beginning of a text
+-- a fault after the beginning of a text
 pub token_fault : (text : List ℕ) (fault : ReadFault) → IsFaultBehind IsWanted (place_of text 0) fault → IsTokenFault text fault
 token_fault text fault is = record {
   before = is.part;

@@ -27,7 +27,7 @@ wires_passed whole inputs zero more (n ∷ wires) behind counted = absurd (omega
 wires_passed whole inputs (suc count) more (n ∷ wires) behind counted =
     wires_passed whole inputs count more wires behind (omega arith)
 
--- behind the two numbers of a gate
+-- after the two numbers of a gate
 numbers_passed : (whole n : ℕ) (left : List Lexeme) → (n ≡ 1) ⊎ (n ≡ 2)
     → gate_fault whole (number n ∷ number 1 ∷ left) ≡ wires_then_name whole n (suc n) left
 unfolding gate_fault
@@ -55,7 +55,7 @@ gate_wrong whole part behind want fault (last n wires right all there wants) is 
 
 -- ---- a whole gate
 
--- the lexemes behind the two numbers
+-- the lexemes after the two numbers
 abbrev said_rest : Said → List Lexeme → List Lexeme
 said_rest said behind = map number said.reads ++ (number said.sets ∷ name said.text ∷ behind)
 

@@ -7,10 +7,10 @@ use Rattle.zk_model.specs.Bristol.{Lexeme, number, name, gate_lexemes}
 use Rattle.zk_model.specs.TextFaults.{a_wire, a_name, input_number, output_number, GateWants, first, second, next_wire, last, is_gate_name}
 use Rattle.zk_model.specs.declared.GateRow.{GateRow}
 use Rattle.zk_model.specs.declared.ReadFault.{ReadFault}
-use Rattle.bristol_reader.specs.declared.wants.Pair.{Pair}
-use Rattle.bristol_reader.specs.declared.wants.Pair.TheVariants as pair
-use Rattle.bristol_reader.specs.declared.wants.Single.{Single}
-use Rattle.bristol_reader.specs.declared.wants.Single.TheVariants as single
+use Rattle.bristol_reader.specs.declared.wants.BinaryGate.{BinaryGate}
+use Rattle.bristol_reader.specs.declared.wants.BinaryGate.TheVariants as pair
+use Rattle.bristol_reader.specs.declared.wants.UnaryGate.{UnaryGate}
+use Rattle.bristol_reader.specs.declared.wants.UnaryGate.TheVariants as single
 use Rattle.bristol_reader.specs.declared.wants.Placed.{Placed}
 use Rattle.bristol_reader.specs.Words.{greatest, Place, Takes}
 use Rattle.bristol_reader.specs.Wants.{next_fault, IsFaultBehind, TakesNumber, IsPlaced, pair_text, single_text, inputs_of}
@@ -106,7 +106,7 @@ exact_below : (flags : List Bool) (shown exact : ℕ) → length flags ≤ 2 ^ 2
 exact_below flags shown exact few is below = omega arith
 
 -- its tokens are those of its gate
-pub pair_taken : (flags : List Bool) (p0 p1 p2 p3 p4 : Place) (a b c : Placed) (text : Pair) (gate : GateRow) → length flags ≤ 2 ^ 20 → TakesThree p0 p1 p2 p3 a b c
+pub pair_taken : (flags : List Bool) (p0 p1 p2 p3 p4 : Place) (a b c : Placed) (text : BinaryGate) (gate : GateRow) → length flags ≤ 2 ^ 20 → TakesThree p0 p1 p2 p3 a b c
     → Takes (name (pair_text text) ∷ []) p3 p4 → gate ≡ pair_gate text a.number b.number c.number → FitsFlags flags gate
     → BehindNumbers 2 p0 (λ start. Takes (gate_lexemes gate) start p4)
 pair_taken flags p0 p1 p2 p3 p4 a b c text gate few three named is fits = λ start takes.
@@ -123,7 +123,7 @@ pair_taken flags p0 p1 p2 p3 p4 a b c text gate few three named is fits = λ sta
     takes_same (number 2 ∷ number 1 ∷ number x ∷ number y ∷ number z ∷ name (pair_text text) ∷ []) (gate_lexemes gate) start p4
     ((λ i. number 2 ∷ number 1 ∷ number (ex i) ∷ number (ey i) ∷ number (ez i) ∷ name (pair_text text) ∷ []) ∙ spelled text ∙ ap gate_lexemes (sym is)) whole
   where
-    spelled : (text : Pair) → (number 2 ∷ number 1 ∷ number a.number ∷ number b.number ∷ number c.number ∷ name (pair_text text) ∷ []) ≡ gate_lexemes (pair_gate text a.number b.number c.number)
+    spelled : (text : BinaryGate) → (number 2 ∷ number 1 ∷ number a.number ∷ number b.number ∷ number c.number ∷ name (pair_text text) ∷ []) ≡ gate_lexemes (pair_gate text a.number b.number c.number)
     spelled pair.And = refl
     spelled pair.Xor = refl
 
@@ -133,12 +133,12 @@ pair_taken flags p0 p1 p2 p3 p4 a b c text gate few three named is fits = λ sta
       flagged_within flags y (All-head (λ wire. flag_of flags wire ≡ true) y [] (All-tail (λ wire. flag_of flags wire ≡ true) x (y ∷ []) all)),
     )
 
-    ends_of : (text : Pair) → FitsFlags flags (pair_gate text a.number b.number c.number) → (a.number < length flags) × (b.number < length flags) × (c.number < length flags)
+    ends_of : (text : BinaryGate) → FitsFlags flags (pair_gate text a.number b.number c.number) → (a.number < length flags) × (b.number < length flags) × (c.number < length flags)
     ends_of pair.And fits = let both = on flags a.number b.number fits.reads in (both.0, both.1, fits.within)
     ends_of pair.Xor fits = let both = on flags a.number b.number fits.reads in (both.0, both.1, fits.within)
 
 -- its tokens are right, and its wires are not
-pub pair_wrong : (flags : List Bool) (p0 p1 p2 p3 p4 : Place) (a b c : Placed) (text : Pair) (fault : ReadFault) → TakesThree p0 p1 p2 p3 a b c
+pub pair_wrong : (flags : List Bool) (p0 p1 p2 p3 p4 : Place) (a b c : Placed) (text : BinaryGate) (fault : ReadFault) → TakesThree p0 p1 p2 p3 a b c
     → Takes (name (pair_text text) ∷ []) p3 p4 → IsWrongPair flags text a b c fault → BehindNumbers 2 p0 (λ start. IsGateFault flags start fault)
 pair_wrong flags p0 p1 p2 p3 p4 a b c text fault three named wrong = λ start takes.
     let x : ℕ = three.one.exact in
@@ -158,7 +158,7 @@ pair_wrong flags p0 p1 p2 p3 p4 a b c text fault three named wrong = λ start ta
           (placed_at 2 4 (number 2 ∷ number 1 ∷ number x ∷ number y ∷ []) start p2 p3 c three.three two refl);
     })
   where
-    has_name : (text : Pair) → is_gate_name 2 (pair_text text) ≡ true
+    has_name : (text : BinaryGate) → is_gate_name 2 (pair_text text) ≡ true
     has_name pair.And = refl
     has_name pair.Xor = refl
 
@@ -169,7 +169,7 @@ pub single_wanted : (flags : List Bool) (p0 p1 p2 : Place) (a c : Placed) (fault
 single_wanted flags p0 p1 p2 a c fault one two is = λ start takes.
     name_wanted flags 1 (one.exact ∷ two.exact ∷ []) start p2 fault (inl refl) refl (two_wires 1 one.exact start p1 p2 c two (one_wire 1 start p0 p1 a one takes)) is
 
-pub single_taken : (flags : List Bool) (p0 p1 p2 p3 : Place) (a c : Placed) (text : Single) (gate : GateRow) → length flags ≤ 2 ^ 20 → TakesNumber p0 p1 a → TakesNumber p1 p2 c
+pub single_taken : (flags : List Bool) (p0 p1 p2 p3 : Place) (a c : Placed) (text : UnaryGate) (gate : GateRow) → length flags ≤ 2 ^ 20 → TakesNumber p0 p1 a → TakesNumber p1 p2 c
     → Takes (name (single_text text) ∷ []) p2 p3 → MayBeInput flags text a → gate ≡ single_gate text a.number c.number → FitsFlags flags gate
     → BehindNumbers 1 p0 (λ start. Takes (gate_lexemes gate) start p3)
 single_taken flags p0 p1 p2 p3 a c text gate few one two named may is fits = λ start takes.
@@ -188,22 +188,22 @@ single_taken flags p0 p1 p2 p3 a c text gate few one two named may is fits = λ 
     bit (suc zero) few = refl
     bit (suc (suc n)) few = absurd (omega arith)
 
-    spelled : (text : Single) → MayBeInput flags text a → (number 1 ∷ number 1 ∷ number a.number ∷ number c.number ∷ name (single_text text) ∷ []) ≡ gate_lexemes (single_gate text a.number c.number)
+    spelled : (text : UnaryGate) → MayBeInput flags text a → (number 1 ∷ number 1 ∷ number a.number ∷ number c.number ∷ name (single_text text) ∷ []) ≡ gate_lexemes (single_gate text a.number c.number)
     spelled single.Inv may = refl
     spelled single.Eqw may = refl
     spelled single.Eq may = ap (λ n. number 1 ∷ number 1 ∷ number n ∷ number c.number ∷ name (codes "EQ") ∷ []) (sym (bit a.number may))
 
-    input_exact : (text : Single) → MayBeInput flags text a → one.exact ≡ a.number
+    input_exact : (text : UnaryGate) → MayBeInput flags text a → one.exact ≡ a.number
     input_exact single.Inv may = exact_below flags a.number one.exact few one.is.number_is (flagged_within flags a.number may)
     input_exact single.Eqw may = exact_below flags a.number one.exact few one.is.number_is (flagged_within flags a.number may)
     input_exact single.Eq may = omega (arith, one.is.number_is, may)
 
-    out_below : (text : Single) → FitsFlags flags (single_gate text a.number c.number) → c.number < length flags
+    out_below : (text : UnaryGate) → FitsFlags flags (single_gate text a.number c.number) → c.number < length flags
     out_below single.Inv fits = fits.within
     out_below single.Eqw fits = fits.within
     out_below single.Eq fits = fits.within
 
-pub single_wrong : (flags : List Bool) (p0 p1 p2 p3 : Place) (a c : Placed) (text : Single) (fault : ReadFault) → TakesNumber p0 p1 a → TakesNumber p1 p2 c
+pub single_wrong : (flags : List Bool) (p0 p1 p2 p3 : Place) (a c : Placed) (text : UnaryGate) (fault : ReadFault) → TakesNumber p0 p1 a → TakesNumber p1 p2 c
     → Takes (name (single_text text) ∷ []) p2 p3 → IsWrongSingle flags text a c fault → BehindNumbers 1 p0 (λ start. IsGateFault flags start fault)
 single_wrong flags p0 p1 p2 p3 a c text fault one two named wrong = λ start takes.
     let x : ℕ = one.exact in
@@ -220,7 +220,7 @@ single_wrong flags p0 p1 p2 p3 a c text fault one two named wrong = λ start tak
           (placed_at 1 3 (number 1 ∷ number 1 ∷ number x ∷ []) start p1 p2 c two first refl);
     })
   where
-    has_name : (text : Single) → is_gate_name 1 (single_text text) ≡ true
+    has_name : (text : UnaryGate) → is_gate_name 1 (single_text text) ≡ true
     has_name single.Inv = refl
     has_name single.Eq = refl
     has_name single.Eqw = refl

@@ -58,7 +58,7 @@ numbers_passed whole gates wires left gates_most wires_most = rw (passes gates (
 abbrev pub headed : ℕ → Values → List GateRow → Circuit
 headed wires values gates = record { wires = wires; inputs = sum values.inputs; outputs = sum values.outputs; gates = gates }
 
--- behind the numbers a variable stands for the lists
+-- after the numbers a variable stands for the lists
 lists_passed : (whole gates wires : ℕ) (values : Values) (left second behind : List Lexeme)
     → list_fault whole wires left ≡ None → list_sizes left ≡ values.inputs → behind_list left ≡ second
     → list_fault whole wires second ≡ None → list_sizes second ≡ values.outputs → behind_list second ≡ behind
@@ -105,7 +105,7 @@ size_wrong whole wires values sizes left fault few missing within is =
     rw (passes values 1024 _ few)
     (sizes_passed whole wires values (suc (values - length sizes - 1)) sizes left more within ∙ rw is)
 
--- the list behind one right list, or none
+-- the list after one right list, or none
 pub header_wrong : (whole gates wires : ℕ) (lists : List (List ℕ)) (left : List Lexeme) (fault : ReadFault) → IsStart gates wires lists
     → length lists ≤ 1 → list_fault whole wires left ≡ Some fault
     → read_lexemes whole (start_lexemes gates wires lists ++ left) ≡ faulty fault

@@ -16,7 +16,7 @@ use Rattle.bristol_reader.proofs.Lists.{takes_both, takes_same, fault_here, faul
 takes_start : (a b c : Place) (gates wires : ℕ) → Takes (number gates ∷ []) a b → Takes (number wires ∷ []) b c → Takes (start_lexemes gates wires []) a c
 takes_start a b c gates wires left right = takes_both (number gates ∷ []) (number wires ∷ []) a b c left right
 
--- a list behind those numbers, and maybe behind another list
+-- a list after those numbers, and maybe after another list
 list_wants : (gates wires : ℕ) (lists : List (List ℕ)) → IsStart gates wires lists → length lists ≤ 1
     → (behind : List Lexeme) (want : Want) → ListWants wires behind want → HeaderWants (start_lexemes gates wires lists ++ behind) want
 list_wants gates wires lists start more behind want (headers.the_number none is) =

@@ -10,7 +10,7 @@ use Rattle.bristol_reader.specs.Headers.{ListWants, the_number, one_size, TakesL
 
 -- ---- places
 
--- tokens behind tokens
+-- tokens after tokens
 pub takes_both : (some others : List Lexeme) (a b c : Place) → Takes some a b → Takes others b c → Takes (some ++ others) a c
 takes_both some others a b c left right = record {
   left = left.left ∙ ap (λ l. some ++ l) right.left ∙ sym (append_assoc some others c.left);
@@ -20,7 +20,7 @@ takes_both some others a b c left right = record {
 pub takes_same : (some others : List Lexeme) (a b : Place) → some ≡ others → Takes some a b → Takes others a b
 takes_same some others a b same = subst (λ (l : List Lexeme). Takes l a b) same
 
--- a fault behind tokens that are taken
+-- a fault after tokens that are taken
 pub fault_here : (Wants : List Lexeme → Want → Type 0) (part : List Lexeme) (want : Want) (a b : Place) (fault : ReadFault) → Takes part a b → Wants part want
     → next_fault want b ≡ Some fault → IsFaultBehind Wants a fault
 fault_here Wants part want a b fault takes wanted is = record {
@@ -32,7 +32,7 @@ fault_here Wants part want a b fault takes wanted is = record {
   fault_is = ap (first_lexeme_fault want b.left) (sym takes.taken) ∙ is;
 }
 
--- a fault behind more tokens
+-- a fault after more tokens
 pub fault_later : (Wants More : List Lexeme → Want → Type 0) (part : List Lexeme) (a b : Place) (fault : ReadFault) → Takes part a b
     → ((behind : List Lexeme) (want : Want) → Wants behind want → More (part ++ behind) want) → IsFaultBehind Wants b fault → IsFaultBehind More a fault
 fault_later Wants More part a b fault takes more is = record {

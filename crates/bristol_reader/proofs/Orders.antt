@@ -1,4 +1,4 @@
--- Gates, put behind others in order.
+-- Gates, put after others in order.
 use Rattle.std.proofs.Common.{◌≡◌, ◌≢◌, ℕ, zero, suc, ◌<◌, ◌≤◌, Bool, true, false, inl, inr, ◌⊎◌, List, [], ◌∷◌, ◌++◌, length, set, refl, ap, sym, ◌∙◌, subst, arith, length-append, length-set, get_or-set_other, get_or-set_same}
 use Rattle.std.proofs.lemmas.List.Elements.{All-weaker}
 use Rattle.std.proofs.lemmas.Option.{slice_get_within}
@@ -53,7 +53,7 @@ set_push wires inputs outputs gates gate wire (inr by) = elim (get_push gates ga
   | inr at ↦ inr (ap wire_set at.1 ∙ by.4)
 ]
 
--- a gate that may stand behind others
+-- a gate that may stand after others
 pub record MayFollow (begun : Circuit) (gate : GateRow) : Type 0 where
   pub reads : All (IsSetSoFar begun) (wires_read gate)
   pub within : wire_set gate < begun.wires

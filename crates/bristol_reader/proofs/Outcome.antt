@@ -153,7 +153,7 @@ read_gates whole (suc count) begun left =
     unless (first_of (gate_fault whole left) (wires_fault begun (said_of left) (whole - length left)))
     (read_gates whole count (with_gates begun (begun.gates ++ gate_of (said_of left) ∷ [])) (behind_gate left))
 
--- behind the numbers of gates and of wires
+-- after the numbers of gates and of wires
 abbrev pub read_lists : ℕ → ℕ → ℕ → List Lexeme → Outcome
 read_lists whole gates wires left =
     unless (first_of (list_fault whole wires left) (list_fault whole wires (behind_list left)))

@@ -1,5 +1,5 @@
 -- Lines of gates that are written plainly.
-use Rattle.std.proofs.Common.{◌≡◌, ℕ, ◌+◌, ◌-◌, ◌^◌, ◌<◌, ◌≤◌, Bool, true, false, List, [], ◌∷◌, ◌++◌, map, length, take, drop, refl, ap, sym, ◌∙◌, subst, arith, length-take, length-drop, append_assoc}
+use Rattle.std.proofs.Common.{◌≡◌, Bor, ℕ, ◌+◌, ◌-◌, ◌^◌, ◌<◌, ◌≤◌, Bool, true, false, List, [], ◌∷◌, ◌++◌, map, length, take, drop, refl, ap, sym, ◌∙◌, subst, arith, length-take, length-drop, append_assoc}
 use Rattle.std.specs.Prelude.{All, not, min, codes}
 use Rattle.std.proofs.lemmas.List.Elements.{All-from_recursion}
 use Rattle.std.specs.Str.{bytes_eq}
@@ -10,11 +10,11 @@ use Rattle.zk_model.specs.Bristol.{Lexeme, number, name, is_blank, lexeme, lexem
 use Rattle.bristol_reader.specs.declared.lines.PairLine.{PairLine}
 use Rattle.bristol_reader.specs.declared.lines.SingleLine.{SingleLine}
 use Rattle.bristol_reader.specs.declared.tokens.Word.TheVariants.{Number}
-use Rattle.bristol_reader.specs.declared.wants.Pair.{Pair}
-use Rattle.bristol_reader.specs.declared.wants.Single.{Single}
+use Rattle.bristol_reader.specs.declared.wants.BinaryGate.{BinaryGate}
+use Rattle.bristol_reader.specs.declared.wants.UnaryGate.{UnaryGate}
 use Rattle.bristol_reader.specs.declared.wants.Placed.{Placed}
-use Rattle.bristol_reader.specs.declared.wants.Pair.TheVariants.{And, Xor}
-use Rattle.bristol_reader.specs.declared.wants.Single.TheVariants.{Inv, Eq, Eqw}
+use Rattle.bristol_reader.specs.declared.wants.BinaryGate.TheVariants.{And, Xor}
+use Rattle.bristol_reader.specs.declared.wants.UnaryGate.TheVariants.{Inv, Eq, Eqw}
 use Rattle.bristol_reader.specs.Words.{greatest, left_of, Place, place_of, Takes}
 use Rattle.bristol_reader.specs.Wants.{IsPlaced, TakesNumber, pair_text, single_text}
 use Rattle.bristol_reader.specs.Scans.{IsEnded}
@@ -36,7 +36,7 @@ below i n few small =
     let power : 10 ^ i ≤ 10 ^ 7 = pow-le-pow_right {n = 10} some {i = i} {j = 7} most in
     omega arith
 
--- the text behind a number and the blank that ends it
+-- the text after a number and the blank that ends it
 pub starts_number : (text : List ℕ) (i n : ℕ) → n < 10 ^ 7 → IsEnded text (record { length = i; word = Number n })
     → StartsNumber text n (take (length text - (i + 1)) (drop (i + 1) text))
 starts_number text i n small is =
@@ -75,46 +75,37 @@ starts_name text line behind of front rest whole same some unbroken said =
 abbrev AreParts : List ℕ → List ℕ → List ℕ → Type 0
 AreParts text line behind = (line ≡ take 4 text) × (behind ≡ drop 4 text) × (length behind + 4 ≡ length text)
 
--- a gate's name and the line that it is to be
-pub starts_pair : (text line behind wanted : List ℕ) (pair named : Pair) → AreParts text line behind → false ≡ not (bytes_eq line wanted) → named ≡ pair
-    → wanted ≡ pair_text pair ++ 10 ∷ [] → StartsName text (pair_text named) behind
-starts_pair text line behind wanted pair named parts same is wants =
-    subst (λ (p : Pair). StartsName text (pair_text p) behind) (sym is)
-    (starts_name text line behind (pair_text pair) parts.0 parts.1 parts.2 (same ∙ ap (λ (l : List ℕ). not (bytes_eq line l)) wants) (some pair) (unbroken pair) (said pair))
-  where
-    some : (pair : Pair) → 0 < length (pair_text pair)
-    some And = omega arith
-    some Xor = omega arith
+-- a name as one token of a line
+abbrev IsWord : List ℕ → Type 0
+IsWord word = (0 < length word) × All (λ byte. is_blank byte ≡ false) word × (lexeme word ≡ name word)
 
-    unbroken : (pair : Pair) → All (λ byte. is_blank byte ≡ false) (pair_text pair)
-    unbroken And = All-from_recursion (λ byte. is_blank byte ≡ false) (codes "AND") (refl, (refl, (refl, tt)))
-    unbroken Xor = All-from_recursion (λ byte. is_blank byte ≡ false) (codes "XOR") (refl, (refl, (refl, tt)))
+-- a gate's name and the line that it is to be, as one of a pair that was chosen
+starts_gate : {G : Type 0} (spell : G → List ℕ) → ((gate : G) → IsWord (spell gate)) → (text line behind : List ℕ) (named chosen : G × Bor (List ℕ)) (gate : G)
+    → AreParts text line behind → false ≡ not (bytes_eq line named.1.now) → named ≡ chosen → chosen.0 ≡ gate → chosen.1.now ≡ spell gate ++ 10 ∷ []
+    → StartsName text (spell named.0) behind
+starts_gate {G} spell word text line behind named chosen gate parts same is first wants =
+    subst (λ (g : G). StartsName text (spell g) behind) (sym (ap (λ (q : G × Bor (List ℕ)). q.0) is ∙ first))
+    (starts_name text line behind (spell gate) parts.0 parts.1 parts.2 (same ∙ ap (λ (q : G × Bor (List ℕ)). not (bytes_eq line q.1.now)) is ∙ ap (λ (l : List ℕ). not (bytes_eq line l)) wants)
+    (word gate).0 (word gate).1 (word gate).2)
 
-    said : (pair : Pair) → lexeme (pair_text pair) ≡ name (pair_text pair)
-    said And = refl
-    said Xor = refl
+pair_word : (pair : BinaryGate) → IsWord (pair_text pair)
+pair_word And = (omega arith, All-from_recursion (λ byte. is_blank byte ≡ false) (codes "AND") (refl, (refl, (refl, tt))), refl)
+pair_word Xor = (omega arith, All-from_recursion (λ byte. is_blank byte ≡ false) (codes "XOR") (refl, (refl, (refl, tt))), refl)
 
--- the same of a gate with one input
-pub starts_single : (text line behind wanted : List ℕ) (single named : Single) → AreParts text line behind → false ≡ not (bytes_eq line wanted) → named ≡ single
-    → wanted ≡ single_text single ++ 10 ∷ [] → StartsName text (single_text named) behind
-starts_single text line behind wanted single named parts same is wants =
-    subst (λ (p : Single). StartsName text (single_text p) behind) (sym is)
-    (starts_name text line behind (single_text single) parts.0 parts.1 parts.2 (same ∙ ap (λ (l : List ℕ). not (bytes_eq line l)) wants) (some single) (unbroken single) (said single))
-  where
-    some : (single : Single) → 0 < length (single_text single)
-    some Inv = omega arith
-    some Eq = omega arith
-    some Eqw = omega arith
+single_word : (single : UnaryGate) → IsWord (single_text single)
+single_word Inv = (omega arith, All-from_recursion (λ byte. is_blank byte ≡ false) (codes "INV") (refl, (refl, (refl, tt))), refl)
+single_word Eq = (omega arith, All-from_recursion (λ byte. is_blank byte ≡ false) (codes "EQ") (refl, (refl, tt)), refl)
+single_word Eqw = (omega arith, All-from_recursion (λ byte. is_blank byte ≡ false) (codes "EQW") (refl, (refl, (refl, tt))), refl)
 
-    unbroken : (single : Single) → All (λ byte. is_blank byte ≡ false) (single_text single)
-    unbroken Inv = All-from_recursion (λ byte. is_blank byte ≡ false) (codes "INV") (refl, (refl, (refl, tt)))
-    unbroken Eq = All-from_recursion (λ byte. is_blank byte ≡ false) (codes "EQ") (refl, (refl, tt))
-    unbroken Eqw = All-from_recursion (λ byte. is_blank byte ≡ false) (codes "EQW") (refl, (refl, (refl, tt)))
+pub starts_pair : (text line behind : List ℕ) (named chosen : BinaryGate × Bor (List ℕ)) (gate : BinaryGate) → AreParts text line behind
+    → false ≡ not (bytes_eq line named.1.now) → named ≡ chosen → chosen.0 ≡ gate → chosen.1.now ≡ pair_text gate ++ 10 ∷ []
+    → StartsName text (pair_text named.0) behind
+starts_pair = starts_gate pair_text pair_word
 
-    said : (single : Single) → lexeme (single_text single) ≡ name (single_text single)
-    said Inv = refl
-    said Eq = refl
-    said Eqw = refl
+pub starts_single : (text line behind : List ℕ) (named chosen : UnaryGate × Bor (List ℕ)) (gate : UnaryGate) → AreParts text line behind
+    → false ≡ not (bytes_eq line named.1.now) → named ≡ chosen → chosen.0 ≡ gate → chosen.1.now ≡ single_text gate ++ 10 ∷ []
+    → StartsName text (single_text named.0) behind
+starts_single = starts_gate single_text single_word
 
 -- ---- lines
 

@@ -31,7 +31,7 @@ kept_first token pieces some = chosen (nat_lt 0 (length token)) (lt-ltb 0 (lengt
     chosen true on = refl
     chosen false on = cc
 
--- a first token, and what is behind it
+-- a first token, and what is after it
 pub tokens_first : (token rest : List ℕ) → 0 < length token → All (λ byte. is_blank byte ≡ false) token → EndsToken rest
     → tokens (token ++ rest) ≡ token ∷ tokens rest
 tokens_first token [] some unbroken ends =
@@ -156,7 +156,7 @@ begins_unbroken [] n some unbroken = tt
 begins_unbroken (byte ∷ text) zero some unbroken = absurd (omega arith)
 begins_unbroken (byte ∷ text) (suc n) some unbroken = All-head (λ b. is_blank b ≡ false) byte (take n text) unbroken
 
--- a first token, and what is behind it and the blank that ends it
+-- a first token, and what is after it and the blank that ends it
 pub left_ended : (text : List ℕ) (scanned : Scanned) → IsEnded text scanned
     → left_of text ≡ lexeme (take scanned.length text) ∷ left_of (take (length text - (scanned.length + 1)) (drop (scanned.length + 1) text))
 left_ended text scanned is =

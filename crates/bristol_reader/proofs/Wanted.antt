@@ -14,10 +14,10 @@ use Rattle.bristol_reader.specs.declared.tokens.GateName.{GateName}
 use Rattle.bristol_reader.specs.declared.tokens.GateName.TheVariants.{And, Xor, Inv, Eq, Eqw, Other}
 use Rattle.bristol_reader.specs.declared.tokens.Word.{Word}
 use Rattle.bristol_reader.specs.declared.tokens.Word.TheVariants.{Number, Name}
-use Rattle.bristol_reader.specs.declared.wants.Pair.{Pair}
-use Rattle.bristol_reader.specs.declared.wants.Pair.TheVariants as pair
-use Rattle.bristol_reader.specs.declared.wants.Single.{Single}
-use Rattle.bristol_reader.specs.declared.wants.Single.TheVariants as single
+use Rattle.bristol_reader.specs.declared.wants.BinaryGate.{BinaryGate}
+use Rattle.bristol_reader.specs.declared.wants.BinaryGate.TheVariants as pair
+use Rattle.bristol_reader.specs.declared.wants.UnaryGate.{UnaryGate}
+use Rattle.bristol_reader.specs.declared.wants.UnaryGate.TheVariants as single
 use Rattle.bristol_reader.specs.declared.wants.Placed.{Placed}
 use Rattle.bristol_reader.specs.Words.{greatest, name_of, word_of, EndsToken, Place, Takes, TakesWord}
 use Rattle.bristol_reader.specs.Scans.{IsEnded}
@@ -101,7 +101,7 @@ ended_name text i n some within blank is other =
 
 -- ---- the fault of a word
 
--- the fault of the first token behind a place
+-- the fault of the first token after a place
 next_is : (want : Want) (before : Place) (lexeme : Lexeme) (behind : List Lexeme) (token : ℕ) (fault : ReadFault) → before.left ≡ lexeme ∷ behind → token ≡ before.taken
     → lexeme_fault want lexeme token ≡ Some fault → next_fault want before ≡ Some fault
 next_is want before lexeme behind token fault left taken is =
@@ -125,7 +125,7 @@ takes_number before after word n token is taken takes =
 
 -- ---- names
 
-named_text : (n : GateName) (text : List ℕ) → IsNamed n text → (p : Pair) → pair_of (Name n) ≡ Some p → text ≡ pair_text p
+named_text : (n : GateName) (text : List ℕ) → IsNamed n text → (p : BinaryGate) → pair_of (Name n) ≡ Some p → text ≡ pair_text p
 named_text And text is pair.And same = is
 named_text And text is pair.Xor same = cc
 named_text Xor text is pair.And same = cc
@@ -135,7 +135,7 @@ named_text Eq text is p same = cc
 named_text Eqw text is p same = cc
 named_text Other text is p same = cc
 
-named_single : (n : GateName) (text : List ℕ) → IsNamed n text → (p : Single) → single_of (Name n) ≡ Some p → text ≡ single_text p
+named_single : (n : GateName) (text : List ℕ) → IsNamed n text → (p : UnaryGate) → single_of (Name n) ≡ Some p → text ≡ single_text p
 named_single And text is p same = cc
 named_single Xor text is p same = cc
 named_single Inv text is single.Inv same = is
@@ -165,13 +165,13 @@ no_single_name Eq text is none = cc
 no_single_name Eqw text is none = cc
 no_single_name Other text is none = is.1
 
-pub takes_pair : (before after : Place) (word : Word) (p : Pair) → Some p ≡ pair_of word → TakesWord before after word → Takes (name (pair_text p) ∷ []) before after
+pub takes_pair : (before after : Place) (word : Word) (p : BinaryGate) → Some p ≡ pair_of word → TakesWord before after word → Takes (name (pair_text p) ∷ []) before after
 takes_pair before after (Number n) p is takes = let same : Some p ≡ None = is in absurd cc
 takes_pair before after (Name n) p is takes =
     let said = said_name takes.lexeme n takes.word_is in
     subst (λ (l : Lexeme). Takes (l ∷ []) before after) (said.1 ∙ ap name (named_text n said.0 said.2 p (sym is))) takes.takes
 
-pub takes_single : (before after : Place) (word : Word) (p : Single) → Some p ≡ single_of word → TakesWord before after word → Takes (name (single_text p) ∷ []) before after
+pub takes_single : (before after : Place) (word : Word) (p : UnaryGate) → Some p ≡ single_of word → TakesWord before after word → Takes (name (single_text p) ∷ []) before after
 takes_single before after (Number n) p is takes = let same : Some p ≡ None = is in absurd cc
 takes_single before after (Name n) p is takes =
     let said = said_name takes.lexeme n takes.word_is in

@@ -1,18 +1,18 @@
 -- The wires of a gate, by the flags.
-use Rattle.std.proofs.Common.{◌≡◌, ℕ, zero, suc, ◌+◌, ◌<◌, ◌≤◌, ◌^◌, inl, inr, Bool, true, false, List, [], ◌∷◌, length, min, refl, ap, sym, ◌∙◌, subst, arith}
-use Rattle.std.specs.Prelude.{codes, if◌then◌else◌, nat_le}
+use Rattle.std.proofs.Common.{◌≡◌, ℕ, zero, suc, ◌+◌, ◌<◌, ◌≤◌, ◌^◌, inl, inr, Bool, true, false, List, [], ◌∷◌, length, min, take, refl, ap, sym, ◌∙◌, subst, arith}
+use Rattle.std.specs.Prelude.{All, Some, codes, if◌then◌else◌, nat_le, slice_get}
 use Rattle.std.specs.Str.{bytes_eq}
 use Rattle.std.proofs.lemmas.Bool.{cases_lt, le-leb}
 use Rattle.std.proofs.lemmas.List.{get_or_past}
 use Rattle.std.proofs.lemmas.List.Elements.{All-from_recursion}
 use Rattle.zk_model.specs.Circuit.{Circuit}
-use Rattle.zk_model.specs.TextFaults.{MayRead, MayNotSet, beyond, again, read_fault}
+use Rattle.zk_model.specs.TextFaults.{Said, MayRead, MayNotSet, IsInputFault, beyond, again, read_fault}
 use Rattle.zk_model.specs.declared.ReadFault.{ReadFault}
 use Rattle.zk_model.specs.declared.ReadFault.TheVariants.{WireRange, ReadBeforeSet, SetTwice, BadConstant}
-use Rattle.bristol_reader.specs.declared.wants.Pair.{Pair}
-use Rattle.bristol_reader.specs.declared.wants.Pair.TheVariants as pair
-use Rattle.bristol_reader.specs.declared.wants.Single.{Single}
-use Rattle.bristol_reader.specs.declared.wants.Single.TheVariants as single
+use Rattle.bristol_reader.specs.declared.wants.BinaryGate.{BinaryGate}
+use Rattle.bristol_reader.specs.declared.wants.BinaryGate.TheVariants as pair
+use Rattle.bristol_reader.specs.declared.wants.UnaryGate.{UnaryGate}
+use Rattle.bristol_reader.specs.declared.wants.UnaryGate.TheVariants as single
 use Rattle.bristol_reader.specs.declared.wants.Placed.{Placed}
 use Rattle.bristol_reader.specs.Words.{greatest}
 use Rattle.bristol_reader.specs.Wants.{IsPlaced, pair_text, single_text}
@@ -71,13 +71,13 @@ may_not_set flags begun placed exact token fault few are is (inr wrong) =
 
 -- ---- the input of a gate that has one
 
-may_be_input : (flags : List Bool) (begun : Circuit) (name : Single) (placed : Placed) (exact token : ℕ) → length flags ≤ 2 ^ 20 → AreFlags flags begun
+may_be_input : (flags : List Bool) (begun : Circuit) (name : UnaryGate) (placed : Placed) (exact token : ℕ) → length flags ≤ 2 ^ 20 → AreFlags flags begun
     → IsPlaced placed exact token → MayBeInput flags name placed → MayRead (single_text name) begun exact
 may_be_input flags begun single.Inv placed exact token few are is may = may_read flags begun placed exact token (codes "INV") few are is refl may
 may_be_input flags begun single.Eqw placed exact token few are is may = may_read flags begun placed exact token (codes "EQW") few are is refl may
 may_be_input flags begun single.Eq placed exact token few are is may = inl (refl, omega (arith, is.number_is))
 
-may_not_be_input : (flags : List Bool) (begun : Circuit) (name : Single) (placed : Placed) (exact token : ℕ) (fault : ReadFault) → length flags ≤ 2 ^ 20 → AreFlags flags begun
+may_not_be_input : (flags : List Bool) (begun : Circuit) (name : UnaryGate) (placed : Placed) (exact token : ℕ) (fault : ReadFault) → length flags ≤ 2 ^ 20 → AreFlags flags begun
     → IsPlaced placed exact token → MayNotBeInput flags name placed fault → IsUnread begun (single_text name) exact token fault
 may_not_be_input flags begun single.Inv placed exact token fault few are is wrong = may_not_read flags begun placed exact token (codes "INV") fault few are is refl wrong
 may_not_be_input flags begun single.Eqw placed exact token fault few are is wrong = may_not_read flags begun placed exact token (codes "EQW") fault few are is refl wrong
@@ -89,22 +89,29 @@ may_not_be_input flags begun single.Eq placed exact token fault few are is wrong
   wrong.1 ∙ ap BadConstant is.token_is,
 )
 
+-- an input that may not be read, after those that may
+input_fault : (begun : Circuit) (said : Said) (token number x at : ℕ) (fault : ReadFault) → slice_get said.reads number ≡ Some x
+    → All (MayRead said.text begun) (take number said.reads) → IsUnread begun said.text x at fault → at ≡ token + 2 + number
+    → IsInputFault begun said token fault
+input_fault begun said token number x at fault stands before not place = record {
+  number = number;
+  read = x;
+  stands = stands;
+  before = before;
+  wrong = not.0;
+  fault_is = not.1 ∙ ap (read_fault said.text begun x) place;
+}
+
 -- ---- a gate with one input
 
-pub wrong_input : (set : List Bool) (name : Single) (input out : Placed) (fault : ReadFault) → length set ≤ 2 ^ 20 → MayNotBeInput set name input fault
+pub wrong_input : (set : List Bool) (name : UnaryGate) (input out : Placed) (fault : ReadFault) → length set ≤ 2 ^ 20 → MayNotBeInput set name input fault
     → IsWrongSingle set name input out fault
 wrong_input set name input out fault few wrong = λ token x z at_x at_z begun are.
     let not = may_not_be_input set begun name input x (token + 2) fault few are at_x wrong in
-    inl (record {
-      number = 0;
-      read = x;
-      stands = refl;
-      before = All-from_recursion (MayRead (single_text name) begun) [] tt;
-      wrong = not.0;
-      fault_is = not.1 ∙ ap (read_fault (single_text name) begun x) (omega arith);
-    })
+    inl (input_fault begun (record { reads = x ∷ []; sets = z; text = single_text name }) token 0 x (token + 2) fault refl
+    (All-from_recursion (MayRead (single_text name) begun) [] tt) not (omega arith))
 
-pub wrong_single : (set : List Bool) (name : Single) (input out : Placed) (fault : ReadFault) → length set ≤ 2 ^ 20 → MayBeInput set name input → IsNoFreeWire set out fault
+pub wrong_single : (set : List Bool) (name : UnaryGate) (input out : Placed) (fault : ReadFault) → length set ≤ 2 ^ 20 → MayBeInput set name input → IsNoFreeWire set out fault
     → IsWrongSingle set name input out fault
 wrong_single set name input out fault few may wrong = λ token x z at_x at_z begun are.
     inr (record {
@@ -114,36 +121,25 @@ wrong_single set name input out fault few may wrong = λ token x z at_x at_z beg
 
 -- ---- a gate with two inputs
 
-no_constant : (name : Pair) → bytes_eq (pair_text name) (codes "EQ") ≡ false
+no_constant : (name : BinaryGate) → bytes_eq (pair_text name) (codes "EQ") ≡ false
 no_constant pair.And = refl
 no_constant pair.Xor = refl
 
-pub wrong_first : (set : List Bool) (name : Pair) (a b out : Placed) (fault : ReadFault) → length set ≤ 2 ^ 20 → IsNoSetWire set a fault → IsWrongPair set name a b out fault
+pub wrong_first : (set : List Bool) (name : BinaryGate) (a b out : Placed) (fault : ReadFault) → length set ≤ 2 ^ 20 → IsNoSetWire set a fault → IsWrongPair set name a b out fault
 wrong_first set name a b out fault few wrong = λ token x y z at_x at_y at_z begun are.
     let not = may_not_read set begun a x (token + 2) (pair_text name) fault few are at_x (no_constant name) wrong in
-    inl (record {
-      number = 0;
-      read = x;
-      stands = refl;
-      before = All-from_recursion (MayRead (pair_text name) begun) [] tt;
-      wrong = not.0;
-      fault_is = not.1 ∙ ap (read_fault (pair_text name) begun x) (omega arith);
-    })
+    inl (input_fault begun (record { reads = x ∷ y ∷ []; sets = z; text = pair_text name }) token 0 x (token + 2) fault refl
+    (All-from_recursion (MayRead (pair_text name) begun) [] tt) not (omega arith))
 
-pub wrong_second : (set : List Bool) (name : Pair) (a b out : Placed) (fault : ReadFault) → length set ≤ 2 ^ 20 → flag_of set a.number ≡ true → IsNoSetWire set b fault
+pub wrong_second : (set : List Bool) (name : BinaryGate) (a b out : Placed) (fault : ReadFault) → length set ≤ 2 ^ 20 → flag_of set a.number ≡ true → IsNoSetWire set b fault
     → IsWrongPair set name a b out fault
 wrong_second set name a b out fault few on wrong = λ token x y z at_x at_y at_z begun are.
     let not = may_not_read set begun b y (token + 3) (pair_text name) fault few are at_y (no_constant name) wrong in
-    inl (record {
-      number = 1;
-      read = y;
-      stands = refl;
-      before = All-from_recursion (MayRead (pair_text name) begun) (x ∷ []) (may_read set begun a x (token + 2) (pair_text name) few are at_x (no_constant name) on, tt);
-      wrong = not.0;
-      fault_is = not.1 ∙ ap (read_fault (pair_text name) begun y) (omega arith);
-    })
+    inl (input_fault begun (record { reads = x ∷ y ∷ []; sets = z; text = pair_text name }) token 1 y (token + 3) fault refl
+    (All-from_recursion (MayRead (pair_text name) begun) (x ∷ []) (may_read set begun a x (token + 2) (pair_text name) few are at_x (no_constant name) on, tt))
+    not (omega arith))
 
-pub wrong_pair : (set : List Bool) (name : Pair) (a b out : Placed) (fault : ReadFault) → length set ≤ 2 ^ 20 → flag_of set a.number ≡ true → flag_of set b.number ≡ true
+pub wrong_pair : (set : List Bool) (name : BinaryGate) (a b out : Placed) (fault : ReadFault) → length set ≤ 2 ^ 20 → flag_of set a.number ≡ true → flag_of set b.number ≡ true
     → IsNoFreeWire set out fault → IsWrongPair set name a b out fault
 wrong_pair set name a b out fault few on too wrong = λ token x y z at_x at_y at_z begun are.
     inr (record {

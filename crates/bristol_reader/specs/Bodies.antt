@@ -10,11 +10,11 @@ use Rattle.bristol_reader.specs.Gates.{flag_of}
 use Rattle.bristol_reader.specs.Headers.{TakesHeader}
 use Rattle.bristol_reader.specs.Reads.{TextCause}
 
--- behind the header of a text, this holds of the text
+-- after the header of a text, this holds of the text
 abbrev pub BehindHeader : Header → Place → (List ℕ → Type 0) → Type 0
 BehindHeader header before P = (text : List ℕ) → TakesHeader (place_of text 0) before header → P text
 
--- the gates behind the header of a text make this circuit
+-- the gates after the header of a text make this circuit
 abbrev pub IsBody : Header → Place → List GateRow → Type 0
 IsBody header before gates =
     BehindHeader header before (IsText (circuit_of header.wires header.inputs header.outputs gates))

@@ -7,10 +7,10 @@ use Rattle.zk_model.specs.declared.GateRow.{GateRow}
 use Rattle.zk_model.specs.declared.GateRow.TheVariants as row
 use Rattle.zk_model.specs.declared.ReadFault.{ReadFault}
 use Rattle.zk_model.specs.declared.ReadFault.TheVariants.{WireRange, ReadBeforeSet, SetTwice, BadConstant}
-use Rattle.bristol_reader.specs.declared.wants.Pair.{Pair}
-use Rattle.bristol_reader.specs.declared.wants.Pair.TheVariants as pair
-use Rattle.bristol_reader.specs.declared.wants.Single.{Single}
-use Rattle.bristol_reader.specs.declared.wants.Single.TheVariants as single
+use Rattle.bristol_reader.specs.declared.wants.BinaryGate.{BinaryGate}
+use Rattle.bristol_reader.specs.declared.wants.BinaryGate.TheVariants as pair
+use Rattle.bristol_reader.specs.declared.wants.UnaryGate.{UnaryGate}
+use Rattle.bristol_reader.specs.declared.wants.UnaryGate.TheVariants as single
 use Rattle.bristol_reader.specs.declared.wants.Placed.{Placed}
 use Rattle.bristol_reader.specs.Words.{Place, Takes}
 use Rattle.bristol_reader.specs.Wants.{IsFaultBehind, IsPlaced, pair_text, single_text}
@@ -66,13 +66,13 @@ IsNoFreeWire flags placed fault =
     ⊎ ((flag_of flags placed.number ≡ true) × (fault ≡ SetTwice placed.token))
 
 -- the one input of a gate of this name: a constant of EQ, or else a wire that is set
-abbrev pub MayBeInput : List Bool → Single → Placed → Type 0
+abbrev pub MayBeInput : List Bool → UnaryGate → Placed → Type 0
 MayBeInput flags single.Inv placed = flag_of flags placed.number ≡ true
 MayBeInput flags single.Eqw placed = flag_of flags placed.number ≡ true
 MayBeInput flags single.Eq placed = placed.number ≤ 1
 
 -- no such input, and the fault
-abbrev pub MayNotBeInput : List Bool → Single → Placed → ReadFault → Type 0
+abbrev pub MayNotBeInput : List Bool → UnaryGate → Placed → ReadFault → Type 0
 MayNotBeInput flags single.Inv placed fault = IsNoSetWire flags placed fault
 MayNotBeInput flags single.Eqw placed fault = IsNoSetWire flags placed fault
 MayNotBeInput flags single.Eq placed fault = (1 < placed.number) × (fault ≡ BadConstant placed.token)
@@ -80,11 +80,11 @@ MayNotBeInput flags single.Eq placed fault = (1 < placed.number) × (fault ≡ B
 -- ---- one gate
 
 -- the gate of a name
-abbrev pub pair_gate : Pair → ℕ → ℕ → ℕ → GateRow
+abbrev pub pair_gate : BinaryGate → ℕ → ℕ → ℕ → GateRow
 pair_gate pair.And a b out = row.And a b out
 pair_gate pair.Xor a b out = row.Xor a b out
 
-abbrev pub single_gate : Single → ℕ → ℕ → GateRow
+abbrev pub single_gate : UnaryGate → ℕ → ℕ → GateRow
 single_gate single.Inv input out = row.Inv input out
 single_gate single.Eqw input out = row.Eqw input out
 single_gate single.Eq input out = row.Eq (input == 1) out
@@ -96,14 +96,14 @@ IsWrong flags said token fault =
     → IsInputFault begun said token fault ⊎ IsOutputFault begun said token fault
 
 -- the same of a gate with two inputs, whose first token has this number
-abbrev pub IsWrongPair : List Bool → Pair → Placed → Placed → Placed → ReadFault → Type 0
+abbrev pub IsWrongPair : List Bool → BinaryGate → Placed → Placed → Placed → ReadFault → Type 0
 IsWrongPair flags name a b out fault =
     (token x y z : ℕ) → IsPlaced a x (token + 2) → IsPlaced b y (token + 3)
     → IsPlaced out z (token + 4)
     → IsWrong flags (record { reads = x ∷ y ∷ []; sets = z; text = pair_text name }) token fault
 
 -- the same of a gate with one input
-abbrev pub IsWrongSingle : List Bool → Single → Placed → Placed → ReadFault → Type 0
+abbrev pub IsWrongSingle : List Bool → UnaryGate → Placed → Placed → ReadFault → Type 0
 IsWrongSingle flags name a out fault =
     (token x z : ℕ) → IsPlaced a x (token + 2) → IsPlaced out z (token + 3)
     → IsWrong flags (record { reads = x ∷ []; sets = z; text = single_text name }) token fault
@@ -120,7 +120,7 @@ pub record IsWireFaultBy (flags : List Bool) (before : Place) (fault : ReadFault
 abbrev pub IsGateFault : List Bool → Place → ReadFault → Type 0
 IsGateFault flags before fault = IsFaultBehind GateWants before fault ⊎ IsWireFaultBy flags before fault
 
--- behind a gate's numbers of inputs and of outputs, this holds where they begin
+-- after a gate's numbers of inputs and of outputs, this holds where they begin
 abbrev pub BehindNumbers : ℕ → Place → (Place → Type 0) → Type 0
 BehindNumbers inputs before P =
     (start : Place) → Takes (number inputs ∷ number 1 ∷ []) start before → P start

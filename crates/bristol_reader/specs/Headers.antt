@@ -4,27 +4,28 @@ use Rattle.zk_model.specs.Bristol.{Lexeme, number, Values, counted_lexemes, head
 use Rattle.zk_model.specs.TextFaults.{Want, a_count, a_size}
 use Rattle.bristol_reader.specs.declared.header.Header.{Header}
 use Rattle.bristol_reader.specs.Words.{Place, Takes}
+use Rattle.zk_model.specs.declared.limits.TheConstants.{MAX_GATES, MAX_VALUES, MAX_WIRES}
 
--- what a list of values wants behind these of its tokens, which are all right: their number, or a size
+-- what a list of values wants after these of its tokens, which are all right: their number, or a size
 pub data ListWants (wires : ℕ) (part : List Lexeme) (want : Want) : Type 0 where
-  the_number : part ≡ [] → want ≡ a_count 1024 → ListWants wires part want
-  one_size : (values : ℕ) (sizes : List ℕ) → values ≤ 1024 → sum sizes ≤ wires
+  the_number : part ≡ [] → want ≡ a_count MAX_VALUES → ListWants wires part want
+  one_size : (values : ℕ) (sizes : List ℕ) → values ≤ MAX_VALUES → sum sizes ≤ wires
       → length sizes < values → part ≡ number values ∷ map number sizes
       → want ≡ a_size (wires - sum sizes) → ListWants wires part want
 
 -- a list of values, which have so many wires in all
 pub record TakesList (before after : Place) (total : ℕ) : Type 0 where
   pub sizes : List ℕ
-  pub few : length sizes ≤ 1024
+  pub few : length sizes ≤ MAX_VALUES
   pub total_is : sum sizes ≡ total
   pub takes : Takes (counted_lexemes sizes) before after
 
 -- a header's counts: within the limits, and no more input wires or output wires than wires
 pub record IsHeader (header : Header) (values : Values) : Type 0 where
-  pub gates : header.gates ≤ 2 ^ 20
-  pub wires : header.wires ≤ 2 ^ 20
-  pub input_values : length values.inputs ≤ 1024
-  pub output_values : length values.outputs ≤ 1024
+  pub gates : header.gates ≤ MAX_GATES
+  pub wires : header.wires ≤ MAX_WIRES
+  pub input_values : length values.inputs ≤ MAX_VALUES
+  pub output_values : length values.outputs ≤ MAX_VALUES
   pub inputs : sum values.inputs ≡ header.inputs
   pub outputs : sum values.outputs ≡ header.outputs
   pub inputs_within : header.inputs ≤ header.wires

@@ -6,7 +6,7 @@ use Rattle.bristol_reader.specs.declared.lines.SingleLine.{SingleLine}
 use Rattle.bristol_reader.specs.Words.{Place, Takes, left_of}
 use Rattle.bristol_reader.specs.Wants.{IsPlaced, pair_text, single_text}
 
--- the first token of a text is this number, and this is the text behind it
+-- the first token of a text is this number, and this is the text after it
 pub record StartsNumber (text : List ℕ) (n : ℕ) (behind : List ℕ) : Type 0 where
   pub small : n < 10 ^ 7
   pub shorter : length behind < length text

@@ -6,10 +6,10 @@ use Rattle.zk_model.specs.declared.ReadFault.{ReadFault}
 use Rattle.bristol_reader.specs.declared.tokens.GateName.TheVariants.{And, Xor, Inv, Eq, Eqw, Other}
 use Rattle.bristol_reader.specs.declared.tokens.Word.{Word}
 use Rattle.bristol_reader.specs.declared.tokens.Word.TheVariants.{Number, Name}
-use Rattle.bristol_reader.specs.declared.wants.Pair.{Pair}
-use Rattle.bristol_reader.specs.declared.wants.Pair.TheVariants as pair
-use Rattle.bristol_reader.specs.declared.wants.Single.{Single}
-use Rattle.bristol_reader.specs.declared.wants.Single.TheVariants as single
+use Rattle.bristol_reader.specs.declared.wants.BinaryGate.{BinaryGate}
+use Rattle.bristol_reader.specs.declared.wants.BinaryGate.TheVariants as pair
+use Rattle.bristol_reader.specs.declared.wants.UnaryGate.{UnaryGate}
+use Rattle.bristol_reader.specs.declared.wants.UnaryGate.TheVariants as single
 use Rattle.bristol_reader.specs.declared.wants.Placed.{Placed}
 use Rattle.bristol_reader.specs.Words.{greatest, Place, Takes}
 
@@ -17,11 +17,11 @@ use Rattle.bristol_reader.specs.Words.{greatest, Place, Takes}
 abbrev pub next_fault : Want → Place → Option ReadFault
 next_fault want place = first_lexeme_fault want place.left place.taken
 
--- what is wanted behind some tokens
+-- what is wanted after some tokens
 abbrev pub Wanting : Type 1
 Wanting = List Lexeme → Want → Type 0
 
--- some tokens are right, and the one behind them is not what is wanted there
+-- some tokens are right, and the one after them is not what is wanted there
 pub record IsFaultBehind (Wants : Wanting) (before : Place) (fault : ReadFault) : Type 0 where
   pub part : List Lexeme
   pub behind : List Lexeme
@@ -50,7 +50,7 @@ abbrev pub numbers_of : Bool → List Lexeme
 numbers_of is_pair = number (inputs_of is_pair) ∷ number 1 ∷ []
 
 -- the gate with two inputs, or with one, that a word names
-abbrev pub pair_of : Word → Option Pair
+abbrev pub pair_of : Word → Option BinaryGate
 pair_of (Name And) = Some pair.And
 pair_of (Name Xor) = Some pair.Xor
 pair_of (Name Inv) = None
@@ -59,7 +59,7 @@ pair_of (Name Eqw) = None
 pair_of (Name Other) = None
 pair_of (Number n) = None
 
-abbrev pub single_of : Word → Option Single
+abbrev pub single_of : Word → Option UnaryGate
 single_of (Name Inv) = Some single.Inv
 single_of (Name Eq) = Some single.Eq
 single_of (Name Eqw) = Some single.Eqw
@@ -69,11 +69,11 @@ single_of (Name Other) = None
 single_of (Number n) = None
 
 -- the names of gates
-abbrev pub pair_text : Pair → List ℕ
+abbrev pub pair_text : BinaryGate → List ℕ
 pair_text pair.And = codes "AND"
 pair_text pair.Xor = codes "XOR"
 
-abbrev pub single_text : Single → List ℕ
+abbrev pub single_text : UnaryGate → List ℕ
 single_text single.Inv = codes "INV"
 single_text single.Eq = codes "EQ"
 single_text single.Eqw = codes "EQW"

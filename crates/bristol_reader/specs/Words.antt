@@ -46,7 +46,7 @@ EndsToken (byte ∷ text) = is_blank byte ≡ true
 unfoldable pub left_of : List ℕ → List Lexeme
 left_of rest = lexemes rest
 
--- what is left of a text behind its first tokens, and how many those are
+-- what is left of a text after its first tokens, and how many those are
 pub record Place : Type 0 where
   pub left : List Lexeme
   pub taken : ℕ

@@ -2,6 +2,7 @@
 ghost use Rattle.std.specs.Prelude.{◌≡◌, ◌≤◌, ◌^◌, IfOk, IfErr, IfSome, IfNone, length};
 ghost use Rattle.zk_model.specs.Circuit.{wire_set};
 ghost use Rattle.bristol_reader.specs.Bodies.{AreOutputsSet, BodyCause, IsBody, IsUnsetOutput};
+ghost use Rattle.zk_model.specs.declared.limits.TheConstants.{MAX_WIRES};
 
 use crate::fault::ReadError;
 use crate::gate::read_gate;
@@ -28,8 +29,8 @@ fn out_wire(gate: GateRow) -> u32
 /// The first of the last `outputs` wires that is not set.
 fn unset_output(set: &[bool], outputs: u32) -> Option<u32>
     requires some_outputs { outputs ≤ length set.now }
-    requires few { length set.now ≤ 2 ^ 20 }
-    ensures some { IfSome result (IsUnsetOutput set.now outputs) }
+    requires bounded { length set.now ≤ MAX_WIRES }
+    ensures unset { IfSome result (IsUnsetOutput set.now outputs) }
     ensures none { IfNone result (AreOutputsSet set.now outputs) }
 {
     let first = set.len() - outputs as usize;
@@ -49,7 +50,7 @@ pub fn read_body(
 ) -> Result<Vec<GateRow>, ReadError>
     requires inputs { header.inputs ≤ header.wires }
     requires outputs { header.outputs ≤ header.wires }
-    requires few { header.wires ≤ 2 ^ 20 }
+    requires bounded { header.wires ≤ MAX_WIRES }
     ensures found { IfOk result (λ gates. IsBody header tokens.old gates.items) }
     ensures cause { IfErr result (BodyCause header tokens.old) }
 {

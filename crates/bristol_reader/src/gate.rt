@@ -8,11 +8,12 @@ ghost use Rattle.bristol_reader.specs.Gates.{IsSetWire, IsNoSetWire, IsFreeWire,
 ghost use Rattle.bristol_reader.specs.Gates.{MayBeInput, MayNotBeInput};
 ghost use Rattle.bristol_reader.specs.Gates.{FitsFlags, pair_gate, single_gate, IsWrongPair, IsWrongSingle};
 ghost use Rattle.bristol_reader.specs.Gates.{IsGateFault, IsGateBehind, IsFaultIn};
+ghost use Rattle.zk_model.specs.declared.limits.TheConstants.{MAX_WIRES};
 
 use crate::lines::{PairLine, SingleLine};
 use crate::set_wires::SetWires;
 use crate::tokens::Tokens;
-use crate::wants::{Pair, Placed, Single};
+use crate::wants::{BinaryGate, Placed, UnaryGate};
 use zk_model::{GateRow, ReadFault};
 
 /// The wire that a gate reads, which is to be set.
@@ -49,15 +50,15 @@ fn set_wire(set: &SetWires, wire: Placed) -> Result<u32, ReadFault>
 
 /// Looks at the input of a gate: EQ has a constant, and the others a wire that is to be set.
 #[inline(always)]
-fn check_input(set: &SetWires, name: Single, input: Placed) -> Result<(), ReadFault>
+fn check_input(set: &SetWires, name: UnaryGate, input: Placed) -> Result<(), ReadFault>
     ensures input { IfOk result (λ _. MayBeInput set.now name input) }
     ensures fault { IfErr result (MayNotBeInput set.now name input) }
 {
     match name {
-        Single::Inv | Single::Eqw => {
+        UnaryGate::Inv | UnaryGate::Eqw => {
             read_wire(set, input)?;
         }
-        Single::Eq => {
+        UnaryGate::Eq => {
             if input.number > 1 {
                 return Err(ReadFault::BadConstant { token: input.token });
             }
@@ -68,24 +69,24 @@ fn check_input(set: &SetWires, name: Single, input: Placed) -> Result<(), ReadFa
 
 /// The gate of a name with two inputs.
 #[inline(always)]
-fn pair_gate(name: Pair, a: u32, b: u32, out: u32) -> GateRow
+fn pair_gate(name: BinaryGate, a: u32, b: u32, out: u32) -> GateRow
     ensures { result ≡ pair_gate name a b out }
 {
     match name {
-        Pair::And => GateRow::And { a, b, out },
-        Pair::Xor => GateRow::Xor { a, b, out },
+        BinaryGate::And => GateRow::And { a, b, out },
+        BinaryGate::Xor => GateRow::Xor { a, b, out },
     }
 }
 
 /// The gate of a name with one input.
 #[inline(always)]
-fn single_gate(name: Single, input: u32, out: u32) -> GateRow
+fn single_gate(name: UnaryGate, input: u32, out: u32) -> GateRow
     ensures { result ≡ single_gate name input out }
 {
     match name {
-        Single::Inv => GateRow::Inv { a: input, out },
-        Single::Eqw => GateRow::Eqw { a: input, out },
-        Single::Eq => GateRow::Eq {
+        UnaryGate::Inv => GateRow::Inv { a: input, out },
+        UnaryGate::Eqw => GateRow::Eqw { a: input, out },
+        UnaryGate::Eq => GateRow::Eq {
             value: input == 1,
             out,
         },
@@ -96,12 +97,12 @@ fn single_gate(name: Single, input: u32, out: u32) -> GateRow
 #[inline(always)]
 fn pair_row(
     set: &SetWires,
-    name: Pair,
+    name: BinaryGate,
     a: Placed,
     b: Placed,
     out: Placed,
 ) -> Result<GateRow, ReadFault>
-    requires { length set.now ≤ 2 ^ 20 }
+    requires { length set.now ≤ MAX_WIRES }
     ensures row { IfOk result (λ gate. gate ≡ pair_gate name a.number b.number out.number) }
     ensures fits { IfOk result (FitsFlags set.now) }
     ensures fault { IfErr result (IsWrongPair set.now name a b out) }
@@ -116,11 +117,11 @@ fn pair_row(
 #[inline(always)]
 fn single_row(
     set: &SetWires,
-    name: Single,
+    name: UnaryGate,
     input: Placed,
     out: Placed,
 ) -> Result<GateRow, ReadFault>
-    requires { length set.now ≤ 2 ^ 20 }
+    requires { length set.now ≤ MAX_WIRES }
     ensures row { IfOk result (λ gate. gate ≡ single_gate name input.number out.number) }
     ensures input { IfOk result (λ _. MayBeInput set.now name input) }
     ensures fits { IfOk result (FitsFlags set.now) }
@@ -131,9 +132,9 @@ fn single_row(
     Ok(single_gate(name, input.number, out))
 }
 
-/// Takes the tokens of a gate with two inputs behind their numbers of inputs and of outputs.
+/// Takes the tokens of a gate with two inputs after their numbers of inputs and of outputs.
 fn read_pair(tokens: &mut Tokens, set: &SetWires) -> Result<GateRow, ReadFault>
-    requires { length set.now ≤ 2 ^ 20 }
+    requires { length set.now ≤ MAX_WIRES }
     ensures gate { IfOk result (IsGateBehind 2 tokens.old tokens.new) }
     ensures fits { IfOk result (FitsFlags set.now) }
     ensures fault { IfErr result (IsFaultIn 2 set.now tokens.old) }
@@ -148,7 +149,7 @@ fn read_pair(tokens: &mut Tokens, set: &SetWires) -> Result<GateRow, ReadFault>
 
 /// Takes the tokens of a gate with one input.
 fn read_single(tokens: &mut Tokens, set: &SetWires) -> Result<GateRow, ReadFault>
-    requires { length set.now ≤ 2 ^ 20 }
+    requires { length set.now ≤ MAX_WIRES }
     ensures gate { IfOk result (IsGateBehind 1 tokens.old tokens.new) }
     ensures fits { IfOk result (FitsFlags set.now) }
     ensures fault { IfErr result (IsFaultIn 1 set.now tokens.old) }
@@ -173,7 +174,7 @@ fn read_numbers(tokens: &mut Tokens) -> Result<bool, ReadFault>
 /// Takes the tokens of a gate, one after another.
 #[inline(never)]
 fn read_tokens(tokens: &mut Tokens, set: &SetWires) -> Result<GateRow, ReadFault>
-    requires { length set.now ≤ 2 ^ 20 }
+    requires { length set.now ≤ MAX_WIRES }
     ensures gate { IfOk result (λ gate. Takes (gate_lexemes gate) tokens.old tokens.new) }
     ensures fits { IfOk result (FitsFlags set.now) }
     ensures fault { IfErr result (IsGateFault set.now tokens.old) }
@@ -191,7 +192,7 @@ fn read_tokens(tokens: &mut Tokens, set: &SetWires) -> Result<GateRow, ReadFault
 /// Takes the tokens of a gate: its line, if it is written plainly.
 #[inline(always)]
 pub fn read_gate(tokens: &mut Tokens, set: &SetWires) -> Result<GateRow, ReadFault>
-    requires { length set.now ≤ 2 ^ 20 }
+    requires { length set.now ≤ MAX_WIRES }
     ensures gate { IfOk result (λ gate. Takes (gate_lexemes gate) tokens.old tokens.new) }
     ensures fits { IfOk result (FitsFlags set.now) }
     ensures fault { IfErr result (IsGateFault set.now tokens.old) }

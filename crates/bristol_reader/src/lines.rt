@@ -1,15 +1,15 @@
-// Lines of gates that are written plainly, as most are: one space between tokens, and a line feed behind the name. All other
+// Lines of gates that are written plainly, as most are: one space between tokens, and a line feed after the name. All other
 // texts are read token by token.
 ghost use Rattle.std.specs.Prelude.{◌≡◌, ◌+◌, ◌<◌, IfSome};
 ghost use Rattle.bristol_reader.specs.Wants.{pair_text, single_text};
 ghost use Rattle.bristol_reader.specs.Lines.{StartsName, StartsNumber};
 
-use crate::wants::{Pair, Placed, Single};
+use crate::wants::{BinaryGate, Placed, UnaryGate};
 
 /// The line of a gate with two inputs.
 #[derive(Clone, Copy)]
 pub struct PairLine {
-    pub name: Pair,
+    pub name: BinaryGate,
     pub a: Placed,
     pub b: Placed,
     pub out: Placed,
@@ -18,7 +18,7 @@ pub struct PairLine {
 /// The line of a gate INV or EQW.
 #[derive(Clone, Copy)]
 pub struct SingleLine {
-    pub name: Single,
+    pub name: UnaryGate,
     pub input: Placed,
     pub out: Placed,
 }
@@ -30,7 +30,7 @@ fn digit_value(byte: u8) -> u32
     u32::from(byte).wrapping_sub(u32::from(b'0'))
 }
 
-/// The number that a text begins with, if it has at most seven digits and a space behind it, and the text behind that.
+/// The number that a text begins with, if it has at most seven digits and a space after it, and the text after that.
 #[inline(always)]
 pub fn short_number(text: &[u8]) -> Option<(u32, &[u8])>
     ensures { IfSome result (λ r. StartsNumber text.now r.0 r.1.now) }
@@ -50,17 +50,17 @@ pub fn short_number(text: &[u8]) -> Option<(u32, &[u8])>
     None
 }
 
-/// The name of a gate with two inputs that a text begins with, if a line feed is behind it, and the text behind that. Its
+/// The name of a gate with two inputs that a text begins with, if a line feed is after it, and the text after that. Its
 /// first letter tells which name it can be, and is no branch: which gates come is hard to foretell.
 #[inline(always)]
-pub fn pair_name(text: &[u8]) -> Option<(Pair, &[u8])>
+pub fn pair_name(text: &[u8]) -> Option<(BinaryGate, &[u8])>
     ensures { IfSome result (λ r. StartsName text.now (pair_text r.0) r.1.now) }
 {
     let (line, behind) = text.split_first_chunk::<4>()?;
     let (name, wanted) = if line[0] == b'A' {
-        (Pair::And, b"AND\n")
+        (BinaryGate::And, b"AND\n")
     } else {
-        (Pair::Xor, b"XOR\n")
+        (BinaryGate::Xor, b"XOR\n")
     };
     if line != wanted {
         return None;
@@ -70,14 +70,14 @@ pub fn pair_name(text: &[u8]) -> Option<(Pair, &[u8])>
 
 /// The same of INV and EQW.
 #[inline(always)]
-pub fn single_name(text: &[u8]) -> Option<(Single, &[u8])>
+pub fn single_name(text: &[u8]) -> Option<(UnaryGate, &[u8])>
     ensures { IfSome result (λ r. StartsName text.now (single_text r.0) r.1.now) }
 {
     let (line, behind) = text.split_first_chunk::<4>()?;
     let (name, wanted) = if line[0] == b'I' {
-        (Single::Inv, b"INV\n")
+        (UnaryGate::Inv, b"INV\n")
     } else {
-        (Single::Eqw, b"EQW\n")
+        (UnaryGate::Eqw, b"EQW\n")
     };
     if line != wanted {
         return None;

@@ -10,9 +10,6 @@ use crate::lines::{PairLine, SingleLine, pair_name, short_number, single_name};
 use crate::wants::Placed;
 use std::marker::Model;
 
-/// The greatest number that a token reads as. Every greater one reads as it too.
-const GREATEST: u64 = 4294967295;
-
 /// The name of a gate, or any other.
 #[derive(Clone, Copy)]
 pub enum GateName {
@@ -49,7 +46,7 @@ fn is_digit(byte: u8) -> bool
 fn skip_blanks(text: &[u8]) -> &[u8]
     ensures within { length result.now ≤ length text.now }
     ensures begins { BeginsToken result.now }
-    ensures same { tokens result.now ≡ tokens text.now }
+    ensures tokens_kept { tokens result.now ≡ tokens text.now }
 {
     let mut rest = text;
     while let [byte, behind @ ..] = rest {
@@ -66,7 +63,7 @@ fn with_digit(value: u32, digit: u8) -> u32
     requires { 48 ≤ digit }
     ensures { result ≡ min (10 * value + (digit - 48)) greatest }
 {
-    (value as u64 * 10 + (digit - b'0') as u64).min(GREATEST) as u32
+    (value as u64 * 10 + (digit - b'0') as u64).min(u32::MAX as u64) as u32
 }
 
 /// The gate's name that a token is.
@@ -132,7 +129,7 @@ fn scan(text: &[u8]) -> Scanned
     }
 }
 
-/// What is left of a text behind its first tokens, and how many those are.
+/// What is left of a text after its first tokens, and how many those are.
 #[derive(Drop)]
 pub struct Tokens<'a> {
     rest: &'a [u8],

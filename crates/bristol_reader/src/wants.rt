@@ -6,44 +6,45 @@ ghost use Rattle.zk_model.specs.TextFaults.{a_wire, a_name, no_token};
 ghost use Rattle.bristol_reader.specs.Words.{Takes};
 ghost use Rattle.bristol_reader.specs.Wants.{inputs_of, pair_of, pair_text, single_of, single_text};
 ghost use Rattle.bristol_reader.specs.Wants.{next_fault, TakesNumber};
+ghost use Rattle.zk_model.specs.declared.limits.TheConstants.{MAX_WIRES};
 
 use crate::tokens::{GateName, Tokens, Word};
 use zk_model::ReadFault;
 
 /// The names of gates with two inputs.
 #[derive(Clone, Copy)]
-pub enum Pair {
+pub enum BinaryGate {
     And,
     Xor,
 }
 
 /// The names of gates with one input.
 #[derive(Clone, Copy)]
-pub enum Single {
+pub enum UnaryGate {
     Inv,
     Eq,
     Eqw,
 }
 
 /// The gate with two inputs that a word names.
-fn pair_of(word: Word) -> Option<Pair>
+fn pair_of(word: Word) -> Option<BinaryGate>
     ensures { result ≡ pair_of word }
 {
     match word {
-        Word::Name(GateName::And) => Some(Pair::And),
-        Word::Name(GateName::Xor) => Some(Pair::Xor),
+        Word::Name(GateName::And) => Some(BinaryGate::And),
+        Word::Name(GateName::Xor) => Some(BinaryGate::Xor),
         _ => None,
     }
 }
 
 /// The gate with one input that a word names.
-fn single_of(word: Word) -> Option<Single>
+fn single_of(word: Word) -> Option<UnaryGate>
     ensures { result ≡ single_of word }
 {
     match word {
-        Word::Name(GateName::Inv) => Some(Single::Inv),
-        Word::Name(GateName::Eq) => Some(Single::Eq),
-        Word::Name(GateName::Eqw) => Some(Single::Eqw),
+        Word::Name(GateName::Inv) => Some(UnaryGate::Inv),
+        Word::Name(GateName::Eq) => Some(UnaryGate::Eq),
+        Word::Name(GateName::Eqw) => Some(UnaryGate::Eqw),
         _ => None,
     }
 }
@@ -73,7 +74,7 @@ impl<'a> Tokens<'a> {
 
     /// A number up to the limit.
     pub fn count(&mut self, limit: u32) -> Result<u32, ReadFault>
-        requires { limit ≤ 2 ^ 20 }
+        requires { limit ≤ MAX_WIRES }
         ensures within { IfOk result (λ n. n ≤ limit) }
         ensures number { IfOk result (λ n. Takes (number n ∷ []) self.old self.new) }
         ensures fault { IfErr result (λ fault. next_fault (a_count limit) self.old ≡ Some fault) }
@@ -87,7 +88,7 @@ impl<'a> Tokens<'a> {
 
     /// A size of a value, of at most the wires that are left.
     pub fn size(&mut self, left: u32) -> Result<u32, ReadFault>
-        requires { left ≤ 2 ^ 20 }
+        requires { left ≤ MAX_WIRES }
         ensures within { IfOk result (λ n. n ≤ left) }
         ensures number { IfOk result (λ n. Takes (number n ∷ []) self.old self.new) }
         ensures fault { IfErr result (λ fault. next_fault (a_size left) self.old ≡ Some fault) }
@@ -125,7 +126,7 @@ impl<'a> Tokens<'a> {
     }
 
     /// The name of a gate with two inputs.
-    pub fn pair(&mut self) -> Result<Pair, ReadFault>
+    pub fn pair(&mut self) -> Result<BinaryGate, ReadFault>
         ensures name { IfOk result (λ pair. Takes (name (pair_text pair) ∷ []) self.old self.new) }
         ensures fault { IfErr result (λ fault. next_fault (a_name 2) self.old ≡ Some fault) }
     {
@@ -140,7 +141,7 @@ impl<'a> Tokens<'a> {
     }
 
     /// The name of a gate with one input.
-    pub fn single(&mut self) -> Result<Single, ReadFault>
+    pub fn single(&mut self) -> Result<UnaryGate, ReadFault>
         ensures name { IfOk result (λ single. Takes (name (single_text single) ∷ []) self.old self.new) }
         ensures fault { IfErr result (λ fault. next_fault (a_name 1) self.old ≡ Some fault) }
     {

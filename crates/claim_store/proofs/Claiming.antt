@@ -16,7 +16,7 @@ use Rattle.claim_store.proofs.Meeting.{claims_more, none_apart}
 use Rattle.lease_journal.proofs.Moments.{leaves_also, started}
 use Rattle.claim_store.proofs.Slots.{bodies_more}
 
--- a content that is known behind a step was known before it
+-- a content that is known after a step was known before it
 known_before : (step : List ℕ → List ℕ → Type 0) (old new : Option (List ℕ)) (bytes : List ℕ) → StepsBy step old new → new ≡ Some bytes → (was : List ℕ) × (old ≡ Some was)
 known_before step None new bytes steps is = absurd (both (sym steps ∙ is))
   where

@@ -34,7 +34,7 @@ no_claims total = record {
   within = All-nil (λ (s : Span). (s.start < s.end) × (s.end ≤ total));
 }
 
--- a span may stand behind claims that it does not meet
+-- a span may stand after claims that it does not meet
 pub claims_more : (total : ℕ) (claims : List Span) (s : Span) → AreClaims total claims → s.start < s.end → s.end ≤ total → not (meets_any s claims) ≡ true
     → AreClaims total (claims ++ s ∷ [])
 claims_more total claims s are some low free = record {

@@ -40,7 +40,7 @@ ClaimsStartAgain =
     → Stands Claims id total slots bytes → SaysClaims slots claims bytes → AreClaims total claims
     → StoreCause id total bytes fault → (fault ≡ store.Journal start.Device) ⊎ (fault ≡ store.NoMemory)
 
--- why the slots in use are not read as claims: the first whose span may not stand behind those before it
+-- why the slots in use are not read as claims: the first whose span may not stand after those before it
 abbrev pub ReadCause : ℕ → ℕ → List ℕ → StoreFault → Type 0
 ReadCause total used bytes store.NoMemory = Unit {0}
 ReadCause total used bytes (store.Journal start.Device) = Unit {0}
@@ -63,25 +63,25 @@ pub record IsFree {D : Type 0} (state : ClaimState D) (start count : ℕ) : Type
   pub room : length state.claims < state.slots
 
 -- What speaks against these units, before the disk or memory is asked: the first of these that holds.
-abbrev pub IsRefused : {D : Type 0} → ClaimState D → ℕ → ℕ → ClaimFault → Type 0
-IsRefused state start count (Broken first) = (first ≡ state.fault) × (state.fault ≢ 0)
-IsRefused state start count (OutOfRange total) = (total ≡ state.total) × (state.fault ≡ 0) × (state.total < start + count)
-IsRefused state start count (Overlap earlier) =
+abbrev pub IsFaultOf : {D : Type 0} → ClaimState D → ℕ → ℕ → ClaimFault → Type 0
+IsFaultOf state start count (Broken first) = (first ≡ state.fault) × (state.fault ≢ 0)
+IsFaultOf state start count (OutOfRange total) = (total ≡ state.total) × (state.fault ≡ 0) × (state.total < start + count)
+IsFaultOf state start count (Overlap earlier) =
     (state.fault ≡ 0) × (start + count ≤ state.total)
     × (first_met (span start (start + count)) state.claims ≡ Some earlier)
-IsRefused state start count (Full slots) =
+IsFaultOf state start count (Full slots) =
     (slots ≡ state.slots) × (state.fault ≡ 0) × (start + count ≤ state.total)
     × (first_met (span start (start + count)) state.claims ≡ None) × (length state.claims ≡ state.slots)
-IsRefused state start count Device = ⊥
-IsRefused state start count NoMemory = ⊥
+IsFaultOf state start count Device = ⊥
+IsFaultOf state start count NoMemory = ⊥
 
--- Why these units are not claimed; `new` is the store behind the call, and the counts are the disk's before and behind it. All but
+-- Why these units are not claimed; `new` is the store after the call, and the counts are the disk's before and after it. All but
 -- Device leave the store as it was.
 abbrev pub ClaimCause : {D : Type 0} → ClaimState D → ℕ → ℕ → ClaimState D → ℕ → ℕ → ClaimFault → Type 0
-ClaimCause old start count new before now (Broken first) = IsRefused old start count (Broken first) × (new ≡ old)
-ClaimCause old start count new before now (OutOfRange total) = IsRefused old start count (OutOfRange total) × (new ≡ old)
-ClaimCause old start count new before now (Overlap earlier) = IsRefused old start count (Overlap earlier) × (new ≡ old)
-ClaimCause old start count new before now (Full slots) = IsRefused old start count (Full slots) × (new ≡ old)
+ClaimCause old start count new before now (Broken first) = IsFaultOf old start count (Broken first) × (new ≡ old)
+ClaimCause old start count new before now (OutOfRange total) = IsFaultOf old start count (OutOfRange total) × (new ≡ old)
+ClaimCause old start count new before now (Overlap earlier) = IsFaultOf old start count (Overlap earlier) × (new ≡ old)
+ClaimCause old start count new before now (Full slots) = IsFaultOf old start count (Full slots) × (new ≡ old)
 ClaimCause old start count new before now NoMemory = IsFree old start count × (new ≡ old)
 ClaimCause old start count new before now Device =
     IsFree old start count × Rose before now × (new.fault ≡ now) × (0 < new.fault)

@@ -44,7 +44,7 @@ pub record AreClaims (total : ℕ) (claims : List Span) : Type 0 where
 abbrev pub first_met : Span → List Span → Option Span
 first_met s claims = find (λ c. meets c s) claims
 
--- whether the span may stand behind these claims
+-- whether the span may stand after these claims
 abbrev pub may_follow : ℕ → List Span → Span → Bool
 may_follow total claims s = (nat_lt s.start s.end && nat_le s.end total) && not (meets_any s claims)
 
@@ -61,7 +61,7 @@ claim_at bytes slot = span (body_at 64 bytes slot).0 (body_at 64 bytes slot).1
 abbrev pub first_claims : ℕ → List ℕ → List Span
 first_claims used bytes = map (λ b. span b.0 b.1) (first_bodies 64 used bytes)
 
--- the journal in these bytes says these claims, in the order of its slots; no slot behind them is open
+-- the journal in these bytes says these claims, in the order of its slots; no slot after them is open
 abbrev pub SaysClaims : ℕ → List Span → List ℕ → Type 0
 SaysClaims slots claims bytes = KeptAt 64 slots (bodies_of claims) bytes
 
@@ -78,7 +78,7 @@ AreDurable disk_state state = IfSome (disk_state state.disk).content (λ bytes.
     × ((image : List ℕ) → (disk_state state.disk).images image → SaysClaims state.slots state.claims image))
 
 -- the content, which is these bytes, and every image says these claims, or these and one more, which is the same for all and may
--- stand behind them
+-- stand after them
 pub record AreUnsure {D : Type 0} (disk_state : D → DiskState) (state : ClaimState D) (bytes : List ℕ) : Type 0 where
   pub under_way : Span
   pub sound : AreClaims state.total (state.claims ++ under_way ∷ [])

@@ -35,7 +35,7 @@ pub enum ClaimFault {
     /// A call of the journal's disk failed.
     #[error("a call of the journal's disk failed")]
     Device,
-    /// Memory was wanting.
+    /// Memory was missing.
     #[error("memory is missing")]
     NoMemory,
 }

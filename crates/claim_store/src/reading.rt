@@ -64,7 +64,7 @@ fn read_claim<B: Disk>(journal: &mut Journal<B>, slot: u64) -> Result<Span, Stor
 ///
 /// # Errors
 ///
-/// `Device` where the disk failed; `BadBody` of the first slot whose span may not stand behind those before it;
+/// `Device` where the disk failed; `BadBody` of the first slot whose span may not stand after those before it;
 /// `NoMemory` only where memory runs out.
 pub fn read_claims<B: Disk>(
     alloc: Global,

@@ -9,7 +9,7 @@ ghost use Rattle.lease_core.specs.Spans.{span};
 ghost use Rattle.lease_journal.specs.Causes.{SaysSlots};
 ghost use Rattle.lease_journal.specs.Keeps.{ChangesAt, Keeps};
 ghost use Rattle.claim_store.specs.Claims.{AreClaims, AreDurable, AreUnsure, SaysClaims, SaysOldOrNew};
-ghost use Rattle.claim_store.specs.Causes.{ClaimCause, IsFree, IsRefused, StoreCause};
+ghost use Rattle.claim_store.specs.Causes.{ClaimCause, IsFree, IsFaultOf, StoreCause};
 ghost use Rattle.claim_store.specs.declared.fault.StoreFault.TheVariants as store;
 ghost use Rattle.lease_journal.specs.declared.fault.StartFault.TheVariants as start;
 
@@ -51,7 +51,8 @@ impl<B: Disk> ClaimStore<B> {
     ///
     /// # Errors
     ///
-    /// As the journal's start; last `BadBody` of the first open slot whose span has a unit of an earlier one. `Device` where a call of the disk failed; `NoMemory` only where memory runs out.
+    /// As the journal's start; last `BadBody` of the first open slot whose span has a unit of an earlier one. `Device`
+    /// where a call of the disk failed; `NoMemory` only where memory runs out.
     pub fn start(alloc: Global, disk: B, id: &[u8; 32], total: u64) -> Result<Self, (StoreFault, B)>
         requires room { (size : ℕ) → (B.state disk).room ≡ Some size
             → (slots : ℕ) → SaysSlots (B.state disk).content slots → 64 + 32 * slots ≤ size }
@@ -75,7 +76,7 @@ impl<B: Disk> ClaimStore<B> {
             → StoreCause id.now total bytes e.0) }
         ensures device { IfErr result (λ e. e.0 ≡ store.Journal start.Device
             → Rose (B.state disk).faults (B.state e.1).faults) }
-        ensures later { IfErr result (λ e. (B.state disk).faults ≤ (B.state e.1).faults) }
+        ensures faults_grow { IfErr result (λ e. (B.state disk).faults ≤ (B.state e.1).faults) }
         ensures stays_refused { IfErr result (λ e.
             Stays (B.state disk) (B.state e.1)) }
     {
@@ -109,7 +110,7 @@ impl<B: Disk> ClaimStore<B> {
     /// What is to be claimed, where nothing speaks against it.
     fn admit(&self, start: u64, count: u32) -> Result<Span, ClaimFault>
         ensures free { IfOk result (λ s. (s ≡ span start (start + count)) × IsFree self.now start count) }
-        ensures refused { IfErr result (IsRefused self.now start count) }
+        ensures refused { IfErr result (IsFaultOf self.now start count) }
     {
         let first = self.journal.fault();
         if first != 0 {
@@ -132,7 +133,7 @@ impl<B: Disk> ClaimStore<B> {
         Ok(span)
     }
 
-    /// Claims `count` units, at least 1, from `start` on: puts their span into the journal, behind the others. Where a
+    /// Claims `count` units, at least 1, from `start` on: puts their span into the journal, after the others. Where a
     /// call of the disk fails, a crash may leave the journal with the span or without. The list of claims grows by the
     /// allocator of its start.
     ///
@@ -170,7 +171,7 @@ impl<B: Disk> ClaimStore<B> {
         ensures slots { self.new.slots ≡ self.old.slots }
         ensures whole { OnOk result (self.new.fault ≡ self.old.fault) }
         ensures faults { OnOk result ((B.state self.new.disk).faults ≡ (B.state self.old.disk).faults) }
-        ensures later { (B.state self.old.disk).faults ≤ (B.state self.new.disk).faults }
+        ensures faults_grow { (B.state self.old.disk).faults ≤ (B.state self.new.disk).faults }
     {
         let span = match self.admit(start, count) {
             Ok(span) => span,

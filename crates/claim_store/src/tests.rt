@@ -7,53 +7,9 @@ use lease_journal::{JournalKind, StartFault, blank, blank_says_nothing};
 use std::alloc::Global;
 use std::test::Fail;
 use zk_model::Span;
-use zk_port::{Disk, FailAt, Failed, FaultPlan, Leftover, MemoryDisk, StopAt, SureDisk};
+use zk_port::{Disk, FailAt, Failed, FaultPlan, Leftover, MemoryDisk, QuietDisk, StopAt, SureDisk};
 
 const ID: [u8; 32] = [7; 32];
-
-/// A disk in memory that tells no content and no crash, so that a store starts on any bytes.
-#[derive(Drop)]
-struct QuietDisk<P: FaultPlan> {
-    disk: MemoryDisk<P>,
-}
-
-impl<P: FaultPlan> Disk for QuietDisk<P> {
-    ghost use Rattle.std.specs.Prelude.{None};
-
-    ghost state = { λ d. record {
-      chosen = None;
-      content = None;
-      room = None;
-      images = λ _. ⊥;
-      moment = 0;
-      images_since = λ _ _. ⊥;
-      faults = P.count d.disk.plan;
-    } };
-
-    ghost counts_now = { λ d t c le none. none };
-
-    ghost only_now = { λ d c none. none };
-
-    fn faults(&self) -> u64 {
-        self.disk.faults()
-    }
-
-    fn choose(&mut self, name: &str) -> Result<(), Failed> {
-        self.disk.choose(name)
-    }
-
-    fn read(&mut self, at: u64, buffer: &mut [u8]) -> Result<usize, Failed> {
-        self.disk.read(at, buffer)
-    }
-
-    fn write_at(&mut self, at: u64, bytes: &[u8]) -> Result<(), Failed> {
-        self.disk.write_at(at, bytes)
-    }
-
-    fn sync(&mut self) -> Result<(), Failed> {
-        self.disk.sync()
-    }
-}
 
 fn span(start: u64, end: u64) -> Span {
     Span { start, end }
@@ -299,7 +255,7 @@ fn new_disk(alloc: Global) -> Result<MemoryDisk<FailAt>, Fail>
     Ok(MemoryDisk::new(alloc, bytes, 192, 60, failing(alloc, &[])?)?)
 }
 
-/// The disk behind a store that starts on this one, has these claims and claims two units from `start` on; a store may
+/// The disk after a store that starts on this one, has these claims and claims two units from `start` on; a store may
 /// start on it again.
 fn claimed_on<B: Disk + Drop>(
     alloc: Global,

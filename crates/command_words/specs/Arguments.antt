@@ -1,4 +1,4 @@
--- The words behind a command's name: those that stand in their places, and the options among them.
+-- The words after a command's name: those that stand in their places, and the options among them.
 use Rattle.std.specs.Prelude.{ℕ, List, [], ◌∷◌, ◌++◌, Bool, true, false, if◌then◌else◌, Option, Some, None, codes, is_some, not, ◌&&◌, ◌||◌}
 use Rattle.std.specs.Option.{option_map}
 use Rattle.std.specs.Str.{bytes_eq}
@@ -44,7 +44,7 @@ alone Valued word = None
 alone Flag word = Some ([], (word, []) ∷ [])
 alone Unknown word = None
 
--- a word, the one behind it, and what comes from the latter on and behind it
+-- a word, the one after it, and what comes from the latter on and after it
 abbrev pub step : WordKind → List ℕ → List ℕ → Option Parts → Option Parts → Option Parts
 step Positional word value next behind = option_map (before (word ∷ []) []) next
 step Valued word value next behind =

@@ -4,6 +4,7 @@ use Rattle.zk_model.specs.Files.{AreParams}
 use Rattle.command_words.specs.Words.{Ask, rehearse, rehearse_ask, eval, eval_ask, deal, deal_ask, serve, serve_ask}
 use Rattle.command_words.specs.declared.words.Command.{Command}
 use Rattle.command_words.specs.declared.words.Command.TheVariants.{Rehearse, Eval, Deal, Serve}
+use Rattle.zk_model.specs.declared.limits.TheConstants.{MAX_SECTION_LENGTH}
 
 abbrev pub ask_of : Command → Ask
 ask_of (Rehearse circuit bits kind section) = rehearse (rehearse_ask circuit.now bits.items kind section)
@@ -15,7 +16,7 @@ ask_of (Serve address file circuit outputs section) =
 -- a section has so many products
 pub record IsSectionSize (section : ℕ) : Type 0 where
   pub least : 1 ≤ section
-  pub most : section ≤ 2 ^ 20
+  pub most : section ≤ MAX_SECTION_LENGTH
 
 -- the numbers that a command names are within their limits
 abbrev pub IsWithinLimits : Command → Type 0

@@ -1,4 +1,4 @@
--- The words behind a command's name, as they may stand.
+-- The words after a command's name, as they may stand.
 use Rattle.std.specs.Prelude.{◌≡◌, ℕ, List, [], ◌∷◌, false}
 use Rattle.command_words.specs.Arguments.{kind_of, begins_with_dash, Word}
 use Rattle.command_words.specs.declared.arrange.WordKind.TheVariants.{Positional, Valued, Flag}

@@ -9,10 +9,11 @@ use Rattle.zk_model.specs.declared.Kind.{Kind}
 use Rattle.zk_model.specs.declared.Kind.TheVariants.{Direct, Extended}
 use Rattle.zk_model.specs.declared.Params.{Params}
 use Rattle.zk_model.specs.declared.Side.TheVariants.{Prover, Verifier}
-use Rattle.command_words.specs.declared.TheConstants.{FILE_LIMIT}
+use Rattle.zk_model.specs.declared.limits.TheConstants.{FILE_LIMIT}
 use Rattle.command_words.specs.BitWords.{bits_of}
 use Rattle.command_words.specs.Numbers.{number_within}
 use Rattle.command_words.specs.Arguments.{arranged, option_named, stand_once, Word}
+use Rattle.zk_model.specs.declared.limits.TheConstants.{MAX_BASE, MAX_DEALT_UNITS, MAX_HEIGHT, MAX_SECTION_LENGTH, MAX_TREES}
 
 -- the words as their bytes
 abbrev pub texts : List (String Global) → List (List ℕ)
@@ -71,8 +72,8 @@ stand_once_among names options = stand_once (λ name. list_any (λ n. bytes_eq n
 
 -- the section's length that a word says, or the greatest
 abbrev pub length_of : Option (List ℕ) → Option ℕ
-length_of None = Some (2 ^ 20)
-length_of (Some word) = number_within 1 (2 ^ 20) word
+length_of None = Some MAX_SECTION_LENGTH
+length_of (Some word) = number_within 1 MAX_SECTION_LENGTH word
 
 abbrev pub rehearse_options : List (List ℕ)
 rehearse_options = codes "--section" ∷ codes "--extended" ∷ []
@@ -117,7 +118,7 @@ loadable params =
 abbrev pub extended_of : ℕ → List ℕ → List ℕ → List ℕ → Option Params
 extended_of units trees height base =
     option_and_then (λ t. option_and_then (λ h. option_map (λ k. extended_params units t h k)
-    (number_within 10 65536 base)) (number_within 1 16 height)) (number_within 1 1024 trees)
+    (number_within 10 MAX_BASE base)) (number_within 1 MAX_HEIGHT height)) (number_within 1 MAX_TREES trees)
 
 -- without `--trees`, `--height` and `--base` those of kind direct, and with all three those of kind extended
 abbrev pub of_kind : ℕ → Option (List ℕ) → Option (List ℕ) → Option (List ℕ) → Option Params
@@ -130,7 +131,7 @@ abbrev pub params_of : List Word → Option Params
 params_of options =
     option_and_then (λ word. option_and_then (λ units. option_and_then loadable
     (of_kind units (option_named (codes "--trees") options) (option_named (codes "--height") options)
-    (option_named (codes "--base") options))) (number_within 1 (2 ^ 32) word)) (option_named (codes "--units") options)
+    (option_named (codes "--base") options))) (number_within 1 MAX_DEALT_UNITS word)) (option_named (codes "--units") options)
 
 abbrev pub deal_options : List (List ℕ)
 deal_options = codes "--units" ∷ codes "--trees" ∷ codes "--height" ∷ codes "--base" ∷ []

@@ -1,4 +1,4 @@
-// The words behind a command's name.
+// The words after a command's name.
 ghost use Rattle.std.specs.Prelude.{◌≡◌, map, IfOk};
 ghost use Rattle.std.specs.Option.{option_map};
 ghost use Rattle.std.specs.List.{list_any};
@@ -9,7 +9,7 @@ ghost use Rattle.command_words.specs.Arguments.{kind_of, is_valued, is_flag, beg
 
 use std::alloc::{AllocError, Global};
 
-/// What a word behind the name is, by itself.
+/// What a word after the name is, by itself.
 #[derive(Clone, Copy, Debug, PartialEq, Eq)]
 pub enum WordKind {
     /// A word that stands in its place.
@@ -62,7 +62,7 @@ fn is_flag(word: &str) -> bool
     word == "--extended"
 }
 
-/// What a word behind the name is, by itself.
+/// What a word after the name is, by itself.
 fn word_kind(word: &str) -> WordKind
     ensures { result ≡ kind_of word.now }
 {

@@ -17,6 +17,3 @@ mod words;
 pub use bits::{read_bits, write_bits};
 pub use laws::words_stand_so;
 pub use words::{Command, read_words};
-
-/// No file that is loaded has more bytes.
-pub const FILE_LIMIT: u64 = 67_108_864;

@@ -18,7 +18,7 @@ fn is_number(word: &str) -> bool
     !word.is_empty() && are_digits(word.as_bytes())
 }
 
-/// The number with one more digit behind it, or `most` where that is larger.
+/// The number with one more digit after it, or `most` where that is larger.
 fn then_digit(value: u64, c: u8, most: u64) -> u64
     ensures { result ≡ min (10 * value + (c - 48)) most }
 {
@@ -42,7 +42,7 @@ fn capped_value(word: &[u8], most: u64) -> u64
 pub fn read_number(word: &str, low: u64, high: u64) -> Option<u64>
     requires { high ≤ 2 ^ 32 }
     ensures number { result ≡ number_within low high word.now }
-    ensures most { IfSome result (λ number. number ≤ high) }
+    ensures at_most { IfSome result (λ number. number ≤ high) }
     ensures least { IfSome result (λ number. low ≤ number) }
 {
     if !is_number(word) {

@@ -7,21 +7,18 @@ ghost use Rattle.command_words.specs.Words.{deal_of, params_of, direct_params, e
 ghost use Rattle.zk_model.specs.FileFaults.{file_length};
 ghost use Rattle.zk_model.specs.Files.{AreParams};
 ghost use Rattle.zk_model.specs.declared.Side.TheVariants.{Prover, Verifier};
-ghost use Rattle.command_words.specs.declared.TheConstants.{FILE_LIMIT};
+ghost use Rattle.zk_model.specs.declared.limits.TheConstants.{FILE_LIMIT};
 ghost use Rattle.command_words.specs.Arguments.{option_named};
 ghost use Rattle.command_words.specs.PartsOf.{word_of};
 ghost use Rattle.command_words.specs.Commands.{ask_of, IsWithinLimits, IsSectionSize};
+ghost use Rattle.zk_model.specs.declared.limits.TheConstants.{MAX_DEALT_UNITS};
 
-use crate::FILE_LIMIT;
 use crate::arrange::{Arguments, Named, are_once, arrange, find_option};
 use crate::bits::read_bits;
 use crate::numbers::read_number;
 use dealer_files::file_length;
 use std::alloc::{AllocError, Global};
-use zk_model::{Kind, Params, Side};
-
-/// How many products a section has at most, and where nothing is said.
-const MOST_SECTION: u32 = 1 << 20;
+use zk_model::{FILE_LIMIT, Kind, MAX_DEALT_UNITS, MAX_SECTION_LENGTH, MAX_TREES, Params, Side};
 
 /// A command with its words.
 #[derive(Debug, Drop)]
@@ -153,9 +150,9 @@ fn read_length(options: &[Named]) -> Option<u32>
     ensures size { IfSome result IsSectionSize }
 {
     let Some(value) = find_option(options, "--section") else {
-        return Some(MOST_SECTION);
+        return Some(MAX_SECTION_LENGTH);
     };
-    Some(read_number(value, 1, u64::from(MOST_SECTION))? as u32)
+    Some(read_number(value, 1, u64::from(MAX_SECTION_LENGTH))? as u32)
 }
 
 /// `ADDRESS FILE CIRCUIT OUTPUTS --sessions 1 [--section G]`
@@ -226,7 +223,7 @@ fn read_params(options: &[Named]) -> Option<Params>
     ensures params { result ≡ params_of (map word_of options.now) }
     ensures limits { IfSome result AreParams }
 {
-    let units = read_number(find_option(options, "--units")?, 1, 1 << 32)?;
+    let units = read_number(find_option(options, "--units")?, 1, MAX_DEALT_UNITS)?;
     let trees = find_option(options, "--trees");
     let height = find_option(options, "--height");
     let base = find_option(options, "--base");
@@ -242,7 +239,7 @@ fn read_params(options: &[Named]) -> Option<Params>
     }
 }
 
-/// What files of kind direct are made for, of so many units.
+/// What direct files are made for, of so many units.
 fn direct_params(units: u64) -> Params
     ensures { result ≡ direct_params units }
 {
@@ -255,14 +252,14 @@ fn direct_params(units: u64) -> Params
     }
 }
 
-/// What files of kind extended are made for, of so many units.
+/// What extended files are made for, of so many units.
 fn read_extended(units: u64, trees: &str, height: &str, base: &str) -> Option<Params>
-    requires some { 1 ≤ units }
-    requires most { units ≤ 2 ^ 32 }
+    requires at_least_one { 1 ≤ units }
+    requires at_most { units ≤ MAX_DEALT_UNITS }
     ensures params { result ≡ extended_of units trees.now height.now base.now }
     ensures limits { IfSome result AreParams }
 {
-    let trees = read_number(trees, 1, 1024)? as u32;
+    let trees = read_number(trees, 1, u64::from(MAX_TREES))? as u32;
     let height = read_number(height, 1, 16)? as u8;
     let base = read_number(base, 10, 65_536)? as u32;
     Some(Params {

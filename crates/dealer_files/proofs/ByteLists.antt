@@ -59,7 +59,7 @@ unit_items_are {A = A} params part made none items unit whole below cut =
         ap (λ k. take (params.height * params.trees) (drop k block)) none
         ∙ take_all (params.height * params.trees) block (omega (arith, sized))
 
--- one list more behind those that are appended
+-- one list more after those that are appended
 appended_more : (old appended before now next : List ℕ) → now ≡ before ++ next → before ≡ old ++ appended → now ≡ old ++ (appended ++ next)
 appended_more old appended before now next pushed far = pushed ∙ ap (λ l. l ++ next) far ∙ append_assoc old appended next
 

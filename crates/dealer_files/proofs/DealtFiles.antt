@@ -138,11 +138,11 @@ key_element (suc element) is =
 pub verifier_file_is : (params : Params) (seed : List ℕ) → AreParams params → IsVerifierFile (dealt_verifier params seed)
 verifier_file_is params seed are = record {
   params = are;
+  key = key_element (from_word (coin_word seed 4 0)) (word_element (coin_word seed 4 0));
+  key_set = some_key_set (from_word (coin_word seed 4 0));
   id = stream_octets seed 0;
   coin_key = stream_octets seed 2;
   code_seed = code_seed_is params.kind seed;
-  key = key_element (from_word (coin_word seed 4 0)) (word_element (coin_word seed 4 0));
-  key_set = some_key_set (from_word (coin_word seed 4 0));
   count = length-map-range_with_len (dealt_verifier_unit params seed) 0 params.total;
   units = all_made (IsVerifierUnit params) (dealt_verifier_unit params seed) params.total (verifier_unit_is params seed);
 }

@@ -15,7 +15,7 @@ use Rattle.dealer_files.specs.Flat.{transfers_per_unit}
 use Rattle.dealer_files.specs.Words.{word_pair, word_pads, word_transfer}
 use Rattle.dealer_files.proofs.Pieces.{map_range_same, flat_map_range_more}
 
--- one item more behind a list
+-- one item more after a list
 pub one_more : {A : Type 0} (f : ℕ → A) (old before now : List A) (item : A) (j : ℕ) → item ≡ f j
     → now ≡ before ++ item ∷ [] → before ≡ old ++ map f (range_with_len 0 j) → now ≡ old ++ map f (range_with_len 0 (j + 1))
 one_more f old before now item j made pushed far =
@@ -67,7 +67,7 @@ pairs_more params seed words unit count before now are whole pushed far =
 fifths : (count each : ℕ) → count ≡ 5 * each → count / 5 ≡ each
 fifths count each whole = omega arith
 
-pads_same : (seed words : List ℕ) (unit count i : ℕ) → AreWords seed (17 + 2 * unit) count words → 5 * i + 4 < count
+pub pads_same : (seed words : List ℕ) (unit count i : ℕ) → AreWords seed (17 + 2 * unit) count words → 5 * i + 4 < count
     → word_pads words i ≡ dealt_pads seed unit i
 pads_same seed words unit count i are below = λ k. record {
   left = to_le_bytes w64 (word (5 * i) (omega arith) k) ++ to_le_bytes w64 (word (5 * i + 1) (omega arith) k);
@@ -77,7 +77,7 @@ pads_same seed words unit count i are below = λ k. record {
     word : (place : ℕ) → place < count → slice_index words place ≡ coin_word seed (17 + 2 * unit) place
     word = word_of seed (17 + 2 * unit) count words are
 
-transfer_same : (seed words : List ℕ) (unit count i : ℕ) → AreWords seed (17 + 2 * unit) count words → 5 * i + 4 < count
+pub transfer_same : (seed words : List ℕ) (unit count i : ℕ) → AreWords seed (17 + 2 * unit) count words → 5 * i + 4 < count
     → word_transfer words i ≡ dealt_transfer seed unit i
 transfer_same seed words unit count i are below =
     (λ k. record { bit = last k; pad = choice_of (last k) (pads_same seed words unit count i are below k) })
@@ -86,7 +86,7 @@ transfer_same seed words unit count i are below =
     last = ap (λ w. nat_eq (w % 2) 1) (word_of seed (17 + 2 * unit) count words are (5 * i + 4) below)
 
 -- what stands for the transfers of one unit more
-transfers_more : {A : Type 0} (params : Params) (seed words : List ℕ) (unit count : ℕ) (before now : List A)
+pub transfers_more : {A : Type 0} (params : Params) (seed words : List ℕ) (unit count : ℕ) (before now : List A)
     (from_words : ℕ → A) (from_seed : ℕ → ℕ → A)
     → AreWords seed (17 + 2 * unit) count words → count ≡ 5 * transfers_per_unit params
     → ((i : ℕ) → 5 * i + 4 < count → from_words i ≡ from_seed unit i)
@@ -102,21 +102,3 @@ transfers_more params seed words unit count before now from_words from_seed are 
   where
     within : (i count each : ℕ) → count ≡ 5 * each → i < each → 5 * i + 4 < count
     within i count each whole below = omega arith
-
-pub prover_more : (params : Params) (seed words : List ℕ) (unit count : ℕ) (before now : List Transfer)
-    → AreWords seed (17 + 2 * unit) count words → count ≡ 5 * transfers_per_unit params
-    → now ≡ before ++ map (word_transfer words) (range_with_len 0 (length words / 5))
-    → before ≡ flat_map (λ u. map (dealt_transfer seed u) (range_with_len 0 (transfers_per_unit params))) (range_with_len 0 unit)
-    → now ≡ flat_map (λ u. map (dealt_transfer seed u) (range_with_len 0 (transfers_per_unit params))) (range_with_len 0 (unit + 1))
-prover_more params seed words unit count before now are whole =
-    transfers_more params seed words unit count before now (word_transfer words) (dealt_transfer seed) are whole
-    (λ i below. transfer_same seed words unit count i are below)
-
-pub verifier_more : (params : Params) (seed words : List ℕ) (unit count : ℕ) (before now : List LeftRight)
-    → AreWords seed (17 + 2 * unit) count words → count ≡ 5 * transfers_per_unit params
-    → now ≡ before ++ map (word_pads words) (range_with_len 0 (length words / 5))
-    → before ≡ flat_map (λ u. map (dealt_pads seed u) (range_with_len 0 (transfers_per_unit params))) (range_with_len 0 unit)
-    → now ≡ flat_map (λ u. map (dealt_pads seed u) (range_with_len 0 (transfers_per_unit params))) (range_with_len 0 (unit + 1))
-verifier_more params seed words unit count before now are whole =
-    transfers_more params seed words unit count before now (word_pads words) (dealt_pads seed) are whole
-    (λ i below. pads_same seed words unit count i are below)

@@ -6,20 +6,20 @@ use Rattle.std.proofs.lemmas.List.Elements.{All-from_recursion, All-append}
 use Rattle.std.proofs.Math.Seq.{drop-append_seam, take-add}
 use Rattle.zk_model.specs.Field.{prime}
 use Rattle.zk_model.specs.Files.{dealt_per_unit}
-use Rattle.zk_model.specs.FileFaults.{word64_at, params_at, block_length, block_start, file_length, elements_per_unit, IsBadPlace, IsFirstBadPlace, IsInRange}
+use Rattle.zk_model.specs.FileFaults.{word64_at, params_at, block_length, block_start, file_length, elements_per_unit, IsUnitElement, IsTransferBit, IsBadPlace, IsFirstBadPlace, IsInRange}
 use Rattle.zk_model.specs.declared.Params.{Params}
 use Rattle.zk_model.specs.declared.Side.{Side}
 use Rattle.zk_model.specs.declared.Side.TheVariants.{Prover, Verifier}
 use Rattle.dealer_files.specs.Flat.{piece, transfers_per_unit}
 use Rattle.dealer_files.specs.Faults.{HasBody, IsFirstFault}
-use Rattle.dealer_files.specs.Reading.{Spelled, AreAppended, AreElements, AreBits, IsElementFaultOr, IsBitFaultOr, IsUnitInRange, AreBlocks}
+use Rattle.dealer_files.specs.Reading.{Spelled, AreAppended, AreElements, AreBits, IsElementFault, IsElementFaultOr, IsBitFaultOr, IsUnitInRange, AreBlocks}
 use Rattle.dealer_files.specs.declared.fault.FileFault.{FileFault}
 use Rattle.dealer_files.specs.declared.fault.FileFault.TheVariants.{BadMagic, BadKind, BadParam, Length, BadElement, ZeroKey, BadDigest, NoMemory}
 use Rattle.dealer_files.proofs.ReadItems.{le_or_more}
 
 -- ---- pieces
 
--- more behind does not change what stands before
+-- more after does not change what stands before
 take_before : {A : Type 0} (n : ℕ) (l more : List A) → n ≤ length l → take n (l ++ more) ≡ take n l
 take_before zero l more few = refl
 take_before (suc n) [] more few = absurd (omega arith)
@@ -117,6 +117,55 @@ one_or_other (suc a) (suc b) = up (one_or_other a b) where
   up (inr (inl same)) = inr (inl (omega arith))
   up (inr (inr more)) = inr (inr (omega arith))
 
+-- no element before a place is the prime or more: those of the units before it, and those of its own unit that stand before it
+no_element_before : (side : Side) (bytes : List ℕ) (unit place : ℕ)
+    → ((u : ℕ) → u < unit → AreElements bytes (block_start side (params_at bytes) u) (elements_per_unit side (params_at bytes)))
+    → place < block_start side (params_at bytes) unit + block_length side (params_at bytes)
+    → ((i : ℕ) → i < elements_per_unit side (params_at bytes) → block_start side (params_at bytes) unit + 8 * i < place
+    → word64_at bytes (block_start side (params_at bytes) unit + 8 * i) < prime)
+    → (other : ℕ) → other < place → IsUnitElement side (params_at bytes) other → prime ≤ word64_at bytes other → ⊥
+no_element_before side bytes unit place all within before other less stand bad = cases (one_or_other stand.unit unit)
+  where
+    params : Params
+    params = params_at bytes
+
+    at : prime ≤ word64_at bytes (block_start side params stand.unit + 8 * stand.number)
+    at = subst (λ (n : ℕ). prime ≤ word64_at bytes n) stand.stands bad
+
+    cases : (stand.unit < unit) ⊎ ((stand.unit ≡ unit) ⊎ (unit < stand.unit)) → ⊥
+    cases (inl earlier) = let good = all stand.unit earlier stand.number stand.number_within in omega (arith, good, at)
+    cases (inr (inl same)) =
+        let start : block_start side params stand.unit ≡ block_start side params unit = ap (block_start side params) same in
+        let good = before stand.number stand.number_within (omega (arith, less, stand.stands, start)) in
+        let here = subst (λ (n : ℕ). prime ≤ word64_at bytes (n + 8 * stand.number)) start at in
+        omega (arith, good, here)
+    cases (inr (inr later)) = omega (arith, less, stand.stands, within, later_block side params unit stand.unit later)
+
+-- and no bit is above 1
+no_bit_before : (bytes : List ℕ) (unit place : ℕ)
+    → ((u : ℕ) → u < unit → IsUnitInRange Prover (params_at bytes) bytes u)
+    → place < block_start Prover (params_at bytes) unit + block_length Prover (params_at bytes)
+    → ((i : ℕ) → i < transfers_per_unit (params_at bytes)
+    → block_start Prover (params_at bytes) unit + 16 * dealt_per_unit (params_at bytes) + 17 * i < place
+    → slice_index bytes (block_start Prover (params_at bytes) unit + 16 * dealt_per_unit (params_at bytes) + 17 * i) ≤ 1)
+    → (other : ℕ) → other < place → IsTransferBit (params_at bytes) other → 1 < slice_index bytes other → ⊥
+no_bit_before bytes unit place all within before other less stand bad = cases (one_or_other stand.unit unit)
+  where
+    params : Params
+    params = params_at bytes
+
+    at : 1 < slice_index bytes (block_start Prover params stand.unit + 16 * dealt_per_unit params + 17 * stand.number)
+    at = subst (λ (n : ℕ). 1 < slice_index bytes n) stand.stands bad
+
+    cases : (stand.unit < unit) ⊎ ((stand.unit ≡ unit) ⊎ (unit < stand.unit)) → ⊥
+    cases (inl earlier) = let good = (all stand.unit earlier).1 stand.number stand.number_within in omega (arith, good, at)
+    cases (inr (inl same)) =
+        let start : block_start Prover params stand.unit ≡ block_start Prover params unit = ap (block_start Prover params) same in
+        let good = before stand.number stand.number_within (omega (arith, less, stand.stands, start)) in
+        let here = subst (λ (n : ℕ). 1 < slice_index bytes (n + 16 * dealt_per_unit params + 17 * stand.number)) start at in
+        omega (arith, good, here)
+    cases (inr (inr later)) = omega (arith, less, stand.stands, within, later_block Prover params unit stand.unit later)
+
 -- ---- the prover's file
 
 -- all units are in range: there is no bad place
@@ -131,44 +180,19 @@ prover_in_range bytes all place (inr bad) =
     let at = subst (λ (n : ℕ). 1 < slice_index bytes n) bad.0.stands bad.1 in
     omega (arith, good, at)
 
--- a place is behind all places of the units before, and of its own unit only those that follow are in doubt
+-- a place is after all places of the units before, and of its own unit only those that follow are in doubt
 prover_first_element : (bytes : List ℕ) (unit place number : ℕ)
     → ((u : ℕ) → u < unit → IsUnitInRange Prover (params_at bytes) bytes u)
     → number < elements_per_unit Prover (params_at bytes) → place ≡ block_start Prover (params_at bytes) unit + 8 * number
     → AreElements bytes (block_start Prover (params_at bytes) unit) number
     → (other : ℕ) → other < place → ¬ IsBadPlace Prover bytes other
-prover_first_element bytes unit place number all within stands before other less (inl bad) = cases (one_or_other bad.0.unit unit)
-  where
-    params : Params
-    params = params_at bytes
+prover_first_element bytes unit place number all within stands before other less (inl bad) =
+    no_element_before Prover bytes unit place (λ u below. (all u below).0) (omega (arith, stands, within))
+    (λ i inside early. before i (omega (arith, early, stands))) other less bad.0 bad.1
+prover_first_element bytes unit place number all within stands before other less (inr bad) =
+    no_bit_before bytes unit place all (omega (arith, stands, within)) (λ i inside early. absurd (omega (arith, early, stands, within))) other less bad.0 bad.1
 
-    at : prime ≤ word64_at bytes (block_start Prover params bad.0.unit + 8 * bad.0.number)
-    at = subst (λ (n : ℕ). prime ≤ word64_at bytes n) bad.0.stands bad.1
-
-    cases : (bad.0.unit < unit) ⊎ ((bad.0.unit ≡ unit) ⊎ (unit < bad.0.unit)) → ⊥
-    cases (inl earlier) = let good = (all bad.0.unit earlier).0 bad.0.number bad.0.number_within in omega (arith, good, at)
-    cases (inr (inl same)) =
-        let start : block_start Prover params bad.0.unit ≡ block_start Prover params unit = ap (block_start Prover params) same in
-        let good = before bad.0.number (omega (arith, less, stands, bad.0.stands, start)) in
-        let here = subst (λ (n : ℕ). prime ≤ word64_at bytes (n + 8 * bad.0.number)) start at in
-        omega (arith, good, here)
-    cases (inr (inr later)) = omega (arith, less, stands, bad.0.stands, within, later_block Prover params unit bad.0.unit later)
-prover_first_element bytes unit place number all within stands before other less (inr bad) = cases (one_or_other bad.0.unit unit)
-  where
-    params : Params
-    params = params_at bytes
-
-    at : 1 < slice_index bytes (block_start Prover params bad.0.unit + 16 * dealt_per_unit params + 17 * bad.0.number)
-    at = subst (λ (n : ℕ). 1 < slice_index bytes n) bad.0.stands bad.1
-
-    cases : (bad.0.unit < unit) ⊎ ((bad.0.unit ≡ unit) ⊎ (unit < bad.0.unit)) → ⊥
-    cases (inl earlier) = let good = (all bad.0.unit earlier).1 bad.0.number bad.0.number_within in omega (arith, good, at)
-    cases (inr (inl same)) =
-        let start : block_start Prover params bad.0.unit ≡ block_start Prover params unit = ap (block_start Prover params) same in
-        omega (arith, less, stands, bad.0.stands, start, within)
-    cases (inr (inr later)) = omega (arith, less, stands, bad.0.stands, within, later_block Prover params unit bad.0.unit later)
-
--- the same of a bit, behind the elements of its unit
+-- the same of a bit, after the elements of its unit
 prover_first_bit : (bytes : List ℕ) (unit place number : ℕ)
     → ((u : ℕ) → u < unit → IsUnitInRange Prover (params_at bytes) bytes u)
     → number < transfers_per_unit (params_at bytes)
@@ -176,38 +200,24 @@ prover_first_bit : (bytes : List ℕ) (unit place number : ℕ)
     → AreElements bytes (block_start Prover (params_at bytes) unit) (elements_per_unit Prover (params_at bytes))
     → AreBits bytes (block_start Prover (params_at bytes) unit + 16 * dealt_per_unit (params_at bytes)) number
     → (other : ℕ) → other < place → ¬ IsBadPlace Prover bytes other
-prover_first_bit bytes unit place number all within stands elements before other less (inl bad) = cases (one_or_other bad.0.unit unit)
-  where
-    params : Params
-    params = params_at bytes
+prover_first_bit bytes unit place number all within stands elements before other less (inl bad) =
+    no_element_before Prover bytes unit place (λ u below. (all u below).0) (omega (arith, stands, within))
+    (λ i inside early. elements i inside) other less bad.0 bad.1
+prover_first_bit bytes unit place number all within stands elements before other less (inr bad) =
+    no_bit_before bytes unit place all (omega (arith, stands, within)) (λ i inside early. before i (omega (arith, early, stands))) other less bad.0 bad.1
 
-    at : prime ≤ word64_at bytes (block_start Prover params bad.0.unit + 8 * bad.0.number)
-    at = subst (λ (n : ℕ). prime ≤ word64_at bytes n) bad.0.stands bad.1
-
-    cases : (bad.0.unit < unit) ⊎ ((bad.0.unit ≡ unit) ⊎ (unit < bad.0.unit)) → ⊥
-    cases (inl earlier) = let good = (all bad.0.unit earlier).0 bad.0.number bad.0.number_within in omega (arith, good, at)
-    cases (inr (inl same)) =
-        let start : block_start Prover params bad.0.unit ≡ block_start Prover params unit = ap (block_start Prover params) same in
-        let good = elements bad.0.number bad.0.number_within in
-        let here = subst (λ (n : ℕ). prime ≤ word64_at bytes (n + 8 * bad.0.number)) start at in
-        omega (arith, good, here)
-    cases (inr (inr later)) = omega (arith, less, stands, bad.0.stands, within, later_block Prover params unit bad.0.unit later)
-prover_first_bit bytes unit place number all within stands elements before other less (inr bad) = cases (one_or_other bad.0.unit unit)
-  where
-    params : Params
-    params = params_at bytes
-
-    at : 1 < slice_index bytes (block_start Prover params bad.0.unit + 16 * dealt_per_unit params + 17 * bad.0.number)
-    at = subst (λ (n : ℕ). 1 < slice_index bytes n) bad.0.stands bad.1
-
-    cases : (bad.0.unit < unit) ⊎ ((bad.0.unit ≡ unit) ⊎ (unit < bad.0.unit)) → ⊥
-    cases (inl earlier) = let good = (all bad.0.unit earlier).1 bad.0.number bad.0.number_within in omega (arith, good, at)
-    cases (inr (inl same)) =
-        let start : block_start Prover params bad.0.unit ≡ block_start Prover params unit = ap (block_start Prover params) same in
-        let good = before bad.0.number (omega (arith, less, stands, bad.0.stands, start)) in
-        let here = subst (λ (n : ℕ). 1 < slice_index bytes (n + 16 * dealt_per_unit params + 17 * bad.0.number)) start at in
-        omega (arith, good, here)
-    cases (inr (inr later)) = omega (arith, less, stands, bad.0.stands, within, later_block Prover params unit bad.0.unit later)
+-- what may come of reading elements is the first fault, where the first bad one stands at the first bad place
+element_fault_first : (side : Side) (bytes : List ℕ) (start count : ℕ) (reason : FileFault) → HasBody side bytes
+    → ((place : ℕ) → IsElementFault bytes start count place → IsFirstBadPlace side bytes place)
+    → IsElementFaultOr bytes start count reason → IsFirstFault side bytes reason
+element_fault_first side bytes start count (BadElement place) body first is = (body, first place is)
+element_fault_first side bytes start count NoMemory body first is = tt
+element_fault_first side bytes start count BadMagic body first is = absurd is
+element_fault_first side bytes start count BadKind body first is = absurd is
+element_fault_first side bytes start count BadParam body first is = absurd is
+element_fault_first side bytes start count (Length need got) body first is = absurd is
+element_fault_first side bytes start count ZeroKey body first is = absurd is
+element_fault_first side bytes start count BadDigest body first is = absurd is
 
 -- the first fault of a file whose elements are read up to one
 pub prover_element_first : (bytes : List ℕ) (params : Params) (unit start count : ℕ) (reason : FileFault) → params ≡ params_at bytes
@@ -221,21 +231,11 @@ prover_element_first bytes params unit start count reason same body = subst (λ 
     at : (r : FileFault) → unit < (params_at bytes).total → start ≡ block_start Prover (params_at bytes) unit
         → count ≡ elements_per_unit Prover (params_at bytes) → ((u : ℕ) → u < unit → IsUnitInRange Prover (params_at bytes) bytes u)
         → IsElementFaultOr bytes start count r → IsFirstFault Prover bytes r
-    at (BadElement place) below s n all is = (
-      body,
-      record {
-        bad = inl (record { unit = unit; number = is.number; unit_within = below; number_within = omega (arith, is.within, n); stands = is.stands ∙ ap (λ k. k + 8 * is.number) s }, is.bad);
-        first = prover_first_element bytes unit place is.number all (omega (arith, is.within, n)) (is.stands ∙ ap (λ k. k + 8 * is.number) s)
-            (subst (λ (k : ℕ). AreElements bytes k is.number) s is.before);
-      },
-    )
-    at NoMemory below s n all is = tt
-    at BadMagic below s n all is = absurd is
-    at BadKind below s n all is = absurd is
-    at BadParam below s n all is = absurd is
-    at (Length need got) below s n all is = absurd is
-    at ZeroKey below s n all is = absurd is
-    at BadDigest below s n all is = absurd is
+    at r below s n all = element_fault_first Prover bytes start count r body (λ place is. record {
+      bad = inl (record { unit = unit; number = is.number; unit_within = below; number_within = omega (arith, is.within, n); stands = is.stands ∙ ap (λ k. k + 8 * is.number) s }, is.bad);
+      first = prover_first_element bytes unit place is.number all (omega (arith, is.within, n)) (is.stands ∙ ap (λ k. k + 8 * is.number) s)
+          (subst (λ (k : ℕ). AreElements bytes k is.number) s is.before);
+    })
 
 -- and of one whose bits are
 pub prover_bit_first : (bytes : List ℕ) (params : Params) (unit start behind count dealt : ℕ) (reason : FileFault) → params ≡ params_at bytes
@@ -277,6 +277,13 @@ pub block_within : (side : Side) (bytes : List ℕ) (params : Params) (unit : �
 block_within side bytes params unit same body below =
     omega (arith, later_block side params unit params.total below, body.length, ap (file_length side) same)
 
+-- both parts of a block stand within the bytes
+pub parts_within : (side : Side) (bytes : List ℕ) (params : Params) (unit start first second : ℕ) → params ≡ params_at bytes → HasBody side bytes
+    → unit < params.total → start ≡ block_start side params unit → first + second ≡ block_length side params
+    → (start + first ≤ length bytes) × (start + first + second ≤ length bytes)
+parts_within side bytes params unit start first second same body below starts whole =
+    let within = block_within side bytes params unit same body below in (omega (arith, within, starts, whole), omega (arith, within, starts, whole))
+
 -- a prover's unit whose elements and bits are read
 pub prover_unit_read : (params : Params) (bytes : List ℕ) (unit start dealt each : ℕ) → start ≡ block_start Prover params unit
     → dealt ≡ dealt_per_unit params → each ≡ transfers_per_unit params
@@ -312,7 +319,7 @@ verifier_key_first bytes bad = record {
     earlier other less (inl (inr here, bad)) = omega (arith, less, here.stands)
     earlier other less (inr bad) = bad.0
 
--- a place is behind the key, all places of the units before, and those of its own unit that come before it
+-- a place is after the key, all places of the units before, and those of its own unit that come before it
 verifier_first_element : (bytes : List ℕ) (unit place number : ℕ) → word64_at bytes 128 < prime
     → ((u : ℕ) → u < unit → IsUnitInRange Verifier (params_at bytes) bytes u)
     → number < elements_per_unit Verifier (params_at bytes) → place ≡ block_start Verifier (params_at bytes) unit + 8 * number
@@ -321,22 +328,8 @@ verifier_first_element : (bytes : List ℕ) (unit place number : ℕ) → word64
 verifier_first_element bytes unit place number key all within stands before other less (inl (inl first, bad)) =
     let at = subst (λ (n : ℕ). prime ≤ word64_at bytes n) first bad in
     omega (arith, key, at)
-verifier_first_element bytes unit place number key all within stands before other less (inl (inr here, bad)) = cases (one_or_other here.unit unit)
-  where
-    params : Params
-    params = params_at bytes
-
-    at : prime ≤ word64_at bytes (block_start Verifier params here.unit + 8 * here.number)
-    at = subst (λ (n : ℕ). prime ≤ word64_at bytes n) here.stands bad
-
-    cases : (here.unit < unit) ⊎ ((here.unit ≡ unit) ⊎ (unit < here.unit)) → ⊥
-    cases (inl earlier) = let good = all here.unit earlier here.number here.number_within in omega (arith, good, at)
-    cases (inr (inl same)) =
-        let start : block_start Verifier params here.unit ≡ block_start Verifier params unit = ap (block_start Verifier params) same in
-        let good = before here.number (omega (arith, less, stands, here.stands, start)) in
-        let now = subst (λ (n : ℕ). prime ≤ word64_at bytes (n + 8 * here.number)) start at in
-        omega (arith, good, now)
-    cases (inr (inr later)) = omega (arith, less, stands, here.stands, within, later_block Verifier params unit here.unit later)
+verifier_first_element bytes unit place number key all within stands before other less (inl (inr here, bad)) =
+    no_element_before Verifier bytes unit place all (omega (arith, stands, within)) (λ i inside early. before i (omega (arith, early, stands))) other less here bad
 verifier_first_element bytes unit place number key all within stands before other less (inr bad) = bad.0
 
 -- the first fault of a file whose keys are read up to one
@@ -351,21 +344,11 @@ verifier_element_first bytes params unit start count reason same body key = subs
     at : (r : FileFault) → unit < (params_at bytes).total → start ≡ block_start Verifier (params_at bytes) unit
         → count ≡ elements_per_unit Verifier (params_at bytes) → ((u : ℕ) → u < unit → IsUnitInRange Verifier (params_at bytes) bytes u)
         → IsElementFaultOr bytes start count r → IsFirstFault Verifier bytes r
-    at (BadElement place) below s n all is = (
-      body,
-      record {
-        bad = inl (inr (record { unit = unit; number = is.number; unit_within = below; number_within = omega (arith, is.within, n); stands = is.stands ∙ ap (λ k. k + 8 * is.number) s }), is.bad);
-        first = verifier_first_element bytes unit place is.number key all (omega (arith, is.within, n)) (is.stands ∙ ap (λ k. k + 8 * is.number) s)
-            (subst (λ (k : ℕ). AreElements bytes k is.number) s is.before);
-      },
-    )
-    at NoMemory below s n all is = tt
-    at BadMagic below s n all is = absurd is
-    at BadKind below s n all is = absurd is
-    at BadParam below s n all is = absurd is
-    at (Length need got) below s n all is = absurd is
-    at ZeroKey below s n all is = absurd is
-    at BadDigest below s n all is = absurd is
+    at r below s n all = element_fault_first Verifier bytes start count r body (λ place is. record {
+      bad = inl (inr (record { unit = unit; number = is.number; unit_within = below; number_within = omega (arith, is.within, n); stands = is.stands ∙ ap (λ k. k + 8 * is.number) s }), is.bad);
+      first = verifier_first_element bytes unit place is.number key all (omega (arith, is.within, n)) (is.stands ∙ ap (λ k. k + 8 * is.number) s)
+          (subst (λ (k : ℕ). AreElements bytes k is.number) s is.before);
+    })
 
 -- a verifier's unit whose keys are read
 pub verifier_unit_read : (params : Params) (bytes : List ℕ) (unit start dealt : ℕ) → start ≡ block_start Verifier params unit

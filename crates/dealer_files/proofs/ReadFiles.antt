@@ -139,7 +139,7 @@ pub blocks_whole : {A B : Type 0} (form : Spelled A) (other : Spelled B) (side :
     → AreBlocks form other side params bytes params.total items others → AreWhole params items others
 blocks_whole form other side params bytes items others blocks = record { dealt = blocks.dealt; transfers = blocks.transfers }
 
--- the blocks and the digest behind the header
+-- the blocks and the digest after the header
 sealed_is : (side : Side) (bytes front : List ℕ) → HasBody side bytes → HasDigest bytes
     → front ≡ take (block_start side (params_at bytes) (params_at bytes).total) bytes → sealed front ≡ bytes
 sealed_is side bytes front body digest is =
@@ -192,11 +192,8 @@ prover_is_read bytes params id coin_key code_seed pairs transfers body same is_i
   coin_key = is_key;
   code_seed = subst (IsCodeSeed params.kind) (sym seed) (subst (λ (p : Params). IsCodeSeed p.kind (take 32 (drop 96 bytes))) (sym same) body.head.params.code_seed);
   count = length-map-range_with_len (flat_prover_unit params pairs transfers) 0 params.total;
-  units = all_made_within (IsProverUnit params) (flat_prover_unit params pairs transfers) params.total (λ unit below. record {
-    count = piece_sized (dealt_per_unit params) params.total unit pairs blocks.dealt below;
-    elements = all_piece a_pair.Holds (dealt_per_unit params) params.total unit pairs blocks.dealt below blocks.hold;
-    trees = trees_are params a_transfer.Holds transfers params.total unit blocks.transfers below blocks.hold_other;
-  });
+  units = all_made_within (IsProverUnit params) (flat_prover_unit params pairs transfers) params.total (λ unit below.
+      record { count = piece_sized (dealt_per_unit params) params.total unit pairs blocks.dealt below; elements = all_piece a_pair.Holds (dealt_per_unit params) params.total unit pairs blocks.dealt below blocks.hold; trees = trees_are params a_transfer.Holds transfers params.total unit blocks.transfers below blocks.hold_other });
 }
 
 -- no fault applies
@@ -235,15 +232,12 @@ verifier_is_read bytes params id coin_key code_seed key keys pads body same is_i
   params = subst AreParams (sym same) body.head.params.params;
   id = is_id;
   coin_key = is_key;
-  code_seed = subst (IsCodeSeed params.kind) (sym seed) (subst (λ (p : Params). IsCodeSeed p.kind (take 32 (drop 96 bytes))) (sym same) body.head.params.code_seed);
   key = element;
   key_set = set;
+  code_seed = subst (IsCodeSeed params.kind) (sym seed) (subst (λ (p : Params). IsCodeSeed p.kind (take 32 (drop 96 bytes))) (sym same) body.head.params.code_seed);
   count = length-map-range_with_len (flat_verifier_unit params keys pads) 0 params.total;
-  units = all_made_within (IsVerifierUnit params) (flat_verifier_unit params keys pads) params.total (λ unit below. record {
-    count = piece_sized (dealt_per_unit params) params.total unit keys blocks.dealt below;
-    elements = all_piece an_element.Holds (dealt_per_unit params) params.total unit keys blocks.dealt below blocks.hold;
-    trees = trees_are params both_pads.Holds pads params.total unit blocks.transfers below blocks.hold_other;
-  });
+  units = all_made_within (IsVerifierUnit params) (flat_verifier_unit params keys pads) params.total (λ unit below.
+      record { count = piece_sized (dealt_per_unit params) params.total unit keys blocks.dealt below; elements = all_piece an_element.Holds (dealt_per_unit params) params.total unit keys blocks.dealt below blocks.hold; trees = trees_are params both_pads.Holds pads params.total unit blocks.transfers below blocks.hold_other });
 }
 
 -- its elements are in range

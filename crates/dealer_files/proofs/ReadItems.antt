@@ -75,7 +75,7 @@ two_good bytes place count first second far =
     subst (λ (n : ℕ). AreElements bytes place n) end
     (element_good bytes place (2 * count + 1) second (element_good bytes place (2 * count) first far))
 
--- an element that is the prime or more, behind some that are not
+-- an element that is the prime or more, after some that are not
 pub element_fault : (bytes : List ℕ) (place count number fault : ℕ) (reason : FileFault) → reason ≡ BadElement fault → number < count
     → fault ≡ place + 8 * number → prime ≤ word64_at bytes fault → AreElements bytes place number → IsElementFaultOr bytes place count reason
 element_fault bytes place count number fault reason is within stands bad before =
@@ -84,7 +84,7 @@ element_fault bytes place count number fault reason is within stands bad before 
 
 -- ---- items of two parts
 
--- what stands at a place and behind it
+-- what stands at a place and after it
 two_parts : (n m place : ℕ) (bytes first second : List ℕ) → first ≡ take n (drop place bytes) → second ≡ take m (drop (place + n) bytes)
     → first ++ second ≡ take (n + m) (drop place bytes)
 two_parts n m place bytes first second one two =
@@ -103,7 +103,7 @@ pub two_16 : (bytes : List ℕ) (place : ℕ) (left right : List ℕ) → left �
     → left ++ right ≡ take 32 (drop place bytes)
 two_16 bytes place left right one two = two_parts 16 16 place bytes left right one two
 
--- a bit and the pad behind it
+-- a bit and the pad after it
 pub bit_and_pad : (bytes : List ℕ) (place : ℕ) (pad : List ℕ) → place < length bytes → slice_index bytes place ≤ 1
     → pad ≡ take 16 (drop (place + 1) bytes) → from_bit (nat_eq (slice_index bytes place) 1) ∷ pad ≡ take 17 (drop place bytes)
 bit_and_pad bytes place pad below small two = two_parts 1 16 place bytes (from_bit (nat_eq (slice_index bytes place) 1) ∷ []) pad one two

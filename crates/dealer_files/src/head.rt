@@ -13,7 +13,7 @@ use crate::fault::FileFault;
 use crate::unit::{dealt_per_unit, transfers_per_unit};
 use mersenne_field::Fe;
 use sha2::{Digest, Sha256};
-use zk_model::{Kind, Params, Side};
+use zk_model::{Kind, MAX_BASE, MAX_DEALT_UNITS, MAX_HEIGHT, MAX_TREES, Params, Side};
 
 /// What a header says.
 #[derive(Clone, Copy, Debug)]
@@ -24,14 +24,14 @@ pub(crate) struct Head {
     pub code_seed: [u8; 32],
 }
 
-/// The 32 bytes from a place on.
-fn array_at(bytes: &[u8], at: usize) -> [u8; 32]
-    requires { at + 32 ≤ length bytes.now }
-    ensures array { result ≡ take 32 (drop at bytes.now) }
-    ensures octets { AreBytes 32 result }
+/// The bytes from a place on, as many as the array has.
+pub(crate) fn bytes_at<const N: usize>(bytes: &[u8], at: usize) -> [u8; N]
+    requires { at + N ≤ length bytes.now }
+    ensures array { result ≡ take N (drop at bytes.now) }
+    ensures octets { AreBytes N result }
 {
-    let mut array = [0; 32];
-    array.copy_from_slice(&bytes[at..at + 32]);
+    let mut array = [0; N];
+    array.copy_from_slice(&bytes[at..at + N]);
     array
 }
 
@@ -41,9 +41,7 @@ fn word64_at(bytes: &[u8], at: usize) -> u64
     ensures number { result ≡ word64_at bytes.now at }
     ensures spelling { to_le_bytes w64 result ≡ take 8 (drop at bytes.now) }
 {
-    let mut word = [0; 8];
-    word.copy_from_slice(&bytes[at..at + 8]);
-    u64::from_le_bytes(word)
+    u64::from_le_bytes(bytes_at(bytes, at))
 }
 
 /// The number that 4 bytes from a place on say.
@@ -52,9 +50,7 @@ fn word32_at(bytes: &[u8], at: usize) -> u32
     ensures number { result ≡ word32_at bytes.now at }
     ensures spelling { to_le_bytes w32 result ≡ take 4 (drop at bytes.now) }
 {
-    let mut word = [0; 4];
-    word.copy_from_slice(&bytes[at..at + 4]);
-    u32::from_le_bytes(word)
+    u32::from_le_bytes(bytes_at(bytes, at))
 }
 
 /// The byte of a side.
@@ -91,7 +87,7 @@ fn params_of(bytes: &[u8]) -> Params
 fn are_params(params: &Params) -> bool
     ensures { IsTrue result ↔ AreParams params.now }
 {
-    1 <= params.total && params.total <= 1 << 32 && are_within_limits(params)
+    1 <= params.total && params.total <= MAX_DEALT_UNITS && are_within_limits(params)
 }
 
 /// Whether height, trees and base are within those of the kind.
@@ -109,11 +105,11 @@ fn are_within_limits(params: &Params) -> bool
         Kind::Direct => height == 0 && trees == 0 && base == 0,
         Kind::Extended => {
             1 <= height
-                && height <= 16
+                && height <= MAX_HEIGHT
                 && 1 <= trees
-                && trees <= 1024
+                && trees <= MAX_TREES
                 && 10 <= base
-                && base <= 65536
+                && base <= MAX_BASE
         }
     }
 }
@@ -153,14 +149,14 @@ fn has_params(bytes: &[u8]) -> bool
     bytes[11] == 0
         && bytes[20..24] == [0; 4]
         && are_params(&params)
-        && is_code_seed(params.kind, &array_at(bytes, 96))
+        && is_code_seed(params.kind, &bytes_at(bytes, 96))
 }
 
 /// How many bytes the block of a unit has.
 pub(crate) fn block_length(side: Side, params: &Params) -> u64
     requires { AreParams params.now }
     ensures count { result ≡ block_length side params.now }
-    ensures most { result ≤ 2 ^ 21 }
+    ensures at_most { result ≤ 2 ^ 21 }
 {
     let dealt = dealt_per_unit(params) as u64;
     let transfers = transfers_per_unit(params) as u64;
@@ -213,9 +209,9 @@ pub(crate) fn read_head(bytes: &[u8], side: Side) -> Result<Head, FileFault>
     }
     Ok(Head {
         params,
-        id: array_at(bytes, 32),
-        coin_key: array_at(bytes, 64),
-        code_seed: array_at(bytes, 96),
+        id: bytes_at(bytes, 32),
+        coin_key: bytes_at(bytes, 64),
+        code_seed: bytes_at(bytes, 96),
     })
 }
 

@@ -1,24 +1,12 @@
 // The items of blocks, read.
 ghost use Rattle.std.specs.Prelude.{◌≡◌, ◌*◌, ◌<◌, ◌≤◌, ◌+◌, length, take, drop, IfOk, IfErr, OnOk};
-ghost use Rattle.zk_model.specs.Bytes.{AreBytes};
 ghost use Rattle.dealer_files.specs.Reading.{a_pair, an_element, a_transfer, both_pads, AreAppended, AreElements, AreBits, IsElementFaultOr, IsBitFaultOr};
 
 use crate::fault::FileFault;
-use crate::head::read_element;
+use crate::head::{bytes_at, read_element};
 use crate::transfer::{Pads, Transfer};
 use mersenne_field::{Fe, Pair};
 use std::alloc::AllocError;
-
-/// The 16 bytes from a place on.
-fn pad_at(bytes: &[u8], at: usize) -> [u8; 16]
-    requires { at + 16 ≤ length bytes.now }
-    ensures pad { result ≡ take 16 (drop at bytes.now) }
-    ensures octets { AreBytes 16 result }
-{
-    let mut pad = [0; 16];
-    pad.copy_from_slice(&bytes[at..at + 16]);
-    pad
-}
 
 /// Reads pairs, 16 bytes each, and appends them.
 pub(crate) fn read_pairs(
@@ -84,7 +72,7 @@ pub(crate) fn read_transfers(
         }
         transfers.push(Transfer {
             bit: bit == 1,
-            pad: pad_at(bytes, place + 1),
+            pad: bytes_at(bytes, place + 1),
         })?;
     }
     Ok(())
@@ -103,8 +91,8 @@ pub(crate) fn read_pads(
     for i in 0..count {
         let place = at + 32 * i;
         pads.push(Pads {
-            left: pad_at(bytes, place),
-            right: pad_at(bytes, place + 16),
+            left: bytes_at(bytes, place),
+            right: bytes_at(bytes, place + 16),
         })?;
     }
     Ok(())

@@ -9,7 +9,7 @@ use zk_model::{Kind, Params};
 pub(crate) fn dealt_per_unit(params: &Params) -> usize
     requires { AreParams params.now }
     ensures count { result ≡ dealt_per_unit params.now }
-    ensures most { result ≤ 66560 }
+    ensures at_most { result ≤ 66560 }
 {
     match params.kind {
         Kind::Direct => 64,
@@ -21,7 +21,7 @@ pub(crate) fn dealt_per_unit(params: &Params) -> usize
 pub(crate) fn transfers_per_unit(params: &Params) -> usize
     requires { AreParams params.now }
     ensures count { result ≡ transfers_per_unit params.now }
-    ensures most { result ≤ 16384 }
+    ensures at_most { result ≤ 16384 }
 {
     params.trees as usize * usize::from(params.height)
 }

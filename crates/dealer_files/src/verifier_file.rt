@@ -5,6 +5,7 @@ ghost use Rattle.zk_model.specs.Coins.{coin_word};
 ghost use Rattle.zk_model.specs.Files.{IsVerifierFile, dealt_per_unit, span_dealt_keys, unit_pads, verifier_unit};
 ghost use Rattle.zk_model.specs.FileBytes.{verifier_unit_bytes, verifier_file_bytes};
 ghost use Rattle.dealer_files.specs.Flat.{flat_verifier, AreWhole};
+ghost use Rattle.zk_model.specs.declared.limits.TheConstants.{MAX_DEALT_UNITS};
 
 use crate::encoding::{push_digest, push_elements, push_header, push_pads};
 use crate::head::file_length;
@@ -133,7 +134,7 @@ impl VerifierFile {
 
     /// The challenge of the session whose span starts at this unit.
     pub fn challenge(&self, unit: u64) -> Fe
-        requires { unit ≤ 2 ^ 32 }
+        requires { unit ≤ MAX_DEALT_UNITS }
         ensures { result ≡ from_word (coin_word self.now.coin_key (4 * unit + 1) 0) }
     {
         Fe::from_word(self.coins().word(4 * unit + 1, 0))

@@ -1,4 +1,5 @@
 pub mod RunLemmas
 pub mod LineLemmas
+pub mod AnswerLemmas
 pub mod SideLemmas
 pub mod FramesLemmas

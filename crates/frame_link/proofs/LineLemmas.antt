@@ -5,6 +5,7 @@ use Rattle.std.specs.Result.{IsErrAnd}
 use Rattle.std.proofs.lemmas.List.{take_all, map-append}
 use Rattle.zk_model.specs.Frames.{CanGoOn, IsFirstBad}
 use Rattle.proof_frames.proofs.Begun.{held_goes_on}
+use Rattle.proof_frames.proofs.Finished.{some_bytes}
 use Rattle.proof_frames.proofs.Steps.{nothing_held}
 use Rattle.proof_frames.specs.Readings.{Reading, IsIdle, wanted, Refuses, Takes}
 use Rattle.proof_frames.specs.declared.decoder.BadFrame.{BadFrame}
@@ -27,7 +28,7 @@ pub appended_none : {T : Type 0} (told : Option (List T)) → told ≡ appended 
 appended_none None = refl
 appended_none (Some told) = ap Some (sym (append-nil told))
 
-before_none : {T : Type 0} (told : Option (List T)) → told ≡ put_before [] told
+pub before_none : {T : Type 0} (told : Option (List T)) → told ≡ put_before [] told
 before_none None = refl
 before_none (Some told) = refl
 
@@ -82,13 +83,13 @@ frame_most expect.Grant (first ∷ bytes) = either (nat_eq first 10)
     either : (b : Bool) → (if b then 6 else 21) ≤ 21
     either true = omega arith
     either false = omega arith
+frame_most expect.Challenge bytes = omega arith
+frame_most expect.Verdict bytes = omega arith
 frame_most (expect.Ask height trees left) bytes = omega arith
 frame_most (expect.Reply height trees left) bytes = omega arith
 frame_most (expect.Corrections count) bytes = omega arith
-frame_most expect.Challenge bytes = omega arith
 frame_most (expect.Sums sections) bytes = omega arith
 frame_most (expect.Openings count) bytes = omega arith
-frame_most expect.Verdict bytes = omega arith
 
 -- a fault that is known
 pub fails_at : {T E : Type 0} (P : E → Type 0) (result : Result T E) (fault : E) → IsErrAnd result (λ e. e ≡ fault) → P fault → IfErr result P
@@ -169,11 +170,11 @@ pub appended_more : {T : Type 0} (a b : List T) (told : Option (List T)) → app
 appended_more a b None = refl
 appended_more a b (Some told) = ap Some (append_assoc told a b)
 
-before_more : (a b : List ℕ) (told : Option (List ℕ)) → put_before a (put_before b told) ≡ put_before (a ++ b) told
+pub before_more : (a b : List ℕ) (told : Option (List ℕ)) → put_before a (put_before b told) ≡ put_before (a ++ b) told
 before_more a b None = refl
 before_more a b (Some told) = ap Some (sym (append_assoc a b told))
 
--- bytes behind bytes
+-- bytes after bytes
 pub came_more : (a b : List ℕ) (old mid new : LineState) → Came a old mid → Came b mid new → Came (a ++ b) old new
 came_more a b old mid new first second =
     let side : Side → List ℕ → List (Side × ℕ) = λ s l. bytes_from (peer_of s) l in
@@ -197,7 +198,7 @@ breaks_from place bytes old mid new (fault.BadFrame at) received faults broken =
 breaks_from place bytes old mid new fault.Link received faults broken = subst (λ n. Rose n new.faults) faults broken
 breaks_from place bytes old mid new fault.NoMemory received faults broken = tt
 
--- a piece fails behind others
+-- a piece fails after others
 pub fails_more : (place : Expect) (old mid new : LineState) (f : LineFault) → PiecesBegin place old mid → PieceFails place f mid new → Fails place f old new
 fails_more place old mid new f begun fails = record {
   bytes = mid.reading.taken ++ fails.bytes;
@@ -229,26 +230,14 @@ fails_since place old reading new f received fails =
       count = record { later = fails.count.later; unfailed = fails.count.unfailed };
     }
 
--- every frame has a byte
-wants_some : (place : Expect) → length {A = ℕ} [] < frame_length place []
-wants_some expect.Hello = omega arith
-wants_some expect.Grant = omega arith
-wants_some (expect.Ask height trees left) = omega arith
-wants_some (expect.Reply height trees left) = omega arith
-wants_some (expect.Corrections count) = omega arith
-wants_some expect.Challenge = omega arith
-wants_some (expect.Sums sections) = omega arith
-wants_some (expect.Openings count) = omega arith
-wants_some expect.Verdict = omega arith
-
 -- nothing passed for want of memory
 pub none_fails : (place : Expect) (old new : LineState) → Came [] old new → new.receives ≡ old.receives → new.faults ≡ old.faults
     → Fails place fault.NoMemory old new
 none_fails place old new came receives faults = record {
   bytes = [];
   few = omega arith;
-  unfinished = inl (wants_some place);
-  cut = λ _. record { goes_on = held_goes_on place [] [] [] (nothing_held place); short = wants_some place };
+  unfinished = inl (some_bytes place);
+  cut = λ _. record { goes_on = held_goes_on place [] [] [] (nothing_held place); short = some_bytes place };
   came = came;
   broken = tt;
   receives = omega (arith, receives);

@@ -8,7 +8,7 @@ use Rattle.zk_model.specs.Transcript.{bytes_from}
 use Rattle.frame_link.specs.declared.log.Run.{Run}
 use Rattle.frame_link.specs.Runs.{entries, run_count}
 
--- the bytes behind those of all runs are those of one more
+-- the bytes after those of all runs are those of one more
 pub entries_push : (runs : List Run) (bytes more : List ℕ) (run : Run) → sum_by run_count runs ≡ length bytes → run.count ≡ length more
     → entries (runs ++ run ∷ []) (bytes ++ more) ≡ entries runs bytes ++ bytes_from run.side more
 entries_push [] [] more run total count = rw (count, take-length more, append-nil) refl

@@ -21,7 +21,7 @@ seen-bytes_of : (mine : Side) (way : Way) (bytes : List ℕ) → seen_by mine (b
 seen-bytes_of mine way [] = refl
 seen-bytes_of mine way (b ∷ bytes) = ap (λ l. (side_of mine way, b) ∷ l) (seen-bytes_of mine way bytes)
 
--- bytes that went one way, behind a log
+-- bytes that went one way, after a log
 pub seen-appended : (mine : Side) (way : Way) (bytes : List ℕ) (told : Option (List (Way × ℕ)))
     → option_map (seen_by mine) (appended (bytes_of way bytes) told) ≡ appended (bytes_from (side_of mine way) bytes) (option_map (seen_by mine) told)
 seen-appended mine way bytes None = refl

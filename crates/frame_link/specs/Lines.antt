@@ -15,6 +15,7 @@ use Rattle.proof_frames.specs.Readings.{Reading, wanted}
 use Rattle.frame_link.specs.Sides.{peer_of, seen_by}
 use Rattle.frame_link.specs.declared.fault.LineFault.{LineFault}
 use Rattle.frame_link.specs.declared.fault.LineFault.TheVariants.{PeerEnded, BadFrame, Link, NoMemory}
+use Rattle.zk_model.specs.declared.limits.TheConstants.{HELLO_LENGTH}
 
 -- a receive that was refused, or not made: only the counts of receives and of failed calls differ, that of receives by one at most
 pub record RefusesReceive (old new : LinkState) : Type 0 where
@@ -26,7 +27,7 @@ abbrev pub port_fault : PortFault → LineFault
 port_fault port.Failed = Link
 port_fault port.NoMemory = NoMemory
 
--- a count of calls behind so many more; at the end of its type it stays there
+-- a count of calls after so many more; at the end of its type it stays there
 abbrev pub counted_times : ℕ → ℕ → ℕ
 counted_times zero before = before
 counted_times (suc n) before = counted true (counted_times n before)
@@ -146,7 +147,7 @@ pub record Arrives (place : Expect) (frame : Frame) (old new : LineState) : Type
 
 -- the length of the longest frame of a place
 abbrev pub longest : Expect → ℕ
-longest expect.Hello = 102
+longest expect.Hello = HELLO_LENGTH
 longest expect.Grant = 21
 longest (expect.Ask height trees left) = frame_length (expect.Ask height trees left) []
 longest (expect.Reply height trees left) = frame_length (expect.Reply height trees left) []
@@ -197,7 +198,7 @@ IsNoBadByte NoMemory = Unit {0}
 abbrev pub IsUnfinished : Expect → List ℕ → Type 0
 IsUnfinished place bytes = (length bytes < frame_length place bytes) ⊎ ((n : ℕ) × IsFirstBad place bytes n)
 
--- a piece is refused: behind those bytes of the frame that were taken before, these came
+-- a piece is refused: after those bytes of the frame that were taken before, these came
 pub record PieceFails (place : Expect) (fault : LineFault) (old new : LineState) : Type 0 where
   pub bytes : List ℕ
   pub few : length (old.reading.taken ++ bytes) ≤ longest place

@@ -21,7 +21,7 @@ pub enum LineFault {
     /// A call of the link failed, and its count of faults rose.
     #[error("the link failed")]
     Link,
-    /// Memory was wanting.
+    /// Memory was missing.
     #[error("memory is missing")]
     NoMemory,
 }

@@ -1,7 +1,7 @@
 // One end of a session's stream: frames over a link.
 ghost use Rattle.std.specs.Prelude.{◌≡◌, ◌+◌, ◌<◌, ◌≤◌, ◌^◌, None, Some, [], length, map, max, flat_map, false, All, IfOk, IfErr, OnOk, OnErr, IsTrue};
 ghost use Rattle.zk_model.specs.Frames.{frame_spelling};
-ghost use Rattle.proof_frames.specs.Frames.{said, IsShort};
+ghost use Rattle.proof_frames.specs.Frames.{frame_value, IsShort};
 ghost use Rattle.proof_frames.specs.Readings.{IsShortPlace, wanted};
 ghost use Rattle.frame_link.specs.Lines.{PieceComes, PiecesCome, PieceFails, Arrives, Fails, Sends, IsSendRefused, SendFails, fresh_line, snapshot, snapshot_of};
 ghost use Rattle.frame_link.specs.Sides.{peer_of};
@@ -46,10 +46,10 @@ fn peer(side: Side) -> Side
     }
 }
 
-/// Frames as they are sent, one behind another.
+/// Frames as they are sent, one after another.
 fn encode_frames(alloc: Global, frames: &[Frame]) -> Result<Vec<u8>, AllocError>
-    requires { All IsShort (map said frames.now) }
-    ensures { IfOk result (λ bytes. bytes.items ≡ flat_map frame_spelling (map said frames.now)) }
+    requires { All IsShort (map frame_value frames.now) }
+    ensures { IfOk result (λ bytes. bytes.items ≡ flat_map frame_spelling (map frame_value frames.now)) }
 {
     let mut bytes = Vec::new(alloc);
     for frame in frames {
@@ -83,7 +83,7 @@ impl<L: Link> Line<L> {
         requires idle { self.old.reading.expected ≡ None }
         requires short { IsShortPlace place }
         requires fits { self.old.reading.received + 2 ^ 25 ≤ 2 ^ 64 }
-        ensures arrives { IfOk result (λ frame. Arrives place (said frame) self.old self.new) }
+        ensures arrives { IfOk result (λ frame. Arrives place (frame_value frame) self.old self.new) }
         ensures fails { IfErr result (λ fault. Fails place fault self.old self.new) }
     {
         let _wants = self.decoder.wants();
@@ -160,8 +160,8 @@ impl<L: Link> Line<L> {
     ///
     /// Only where memory runs out; then nothing changes.
     pub fn prepare(&mut self, alloc: Global, frame: &Frame) -> Result<Vec<u8>, AllocError>
-        requires short { IsShort (said frame.now) }
-        ensures bytes { IfOk result (λ bytes. bytes.items ≡ frame_spelling (said frame.now)) }
+        requires short { IsShort (frame_value frame.now) }
+        ensures bytes { IfOk result (λ bytes. bytes.items ≡ frame_spelling (frame_value frame.now)) }
         ensures kept { IfOk result (λ bytes.
             self.new ≡ record self.old { room = max self.old.room (length bytes.items) }) }
         ensures refused { OnErr result (self.new ≡ self.old) }
@@ -193,27 +193,28 @@ impl<L: Link> Line<L> {
     /// `Link` where the link failed, `NoMemory`; then a part of it may have gone out.
     pub fn send(&mut self, alloc: Global, frame: &Frame) -> Result<(), LineFault>
         requires open { IsTrue self.old.is_open }
-        requires short { IsShort (said frame.now) }
-        ensures sends { OnOk result (Sends (frame_spelling (said frame.now)) self.old self.new) }
+        requires short { IsShort (frame_value frame.now) }
+        ensures sends { OnOk result (Sends (frame_spelling (frame_value frame.now)) self.old self.new) }
         ensures fails { IfErr result (λ fault.
-            SendFails (frame_spelling (said frame.now)) fault self.old self.new) }
+            SendFails (frame_spelling (frame_value frame.now)) fault self.old self.new) }
     {
         let bytes = self.prepare(alloc, frame)?;
         self.send_prepared(alloc, &bytes)?;
         Ok(())
     }
 
-    /// Sends frames, one behind another, by one call of the link: all of them are logged, or none.
+    /// Sends frames, one after another, by one call of the link: all of them are logged, or none.
     ///
     /// # Errors
     ///
     /// `Link` where the link failed, `NoMemory`; then a part of them may have gone out.
     pub fn send_frames(&mut self, alloc: Global, frames: &[Frame]) -> Result<(), LineFault>
         requires open { IsTrue self.old.is_open }
-        requires short { All IsShort (map said frames.now) }
-        ensures sends { OnOk result (Sends (flat_map frame_spelling (map said frames.now)) self.old self.new) }
+        requires short { All IsShort (map frame_value frames.now) }
+        ensures sends { OnOk result (Sends (flat_map frame_spelling (map frame_value frames.now))
+            self.old self.new) }
         ensures fails { IfErr result (λ fault.
-            SendFails (flat_map frame_spelling (map said frames.now)) fault self.old self.new) }
+            SendFails (flat_map frame_spelling (map frame_value frames.now)) fault self.old self.new) }
     {
         let bytes = encode_frames(alloc, frames)?;
         self.reserve(bytes.len())?;

@@ -35,7 +35,7 @@ impl Model for Log {
     ghost invariant = { λ l. sum_by run_count l.runs.items ≡ length l.bytes.items };
 }
 
-/// Notes one more run: behind one of the same side they are one run.
+/// Notes one more run: after one of the same side they are one run.
 #[tactic(auto, using(crate::proofs::RunLemmas::one_run, crate::proofs::RunLemmas::entries_push, crate::proofs::RunLemmas::sum_push))]
 fn note_run(runs: &mut Vec<Run>, run: Run)
     requires room { vec_len runs.old < vec_capacity runs.old }

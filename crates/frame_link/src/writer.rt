@@ -42,7 +42,8 @@ fn receive_front<L: Link>(
     requires fits { most ≤ length buffer.old }
     ensures within { IfOk result (λ n. n ≤ most) }
     ensures length { length buffer.new ≡ length buffer.old }
-    ensures taken { IfOk result (λ n. Receives most n (take n buffer.new) (L.state link.old) (L.state link.new)) }
+    ensures taken { IfOk result (λ n. Receives most n (take n buffer.new)
+        (L.state link.old) (L.state link.new)) }
     ensures refused { OnErr result (RefusesReceive (L.state link.old) (L.state link.new)) }
     ensures cause { HasCause (L.state link.old).faults (L.state link.new).faults result }
 {
@@ -134,7 +135,8 @@ impl LogWriter {
         ensures length { length buffer.new ≡ length buffer.old }
         ensures noted { IfOk result (λ n. self.new
             ≡ record self.old { entries = self.old.entries ++ bytes_from peer (take n buffer.new) }) }
-        ensures taken { IfOk result (λ n. Receives most n (take n buffer.new) (L.state link.old) (L.state link.new)) }
+        ensures taken { IfOk result (λ n. Receives most n (take n buffer.new)
+            (L.state link.old) (L.state link.new)) }
         ensures unnoted { OnErr result (self.new ≡ self.old) }
         ensures refused { OnErr result (RefusesReceive (L.state link.old) (L.state link.new)) }
         ensures cause { HasCause (L.state link.old).faults (L.state link.new).faults result }

@@ -17,17 +17,18 @@ use Rattle.zk_model.specs.Boolean.{gate_step, gate_products, products_in, privat
 use Rattle.zk_model.specs.declared.GateRow.{GateRow}
 use Rattle.zk_model.specs.declared.GateRow.TheVariants.{And, Xor, Inv, Eqw, Eq}
 use Rattle.zk_model.specs.declared.Product.{Product}
-use Rattle.zk_laws.proofs.ByGate.{from_given, from_given-more, by_gate_is, products_of_all}
-use Rattle.zk_laws.specs.Booleans.{CircuitIsProgram, GatesAreFew}
+use Rattle.circuit_laws.proofs.ByGate.{from_given, from_given-more, by_gate_is, products_of_all}
+use Rattle.circuit_laws.specs.Circuits.{CircuitIsProgram, GatesAreFew}
 use Rattle.bristol_reader.specs.Circuits.{IsCircuit}
 use Rattle.gate_translate.specs.Gates.{gate_rule, gate_factors, squared}
-use Rattle.gate_translate.specs.Programs.{IsHeld, program_of}
-use Rattle.gate_translate.specs.Rules.{HasFactors, IsRule, factors_of, step_of, numbered}
-use Rattle.gate_translate.specs.Steps.{step_equation, equations}
-use Rattle.gate_translate.specs.declared.rule.Factors.{Factors}
-use Rattle.gate_translate.specs.declared.rule.Rule.{Rule}
-use Rattle.gate_translate.specs.declared.rule.Rule.TheVariants as rule
-use Rattle.gate_translate.specs.declared.step.Step.TheVariants as step
+use Rattle.field_program.proofs.Numbered.{length-numbered, numbered-append}
+use Rattle.field_program.specs.Programs.{IsSmallProgram, program_of}
+use Rattle.field_program.specs.PackedSteps.{HasFactors, IsRule, factors_of, step_of, numbered}
+use Rattle.field_program.specs.Steps.{step_equation, equations}
+use Rattle.field_program.specs.declared.packed.Factors.{Factors}
+use Rattle.field_program.specs.declared.packed.PackedStep.{PackedStep}
+use Rattle.field_program.specs.declared.packed.PackedStep.TheVariants as rule
+use Rattle.field_program.specs.declared.step.Step.TheVariants as step
 
 -- the products of gates, from given value c on
 abbrev pub products_from : ℕ → List GateRow → List Product
@@ -38,80 +39,12 @@ abbrev pub products_up_to : ℕ → List GateRow → List Product
 products_up_to inputs gates = map (bit_check 0) (range_with_len 0 inputs) ++ products_from inputs gates
 
 -- rules and factors of these gates
-pub record AreTranslated (inputs : ℕ) (gates : List GateRow) (rules : List Rule) (factors : List Factors) : Type 0 where
+pub record AreTranslated (inputs : ℕ) (gates : List GateRow) (rules : List PackedStep) (factors : List Factors) : Type 0 where
   pub steps_are : equations (map (step_of factors) rules) ≡ from_given gate_step inputs gates
   pub products_are : numbered 0 factors ≡ products_up_to inputs gates
   pub within : All (IsRule (length factors)) rules
 
--- ---- numbered products
-
-pub length-numbered : (number : ℕ) (factors : List Factors) → length (numbered number factors) ≡ length factors
-length-numbered number [] = refl
-length-numbered number (factors ∷ others) = ap suc (length-numbered (number + 1) others)
-
-pub numbered-append : (number : ℕ) (some others : List Factors)
-    → numbered number (some ++ others) ≡ numbered number some ++ numbered (number + length some) others
-numbered-append number [] others = ap (λ k. numbered k others) same
-  where
-    same : number ≡ number + 0
-    same = omega arith
-numbered-append number (factors ∷ some) others =
-    let same : number + 1 + length some ≡ number + suc (length some) = omega arith in
-    ap (λ l. record { a = factors.a; b = factors.b; c = number } ∷ l)
-    (numbered-append (number + 1) some others ∙ ap (λ k. numbered (number + 1) some ++ numbered k others) same)
-
--- product i of these
-pub numbered_at : (number : ℕ) (factors : List Factors) (i : ℕ) (d : Product) (e : Factors) → i < length factors
-    → get_or (numbered number factors) i d ≡ record { a = (get_or factors i e).a; b = (get_or factors i e).b; c = number + i }
-numbered_at number [] i d e below = elim below [ ]
-numbered_at number (factors ∷ others) zero d e below = λ j. record { a = factors.a; b = factors.b; c = same j }
-  where
-    same : number ≡ number + 0
-    same = omega arith
-numbered_at number (factors ∷ others) (suc i) d e below =
-    numbered_at (number + 1) others i d e (omega (arith, below)) ∙ (λ j. record { a = (get_or others i e).a; b = (get_or others i e).b; c = same j })
-  where
-    same : number + 1 + i ≡ number + suc i
-    same = omega arith
-
-pub product_at : (factors : List Factors) (i : ℕ) (e : Factors) → i < length factors
-    → slice_get (numbered 0 factors) i ≡ Some (record { a = (get_or factors i e).a; b = (get_or factors i e).b; c = i })
-product_at factors i e below =
-    let within : i < length (numbered 0 factors) = omega (arith, below, length-numbered 0 factors) in
-    slice_get-get_or (numbered 0 factors) i (record { a = e.a; b = e.b; c = i }) within
-    ∙ ap (λ (p : Product). Some p) (numbered_at 0 factors i (record { a = e.a; b = e.b; c = i }) e below)
-    ∙ (λ j. Some (record { a = (get_or factors i e).a; b = (get_or factors i e).b; c = same j }))
-  where
-    same : 0 + i ≡ i
-    same = omega arith
-
--- a step that takes a given value has its factors
-pub has_factors : (factors : List Factors) (r : Rule) → IsRule (length factors) r → HasFactors (numbered 0 factors) (step_of factors r)
-has_factors factors (rule.Bit out value) within = tt
-has_factors factors (rule.Copy out a) within = tt
-has_factors factors (rule.Not out a) within = tt
-has_factors factors (rule.Mul out product) within = product_at factors product (record { a = 0; b = 0 }) within
-has_factors factors (rule.XorFrom out product) within = product_at factors product (record { a = 0; b = 0 }) within
-
--- which has the given value of its number
-pub numbers_are : (factors : List Factors) (i : ℕ) (product : Product) → slice_get (numbered 0 factors) i ≡ Some product → product.c ≡ i
-numbers_are factors i product at =
-    let within : i < length factors = omega (arith, slice_get_within (numbered 0 factors) i product at, length-numbered 0 factors) in
-    ap (λ (p : Product). p.c) (sym (get_or_from_slice_get (numbered 0 factors) i product product at)
-    ∙ numbered_at 0 factors i product (record { a = 0; b = 0 }) within) ∙ same
-  where
-    same : 0 + i ≡ i
-    same = omega arith
-
--- step k of these rules
-pub step_at : (factors : List Factors) (rules : List Rule) (k : ℕ) (r : Rule) → k < length rules
-    → slice_get (equations (map (step_of factors) rules)) k ≡ Some (step_equation (step_of factors (get_or rules k r)))
-step_at factors rules k r below =
-    let said : k < length (map (step_of factors) rules) = omega (arith, below, length-map rules (step_of factors)) in
-    let within : k < length (equations (map (step_of factors) rules)) = omega (arith, said, length-map (map (step_of factors) rules) step_equation) in
-    slice_get-get_or (equations (map (step_of factors) rules)) k (step_equation (step_of factors r)) within
-    ∙ ap (λ (s : model.Step). Some s) (get_or-map step_equation (map (step_of factors) rules) k (step_of factors r) (step_equation (step_of factors r)) said
-    ∙ ap step_equation (get_or-map (step_of factors) rules k r (step_of factors r) below))
+-- ---- bit checks
 
 numbered_squares : (start count : ℕ) → numbered start (map squared (range_with_len start count)) ≡ map (bit_check 0) (range_with_len start count)
 numbered_squares start zero = refl
@@ -148,7 +81,7 @@ pub few_products : (gates : List GateRow) → products_of_all gates ≤ length g
 few_products [] = omega arith
 few_products (gate ∷ gates) = omega (arith, at_most_one gate, few_products gates, sum_by-cons products_in gate gates)
 
--- the next product is the given value behind those that stand
+-- the next product is the given value after those that stand
 pub next_given : (inputs : ℕ) (gates : List GateRow) (products : List Product) → products ≡ products_up_to inputs gates
     → length products ≡ inputs + products_of_all gates
 next_given inputs gates products are =
@@ -158,7 +91,7 @@ next_given inputs gates products are =
 -- ---- one gate more
 
 -- a rule says the same where there are more factors
-rule_kept : (factors more : List Factors) (rule : Rule) → IsRule (length factors) rule → step_of (factors ++ more) rule ≡ step_of factors rule
+rule_kept : (factors more : List Factors) (rule : PackedStep) → IsRule (length factors) rule → step_of (factors ++ more) rule ≡ step_of factors rule
 rule_kept factors more (rule.Bit out value) within = refl
 rule_kept factors more (rule.Copy out a) within = refl
 rule_kept factors more (rule.Not out a) within = refl
@@ -169,7 +102,7 @@ rule_kept factors more (rule.XorFrom out product) within =
     let same = get_or_append_left factors more (record { a = 0; b = 0 }) product within in
     λ i. step.XorFrom out (same i).a (same i).b product
 
-rules_kept : (factors more : List Factors) (rules : List Rule) → All (IsRule (length factors)) rules
+rules_kept : (factors more : List Factors) (rules : List PackedStep) → All (IsRule (length factors)) rules
     → map (step_of (factors ++ more)) rules ≡ map (step_of factors) rules
 rules_kept factors more [] within = refl
 rules_kept factors more (rule ∷ rules) within =
@@ -177,7 +110,7 @@ rules_kept factors more (rule ∷ rules) within =
     ∷ rules_kept factors more rules (All-tail (IsRule (length factors)) rule rules within) i
 
 -- nor does it lose its product
-rule_stays : (few many : ℕ) (rule : Rule) → few ≤ many → IsRule few rule → IsRule many rule
+rule_stays : (few many : ℕ) (rule : PackedStep) → few ≤ many → IsRule few rule → IsRule many rule
 rule_stays few many (rule.Bit out value) more within = tt
 rule_stays few many (rule.Copy out a) more within = tt
 rule_stays few many (rule.Not out a) more within = tt
@@ -220,7 +153,7 @@ product_of c (Eqw a out) = refl
 product_of c (Eq bit out) = refl
 
 -- one gate more
-pub translated_more : (inputs : ℕ) (all rows : List GateRow) (n : ℕ) (other : GateRow) (rules rules_now : List Rule) (rule : Rule) (factors factors_now : List Factors)
+pub translated_more : (inputs : ℕ) (all rows : List GateRow) (n : ℕ) (other : GateRow) (rules rules_now : List PackedStep) (rule : PackedStep) (factors factors_now : List Factors)
     → rows ≡ all → n < length rows
     → rules_now ≡ rules ++ rule ∷ [] → rule ≡ gate_rule (length factors) (get_or rows n other)
     → factors_now ≡ factors ++ gate_factors (get_or rows n other)
@@ -268,7 +201,7 @@ take_none [] = refl
 take_none (gate ∷ gates) = refl
 
 -- no gate yet
-pub none_translated : (inputs : ℕ) (all : List GateRow) (rules : List Rule) (factors : List Factors) → rules ≡ [] → factors ≡ map squared (range_with_len 0 inputs)
+pub none_translated : (inputs : ℕ) (all : List GateRow) (rules : List PackedStep) (factors : List Factors) → rules ≡ [] → factors ≡ map squared (range_with_len 0 inputs)
     → AreTranslated inputs (take 0 all) rules factors
 none_translated inputs all rules factors none are = record {
   steps_are = ap (λ l. equations (map (step_of factors) l)) none ∙ ap (from_given gate_step inputs) (sym (take_none all));
@@ -285,7 +218,7 @@ few_translated circuit inputs n factors rules same are =
 
 -- ---- all gates
 
-pub is_translated : (circuit : Circuit) (wires inputs givens : ℕ) (rules : List Rule) (factors : List Factors) (opened : List ℕ)
+pub is_translated : (circuit : Circuit) (wires inputs givens : ℕ) (rules : List PackedStep) (factors : List Factors) (opened : List ℕ)
     → wires ≡ circuit.wires → inputs ≡ circuit.inputs → givens ≡ length factors
     → opened ≡ map (λ o. circuit.wires - circuit.outputs + o) (range_with_len 0 circuit.outputs)
     → AreTranslated inputs (take (length circuit.gates) circuit.gates) rules factors
@@ -312,8 +245,8 @@ is_translated circuit wires inputs givens rules factors opened w i g o far =
     }
 
 pub is_held : (circuit : Circuit) (program : Program) → CircuitIsProgram → GatesAreFew → IsCircuit circuit → program ≡ circuit_program 0 circuit
-    → ((i : ℕ) (product : Product) → slice_get program.products i ≡ Some product → product.c ≡ i) → IsHeld program
-is_held circuit program law few rules same numbers = subst IsHeld (sym same) (record {
+    → ((i : ℕ) (product : Product) → slice_get program.products i ≡ Some product → product.c ≡ i) → IsSmallProgram program
+is_held circuit program law few rules same numbers = subst IsSmallProgram (sym same) (record {
   formed = law 0 circuit rules.well_formed (omega arith);
   wires = rules.wires;
   givens = omega (arith, few_products circuit.gates, few circuit rules.well_formed, rules.wires);

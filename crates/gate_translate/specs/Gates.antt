@@ -2,12 +2,12 @@
 use Rattle.std.specs.Prelude.{ℕ, List, [], ◌∷◌}
 use Rattle.zk_model.specs.declared.GateRow.{GateRow}
 use Rattle.zk_model.specs.declared.GateRow.TheVariants.{And, Xor, Inv, Eqw, Eq}
-use Rattle.gate_translate.specs.declared.rule.Factors.{Factors}
-use Rattle.gate_translate.specs.declared.rule.Rule.{Rule}
-use Rattle.gate_translate.specs.declared.rule.Rule.TheVariants as rule
+use Rattle.field_program.specs.declared.packed.Factors.{Factors}
+use Rattle.field_program.specs.declared.packed.PackedStep.{PackedStep}
+use Rattle.field_program.specs.declared.packed.PackedStep.TheVariants as rule
 
 -- the rule of a gate whose product, if it has one, has this number
-abbrev pub gate_rule : ℕ → GateRow → Rule
+abbrev pub gate_rule : ℕ → GateRow → PackedStep
 gate_rule number (And a b out) = rule.Mul out number
 gate_rule number (Xor a b out) = rule.XorFrom out number
 gate_rule number (Inv a out) = rule.Not out a

@@ -1,4 +1,1 @@
 pub mod Gates
-pub mod Programs
-pub mod Rules
-pub mod Steps

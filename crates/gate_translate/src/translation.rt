@@ -4,28 +4,27 @@ ghost use Rattle.std.specs.List.{range_with_len};
 ghost use Rattle.zk_model.specs.Boolean.{circuit_program};
 ghost use Rattle.gate_translate.specs.Gates.{gate_rule, gate_factors, squared};
 
-use crate::program::FieldProgram;
-use crate::rule::{Factors, Rule};
 use bristol_reader::{Circuit, GateRow};
+use circuit_laws::{circuit_is_program, gates_are_few};
+use field_program::{Factors, FieldProgram, PackedStep};
 use std::alloc::{AllocError, Global};
-use zk_laws::{circuit_is_program, gates_are_few};
 
 /// The rule of a gate whose product, if it has one, is the given value of this number.
-fn gate_rule(gate: GateRow, number: u32) -> Rule
+fn gate_rule(gate: GateRow, number: u32) -> PackedStep
     ensures { result ≡ gate_rule number gate }
 {
     match gate {
-        GateRow::And { out, .. } => Rule::Mul {
+        GateRow::And { out, .. } => PackedStep::Mul {
             out,
             product: number,
         },
-        GateRow::Xor { out, .. } => Rule::XorFrom {
+        GateRow::Xor { out, .. } => PackedStep::XorFrom {
             out,
             product: number,
         },
-        GateRow::Inv { a, out } => Rule::Not { out, a },
-        GateRow::Eqw { a, out } => Rule::Copy { out, a },
-        GateRow::Eq { value, out } => Rule::Bit { out, value },
+        GateRow::Inv { a, out } => PackedStep::Not { out, a },
+        GateRow::Eqw { a, out } => PackedStep::Copy { out, a },
+        GateRow::Eq { value, out } => PackedStep::Bit { out, value },
     }
 }
 

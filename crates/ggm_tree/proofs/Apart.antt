@@ -1,8 +1,8 @@
 -- A XOR of nodes of which one is told apart.
 use Rattle.std.proofs.Common.{◌≡◌, ◌≢◌, ℕ, zero, suc, ◌+◌, ◌<◌, ◌≤◌, ◌⊎◌, inl, inr, Bool, nat_eq, if◌then◌else◌, List, [], ◌∷◌, map, length, replicate, refl, sym, ◌∙◌, ap, arith, fold, ne_eqb, eq-eqb}
 use Rattle.std.specs.List.{AllByRecursion, range_with_len}
-use Rattle.zk_laws.proofs.Ancestors.{same_or_not}
-use Rattle.zk_laws.proofs.Xors.{cancel_last, either_order, xor_length, same_range, long_range, last_of_all, add_nothing}
+use Rattle.tree_laws.proofs.Ancestors.{same_or_not}
+use Rattle.tree_laws.proofs.Xors.{cancel_last, either_order, xor_length, same_range, long_range, last_of_all, add_nothing}
 use Rattle.zk_model.specs.Bytes.{xor_bytes, xor_all}
 
 -- 16 bytes of 0

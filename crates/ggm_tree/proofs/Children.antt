@@ -1,7 +1,7 @@
 -- Children that are written in place of their parents, the last parent first.
 use Rattle.std.proofs.Common.{◌≡◌, ℕ, ◌+◌, ◌*◌, ◌<◌, ◌≤◌, ◌⊎◌, inl, inr, ◌≢◌, Bool, true, false, List, [], length, get_or, set, get_or-set_other, get_or-set_same, subst, sym, ◌∙◌, ap, arith}
 use Rattle.std.proofs.lemmas.List.{length-set}
-use Rattle.zk_laws.proofs.Ancestors.{same_or_not}
+use Rattle.tree_laws.proofs.Ancestors.{same_or_not}
 use Rattle.zk_model.specs.Bits.{from_bit}
 use Rattle.zk_model.specs.Tree.{child_of}
 use Rattle.sha2.specs.Sha256.{sha256}

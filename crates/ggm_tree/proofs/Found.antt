@@ -2,8 +2,8 @@
 use Rattle.std.proofs.Common.{◌≡◌, ◌≢◌, ℕ, ◌+◌, ◌-◌, ◌*◌, ◌/◌, ◌%◌, ◌^◌, ◌<◌, ◌⊎◌, inl, inr, Bool, List, [], map, length, get_or, replicate, subst, sym, ◌∙◌, ap, arith, add-one, pow-suc, div-one}
 use Rattle.std.proofs.lemmas.List.{length-map, length-replicate, get_or-map, get_or-replicate, get_or_default}
 use Rattle.std.proofs.lemmas.Nat.{pow_pos}
-use Rattle.zk_laws.proofs.Ancestors.{same_or_not, parent, ancestor_below, side_of, other_child, other_side, child_below, parent_below}
-use Rattle.zk_laws.proofs.FoundTrees.{punctured_exists}
+use Rattle.tree_laws.proofs.Ancestors.{same_or_not, parent, ancestor_below, side_of, other_child, other_side, child_below, parent_below}
+use Rattle.tree_laws.proofs.FoundTrees.{punctured_exists}
 use Rattle.zk_model.specs.Bits.{from_bit}
 use Rattle.zk_model.specs.Bytes.{AreBytes}
 use Rattle.zk_model.specs.Tree.{child_of, leaf_value, ancestor, side_away, IsPunctured}

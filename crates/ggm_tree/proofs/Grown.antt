@@ -4,14 +4,14 @@ use Rattle.std.specs.List.{range_with_len}
 use Rattle.std.proofs.Math.Nat.{pow-le-pow_right}
 use Rattle.std.proofs.lemmas.List.{length-set, length-map, get_or-map, drop_all, take_all}
 use Rattle.std.proofs.lemmas.List.FromFn.{fill_by_all, length-map-range_with_len, get_or-map-range_with_len, map-range_with_len_more}
-use Rattle.zk_laws.proofs.Ancestors.{side_of, parent_below}
-use Rattle.zk_laws.proofs.Octets.{node_bytes}
-use Rattle.zk_laws.proofs.Punctured.{one_punctured}
-use Rattle.zk_laws.proofs.Xors.{same_range}
+use Rattle.tree_laws.proofs.Ancestors.{child_place, parent_below}
+use Rattle.frame_laws.proofs.Octets.{node_bytes}
+use Rattle.tree_laws.proofs.Punctured.{one_punctured}
+use Rattle.tree_laws.proofs.Xors.{same_range}
 use Rattle.zk_model.specs.Bits.{from_bit}
 use Rattle.zk_model.specs.Bytes.{LeftRight, xor_all}
 use Rattle.zk_model.specs.Tree.{child_of, path_to, node_at, leaf_value, leaf_at, level_sum, tree_leaves, side_away}
-use Rattle.ggm_tree.proofs.Paths.{grown_halves}
+use Rattle.tree_laws.proofs.Grown.{grown_halves}
 use Rattle.ggm_tree.specs.Laws.{PuncturedIsGrown}
 use Rattle.ggm_tree.specs.Rows.{IsRow, AreChildren, side_sum_of, side_sums_of}
 use Rattle.ggm_tree.specs.Sums.{sums_of, tree_sums}
@@ -35,17 +35,14 @@ row_none root row first j below = ap (λ k. get_or row k []) none ∙ first
 pub row_more : (root : List ℕ) (level : ℕ) (above below : List (List ℕ)) → IsRow root level above → AreChildren (2 ^ level) above below
     → IsRow root (level + 1) below
 row_more root level above below row children j inside =
-    subst (λ (k : ℕ). get_or below k [] ≡ node_at root (path_to (level + 1) k)) split
+    subst (λ (k : ℕ). get_or below k [] ≡ node_at root (path_to (level + 1) k)) side.1
     (children (j / 2) side.0 within ∙ ap (child_of side.0) (row (j / 2) within) ∙ sym (grown_halves root level (j / 2) side.0))
   where
-    side : (side : Bool) × (from_bit side ≡ j % 2)
-    side = side_of (j % 2) (omega arith)
+    side : (side : Bool) × (2 * (j / 2) + from_bit side ≡ j)
+    side = child_place j
 
     within : j / 2 < 2 ^ level
     within = parent_below level j inside
-
-    split : 2 * (j / 2) + from_bit side.0 ≡ j
-    split = omega (arith, side.1)
 
 -- ---- sums
 

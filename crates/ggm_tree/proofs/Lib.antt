@@ -1,6 +1,5 @@
 mod Sums
 mod Children
-mod Paths
 mod Grown
 mod Apart
 mod Repaired

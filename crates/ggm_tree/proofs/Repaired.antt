@@ -2,8 +2,8 @@
 use Rattle.std.proofs.Common.{◌≡◌, ◌≢◌, ℕ, zero, suc, ◌+◌, ◌-◌, ◌*◌, ◌/◌, ◌%◌, ◌<◌, ◌≤◌, ◌⊎◌, inl, inr, Bool, true, false, nat_eq, List, [], map, length, get_or, set, get_or-set_other, get_or-set_same, refl, sym, ◌∙◌, ap, arith}
 use Rattle.std.specs.List.{range_with_len}
 use Rattle.std.proofs.lemmas.List.{length-set}
-use Rattle.zk_laws.proofs.Ancestors.{same_or_not}
-use Rattle.zk_laws.proofs.Xors.{xor_length, long_range, around}
+use Rattle.tree_laws.proofs.Ancestors.{same_or_not}
+use Rattle.tree_laws.proofs.Xors.{xor_length, long_range, around}
 use Rattle.zk_model.specs.Bits.{from_bit}
 use Rattle.zk_model.specs.Bytes.{xor_bytes, xor_all}
 use Rattle.ggm_tree.proofs.Apart.{nothing, told_apart, fold_long}

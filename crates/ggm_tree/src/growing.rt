@@ -3,6 +3,7 @@ ghost use Rattle.std.specs.Prelude.{◌≡◌, ◌*◌, ◌^◌, ◌≤◌, leng
 ghost use Rattle.zk_model.specs.Tree.{tree_leaves};
 ghost use Rattle.ggm_tree.specs.Rows.{IsRow, AreChildren, side_sums_of};
 ghost use Rattle.ggm_tree.specs.Sums.{tree_sums};
+ghost use Rattle.zk_model.specs.declared.limits.TheConstants.{MAX_HEIGHT};
 
 use crate::row::{double, leaf_values, side_sum, width};
 use mersenne_field::Fe;
@@ -41,7 +42,7 @@ pub struct GrownTree {
 /// Only where memory runs out.
 pub fn expand(alloc: Global, seed: &[u8; 16], height: u32) -> Result<Vec<Fe>, AllocError>
     requires least { 1 ≤ height }
-    requires most { height ≤ 16 }
+    requires at_most { height ≤ MAX_HEIGHT }
     ensures leaves { IfOk result (λ leaves. leaves.items ≡ tree_leaves seed.now height) }
     ensures length { IfOk result (λ leaves. vec_len leaves ≡ 2 ^ height) }
 {
@@ -61,7 +62,7 @@ pub fn expand(alloc: Global, seed: &[u8; 16], height: u32) -> Result<Vec<Fe>, Al
 /// Only where memory runs out.
 pub fn level_sums(alloc: Global, seed: &[u8; 16], height: u32) -> Result<Vec<LevelSums>, AllocError>
     requires least { 1 ≤ height }
-    requires most { height ≤ 16 }
+    requires at_most { height ≤ MAX_HEIGHT }
     ensures sums { IfOk result (λ sums. sums.items ≡ tree_sums seed.now height) }
     ensures length { IfOk result (λ sums. vec_len sums ≡ height) }
 {
@@ -77,7 +78,7 @@ pub fn level_sums(alloc: Global, seed: &[u8; 16], height: u32) -> Result<Vec<Lev
 /// Only where memory runs out.
 pub fn grow(alloc: Global, seed: &[u8; 16], height: u32) -> Result<GrownTree, AllocError>
     requires least { 1 ≤ height }
-    requires most { height ≤ 16 }
+    requires at_most { height ≤ MAX_HEIGHT }
     ensures leaves { IfOk result (λ tree. tree.leaves.items ≡ tree_leaves seed.now height) }
     ensures sums { IfOk result (λ tree. tree.sums.items ≡ tree_sums seed.now height) }
     ensures leaf_count { IfOk result (λ tree. vec_len tree.leaves ≡ 2 ^ height) }
@@ -100,7 +101,7 @@ struct Summed {
 
 /// The last row, with the sums that were taken of each row on the way.
 fn grow_summed(alloc: Global, seed: &[u8; 16], height: u32) -> Result<Summed, AllocError>
-    requires { height ≤ 16 }
+    requires { height ≤ MAX_HEIGHT }
     ensures row { IfOk result (λ grown. IsRow seed.now height grown.row.items) }
     ensures whole { IfOk result (λ grown. vec_len grown.row ≡ 2 ^ height) }
     ensures sums { IfOk result (λ grown. grown.sums.items ≡ tree_sums seed.now height) }

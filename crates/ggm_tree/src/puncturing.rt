@@ -3,6 +3,7 @@ ghost use Rattle.std.specs.Prelude.{◌≡◌, ◌*◌, ◌^◌, ◌<◌, ◌≤
 ghost use Rattle.zk_model.specs.Bytes.{AreBytes};
 ghost use Rattle.zk_model.specs.Tree.{IsPunctured};
 ghost use Rattle.ggm_tree.specs.Rows.{AreChildrenBut, IsRepaired};
+ghost use Rattle.zk_model.specs.declared.limits.TheConstants.{MAX_HEIGHT};
 
 use crate::row::{add, double, leaf_values, side_sum, width};
 use mersenne_field::Fe;
@@ -23,7 +24,7 @@ pub fn puncture(
     sums: &[[u8; 16]],
 ) -> Result<Vec<Fe>, AllocError>
     requires least { 1 ≤ height }
-    requires most { height ≤ 16 }
+    requires at_most { height ≤ MAX_HEIGHT }
     requires place { missing < 2 ^ height }
     requires count { length sums.now ≡ height }
     ensures leaves { IfOk result (λ leaves. IsPunctured height missing sums.now leaves.items) }

@@ -42,25 +42,25 @@ has_contains (d ∷ ds) s (inr h) = let i = has_contains ds s h in let l = i.1 i
 
 pub is_consistent : (m : Machine) → Inv m → IsConsistent m
 is_consistent m v = record {
+  drawn_apart = chain_apart m.base m.next m.drawn v.era.chain;
   shown_durable = v.ceilings.low;
   durable_total = v.ceilings.within;
   moments = v.ceilings.last;
   no_put = v.ceilings.down;
+  drawn_within = within_from m.base m.base m.next m.drawn (omega arith) v.era.chain;
   ceiling_above = v.ceilings.rises;
   ceiling_total = v.ceilings.fits;
   durable_before = v.ceilings.before;
   durable_after = v.ceilings.done;
-  drawn_apart = chain_apart m.base m.next m.drawn v.era.chain;
-  drawn_within = within_from m.base m.base m.next m.drawn (omega arith) v.era.chain;
-  drawn_passes = v.era.made;
   base_next = chain_le m.base m.next m.drawn v.era.chain;
   base_shown = v.era.based;
+  drawn_passes = v.era.made;
   all_known = v.era.all_known;
   known_shown = v.era.fitting;
+  spent_durable = ends_weaker m.shown (durable m) m.spent v.ceilings.low v.grants.ends;
   spent_apart = v.grants.apart;
   spent_units = v.grants.units;
   spent_shown = v.grants.ends;
-  spent_durable = ends_weaker m.shown (durable m) m.spent v.ceilings.low v.grants.ends;
   spent_drawn = λ k d l. ⊎_elim (λ h. inl (has_contains m.drawn _ h)) (λ x. inr x) (v.grants.from k d l);
   claims_apart = v.claimed.apart;
   claims_within = v.claimed.within;

@@ -8,6 +8,7 @@ use Rattle.lease_core.specs.declared.event.Moment.{Moment}
 use Rattle.lease_core.specs.declared.event.Moment.TheVariants.{Body, BodySync, Gate, GateSync}
 use Rattle.lease_core.specs.declared.event.Event.{Event}
 use Rattle.lease_core.specs.declared.event.Event.TheVariants.{Begin, Draw, Look, Put, Raise, Spend, Claim, Crash}
+use Rattle.zk_model.specs.declared.limits.TheConstants.{MAX_UNITS}
 
 -- How many units and passes there are; the ceilings in the journal's slots; whether the store is up; where its
 -- era began, the unit after the last one drawn, and the ceiling shown; how many moments of a put are over (0 for
@@ -99,7 +100,7 @@ abbrev pub is_possible : Machine → Event → Bool
 is_possible m Begin = not m.up
 is_possible m (Draw pass n) =
     m.up
-    && (nat_lt pass m.passes && ((nat_le 1 n && nat_le n 4096) && not (is_passed m.total pass m.drawn)))
+    && (nat_lt pass m.passes && ((nat_le 1 n && nat_le n MAX_UNITS) && not (is_passed m.total pass m.drawn)))
 is_possible m (Look pass) = m.up && nat_lt pass m.passes
 is_possible m (Put moment) = m.up && may_put m moment
 is_possible m Raise = m.up && nat_eq m.stage 4

@@ -22,7 +22,7 @@ pub fn reached_is_consistent()
 
 fn take_events(state: &mut State, events: &[Event]) -> Result<bool, AllocError>
     ensures took { IfOk result (λ b. Took state.old events.now b state.new) }
-    ensures some { (k : ℕ) × TookFirst state.old events.now k state.new }
+    ensures taken { (k : ℕ) × TookFirst state.old events.now k state.new }
 {
     for event in events {
         if !state.step(*event)? {
@@ -42,7 +42,7 @@ pub fn run(state: &mut State, events: &[Event]) -> Result<bool, AllocError>
     ensures refused { OnErr result ((k : ℕ) × TookFirst state.old events.now k state.new) }
     ensures safe { IsReached state.old → IsReached state.new × IsSafe state.new }
     ensures consistent { IsReached state.old → IsConsistent state.new }
-    ensures later { IsReached state.old → EndBy (durable state.new) state.old.spent }
+    ensures stays_durable { IsReached state.old → EndBy (durable state.new) state.old.spent }
 {
     take_events(state, events)
 }

@@ -6,7 +6,7 @@ use crate::event::{Drawn, Event};
 use crate::lists::{has, is_passed, last_drawn, last_of, meets_any};
 use crate::state::State;
 use std::alloc::AllocError;
-use zk_model::Span;
+use zk_model::{MAX_UNITS, Span};
 
 impl State {
     /// An era begins at the durable ceiling.
@@ -32,7 +32,7 @@ impl State {
         ensures taken { IfOk result (λ b. IsTaken self.old (Event.Draw pass n) b self.new) }
         ensures refused { OnErr result (self.new ≡ self.old) }
     {
-        if !self.up || pass >= self.passes || n < 1 || n > 4096 {
+        if !self.up || pass >= self.passes || n < 1 || u64::from(n) > MAX_UNITS {
             return Ok(false);
         }
         if is_passed(self.total, pass, &self.drawn) {

@@ -4,6 +4,7 @@ ghost use Rattle.lease_core.specs.Machine.{machine_at_first, durable};
 ghost use Rattle.lease_core.specs.Spans.{EndBy};
 ghost use Rattle.lease_core.specs.Kept.{IsReached, IsSafe, IsTaken};
 ghost use Rattle.lease_core.specs.Consistent.{IsConsistent};
+ghost use Rattle.zk_model.specs.declared.limits.TheConstants.{MAX_PASSES, MAX_STORE_UNITS};
 
 use crate::event::{Drawn, Event};
 use std::alloc::{AllocError, Global};
@@ -61,8 +62,8 @@ impl State {
     ///
     /// Only where memory runs out.
     pub fn new(alloc: Global, total: u64, passes: u32) -> Result<State, AllocError>
-        requires total { total ≤ 2 ^ 40 }
-        requires passes { passes ≤ 1024 }
+        requires total { total ≤ MAX_STORE_UNITS }
+        requires passes { passes ≤ MAX_PASSES }
         ensures first { IfOk result (λ s. s ≡ machine_at_first total passes) }
         ensures reached { IfOk result (λ s. IsReached s) }
     {
@@ -94,7 +95,7 @@ impl State {
         ensures refused { OnErr result (self.new ≡ self.old) }
         ensures safe { IsReached self.old → IsReached self.new × IsSafe self.new }
         ensures consistent { IsReached self.old → IsConsistent self.new }
-        ensures later { IsReached self.old → EndBy (durable self.new) self.old.spent }
+        ensures stays_durable { IsReached self.old → EndBy (durable self.new) self.old.spent }
     {
         self.take(event)
     }

@@ -6,6 +6,19 @@ use zk_model::Span;
 
 const OPEN: u8 = 0x5A;
 
+/// The moments of a put after its body.
+const BODY_SYNC: Event = Event::Put {
+    moment: Moment::BodySync,
+};
+
+const GATE: Event = Event::Put {
+    moment: Moment::Gate,
+};
+
+const GATE_SYNC: Event = Event::Put {
+    moment: Moment::GateSync,
+};
+
 fn span(start: u64, end: u64) -> Span {
     Span { start, end }
 }
@@ -17,15 +30,9 @@ const LEASE: [Event; 9] = [
     Event::Put {
         moment: Moment::Body { pass: 0 },
     },
-    Event::Put {
-        moment: Moment::BodySync,
-    },
-    Event::Put {
-        moment: Moment::Gate,
-    },
-    Event::Put {
-        moment: Moment::GateSync,
-    },
+    BODY_SYNC,
+    GATE,
+    GATE_SYNC,
     Event::Raise,
     Event::Look { pass: 0 },
     Event::Spend {
@@ -58,15 +65,9 @@ fn leases_next(state: &mut State, granted: Span) -> Result<bool, AllocError> {
         Event::Put {
             moment: Moment::Body { pass: 1 },
         },
-        Event::Put {
-            moment: Moment::BodySync,
-        },
-        Event::Put {
-            moment: Moment::Gate,
-        },
-        Event::Put {
-            moment: Moment::GateSync,
-        },
+        BODY_SYNC,
+        GATE,
+        GATE_SYNC,
         Event::Raise,
         grant,
     ];

@@ -32,7 +32,7 @@ torn_again at n a b c first second = record {
   kept = λ place inside outside. second.kept place (omega (arith, inside, first.least)) outside ∙ first.kept place inside outside;
 }
 
--- a torn write behind the header keeps the header
+-- a torn write after the header keeps the header
 pub torn_same : (at n : ℕ) (old new : List ℕ) → 64 ≤ at → 64 ≤ length old → IsTorn at n old new → SameWhere IsInHeader old new
 torn_same at n old new behind whole torn = record {
   longer = torn.least;

@@ -8,3 +8,4 @@ pub mod Reading
 pub mod Scanning
 pub mod Headers
 pub mod Newly
+pub mod Tidiness

@@ -70,7 +70,7 @@ module _ (at : ℕ) where
     pub still_open : (image : List ℕ) → IsLike slot c image → (j : ℕ) → j < slot → IsOpen at image j
     still_open image like j below = like.gates j (omega (arith, below)) ∙ opened j below
 
-    -- none is open behind
+    -- none is open after
     none_behind : (image : List ℕ) → IsLike slot c image → (j : ℕ) → slot < j → j < slots → ¬ (IsOpen at image j)
     none_behind image like j behind inside is_open = closed (tidy slot j behind inside (sym (like.gates j (omega (arith, behind))) ∙ is_open))
 

@@ -1,12 +1,14 @@
 -- The two steps of a put, over a disk.
-use Rattle.std.proofs.Common.{◌≡◌, ◌<◌, ◌≤◌, ◌+◌, ◌*◌, ◌^◌, length, inl, ⊎_elim, arith, ◌++◌, ◌∷◌, [], ℕ, List, Option, Some, None, IfSome, refl, sym, ◌∙◌, subst}
+use Rattle.std.proofs.Common.{◌≡◌, ◌<◌, ◌≤◌, ◌+◌, ◌*◌, ◌^◌, length, inl, ⊎_elim, arith, ◌++◌, ◌∷◌, [], ℕ, List, Option, Some, None, IfSome, refl, ap, sym, ◌∙◌, subst}
 use Rattle.std.specs.Option.{option_map}
-use Rattle.zk_port.specs.Images.{IsTorn, StepsBy}
+use Rattle.zk_port.specs.Disks.{DiskState, LeavesOnly}
+use Rattle.zk_port.specs.Images.{IsTorn, Only, StepsBy, written_at}
 use Rattle.zk_model.specs.Journals.{IsOpen, IsOldOrNew, IsTidy, Recovers, first_bodies}
 use Rattle.lease_journal.specs.Causes.{KeptAt}
 use Rattle.std.proofs.lemmas.Bool.{cases_lt}
+use Rattle.lease_journal.proofs.Moments.{leaves_also, then_leaves}
 use Rattle.lease_journal.proofs.Torn.{before_end}
-use Rattle.lease_journal.specs.Steps.{TornFrom, IsReady, body_written, slot_written}
+use Rattle.lease_journal.specs.Steps.{TornFrom, IsReady, body_bytes, body_written, slot_written}
 use Rattle.lease_journal.proofs.Putting.{length-first, body_step, gate_step, gate_new, gate_tidy, written_body, written_whole, written_torn, opened_torn, opened_open}
 
 -- the content that is told has P
@@ -36,6 +38,22 @@ module _ (at : ℕ) where
     pub torn_second : (later : List ℕ → Type 0) → ((image : List ℕ) → later image → image ≡ body_written at slot body c) → (image : List ℕ)
         → TornFrom (at + 32 * slot + 31) 1 later image → Q image
     torn_second later only image torn = gate_torn image (subst (λ old. IsTorn (at + 32 * slot + 31) 1 old image) (only torn.0 torn.1) torn.2)
+
+    -- both stores leave only what either step does
+    pub stored_moments : (spelled : List ℕ) (old middle new : DiskState) → old.content ≡ Some c → spelled ≡ body_bytes body
+        → LeavesOnly old middle (TornFrom (at + 32 * slot) (length spelled) images)
+        → middle.content ≡ option_map (written_at (at + 32 * slot) spelled) old.content → Only middle.content middle.images
+        → LeavesOnly middle new (TornFrom (at + 32 * slot + 31) 1 middle.images) → LeavesOnly old new Q
+    stored_moments spelled old middle new is bytes_are first written durable second = then_leaves begun ended
+      where
+        begun : LeavesOnly old middle Q
+        begun = leaves_also (subst (λ n. LeavesOnly old middle (TornFrom (at + 32 * slot) n images)) (ap length bytes_are) first) torn_first
+
+        body_there : middle.content ≡ Some d
+        body_there = written ∙ ap (option_map (written_at (at + 32 * slot) spelled)) is ∙ ap (λ b. Some (written_at (at + 32 * slot) b c)) bytes_are
+
+        ended : LeavesOnly middle new Q
+        ended = leaves_also second (torn_second middle.images (subst (λ o. Only o middle.images) body_there durable))
 
     -- what is read once the first step is refused
     pub read_first : (content new : Option (List ℕ)) → content ≡ Some c → StepsBy (IsTorn (at + 32 * slot) 16) content new → IfSome new Q

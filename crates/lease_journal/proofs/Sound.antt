@@ -24,7 +24,7 @@ before_more bodies body count size =
 pub none_sound : (kind : JournalKind) (total : ℕ) → AreSound kind total []
 none_sound kind total place below = absurd (omega (arith, below))
 
--- one body more, which keeps the rule behind the last
+-- one body more, which keeps the rule after the last
 pub sound_more : (kind : JournalKind) (total : ℕ) (bodies : List (ℕ × ℕ)) (body : ℕ × ℕ) → AreSound kind total bodies
     → keeps_rule kind total (body_before bodies (length bodies)).0 body ≡ true → AreSound kind total (bodies ++ body ∷ [])
 sound_more kind total bodies body sound keeps place below = ⊎_elim

@@ -18,7 +18,7 @@ past_end (b ∷ bytes) (suc place) past = past_end bytes place (omega arith)
 pub before_end : (bytes : List ℕ) (place byte : ℕ) → get_or bytes place 0 ≡ byte → 0 < byte → place < length bytes
 before_end bytes place byte is some = ⊎_elim (λ inside. inside) (λ past. absurd (omega (arith, some, is, past_end bytes place past))) (cases_lt place (length bytes))
 
--- a torn write leaves each byte behind its range
+-- a torn write leaves each byte after its range
 pub behind_torn : (at n : ℕ) (old new : List ℕ) → IsTorn at n old new → (place : ℕ) → at + n ≤ place → get_or new place 0 ≡ get_or old place 0
 behind_torn at n old new torn place behind = ⊎_elim
     (λ inside. torn.kept place inside (inr behind))

@@ -8,6 +8,7 @@ use Rattle.lease_journal.specs.declared.fault.StartFault.TheVariants as start
 use Rattle.zk_model.specs.Journals.{IsTidy, Recovers, IsOpen, AreUsed, IsFirstBad, IsCut, HasHeader, IsFirstWrong, body_at, last_body, slots_at}
 use Rattle.lease_journal.specs.declared.fault.JournalFault.{JournalFault}
 use Rattle.lease_journal.specs.declared.fault.JournalFault.TheVariants.{Device, Broken, Full}
+use Rattle.zk_model.specs.declared.limits.TheConstants.{MAX_SLOTS}
 
 -- a tidy journal of these bodies
 pub record KeptAt (at slots : ℕ) (bodies : List (ℕ × ℕ)) (bytes : List ℕ) : Type 0 where
@@ -88,8 +89,8 @@ pub record IsOpened (kind : JournalKind) (id : List ℕ) (total slots used : ℕ
 
 -- a number of slots that a header may say, where the content is told
 abbrev pub SaysSlots : Option (List ℕ) → ℕ → Type 0
-SaysSlots None slots = slots ≤ 2 ^ 28
-SaysSlots (Some bytes) slots = (slots ≡ slots_at bytes) × (slots ≤ 2 ^ 28)
+SaysSlots None slots = slots ≤ MAX_SLOTS
+SaysSlots (Some bytes) slots = (slots ≡ slots_at bytes) × (slots ≤ MAX_SLOTS)
 
 -- disks of this kind tell their content
 abbrev pub Tells : {D : Type 0} → (D → DiskState) → Type 0

@@ -1,7 +1,7 @@
 -- What calls keep of a journal.
 use Rattle.std.specs.Prelude.{◌≡◌, ℕ, ◌+◌, ◌<◌, List, length, true, IfSome}
 use Rattle.zk_port.specs.Disks.{DiskState, LeavesOnly}
-use Rattle.zk_port.specs.Images.{Follows, IsOutside, IsTorn, StepsBy}
+use Rattle.zk_port.specs.Images.{ImagesFollow, IsOutside, IsTorn, StepsBy}
 use Rattle.zk_model.specs.declared.JournalKind.{JournalKind}
 use Rattle.zk_model.specs.Journals.{AreSound, Recovers, Stands, are_slots, blank_journal_bytes}
 use Rattle.lease_journal.specs.Causes.{StartCause}
@@ -14,7 +14,7 @@ pub record ChangesAt (at n : ℕ) (old new : DiskState) : Type 0 where
   pub chosen : new.chosen ≡ old.chosen
   pub room : new.room ≡ old.room
   pub content : StepsBy (IsTorn at n) old.content new.content
-  pub crash : Follows (IsTorn at n) old.images new.images
+  pub crash : ImagesFollow (IsTorn at n) old.images new.images
   pub any_moment : LeavesOnly old new (TornFrom at n old.images)
 
 -- what the content has, and what each image has, stays so: of the content, and of each image at any moment

@@ -2,6 +2,7 @@
 use Rattle.std.specs.Prelude.{◌≡◌, ℕ, ◌≤◌, ◌^◌, List, [], length}
 use Rattle.zk_model.specs.declared.JournalKind.{JournalKind}
 use Rattle.zk_model.specs.Journals.{IsTidy, Recovers, blank_journal_bytes, slots_at}
+use Rattle.zk_model.specs.declared.limits.TheConstants.{MAX_SLOTS}
 
 -- the header says so many slots; no slot is open, so that it is tidy and nothing is recovered
 pub record SaysNothing (slots : ℕ) (bytes : List ℕ) : Type 0 where
@@ -13,4 +14,4 @@ pub record SaysNothing (slots : ℕ) (bytes : List ℕ) : Type 0 where
 abbrev pub BlankSaysNothing : Type 0
 BlankSaysNothing =
     (kind : JournalKind) (id : List ℕ) (total slots : ℕ)
-    → length id ≡ 32 → slots ≤ 2 ^ 28 → SaysNothing slots (blank_journal_bytes kind id total slots)
+    → length id ≡ 32 → slots ≤ MAX_SLOTS → SaysNothing slots (blank_journal_bytes kind id total slots)

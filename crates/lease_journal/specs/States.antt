@@ -3,6 +3,7 @@ use Rattle.std.specs.Prelude.{◌≡◌, ℕ, ◌+◌, ◌*◌, ◌^◌, ◌<◌
 use Rattle.std.specs.Coded.{Coded, code_by, coded×, coded_ℕ}
 use Rattle.zk_port.specs.Disks.{DiskState}
 use Rattle.zk_model.specs.Journals.{IsOpen}
+use Rattle.zk_model.specs.declared.limits.TheConstants.{MAX_SLOTS}
 
 -- An open journal: its disk, how many slots there are and are in use, the body in the last of these, or zeros, and the disk's count
 -- of faults at the first call of it that failed, or 0
@@ -23,7 +24,7 @@ state_code {D} disk =
 
 -- what an open journal keeps; of the content while no call of the disk has failed
 pub record IsJournal (disk : DiskState) (slots used fault : ℕ) : Type 0 where
-  pub few : slots ≤ 2 ^ 28
+  pub few : slots ≤ MAX_SLOTS
   pub within : used ≤ slots
   pub has_room : (size : ℕ) → disk.room ≡ Some size → 64 + 32 * slots ≤ size
   pub opened : (bytes : List ℕ) → fault ≡ 0 → disk.content ≡ Some bytes → (slot : ℕ) → slot < used → IsOpen 64 bytes slot

@@ -3,20 +3,21 @@ ghost use Rattle.std.specs.Prelude.{◌≡◌, ◌<◌, ◌≤◌, ◌+◌, ◌*
 ghost use Rattle.std.specs.Option.{option_map};
 ghost use Rattle.zk_port.specs.Counts.{HasDiskCause};
 ghost use Rattle.zk_port.specs.Disks.{LeavesOnly, Stays};
-ghost use Rattle.zk_port.specs.Images.{HasRoom, IsTorn, Only, StepsBy};
+ghost use Rattle.zk_port.specs.Images.{HasDiskRoom, IsTorn, Only, StepsBy};
 ghost use Rattle.zk_model.specs.Journals.{AreUsed, IsOldOrNew, SameWhere, body_at, first_bodies, keeps_rule, number_at};
 ghost use Rattle.lease_journal.specs.Causes.{HasStartCause, SlotSays, SlotCause, IsScanned, ScanCause};
 ghost use Rattle.lease_journal.specs.Keeps.{ChangesAt, IsSpared, Keeps};
 ghost use Rattle.lease_journal.specs.Scans.{next_bad, HasRead};
 ghost use Rattle.lease_journal.specs.Steps.{TornFrom, IsReady, slot_written, body_bytes};
 ghost use Rattle.lease_journal.specs.declared.fault.StartFault.TheVariants as start;
+ghost use Rattle.zk_model.specs.declared.limits.TheConstants.{MAX_SLOTS};
 
 use crate::fault::StartFault;
 use crate::storing::{store_at, word_at};
 use zk_model::JournalKind;
 use zk_port::{Disk, Failed};
 
-/// The byte behind a body that counts.
+/// The byte after a body that counts.
 const OPEN: u8 = 0x5A;
 
 /// What stands in the slots: how many are in use, the body in the last of them, and the first whose body breaks the
@@ -28,7 +29,7 @@ pub struct Scan {
     pub bad: Option<u64>,
 }
 
-/// Whether a body is as its kind asks for, behind one whose first number is `before`.
+/// Whether a body is as its kind asks for, after one whose first number is `before`.
 fn keeps_rule(kind: JournalKind, total: u64, before: u64, body: (u64, u64)) -> bool
     ensures { result ≡ keeps_rule kind total before body }
 {
@@ -61,7 +62,7 @@ fn read_slot<B: Disk>(
     slots: u64,
 ) -> Result<Option<(u64, u64)>, StartFault>
     requires place { at ≤ 2 ^ 40 }
-    requires few { slots ≤ 2 ^ 28 }
+    requires bounded { slots ≤ MAX_SLOTS }
     requires within { slot < slots }
     requires starts { (bytes : List ℕ) → (B.state disk.old).content ≡ Some bytes
         → at + 32 * slot ≤ length bytes }
@@ -95,7 +96,7 @@ pub fn read_slots<B: Disk>(
     slots: u64,
 ) -> Result<Scan, StartFault>
     requires place { at ≤ 2 ^ 40 }
-    requires few { slots ≤ 2 ^ 28 }
+    requires bounded { slots ≤ MAX_SLOTS }
     requires starts { (bytes : List ℕ) → (B.state disk.old).content ≡ Some bytes → at ≤ length bytes }
     ensures scanned { IfOk result (λ scan. (bytes : List ℕ) → (B.state disk.old).content ≡ Some bytes
         → IsScanned kind total at scan.used scan.last scan.bad bytes) }
@@ -129,8 +130,8 @@ pub fn read_slots<B: Disk>(
 /// Writes a body into a slot, syncs, opens the slot, and syncs.
 pub fn store_slot<B: Disk>(disk: &mut B, at: u64, slot: u64, a: u64, b: u64) -> Result<(), Failed>
     requires place { at ≤ 2 ^ 40 }
-    requires few { slot < 2 ^ 28 }
-    requires fits { HasRoom (at + 32 * slot + 32) (B.state disk.old).room }
+    requires bounded { slot < MAX_SLOTS }
+    requires fits { HasDiskRoom (at + 32 * slot + 32) (B.state disk.old).room }
     ensures written { OnOk result ((B.state disk.new).content
         ≡ option_map (slot_written at slot (a, b)) (B.state disk.old).content) }
     ensures durable { OnOk result (Only (B.state disk.new).content (B.state disk.new).images) }
@@ -177,7 +178,7 @@ fn body_of(bytes: &[u8; 16]) -> (u64, u64)
 /// Where the disk failed.
 pub fn read_body<B: Disk>(disk: &mut B, at: u64, slot: u64) -> Result<(u64, u64), Failed>
     requires place { at ≤ 2 ^ 40 }
-    requires few { slot < 2 ^ 28 }
+    requires bounded { slot < MAX_SLOTS }
     ensures body { IfOk result (λ body. (bytes : List ℕ) → (B.state disk.old).content ≡ Some bytes
         → at + 32 * slot + 16 ≤ length bytes → body ≡ body_at at bytes slot) }
     ensures stays { Stays (B.state disk.old) (B.state disk.new) }

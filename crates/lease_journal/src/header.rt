@@ -5,12 +5,13 @@ ghost use Rattle.zk_model.specs.Journals.{HasHeader, are_slots, ceiling_slots, i
 ghost use Rattle.lease_journal.specs.Causes.{HasStartCause, HeaderCause};
 ghost use Rattle.lease_journal.specs.Scans.{IsFirstWrongOf};
 ghost use Rattle.lease_journal.specs.declared.fault.StartFault.TheVariants as start;
+ghost use Rattle.zk_model.specs.declared.limits.TheConstants.{MAX_SLOTS};
 
 use crate::ceiling_slots;
 use crate::fault::StartFault;
 use crate::storing::word_at;
 use std::alloc::AllocError;
-use zk_model::JournalKind;
+use zk_model::{JournalKind, MAX_SLOTS};
 use zk_port::Disk;
 
 /// Appends the first 64 bytes of a journal.
@@ -45,7 +46,7 @@ fn journal_code(kind: JournalKind) -> u8
 fn are_slots(kind: JournalKind, total: u64, slots: u64) -> bool
     ensures { result ≡ are_slots kind total slots }
 {
-    let fits = 1 <= slots && slots <= 1 << 28;
+    let fits = 1 <= slots && slots <= MAX_SLOTS;
     match kind {
         JournalKind::Claims => fits,
         JournalKind::Ceilings => fits && slots == ceiling_slots(total),
@@ -100,7 +101,7 @@ pub fn read_header<B: Disk>(
 ) -> Result<u64, StartFault>
     ensures header { IfOk result (λ slots. (bytes : List ℕ) → (B.state disk.old).content ≡ Some bytes
         → (slots ≡ slots_at bytes) × HasHeader kind id.now total bytes) }
-    ensures few { IfOk result (λ slots. slots ≤ 2 ^ 28) }
+    ensures bounded { IfOk result (λ slots. slots ≤ MAX_SLOTS) }
     ensures unread { IfErr result (λ e. (bad : ℕ) → e ≡ start.BadBody bad → ⊥) }
     ensures fits { IfOk result (λ slots. are_slots kind total slots ≡ true) }
     ensures cause { IfErr result (λ e. (bytes : List ℕ) → (B.state disk.old).content ≡ Some bytes

@@ -10,6 +10,7 @@ ghost use Rattle.lease_journal.specs.Steps.{slot_written};
 ghost use Rattle.lease_journal.specs.Scans.{HasRead};
 ghost use Rattle.lease_journal.specs.Keeps.{ChangesAt, IsSpared, Keeps};
 ghost use Rattle.lease_journal.specs.Causes.{PutCause, BodyCause, KeptAt, SaysSlots, IsOpened, StartCause};
+ghost use Rattle.zk_model.specs.declared.limits.TheConstants.{MAX_SLOTS};
 
 use crate::area::{read_body, store_slot};
 use crate::fault::{JournalFault, StartFault};
@@ -78,10 +79,10 @@ impl<B: Disk> Journal<B> {
         ensures faults { IfOk result (λ journal. (B.state journal.disk).faults ≡ (B.state disk).faults) }
         ensures cause { IfErr result (λ e. (bytes : List ℕ) → (B.state disk).content ≡ Some bytes
             → StartCause kind id.now total bytes e.0) }
-        ensures bad { IfErr result (λ e. (slot : ℕ) → e.0 ≡ start.BadBody slot → slot < 2 ^ 28) }
+        ensures bad { IfErr result (λ e. (slot : ℕ) → e.0 ≡ start.BadBody slot → slot < MAX_SLOTS) }
         ensures device { IfErr result (λ e. e.0 ≡ start.Device → Rose (B.state disk).faults
             (B.state e.1).faults) }
-        ensures later { IfErr result (λ e. (B.state disk).faults ≤ (B.state e.1).faults) }
+        ensures faults_grow { IfErr result (λ e. (B.state disk).faults ≤ (B.state e.1).faults) }
         ensures stays_refused { IfErr result (λ e.
             Stays (B.state disk) (B.state e.1)) }
     {
@@ -116,7 +117,7 @@ impl<B: Disk> Journal<B> {
     /// How many slots there are.
     pub fn slots(&self) -> u64
         ensures slots { result ≡ self.now.slots }
-        ensures few { result ≤ 2 ^ 28 }
+        ensures bounded { result ≤ MAX_SLOTS }
     {
         self.slots
     }
@@ -135,9 +136,9 @@ impl<B: Disk> Journal<B> {
         self.disk
     }
 
-    /// Puts a body behind the others: writes it, syncs, opens its slot, and syncs. It writes 16 bytes and the gate.
+    /// Puts a body after the others: writes it, syncs, opens its slot, and syncs. It writes 16 bytes and the gate.
     ///
-    /// A file that has its full length keeps it. A start takes one that ends behind its first closed slot too; a put then
+    /// A file that has its full length keeps it. A start takes one that ends after its first closed slot too; a put then
     /// makes it longer, and as long as its slot needs.
     ///
     /// # Errors
@@ -178,7 +179,7 @@ impl<B: Disk> Journal<B> {
         ensures stands { (kind : JournalKind) (id : List ℕ) (total : ℕ)
             → Keeps (Stands kind id total self.old.slots) (B.state self.old.disk) (B.state self.new.disk) }
         ensures faults { OnOk result ((B.state self.new.disk).faults ≡ (B.state self.old.disk).faults) }
-        ensures later { (B.state self.old.disk).faults ≤ (B.state self.new.disk).faults }
+        ensures faults_grow { (B.state self.old.disk).faults ≤ (B.state self.new.disk).faults }
         ensures cause { IfErr result (PutCause self.old.slots self.old.used self.old.fault self.new.fault
             (B.state self.old.disk).faults (B.state self.new.disk).faults) }
         ensures unserved { OnErr result (self.new.fault ≡ self.old.fault → self.new.disk ≡ self.old.disk) }
@@ -215,7 +216,7 @@ impl<B: Disk> Journal<B> {
         ensures slots { self.new.slots ≡ self.old.slots }
         ensures fault_kept { OnOk result (self.new.fault ≡ self.old.fault) }
         ensures faults { OnOk result ((B.state self.new.disk).faults ≡ (B.state self.old.disk).faults) }
-        ensures later { (B.state self.old.disk).faults ≤ (B.state self.new.disk).faults }
+        ensures faults_grow { (B.state self.old.disk).faults ≤ (B.state self.new.disk).faults }
         ensures cause { IfErr result (BodyCause self.old.fault self.new.fault
             (B.state self.old.disk).faults (B.state self.new.disk).faults) }
         ensures unserved { OnErr result (self.new.fault ≡ self.old.fault → self.new.disk ≡ self.old.disk) }

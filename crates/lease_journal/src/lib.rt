@@ -14,6 +14,7 @@ ghost use Rattle.std.specs.Prelude.{◌≡◌, ◌^◌, ◌≤◌, ◌++◌, IfO
 ghost use Rattle.zk_model.specs.Journals.{blank_journal_bytes, ceiling_slots, claim_slots};
 ghost use Rattle.lease_journal.specs.Keeps.{BlankStands, StartsAgain};
 ghost use Rattle.lease_journal.specs.New.{BlankSaysNothing};
+ghost use Rattle.zk_model.specs.declared.limits.TheConstants.{MAX_SLOTS};
 
 mod area;
 mod fault;
@@ -27,8 +28,9 @@ use header::push_header;
 pub use journal::Journal;
 use std::alloc::{AllocError, Global};
 pub use zk_model::JournalKind;
+use zk_model::MAX_CLAIM_SLOTS;
 
-/// A new journal of this many slots, in which all bytes behind the header are 0.
+/// A new journal of this many slots, in which all bytes after the header are 0.
 ///
 /// # Errors
 ///
@@ -40,7 +42,7 @@ pub fn blank(
     total: u64,
     slots: u64,
 ) -> Result<Vec<u8>, AllocError>
-    requires { slots ≤ 2 ^ 28 }
+    requires { slots ≤ MAX_SLOTS }
     ensures { IfOk result (λ bytes. bytes.items ≡ blank_journal_bytes kind id.now total slots) }
 {
     let length = 64 + 32 * slots as usize;
@@ -76,7 +78,7 @@ pub fn ceiling_slots(total: u64) -> u64
 pub fn claim_slots(total: u64) -> u64
     ensures { result ≡ claim_slots total }
 {
-    total.min(4096)
+    total.min(MAX_CLAIM_SLOTS)
 }
 
 #[cfg(test)]

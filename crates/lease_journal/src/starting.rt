@@ -6,6 +6,7 @@ ghost use Rattle.zk_model.specs.Journals.{are_slots};
 ghost use Rattle.lease_journal.specs.Causes.{HasStartCause, IsOpened, StartCause};
 ghost use Rattle.lease_journal.specs.Scans.{HasRead};
 ghost use Rattle.lease_journal.specs.declared.fault.StartFault.TheVariants as start;
+ghost use Rattle.zk_model.specs.declared.limits.TheConstants.{MAX_SLOTS};
 
 use crate::area::{Scan, read_slots};
 use crate::fault::StartFault;
@@ -33,14 +34,14 @@ pub fn open<B: Disk>(
 ) -> Result<Opened, StartFault>
     ensures opened { IfOk result (λ o. (bytes : List ℕ) → (B.state disk.old).content ≡ Some bytes
         → IsOpened kind id.now total o.slots o.used o.last bytes) }
-    ensures few { IfOk result (λ o. o.slots ≤ 2 ^ 28) }
+    ensures bounded { IfOk result (λ o. o.slots ≤ MAX_SLOTS) }
     ensures within { IfOk result (λ o. o.used ≤ o.slots) }
     ensures fits { IfOk result (λ o. are_slots kind total o.slots ≡ true) }
     ensures read { IfOk result (λ o. HasRead kind total o.used o.last) }
     ensures durable { OnOk result (Only (B.state disk.new).content (B.state disk.new).images) }
     ensures cause { IfErr result (λ e. (bytes : List ℕ) → (B.state disk.old).content ≡ Some bytes
         → StartCause kind id.now total bytes e) }
-    ensures bad { IfErr result (λ e. (slot : ℕ) → e ≡ start.BadBody slot → slot < 2 ^ 28) }
+    ensures bad { IfErr result (λ e. (slot : ℕ) → e ≡ start.BadBody slot → slot < MAX_SLOTS) }
     ensures stays { Stays (B.state disk.old) (B.state disk.new) }
     ensures count { HasStartCause (B.state disk.old).faults (B.state disk.new).faults result }
 {

@@ -2,7 +2,7 @@
 ghost use Rattle.std.specs.Prelude.{◌≡◌, ◌<◌, ◌≤◌, ◌+◌, ◌*◌, ◌^◌, ◌++◌, ℕ, List, length, Option, Some, None, IfOk, IfErr, IfSome, OnOk, OnErr, true, false, not, ◌&&◌, ◌||◌, ◌==◌, if◌then◌else◌, get_or, nat_lt, nat_le};
 ghost use Rattle.std.specs.Option.{option_map};
 ghost use Rattle.zk_port.specs.Counts.{HasDiskCause};
-ghost use Rattle.zk_port.specs.Images.{HasRoom, Only, written_at};
+ghost use Rattle.zk_port.specs.Images.{HasDiskRoom, Only, written_at};
 ghost use Rattle.zk_model.specs.Journals.{number_at};
 ghost use Rattle.lease_journal.specs.Keeps.{ChangesAt};
 
@@ -10,7 +10,7 @@ use zk_port::{Disk, Failed};
 
 /// Writes these bytes at this place, and syncs them.
 pub fn store_at<B: Disk>(disk: &mut B, at: u64, bytes: &[u8]) -> Result<(), Failed>
-    requires { HasRoom (at + length bytes.now) (B.state disk.old).room }
+    requires { HasDiskRoom (at + length bytes.now) (B.state disk.old).room }
     ensures written { OnOk result ((B.state disk.new).content
         ≡ option_map (written_at at bytes.now) (B.state disk.old).content) }
     ensures durable { OnOk result (Only (B.state disk.new).content (B.state disk.new).images) }

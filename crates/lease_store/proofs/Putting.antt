@@ -48,7 +48,7 @@ rounded_rule total end last within below = ⊎_elim
     top : (n : ℕ) → n ≡ total → last < n → keeps_rule Ceilings total last (n, 0) ≡ true
     top n is above = grind (arith, nat_tests)
 
-pub rounded : (total end last used : ℕ) → end ≤ total → last < end → (last < total → 16 * used ≤ last) → IsRounded total end last (ceiling_for total end) used
+rounded : (total end last used : ℕ) → end ≤ total → last < end → (last < total → 16 * used ≤ last) → IsRounded total end last (ceiling_for total end) used
 rounded total end last used within below steps =
     let had : 16 * used ≤ last = steps (omega (arith, within, below)) in
     record {
@@ -58,11 +58,17 @@ rounded total end last used within below steps =
       rule = rounded_rule total end last within below;
     }
 
+-- the same of a ceiling that was computed by a total that is this one
+pub rounded_to : (total end last used ceiling known : ℕ) → ceiling ≡ ceiling_for known end → known ≡ total → end ≤ total → last < end
+    → (last < total → 16 * used ≤ last) → IsRounded total end last ceiling used
+rounded_to total end last used ceiling known made same within below steps =
+    subst (λ n. IsRounded total end last n used) (sym (made ∙ ap (λ t. ceiling_for t end) same)) (rounded total end last used within below steps)
+
 -- below the total a slot is free
 pub has_room : (total slots used last : ℕ) → slots ≡ ceiling_slots total → last < total → (last < total → 16 * used ≤ last) → used < slots
 has_room total slots used last is below steps = let had : 16 * used ≤ last = steps below in omega (arith, is, had, below)
 
--- a content that is known behind a step was known before it, and the other way round
+-- a content that is known after a step was known before it, and the other way round
 known_before : (step : List ℕ → List ℕ → Type 0) (old new : Option (List ℕ)) (bytes : List ℕ) → StepsBy step old new → new ≡ Some bytes
     → (was : List ℕ) × (old ≡ Some was) × step was bytes
 known_before step None new bytes steps is = absurd (both (sym steps ∙ is))

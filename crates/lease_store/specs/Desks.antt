@@ -2,7 +2,7 @@
 use Rattle.std.specs.Prelude.{◌≡◌, ◌≢◌, ℕ, ◌*◌, ◌<◌, ◌≤◌, [], List, Some, None, IsSomeAnd}
 use Rattle.atomic_table.specs.Seated.{TableId}
 use Rattle.zk_port.specs.Counts.{Rose}
-use Rattle.zk_port.specs.Disks.{DiskState, LeavesOnly}
+use Rattle.zk_port.specs.Disks.{DiskState, LeavesOnly, untold}
 use Rattle.zk_port.specs.Images.{Only}
 use Rattle.zk_model.specs.declared.JournalKind.TheVariants.{Ceilings}
 use Rattle.zk_model.specs.Journals.{SaysBodies, ceiling_slots, first_bodies}
@@ -17,15 +17,7 @@ no_table = record { words = 0; slots = 0; views_name = 0; atom = 0; block = 0; o
 
 -- what no disk tells
 abbrev pub no_disk : DiskState
-no_disk = record {
-  chosen = None;
-  content = None;
-  room = None;
-  images = λ _. ⊥;
-  moment = 0;
-  images_since = λ _ _. ⊥;
-  faults = 0;
-}
+no_disk = untold 0
 
 -- the bytes are a sound journal of so many slots in use, whose last ceiling is this
 abbrev pub IsKeptAt : List ℕ → ℕ → ℕ → ℕ → List ℕ → Type 0

@@ -1,4 +1,4 @@
--- What contracts see of a store, of its parts, and of what stands behind its lock.
+-- What contracts see of a store, of its parts, and of what stands after its lock.
 use Rattle.std.specs.Prelude.{◌≡◌, ℕ, ◌^◌, ◌≤◌, List, Some, refl}
 use Rattle.std.specs.Coded.{Coded, code_by, coded×, coded_ℕ}
 use Rattle.atomic_table.specs.Seated.{TableId, table_id_coded}
@@ -9,6 +9,7 @@ use Rattle.zk_model.specs.declared.JournalKind.TheVariants.{Ceilings}
 use Rattle.zk_model.specs.Journals.{HasHeader}
 use Rattle.lease_store.specs.Ceilings.{NeverFails}
 use Rattle.lease_store.specs.Desks.{IsDesk}
+use Rattle.zk_model.specs.declared.limits.TheConstants.{MAX_STORE_UNITS}
 
 -- Parts of a store: its disk, the table of its words, the first unit of its era, the total of units, and how many passes there are
 pub record PartsState (D : Type 0) : Type 0 where
@@ -47,7 +48,7 @@ desk_code {D} disk =
 -- What parts keep: the seat is of these words, which begin at the journal's ceiling, and the journal and the seat are a desk that has
 -- just started, for each id that the header has.
 pub record AreParts {D : Type 0} (disk_state : D → DiskState) (total base : ℕ) (table seat : TableId) (journal : JournalState D) (v : View) : Type 0 where
-  pub few : total ≤ 2 ^ 40
+  pub few : total ≤ MAX_STORE_UNITS
   pub own : seat ≡ table
   pub base_is : base ≡ journal.last.0
   pub kept : (id : List ℕ)
@@ -57,7 +58,7 @@ pub record AreParts {D : Type 0} (disk_state : D → DiskState) (total base : �
 
 -- what the desk keeps, of the store that has this table, total, number of passes, base, id, and disk at its start
 pub record IsDeskOf {D : Type 0} (disk_state : D → DiskState) (table : TableId) (total passes base : ℕ) (id : List ℕ) (start : DiskState) (seat : TableId) (journal : JournalState D) (own_total : ℕ) (v : View) : Type 0 where
-  pub few : own_total ≤ 2 ^ 40
+  pub few : own_total ≤ MAX_STORE_UNITS
   pub total_is : own_total ≡ total
   pub own : seat ≡ table
   pub made : v.made ≡ passes

@@ -6,6 +6,7 @@ ghost use Rattle.zk_port.specs.Disks.{LeavesOnly};
 ghost use Rattle.lease_store.specs.Ceilings.{AreFound, FindsCeiling, NeverFails};
 ghost use Rattle.lease_store.specs.Desks.{CoverCause, IsDesk};
 ghost use Rattle.lease_store.specs.States.{IsDeskOf};
+ghost use Rattle.zk_model.specs.declared.limits.TheConstants.{MAX_STORE_UNITS};
 
 use crate::name::LeaseName;
 use lease_journal::{Journal, JournalFault};
@@ -43,7 +44,7 @@ impl<B: Disk, N: LeaseName> Model for Desk<B, N> {
 
 /// The ceiling for a span that ends here.
 fn ceiling_for(total: u64, end: u64) -> u64
-    requires { end ≤ 2 ^ 40 }
+    requires { end ≤ MAX_STORE_UNITS }
     ensures { result ≡ ceiling_for total end }
 {
     total.min(end.div_ceil(16) * 16)
@@ -87,7 +88,7 @@ impl<B: Disk, N: LeaseName> Desk<B, N> {
     pub fn cover(&mut self, words: &Words, end: u64) -> Result<(), JournalFault>
         requires own { words_id words.now ≡ N.table }
         requires within { end ≤ N.total }
-        ensures same { end ≤ self.old.ceiling → (is_ok result ≡ true) × (self.new ≡ self.old) }
+        ensures unchanged { end ≤ self.old.ceiling → (is_ok result ≡ true) × (self.new ≡ self.old) }
         ensures raised { OnOk result (self.old.ceiling < end → self.new.ceiling ≡ ceiling_for N.total end) }
         ensures written { OnOk result (self.old.ceiling < end
             → self.new.journal.last ≡ (ceiling_for N.total end, 0)) }

@@ -4,6 +4,7 @@ ghost use Rattle.lease_words.specs.Calls.{known_of, mark_of, seen, words_id};
 ghost use Rattle.lease_store.specs.Ceilings.{NeverFails};
 ghost use Rattle.lease_store.specs.Leases.{Goes, IsJournals, IsPassAt, Leased, Tried, Watched};
 ghost use Rattle.lease_store.specs.declared.LeaseFault.TheVariants as lease;
+ghost use Rattle.zk_model.specs.declared.limits.TheConstants.{MAX_UNITS};
 
 use crate::LeaseFault;
 use crate::desk::Desk;
@@ -26,7 +27,7 @@ impl<B: Disk, N: LeaseName> LeaseStore<B, N> {
     /// where the journal failed, now or before.
     pub fn lease<R: Wait>(&self, rt: &R, pass: &mut Pass, count: u32) -> Result<Span, LeaseFault>
         requires own { IsPassAt N.table N.total pass.old }
-        requires count { (1 ≤ count) × (count ≤ 4096) }
+        requires count { (1 ≤ count) × (count ≤ MAX_UNITS) }
         ensures own { IsPassAt N.table N.total pass.new }
         ensures goes { Goes pass.old pass.new }
         ensures leased { Leased pass.old count result pass.new }
@@ -71,7 +72,7 @@ impl<B: Disk, N: LeaseName> LeaseStore<B, N> {
         ensures watched { Watched pass.old pass.new }
         ensures known { known_of pass.new ≡ known_of pass.old }
         ensures mark { mark_of pass.new ≡ result }
-        ensures some { result ≢ 0 }
+        ensures nonzero { result ≢ 0 }
     {
         for _ in rt.forever() {
             let mark = self.words.marked(pass);
@@ -91,7 +92,7 @@ impl<B: Disk, N: LeaseName> LeaseStore<B, N> {
     /// they end above the ceiling seen.
     pub fn try_lease(&self, pass: &mut Pass, count: u32) -> Result<Span, TryFault>
         requires own { IsPassAt N.table N.total pass.old }
-        requires count { (1 ≤ count) × (count ≤ 4096) }
+        requires count { (1 ≤ count) × (count ≤ MAX_UNITS) }
         ensures own { IsPassAt N.table N.total pass.new }
         ensures goes { Goes pass.old pass.new }
         ensures tried { Tried pass.old count result pass.new }

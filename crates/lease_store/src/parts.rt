@@ -12,6 +12,7 @@ ghost use Rattle.lease_store.specs.Ceilings.{SaysCeiling};
 ghost use Rattle.lease_store.specs.Desks.{Begins, IsDesk};
 ghost use Rattle.lease_store.specs.Leases.{IsPassAt};
 ghost use Rattle.lease_store.specs.declared.fault.StoreFault.TheVariants as store;
+ghost use Rattle.zk_model.specs.declared.limits.TheConstants.{MAX_PASSES, MAX_STORE_UNITS};
 
 use crate::desk::Desk;
 use crate::fault::StoreFault;
@@ -68,8 +69,8 @@ impl<B: Disk> LeaseParts<B> {
         total: u64,
         passes: u32,
     ) -> Result<(Self, Vec<Pass>), (StoreFault, B)>
-        requires total { total ≤ 2 ^ 40 }
-        requires passes { (1 ≤ passes) × (passes ≤ 1024) }
+        requires total { total ≤ MAX_STORE_UNITS }
+        requires passes { (1 ≤ passes) × (passes ≤ MAX_PASSES) }
         requires room { (size : ℕ) → (B.state disk).room ≡ Some size
             → (slots : ℕ) → SaysSlots (B.state disk).content slots → 64 + 32 * slots ≤ size }
         requires tidy { (bytes : List ℕ) → (B.state disk).content ≡ Some bytes
@@ -93,7 +94,7 @@ impl<B: Disk> LeaseParts<B> {
             → StartCause kind.Ceilings id.now total bytes fault) }
         ensures device { IfErr result (λ e. e.0 ≡ store.Journal start.Device
             → Rose (B.state disk).faults (B.state e.1).faults) }
-        ensures later { IfErr result (λ e. (B.state disk).faults ≤ (B.state e.1).faults) }
+        ensures faults_grow { IfErr result (λ e. (B.state disk).faults ≤ (B.state e.1).faults) }
         ensures stays_refused { IfErr result (λ e.
             Stays (B.state disk) (B.state e.1)) }
     {

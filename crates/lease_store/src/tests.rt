@@ -16,53 +16,9 @@ use std::sync::Wait;
 use std::test::Fail;
 use std::thread::{Threads, join};
 use zk_model::Span;
-use zk_port::{Disk, FailAt, Failed, FaultPlan, Leftover, MemoryDisk, StopAt, SureDisk};
+use zk_port::{Disk, FailAt, Failed, FaultPlan, Leftover, MemoryDisk, QuietDisk, StopAt, SureDisk};
 
 const ID: [u8; 32] = [7; 32];
-
-/// A disk in memory that tells no content and no crash, so that a store starts on any bytes.
-#[derive(Drop)]
-struct QuietDisk<P: FaultPlan> {
-    disk: MemoryDisk<P>,
-}
-
-impl<P: FaultPlan> Disk for QuietDisk<P> {
-    ghost use Rattle.std.specs.Prelude.{None};
-
-    ghost state = { λ d. record {
-      chosen = None;
-      content = None;
-      room = None;
-      images = λ _. ⊥;
-      moment = 0;
-      images_since = λ _ _. ⊥;
-      faults = P.count d.disk.plan;
-    } };
-
-    ghost counts_now = { λ d t c le none. none };
-
-    ghost only_now = { λ d c none. none };
-
-    fn faults(&self) -> u64 {
-        self.disk.faults()
-    }
-
-    fn choose(&mut self, name: &str) -> Result<(), Failed> {
-        self.disk.choose(name)
-    }
-
-    fn read(&mut self, at: u64, buffer: &mut [u8]) -> Result<usize, Failed> {
-        self.disk.read(at, buffer)
-    }
-
-    fn write_at(&mut self, at: u64, bytes: &[u8]) -> Result<(), Failed> {
-        self.disk.write_at(at, bytes)
-    }
-
-    fn sync(&mut self) -> Result<(), Failed> {
-        self.disk.sync()
-    }
-}
 
 /// A call of a store.
 #[derive(Clone, Copy)]
@@ -104,7 +60,7 @@ fn answer_to<N: LeaseName, B: Disk, R: Wait>(
     }
 }
 
-/// What the calls of the one pass of a store answer, and the disk behind them.
+/// What the calls of the one pass of a store answer, and the disk after them.
 fn answers_of<N: LeaseName, B: Disk + Drop, R: Wait>(
     rt: &R,
     alloc: Global,
@@ -170,7 +126,7 @@ fn started<B: Disk + Drop>(
     }
 }
 
-/// What calls of a store of 100 units with one pass answer, and the disk behind them, on which a store may start again.
+/// What calls of a store of 100 units with one pass answer, and the disk after them, on which a store may start again.
 fn played_on<B: Disk + Drop, R: Wait>(
     rt: &R,
     alloc: Global,
@@ -194,7 +150,7 @@ fn played_on<B: Disk + Drop, R: Wait>(
     Ok((answers, disk))
 }
 
-/// What calls of a store with one pass over these bytes answer, and the disk behind them.
+/// What calls of a store with one pass over these bytes answer, and the disk after them.
 fn played<P: FaultPlan + Drop, R: Wait>(
     rt: &R,
     alloc: Global,

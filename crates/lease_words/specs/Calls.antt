@@ -65,8 +65,8 @@ abbrev pub IsSeatOf : Words → JournalSeat → Type 0
 IsSeatOf w j = j.seat.table_id ≡ words_id w
 
 -- the pass with this number, as it is made
-abbrev pub IsFresh : TableId → ℕ → ℕ → ℕ → Pass → Type 0
-IsFresh table base total number p = (p.seat.table_id ≡ table)
+abbrev pub IsFreshPass : TableId → ℕ → ℕ → ℕ → Pass → Type 0
+IsFreshPass table base total number p = (p.seat.table_id ≡ table)
     × (p.total ≡ total)
     × (p.kept ≡ None)
     × (entries_of p ≡ [])
@@ -76,15 +76,15 @@ IsFresh table base total number p = (p.seat.table_id ≡ table)
 -- each of these is the pass with its place's number, as it is made
 abbrev pub AreFresh : TableId → ℕ → ℕ → List Pass → Type 0
 AreFresh table base total passes =
-    (k : ℕ) (d : Pass) → k < length passes → IsFresh table base total k (slice_index_or passes k d)
+    (k : ℕ) (d : Pass) → k < length passes → IsFreshPass table base total k (slice_index_or passes k d)
 
 -- the same pass at the same table
 abbrev pub IsSame : Pass → Pass → Type 0
 IsSame p q = (q.seat.table_id ≡ p.seat.table_id) × (q.seat.id ≡ p.seat.id) × (q.total ≡ p.total)
 
 -- an entry of this count that ends above the total, and the refusal that tells of it
-abbrev pub IsRefused : Pass → ℕ → Exhausted → Pass → Type 0
-IsRefused p count e q =
+abbrev pub IsExhausted : Pass → ℕ → Exhausted → Pass → Type 0
+IsExhausted p count e q =
     (seen q ≡ after_draw (seen p) e.at count)
     × (e.count ≡ count)
     × (e.total ≡ p.total)
@@ -101,7 +101,7 @@ Drew p count (Ok s) q =
     × (s.end ≤ p.total)
 Drew p count (Err e) q =
     (q.kept ≡ Some e)
-    × MatchOption p.kept (IsRefused p count e q) (λ k. (e ≡ k) × (seen q ≡ seen p))
+    × MatchOption p.kept (IsExhausted p count e q) (λ k. (e ≡ k) × (seen q ≡ seen p))
 
 -- the entries, and the reports, of these passes in order
 abbrev pub all_entries : List Pass → List Entry

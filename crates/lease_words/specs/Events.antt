@@ -12,6 +12,7 @@ use Rattle.lease_words.specs.declared.view.Bounds.{Bounds}
 use Rattle.lease_words.specs.declared.view.Entry.{Entry}
 use Rattle.lease_words.specs.declared.view.Report.{Report}
 use Rattle.lease_words.specs.declared.view.View.{View}
+use Rattle.zk_model.specs.declared.limits.TheConstants.{MAX_UNITS}
 
 -- the span of a draw
 abbrev pub span_of : Entry → Span
@@ -67,7 +68,7 @@ DrawIsEvent =
     → IsPassView v
     → overshoots b.total v.entries ≡ 0
     → 0 < count
-    → count ≤ 4096
+    → count ≤ MAX_UNITS
     → Mirrors b next shown views m
     → (is_possible m (Draw (own v).number count) ≡ true)
     × Mirrors b (next + count) shown

@@ -10,6 +10,7 @@ use Rattle.lease_words.specs.declared.view.Bounds.{Bounds}
 use Rattle.lease_words.specs.declared.view.Entry.{Entry}
 use Rattle.lease_words.specs.declared.view.Report.{Report}
 use Rattle.lease_words.specs.declared.view.View.{View}
+use Rattle.zk_model.specs.declared.limits.TheConstants.{MAX_PASSES, MAX_UNITS}
 
 -- all that was drawn, and what every pass knows, whether it is out or was taken in
 abbrev pub entries_known : List View → List Entry
@@ -51,7 +52,7 @@ pub record IsLeased (b : Bounds) (next shown mark : ℕ) (views : List View) : T
   pub counts : b.base + units_drawn (entries_known views) ≡ next
   -- entries that end above the total are of different passes, and bound what was drawn beyond it
   pub once : AllPairs (AreOfTwoPasses b.total) (entries_known views)
-  pub bound : next ≤ b.total + 4096 * overshoots b.total (entries_known views)
+  pub bound : next ≤ b.total + MAX_UNITS * overshoots b.total (entries_known views)
   -- there is one journal's seat, and it knows the ceiling and the mark
   pub journal : (seat : ℕ) × (v : View) × Sits views seat v × IsJournalAt shown mark v
   pub alone : (i j : ℕ) → IsJournalSeat views i → IsJournalSeat views j → i ≡ j
@@ -61,7 +62,7 @@ pub record IsLeased (b : Bounds) (next shown mark : ℕ) (views : List View) : T
   -- numbers of passes differ and are below those made, which are at most 1,024
   pub numbers : AllPairs (λ r s. r.number ≢ s.number) (reports_known views)
   pub made : All (λ r. r.number < passes_made views) (reports_known views)
-  pub few : passes_made views ≤ 1024
+  pub few : passes_made views ≤ MAX_PASSES
   -- what a pass drew stands in its own view while it is out; numbers not made have no entries
   pub own_entries : (i j : ℕ) (e : Entry) → IsPassSeat views i e.pass → Knows views j e → i ≡ j
   pub entries_made : All (λ e. e.pass < passes_made views) (entries_known views)

@@ -1,4 +1,4 @@
--- The rule of the lease table: a fact about its three words and about what all seats know. Word 0 is the unit behind
+-- The rule of the lease table: a fact about its three words and about what all seats know. Word 0 is the unit after
 -- the last one drawn, word 1 the ceiling shown, word 2 the journal's mark. It is spelled by sums over all seats;
 -- `Leased.antt` has what it says.
 use Rattle.std.specs.Prelude.{◌≡◌, ℕ, ◌+◌, ◌*◌, ◌^◌, ◌<◌, ◌≤◌, ◌⊎◌, true, false, cond, List, length, slice_index, All}
@@ -9,6 +9,7 @@ use Rattle.atomic_table.specs.Table.{State}
 use Rattle.lease_words.specs.Views.{inside, times_drawn, units_drawn, overshoots, overshoots_of, reports_of}
 use Rattle.lease_words.specs.declared.view.Bounds.{Bounds}
 use Rattle.lease_words.specs.declared.view.View.{View}
+use Rattle.zk_model.specs.declared.limits.TheConstants.{MAX_PASSES, MAX_STORE_UNITS, MAX_UNITS}
 
 -- what one seat knows fits the ceiling shown and the mark
 pub record Fits (b : Bounds) (shown mark seat : ℕ) (v : View) : Type 0 where
@@ -24,7 +25,7 @@ pub record Fits (b : Bounds) (shown mark seat : ℕ) (v : View) : Type 0 where
   pub marked : All (λ r. (r.mark ≡ 0) ⊎ (r.mark ≡ mark)) v.reports
   -- an entry stands where its pass is reported
   pub named : All (λ e. 0 < reports_of e.pass v.reports) v.entries
-  pub sized : All (λ e. (0 < e.count) × (e.count ≤ 4096)) v.entries
+  pub sized : All (λ e. (0 < e.count) × (e.count ≤ MAX_UNITS)) v.entries
   -- a pass has at most one entry that ends above the total
   pub once : (number : ℕ) → overshoots_of b.total number v.entries ≤ reports_of number v.reports
   pub few : overshoots b.total v.entries ≤ length v.reports
@@ -43,14 +44,14 @@ pub record IsKept (b : Bounds) (next shown mark : ℕ) (views : List View) : Typ
   pub tiled : (unit : ℕ) → sum_by (λ v. times_drawn unit v.entries) views ≡ inside b.base next unit
   pub counted : b.base + sum_by (λ v. units_drawn v.entries) views ≡ next
   -- what was drawn beyond the total
-  pub bounded : next ≤ b.total + 4096 * sum_by (λ v. overshoots b.total v.entries) views
+  pub bounded : next ≤ b.total + MAX_UNITS * sum_by (λ v. overshoots b.total v.entries) views
   -- each number below the passes made has one report
   pub numbered : (number : ℕ) → all_reports_of number views ≡ inside 0 (passes_made views) number
   pub reported : sum_by (λ v. length v.reports) views ≡ passes_made views
-  pub few : passes_made views ≤ 1024
+  pub few : passes_made views ≤ MAX_PASSES
   pub journal : sum_by (λ v. cond v.journal 1 0) views ≡ 1
   pub ceiling : (b.base ≤ shown) × (shown ≤ b.total)
-  pub limit : b.total ≤ 2 ^ 40
+  pub limit : b.total ≤ MAX_STORE_UNITS
   pub each : (seat : ℕ) (v : View) → get_elem? views seat ≡ some v → Fits b shown mark seat v
 
 -- the rule

@@ -10,7 +10,7 @@ use Rattle.lease_words.specs.declared.view.View.{View}
 abbrev pub entry : ℕ → ℕ → ℕ → Entry
 entry pass start count = record { pass = pass; start = start; count = count }
 
--- the unit behind it
+-- the unit after it
 abbrev pub end_of : Entry → ℕ
 end_of e = e.start + e.count
 

@@ -1,7 +1,7 @@
 //! The lease words: three shared words by which threads draw spans of units, see how far they may be granted, and learn
 //! that the journal failed. No call waits.
 //!
-//! Word 0 is the unit behind the last one drawn, word 1 the ceiling shown, word 2 the journal's mark, 0 while it has not
+//! Word 0 is the unit after the last one drawn, word 1 the ceiling shown, word 2 the journal's mark, 0 while it has not
 //! failed. They lie in a table of `atomic_table`, under the rule `LeaseRule`; `rule_is_leased` says what it means.
 #![tactic(auto)]
 

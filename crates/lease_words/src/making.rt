@@ -3,6 +3,7 @@ ghost use Rattle.std.specs.Prelude.{◌≡◌, ◌^◌, ◌≤◌, [], length, I
 ghost use Rattle.lease_words.specs.Views.{journal_at};
 ghost use Rattle.lease_words.specs.Passes.{IsPass};
 ghost use Rattle.lease_words.specs.Calls.{journal_view, words_id, base_of, total_of, IsSeatOf, AreFresh};
+ghost use Rattle.zk_model.specs.declared.limits.TheConstants.{MAX_PASSES, MAX_STORE_UNITS};
 
 use crate::pass::{JournalSeat, Pass};
 use crate::rule::{Leases, Make};
@@ -35,7 +36,7 @@ fn make_passes(
 ) -> Result<Vec<Pass>, AllocError>
     requires own { (seat.old.table_id ≡ shared.now.table_id) × (shared.now.table_id.words ≡ 3) }
     requires first { seat.old.me ≡ (journal_at shared.now.key.base total 0, []) }
-    requires few { passes ≤ 1024 }
+    requires bounded { passes ≤ MAX_PASSES }
     ensures own { seat.new.table_id ≡ seat.old.table_id }
     ensures seat { IfOk result (λ _. seat.new.me ≡ (journal_at shared.now.key.base total passes, [])) }
     ensures count { IfOk result (λ v. length v.items ≡ passes) }
@@ -61,8 +62,8 @@ pub fn start(
     total: u64,
     passes: u32,
 ) -> Result<(Words, JournalSeat, Vec<Pass>), AllocError>
-    requires range { (base ≤ total) × (total ≤ 2 ^ 40) }
-    requires passes { (1 ≤ passes) × (passes ≤ 1024) }
+    requires range { (base ≤ total) × (total ≤ MAX_STORE_UNITS) }
+    requires passes { (1 ≤ passes) × (passes ≤ MAX_PASSES) }
     ensures words { IfOk result (λ r. (base_of r.0 ≡ base) × (total_of r.0 ≡ total)) }
     ensures own { IfOk result (λ r. IsSeatOf r.0 r.1) }
     ensures journal { IfOk result (λ r. journal_view r.1 ≡ journal_at base total passes) }

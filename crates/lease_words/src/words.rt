@@ -3,6 +3,7 @@ ghost use Rattle.std.specs.Prelude.{◌≡◌, ◌<◌, ◌≤◌, ◌⊎◌};
 ghost use Rattle.lease_words.specs.Views.{after_look, after_marked, after_raise, after_mark};
 ghost use Rattle.lease_words.specs.Calls.{seen, known_of, mark_of, journal_view, ceiling_of, own_mark_of, limit_of};
 ghost use Rattle.lease_words.specs.Calls.{IsPassOf, IsSeatOf, IsSame, Drew};
+ghost use Rattle.zk_model.specs.declared.limits.TheConstants.{MAX_UNITS};
 
 use crate::fault::Exhausted;
 use crate::pass::{JournalSeat, Pass};
@@ -19,7 +20,7 @@ impl Words {
     /// then is again, without a step and whatever the count is.
     pub fn draw(&self, pass: &mut Pass, count: u32) -> Result<Span, Exhausted>
         requires own { IsPassOf self.now pass.old }
-        requires count { (1 ≤ count) × (count ≤ 4096) }
+        requires count { (1 ≤ count) × (count ≤ MAX_UNITS) }
         ensures own { IsPassOf self.now pass.new × IsSame pass.old pass.new }
         ensures drew { Drew pass.old count result pass.new }
     {
@@ -82,7 +83,7 @@ impl Words {
     pub fn mark(&self, seat: &mut JournalSeat, first: u64)
         requires own { IsSeatOf self.now seat.old }
         requires once { own_mark_of seat.old ≡ 0 }
-        requires some { 0 < first }
+        requires at_least_one { 0 < first }
         ensures own { IsSeatOf self.now seat.new }
         ensures marked { journal_view seat.new ≡ after_mark (journal_view seat.old) first }
     {

@@ -28,7 +28,7 @@ cut f n first count within =
     whole : length all ≡ n
     whole = length-map-range_with_len f 0 n
 
--- terms, and those behind them
+-- terms, and those after them
 joined : (f : ℕ → ℕ) (n more : ℕ)
     → map f (range_with_len 0 n) ++ map (λ i. f (n + i)) (range_with_len 0 more) ≡ map f (range_with_len 0 (n + more))
 joined f n more = fill_by_all f (front ++ back) (n + more) 0 (omega (arith, length-append front back, front_long, back_long)) at
@@ -60,7 +60,7 @@ map_twice : (g h : ℕ → ℕ) (xs : List ℕ) → map g (map h xs) ≡ map (λ
 map_twice g h [] = refl
 map_twice g h (x ∷ xs) = λ i. g (h x) ∷ map_twice g h xs i
 
--- places that are drawn behind others
+-- places that are drawn after others
 pub places_more : (code_seed : List ℕ) (base n more : ℕ) (before now : List ℕ) → before ≡ places_of code_seed base n
     → now ≡ before ++ map (λ word. word % base) (coin_words code_seed 0 n more) → now ≡ places_of code_seed base (n + more)
 places_more code_seed base n more before now far drawn =

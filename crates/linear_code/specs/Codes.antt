@@ -4,6 +4,7 @@ use Rattle.std.specs.List.{range_with_len}
 use Rattle.zk_model.specs.Field.{prime}
 use Rattle.zk_model.specs.Coins.{coin_word}
 use Rattle.zk_model.specs.Extension.{code_column}
+use Rattle.zk_model.specs.declared.limits.TheConstants.{MAX_BASE}
 
 -- the seed, how many base elements there are, and for how many outputs there are columns
 pub record Code : Type 0 where
@@ -18,7 +19,7 @@ places_of code_seed base count = map (λ i. coin_word code_seed 0 i % base) (ran
 -- these are the places of all columns, ten for each
 pub record IsCode (code_seed : List ℕ) (base count : ℕ) (places : List ℕ) : Type 0 where
   pub least : 10 ≤ base
-  pub most : base ≤ 65536
+  pub most : base ≤ MAX_BASE
   pub few : count ≤ 2 ^ 26
   pub whole : length places ≡ 10 * count
   pub chosen : places ≡ places_of code_seed base (10 * count)

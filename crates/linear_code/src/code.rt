@@ -3,6 +3,7 @@ ghost use Rattle.std.specs.Prelude.{◌≡◌, ◌^◌, ◌<◌, ◌≤◌, leng
 ghost use Rattle.zk_model.specs.Mac.{values_of, macs_of};
 ghost use Rattle.zk_model.specs.Extension.{code_column, code_outputs};
 ghost use Rattle.linear_code.specs.Codes.{IsCode, output_at};
+ghost use Rattle.zk_model.specs.declared.limits.TheConstants.{MAX_BASE};
 
 use crate::places::base_places;
 use crate::sums::{base_sum, pair_sums, total};
@@ -44,8 +45,8 @@ impl Columns {
         count: usize,
     ) -> Result<Columns, AllocError>
         requires least { 10 ≤ base }
-        requires most { base ≤ 65536 }
-        requires few { count ≤ 2 ^ 26 }
+        requires at_most { base ≤ MAX_BASE }
+        requires bounded { count ≤ 2 ^ 26 }
         ensures { IfOk result (λ c. c ≡ record { seed = code_seed.now; base = base; count = count }) }
     {
         let places = base_places(alloc, code_seed, base, 10 * count)?;

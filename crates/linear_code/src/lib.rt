@@ -17,6 +17,7 @@ mod sums;
 
 ghost use Rattle.std.specs.Prelude.{◌≡◌, ◌^◌, ◌<◌, ◌≤◌, length, IfOk, vec_len};
 ghost use Rattle.zk_model.specs.Extension.{code_column, code_outputs};
+ghost use Rattle.zk_model.specs.declared.limits.TheConstants.{MAX_BASE};
 
 pub use code::Columns;
 use mersenne_field::Fe;
@@ -27,7 +28,7 @@ use zk_coins::CoinBox;
 /// seed, each modulo the number of base elements. They are read in one go, and it takes no memory.
 pub fn column(code_seed: &[u8; 32], base: u32, j: u64) -> [u32; 10]
     requires least { 10 ≤ base }
-    requires most { base ≤ 65536 }
+    requires at_most { base ≤ MAX_BASE }
     requires place { j < 2 ^ 26 }
     ensures { result ≡ code_column code_seed.now base j }
 {
@@ -53,7 +54,7 @@ pub fn apply(
     noise: &[Fe],
 ) -> Result<Vec<Fe>, AllocError>
     requires least { 10 ≤ length base.now }
-    requires most { length base.now ≤ 65536 }
+    requires at_most { length base.now ≤ MAX_BASE }
     requires count { length noise.now ≤ 2 ^ 26 }
     ensures outputs { IfOk result (λ v. v.items ≡ code_outputs code_seed.now base.now noise.now) }
     ensures length { IfOk result (λ v. vec_len v ≡ length noise.now) }

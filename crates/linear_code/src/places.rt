@@ -2,6 +2,7 @@
 ghost use Rattle.std.specs.Prelude.{◌≡◌, ◌*◌, ◌+◌, ◌^◌, ◌<◌, ◌≤◌, ◌++◌, map, ◌%◌, IfOk, OnOk, vec_len};
 ghost use Rattle.zk_coins.specs.Words.{coin_words};
 ghost use Rattle.linear_code.specs.Codes.{places_of};
+ghost use Rattle.zk_model.specs.declared.limits.TheConstants.{MAX_BASE};
 
 use std::alloc::{AllocError, Global};
 use zk_coins::CoinBox;
@@ -16,9 +17,9 @@ pub(crate) fn base_places(
     base: u32,
     count: usize,
 ) -> Result<Vec<u16>, AllocError>
-    requires some { 0 < base }
-    requires most { base ≤ 65536 }
-    requires few { count ≤ 2 ^ 30 }
+    requires at_least_one { 0 < base }
+    requires at_most { base ≤ MAX_BASE }
+    requires bounded { count ≤ 2 ^ 30 }
     ensures places { IfOk result (λ v. v.items ≡ places_of code_seed.now base count) }
     ensures length { IfOk result (λ v. vec_len v ≡ count) }
 {
@@ -31,15 +32,15 @@ pub(crate) fn base_places(
     Ok(places)
 }
 
-/// Draws more places behind those that there are.
+/// Draws more places after those that there are.
 fn draw_places(
     coins: &CoinBox,
     base: u32,
     more: usize,
     places: &mut Vec<u16>,
 ) -> Result<(), AllocError>
-    requires some { 0 < base }
-    requires most { base ≤ 65536 }
+    requires at_least_one { 0 < base }
+    requires at_most { base ≤ MAX_BASE }
     requires block { more ≤ 640 }
     ensures places { OnOk result (places.new.items
         ≡ places.old.items ++ map (λ word. word % base) (coin_words coins.now 0 (vec_len places.old) more)) }

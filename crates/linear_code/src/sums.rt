@@ -8,7 +8,7 @@ use mersenne_field::{Fe, Pair};
 /// The sum of the base elements at up to eight places, not reduced: it fits 64 bits.
 pub(crate) fn base_sum(base: &[Fe], places: &[u16]) -> u64
     requires inside { All (λ place. place < length base.now) places.now }
-    requires few { length places.now ≤ 8 }
+    requires bounded { length places.now ≤ 8 }
     ensures sum { result ≡ sum_by (slice_index base.now) places.now }
     ensures bound { result ≤ length places.now * prime }
 {
@@ -29,7 +29,7 @@ pub(crate) struct PairSums {
 /// The sums of the base pairs at up to eight places.
 pub(crate) fn pair_sums(base: &[Pair], places: &[u16]) -> PairSums
     requires inside { All (λ place. place < length base.now) places.now }
-    requires few { length places.now ≤ 8 }
+    requires bounded { length places.now ≤ 8 }
     ensures values { result.x ≡ sum_by (slice_index (values_of base.now)) places.now }
     ensures value_bound { result.x ≤ length places.now * prime }
     ensures macs { result.m ≡ sum_by (slice_index (macs_of base.now)) places.now }
@@ -47,7 +47,7 @@ pub(crate) fn pair_sums(base: &[Pair], places: &[u16]) -> PairSums
 /// A number with the same remainder modulo the prime, and at most 7 above it: since 2^61 leaves the remainder 1, the high bits
 /// are added to the low 61 bits.
 fn folded(number: u64) -> u64
-    ensures same { result % prime ≡ number % prime }
+    ensures congruent { result % prime ≡ number % prime }
     ensures bound { result ≤ prime + 7 }
 {
     (number & ((1 << 61) - 1)) + (number >> 61)

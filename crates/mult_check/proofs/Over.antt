@@ -38,7 +38,7 @@ sum_pushed key challenge triples triple left now p s far =
 
 -- ---- lists
 
--- one item more behind others
+-- one item more after others
 pub one_behind : {T : Type 0} (before items : List T) (index : ℕ) (item : T) → index < length items → item ≡ get_or items index item
     → before ++ take (index + 1) items ≡ (before ++ take index items) ++ item ∷ []
 one_behind before items index item within at =

@@ -6,8 +6,8 @@ use Rattle.std.proofs.lemmas.List.{get_or-drop, drop-drop, map-append, take_more
 use Rattle.std.proofs.lemmas.Option.{slice_get-get_or}
 use Rattle.zk_model.specs.declared.Product.{Product}
 
--- one item more of a block that begins behind the first products
-pub filled_more : {T : Type 0} (f : Product → T) (products : List Product) (first i : ℕ) (items : List T) (item : T)
+-- one item more of a block that begins after the first products
+filled_more : {T : Type 0} (f : Product → T) (products : List Product) (first i : ℕ) (items : List T) (item : T)
     → first + i < length products → i < length items
     → ((product : Product) → slice_get products (first + i) ≡ Some product → item ≡ f product)
     → take i items ≡ map f (take i (drop first products))
@@ -25,7 +25,16 @@ filled_more f products first i items item below within gives far =
     ∙ (λ j. (take-set items i item ∙ far) j ++ same j ∷ [])
     ∙ sym (ap (map f) (take_more behind i none there) ∙ map-append f (take i behind) (get_or behind i none ∷ []))
 
--- the items from one number up to another, and those of a block behind them
+-- the same, with the block's length
+pub block_filled : {T : Type 0} (f : Product → T) (products : List Product) (first i count : ℕ) (items : List T) (item : T)
+    → first + i < length products → i < length items
+    → ((product : Product) → slice_get products (first + i) ≡ Some product → item ≡ f product)
+    → (length items ≡ count) × (take i items ≡ map f (take i (drop first products)))
+    → (length (set items i item) ≡ count) × (take (i + 1) (set items i item) ≡ map f (take (i + 1) (drop first products)))
+block_filled f products first i count items item below within gives far =
+    (length-set items i item ∙ far.0, filled_more f products first i items item below within gives far.1)
+
+-- the items from one number up to another, and those of a block after them
 pub block_joined : {T : Type 0} (f : Product → T) (products : List Product) (first at count : ℕ) → first ≤ at
     → map f (take (at - first) (drop first products)) ++ map f (take (at + count - at) (drop at products))
     ≡ map f (take (at + count - first) (drop first products))

@@ -118,7 +118,7 @@ fn left_between(
 
 /// Where section s begins and ends, for sections of this many of all products.
 fn section_bounds(products: usize, g: usize, s: usize) -> (usize, usize)
-    requires some { 1 ≤ g }
+    requires at_least_one { 1 ≤ g }
     requires there { s < part_count products g }
     ensures first { result.0 ≡ s * g }
     ensures end { result.1 ≡ min (s * g + g) products }
@@ -136,7 +136,7 @@ fn sums_of_section(
     challenge: Fe,
     mask: Pair,
 ) -> (Fe, Fe)
-    requires some { 1 ≤ g }
+    requires at_least_one { 1 ≤ g }
     requires there { s < section_count wires.now.program g }
     ensures { result ≡ honest_sums challenge (section_triples wires.now.program g wires.now.pairs s) mask }
 {
@@ -154,7 +154,7 @@ fn left_of_section(
     mask: Fe,
     key: Fe,
 ) -> Fe
-    requires some { 1 ≤ g }
+    requires at_least_one { 1 ≤ g }
     requires there { s < section_count wires.now.program g }
     ensures { result ≡ section_left key challenge (section_keys wires.now.program g wires.now.keys s) mask }
 {
@@ -176,7 +176,7 @@ pub fn prover_sums(
     challenge: Fe,
     masks: &[Pair],
 ) -> Result<Vec<(Fe, Fe)>, AllocError>
-    requires some { 1 ≤ g }
+    requires at_least_one { 1 ≤ g }
     requires masks { length masks.now ≡ section_count wires.now.program g }
     ensures sums { IfOk result (λ v. v.items
         ≡ all_sums wires.now.program g challenge wires.now.pairs masks.now) }
@@ -204,7 +204,7 @@ pub fn check(
     key: Fe,
     sums: &[(Fe, Fe)],
 ) -> Result<(), Differs>
-    requires some { 1 ≤ g }
+    requires at_least_one { 1 ≤ g }
     requires masks { length mask_keys.now ≡ section_count wires.now.program g }
     requires sums { length sums.now ≡ length mask_keys.now }
     ensures holds { IfOk result (λ _.

@@ -2,6 +2,7 @@
 ghost use Rattle.std.specs.Prelude.{◌≡◌, List};
 
 use crate::no_memory::found_no_memory;
+use crate::refusals::refusal;
 use std::alloc::Global;
 use std::fs::OpenFile;
 use std::io::Read;
@@ -65,13 +66,7 @@ impl<R: Files + AllocGlobal> Shelf for FileShelf<R> {
     fn store(&mut self, _alloc: Global, name: &str, bytes: &[u8]) -> Result<(), PortFault> {
         match fs::write(&self.rt, name, bytes) {
             Ok(()) => Ok(()),
-            Err(error) => {
-                if found_no_memory(&error) {
-                    return Err(PortFault::NoMemory);
-                }
-                self.faults = self.faults.saturating_add(1);
-                Err(PortFault::Failed)
-            }
+            Err(error) => Err(refusal(error, &mut self.faults)),
         }
     }
 }

@@ -11,6 +11,7 @@
 mod file_shelf;
 mod no_memory;
 mod output_sink;
+mod refusals;
 
 pub use file_shelf::FileShelf;
 pub use no_memory::found_no_memory;

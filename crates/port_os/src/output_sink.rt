@@ -1,7 +1,7 @@
 // Standard output.
 ghost use Rattle.std.specs.Prelude.{◌≡◌};
 
-use crate::no_memory::found_no_memory;
+use crate::refusals::refusal;
 use std::alloc::Global;
 use std::io;
 use std::io::Write;
@@ -35,13 +35,7 @@ impl<R: Print> Sink for OutputSink<R> {
     fn put(&mut self, _alloc: Global, bytes: &[u8]) -> Result<(), PortFault> {
         match io::writer(&self.rt).write_all(bytes) {
             Ok(()) => Ok(()),
-            Err(error) => {
-                if found_no_memory(&error) {
-                    return Err(PortFault::NoMemory);
-                }
-                self.faults = self.faults.saturating_add(1);
-                Err(PortFault::Failed)
-            }
+            Err(error) => Err(refusal(error, &mut self.faults)),
         }
     }
 }

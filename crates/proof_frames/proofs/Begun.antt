@@ -125,7 +125,7 @@ early k p start elements part sound short begun no_elements no_part =
       ),
     )
 
--- behind the header, of bytes
+-- after the header, of bytes
 late_bytes : (k : FrameKind) (count least most : ℕ) (start elements part : List ℕ) → 5 < length start
     → take 5 start ≡ take (length start) (header (record { kind = k; payload = payload.Bytes count least most })) → All IsByte start
     → HoldsBytes count least most start elements part → Completes k (payload.Bytes count least most) (spelled start elements part)
@@ -153,7 +153,7 @@ late_bytes k count least most start elements part long begun all holds =
       ),
     )
 
--- behind the header, of elements
+-- after the header, of elements
 late_elements : (k : FrameKind) (count : ℕ) (start elements part : List ℕ) → 5 ≤ length start
     → take 5 start ≡ take (length start) (header (record { kind = k; payload = payload.Elements count })) → All IsByte part
     → HoldsElements count start elements part → Completes k (payload.Elements count) (spelled start elements part)
@@ -211,7 +211,7 @@ late_elements k count start elements part long begun all holds = by_count (cases
           ),
         )
 
--- behind the header, of trees
+-- after the header, of trees
 late_trees : (k : FrameKind) (trees height : ℕ) (level : Level) (start elements part : List ℕ) → 5 ≤ length start
     → take 5 start ≡ take (length start) (header (record { kind = k; payload = payload.Trees trees height level })) → All IsByte start
     → HoldsTrees trees (level_width level height) (level_most level) start elements part

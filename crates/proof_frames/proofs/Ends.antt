@@ -4,7 +4,7 @@ use Rattle.std.specs.Int.{w64, from_le_bytes}
 use Rattle.std.specs.List.{AllByRecursion}
 use Rattle.std.proofs.lemmas.List.{get_or_append_left, get_or_at, drop_at, drop-append-le}
 use Rattle.std.proofs.lemmas.List.Elements.{recursion_from_All}
-use Rattle.zk_laws.proofs.Codes.{same_front}
+use Rattle.frame_laws.proofs.Codes.{same_front}
 use Rattle.zk_model.specs.Field.{IsElement}
 use Rattle.zk_model.specs.Bytes.{element_bytes}
 use Rattle.zk_model.specs.Frames.{CanGoOn, frame_spelling}
@@ -86,7 +86,7 @@ tree_ends place start byte trees height level long shape begins stops = λ can.
     ∙ ap (λ l. l ++ on.rest) (drop-append-le 5 start (byte ∷ []) long) in
     stops (trees_follow trees (level_width level height) (level_most level) (drop 5 start) on.payload on.rest byte begins fits behind)
 
--- where elements that are read go on as others, what is behind them begins with one of those
+-- where elements that are read go on as others, what is after them begins with one of those
 pub next_element : (read elements rest : List ℕ) → length read < length elements → AllByRecursion IsElement elements
     → flat_map element_bytes read ++ rest ≡ flat_map element_bytes elements
     → (element : ℕ) × (more : List ℕ) × IsElement element × (rest ≡ element_bytes element ++ more)
@@ -95,7 +95,7 @@ next_element [] (element ∷ elements) rest less all same = (element, flat_map e
 next_element (first ∷ read) (element ∷ elements) rest less all same =
     next_element read elements rest (omega arith) all.1 (ap (drop 8) same)
 
--- so 8 bytes behind them say an element
+-- so 8 bytes after them say an element
 whole_element : (read elements eight rest : List ℕ) → length read < length elements → AllByRecursion IsElement elements
     → flat_map element_bytes read ++ (eight ++ rest) ≡ flat_map element_bytes elements → length eight ≡ 8 → IsElement (from_le_bytes w64 eight)
 whole_element read elements eight rest less all same sized =

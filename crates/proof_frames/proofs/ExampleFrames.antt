@@ -54,7 +54,7 @@ held_seven = record {
   };
 }
 
--- A first correction of the prime is bad at byte 12 of its frame: behind a greeting of 102 bytes at byte 114.
+-- A first correction of the prime is bad at byte 12 of its frame: after a greeting of 102 bytes at byte 114.
 prime_for_correction : IsFirstBad (expect.Corrections 1) (one_header ++ element_bytes prime) 12
 unfolding one_header seven
 prime_for_correction = record {

@@ -204,19 +204,25 @@ replies_finished place start elements part given said height trees left is same 
     let done = finished_trees (expect.Reply height trees left) start elements part trees height level.Messages held refl whole in
     rw done.bytes (replies_whole height trees left (drop 5 start) said are (spells ∙ same)))
 
+-- a place of a count of elements, whose frames hold them
+elements_finished : (stage place : Expect) (frame : List ℕ → Frame) (start elements part given : List ℕ) (count : ℕ)
+    → (shape_of stage (get_or start 0 0)).payload ≡ payload.Elements count
+    → (AreElements count elements → IsWhole stage (header (shape_of stage (get_or start 0 0)) ++ flat_map element_bytes elements) (frame elements))
+    → place ≡ stage → given ≡ elements → Finishes place start elements part (frame given)
+elements_finished stage place frame start elements part given count shaped_so ends is same =
+    subst (λ (p : Expect). Finishes p start elements part (frame given)) (sym is) (λ held whole.
+    let done = finished_elements stage start elements part count held shaped_so whole in
+    rw (done.bytes, same) (ends done.are))
+
 pub corrections_finished : (place : Expect) (start elements part given : List ℕ) (count : ℕ) → place ≡ expect.Corrections count → given ≡ elements
     → Finishes place start elements part (model.corrections given)
-corrections_finished place start elements part given count is same =
-    subst (λ (p : Expect). Finishes p start elements part (model.corrections given)) (sym is) (λ held whole.
-    let done = finished_elements (expect.Corrections count) start elements part count held refl whole in
-    rw (done.bytes, same) (corrections_whole count elements done.are))
+corrections_finished place start elements part given count = elements_finished (expect.Corrections count) place model.corrections
+    start elements part given count refl (corrections_whole count elements)
 
 pub openings_finished : (place : Expect) (start elements part given : List ℕ) (count : ℕ) → place ≡ expect.Openings count → given ≡ elements
     → Finishes place start elements part (model.openings given)
-openings_finished place start elements part given count is same =
-    subst (λ (p : Expect). Finishes p start elements part (model.openings given)) (sym is) (λ held whole.
-    let done = finished_elements (expect.Openings count) start elements part count held refl whole in
-    rw (done.bytes, same) (openings_whole count elements done.are))
+openings_finished place start elements part given count = elements_finished (expect.Openings count) place model.openings
+    start elements part given count refl (openings_whole count elements)
 
 pub challenge_finished : (place : Expect) (start elements part : List ℕ) (element : ℕ) → place ≡ expect.Challenge → element ≡ get_or elements 0 0
     → Finishes place start elements part (model.challenge element)

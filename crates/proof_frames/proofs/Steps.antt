@@ -79,7 +79,7 @@ payload_is : (place : Expect) (start elements part : List ℕ) (p : Payload) →
     → (shape_of place (get_or start 0 0)).payload ≡ p → HoldsPayload p start elements part
 payload_is place start elements part p held is = subst (λ (q : Payload). HoldsPayload q start elements part) is held.payload
 
--- a byte behind the header
+-- a byte after the header
 start_step : (place : Expect) (start elements part : List ℕ) (byte : ℕ) (p : Payload) → IsHeld place start elements part → 5 ≤ length start → byte < 256
     → (shape_of place (get_or start 0 0)).payload ≡ p → HoldsPayload p (start ++ byte ∷ []) elements part → IsHeld place (start ++ byte ∷ []) elements part
 start_step place start elements part byte p held long small shape holds =

@@ -10,7 +10,7 @@ use Rattle.std.proofs.lemmas.Grind.{flat_map-append}
 use Rattle.std.proofs.lemmas.Nat.{mod-mul-add, from_le_bytes-to_le_bytes_8}
 use Rattle.std.proofs.lemmas.List.{take_all, length-take-le, length-replicate, nil_from_length, take_at, get_or_append_left, get_or_at, drop_at, take-append-le, drop-append-le, flat_map_more}
 use Rattle.std.proofs.lemmas.List.Elements.{All-nil, All-cons, All-push, All-append, All-drop, All-replicate, All-get_or, All-from_recursion, recursion_from_All}
-use Rattle.zk_laws.proofs.Codes.{same_front}
+use Rattle.frame_laws.proofs.Codes.{same_front}
 use Rattle.zk_model.specs.Field.{prime, IsElement, from_word}
 use Rattle.zk_model.specs.Bytes.{element_bytes}
 use Rattle.proof_frames.specs.Holding.{MayFollow}
@@ -311,7 +311,7 @@ trees_whole count width most bytes begins all =
 
 -- ---- what goes on with whole trees
 
--- where trees that are read go on as others, what is behind them begins with one of those
+-- where trees that are read go on as others, what is after them begins with one of those
 next_tree : (width most : ℕ) (read trees : List Tree) (rest : List ℕ) → length read < length trees
     → AllByRecursion (IsTree width most) read → AllByRecursion (IsTree width most) trees → flat_map tree_bytes read ++ rest ≡ flat_map tree_bytes trees
     → (tree : Tree) × (more : List ℕ) × IsTree width most tree × (rest ≡ tree_bytes tree ++ more)

@@ -1,8 +1,8 @@
 -- The frames that a place allows are told by their bytes.
 use Rattle.std.proofs.Common.{◌≡◌, ℕ, inl, inr, List, [], ◌++◌, drop, get_or, sym, ◌∙◌, ap, arith, append-nil}
 use Rattle.std.specs.Int.{w32, w64, to_le_bytes}
-use Rattle.zk_laws.proofs.Codes.{word32_code, word64_code, element_code, frame_code}
-use Rattle.zk_laws.proofs.FrameCodes.{hello_code, asks_code, replies_code, elements_code, sums_code}
+use Rattle.frame_laws.proofs.Codes.{word32_code, word64_code, element_code, frame_code}
+use Rattle.frame_laws.proofs.FrameCodes.{hello_code, asks_code, replies_code, elements_code, sums_code}
 use Rattle.zk_model.specs.Field.{IsElement}
 use Rattle.zk_model.specs.Bytes.{element_bytes}
 use Rattle.zk_model.specs.Transcript.{Grant, grant_frame}

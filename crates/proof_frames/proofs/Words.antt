@@ -5,7 +5,7 @@ use Rattle.std.specs.Int.{w32, w64, from_le_bytes, to_le_bytes}
 use Rattle.std.proofs.Math.Seq.{drop-drop}
 use Rattle.std.proofs.lemmas.List.{take_all, length-take-le, get_or-drop, get_or-take}
 use Rattle.std.proofs.lemmas.List.Elements.{All-append, All-cons, All-nil, All-get_or, All-head, All-take, All-drop, All-from_recursion, recursion_from_All}
-use Rattle.zk_laws.proofs.Octets.{word_octets}
+use Rattle.frame_laws.proofs.Octets.{word_octets}
 use Rattle.zk_model.specs.Field.{IsElement}
 use Rattle.zk_model.specs.Bytes.{AreBytes, element_bytes}
 use Rattle.zk_model.specs.Transcript.{Hello, Grant, TreeAsk, TreeReply, IsHello, frame_bytes, kind_number}
@@ -170,7 +170,7 @@ allowed_word expect.Verdict frame is =
 
 -- ---- a word is the bytes of a frame that is allowed
 
--- a list is its first n items and those behind them
+-- a list is its first n items and those after them
 front_and_rest : (n : ℕ) (l : List ℕ) → l ≡ take n l ++ drop n l
 front_and_rest n l = sym (take-append-drop n l)
 

@@ -11,26 +11,27 @@ use Rattle.zk_model.specs.declared.FrameKind.{FrameKind}
 use Rattle.zk_model.specs.declared.FrameKind.TheVariants as kind
 use Rattle.proof_frames.specs.declared.frame.Frame.{Frame}
 use Rattle.proof_frames.specs.declared.frame.Frame.TheVariants as frame
+use Rattle.zk_model.specs.declared.limits.TheConstants.{MAX_PAYLOAD}
 
 -- what a frame says
-abbrev pub said : Frame → model.Frame
-said (frame.Hello hello) = model.hello hello
-said (frame.Grant grant) = model.grant grant
-said (frame.ExtendAsk asks) = model.asks asks.items
-said (frame.ExtendReply replies) = model.replies replies.items
-said (frame.Corrections elements) = model.corrections elements.items
-said (frame.Challenge element) = model.challenge element
-said (frame.Sums both) = model.sums both.items
-said (frame.Openings macs) = model.openings macs.items
-said (frame.Verdict code number) = model.verdict code number
-said (frame.Refuse code) = model.refuse code
+abbrev pub frame_value : Frame → model.Frame
+frame_value (frame.Hello hello) = model.hello hello
+frame_value (frame.Grant grant) = model.grant grant
+frame_value (frame.ExtendAsk asks) = model.asks asks.items
+frame_value (frame.ExtendReply replies) = model.replies replies.items
+frame_value (frame.Corrections elements) = model.corrections elements.items
+frame_value (frame.Challenge element) = model.challenge element
+frame_value (frame.Sums both) = model.sums both.items
+frame_value (frame.Openings macs) = model.openings macs.items
+frame_value (frame.Verdict code number) = model.verdict code number
+frame_value (frame.Refuse code) = model.refuse code
 
 -- the kind of a frame
 abbrev pub kind_of : model.Frame → FrameKind
-kind_of (model.hello said) = kind.Hello
+kind_of (model.hello frame_value) = kind.Hello
 kind_of (model.grant given) = kind.Grant
-kind_of (model.asks said) = kind.ExtendAsk
-kind_of (model.replies said) = kind.ExtendReply
+kind_of (model.asks frame_value) = kind.ExtendAsk
+kind_of (model.replies frame_value) = kind.ExtendReply
 kind_of (model.corrections elements) = kind.Corrections
 kind_of (model.challenge element) = kind.Challenge
 kind_of (model.sums both) = kind.Sums
@@ -38,16 +39,16 @@ kind_of (model.openings macs) = kind.Openings
 kind_of (model.verdict code number) = kind.Verdict
 kind_of (model.refuse code) = kind.Refuse
 
--- a frame of at most 2^24 bytes behind its kind and its length
+-- a frame of at most 2^24 bytes after its kind and its length
 abbrev pub IsShort : model.Frame → Type 0
-IsShort frame = length (frame_spelling frame) ≤ 2 ^ 24 + 5
+IsShort frame = length (frame_spelling frame) ≤ MAX_PAYLOAD + 5
 
 -- the numbers in it that stand for elements are elements
 abbrev pub IsRanged : model.Frame → Type 0
 IsRanged (model.hello greeting) = Unit {0}
 IsRanged (model.grant given) = Unit {0}
-IsRanged (model.asks said) = All (λ ask. IsElement ask.base_correction) said
-IsRanged (model.replies said) = All (λ reply. IsElement reply.leaf_offset) said
+IsRanged (model.asks frame_value) = All (λ ask. IsElement ask.base_correction) frame_value
+IsRanged (model.replies frame_value) = All (λ reply. IsElement reply.leaf_offset) frame_value
 IsRanged (model.corrections elements) = All IsElement elements
 IsRanged (model.challenge element) = IsElement element
 IsRanged (model.sums both) = All (λ q. IsElement q.0 × IsElement q.1) both

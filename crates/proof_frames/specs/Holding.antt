@@ -9,6 +9,7 @@ use Rattle.proof_frames.specs.Readings.{IsShortPlace}
 use Rattle.proof_frames.specs.Shapes.{IsHeld, spelled}
 use Rattle.proof_frames.specs.declared.decoder.BadFrame.{BadFrame}
 use Rattle.proof_frames.specs.declared.held.Held.{Held}
+use Rattle.zk_model.specs.declared.limits.TheConstants.{HELLO_LENGTH}
 
 -- how many elements a place allows
 abbrev pub elements_at : Expect → ℕ
@@ -50,7 +51,7 @@ raw_at expect.Verdict = 0
 abbrev pub bytes_of : Held → List ℕ
 bytes_of held = spelled held.start.items held.elements.items held.part.items
 
--- a byte may stand at a place of a tree, behind other bytes: for a level it is no more than the most, and at the end of
+-- a byte may stand at a place of a tree, after other bytes: for a level it is no more than the most, and at the end of
 -- an element that is below the prime
 abbrev pub MayFollow : List ℕ → ℕ → ℕ → ℕ → ℕ → Type 0
 MayFollow bytes at width most byte =
@@ -64,8 +65,8 @@ pub record IsEmpty (held : Held) : Type 0 where
   pub part : held.part.items ≡ []
 
 -- there is room for a whole frame at the place
-pub record HasRoom (place : Expect) (held : Held) : Type 0 where
-  pub start : 102 ≤ vec_capacity held.start
+pub record HasFrameRoom (place : Expect) (held : Held) : Type 0 where
+  pub start : HELLO_LENGTH ≤ vec_capacity held.start
   pub raw : raw_at place ≤ vec_capacity held.start
   pub elements : elements_at place ≤ vec_capacity held.elements
   pub part : 8 ≤ vec_capacity held.part
@@ -74,7 +75,7 @@ pub record HasRoom (place : Expect) (held : Held) : Type 0 where
 pub record Holds (place : Expect) (held : Held) : Type 0 where
   pub short : IsShortPlace place
   pub begun : IsHeld place held.start.items held.elements.items held.part.items
-  pub room : HasRoom place held
+  pub room : HasFrameRoom place held
 
 -- a byte was taken, or no frame goes on with it and nothing has changed
 abbrev pub Steps : Expect → Held → ℕ → Bool → Held → Type 0

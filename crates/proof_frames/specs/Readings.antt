@@ -3,6 +3,7 @@ use Rattle.std.specs.Prelude.{◌≡◌, ◌≢◌, ◌⊎◌, ℕ, ◌+◌, ◌
 use Rattle.zk_model.specs.Frames.{Frame, CanGoOn, IsWhole, IsFirstBad, bytes_wanted, frame_length, expected_kind}
 use Rattle.zk_model.specs.declared.Expect.{Expect}
 use Rattle.proof_frames.specs.declared.decoder.BadFrame.{BadFrame}
+use Rattle.zk_model.specs.declared.limits.TheConstants.{MAX_PAYLOAD}
 
 -- The bytes of all earlier frames, by their number; the frame that is expected, if one is; those bytes of it that are taken;
 -- and where a byte was bad.
@@ -12,9 +13,9 @@ pub record Reading : Type 0 where
   pub taken : List ℕ
   pub bad : Option BadFrame
 
--- the frame at a place has at most 2^24 bytes behind its kind and its length
+-- the frame at a place has at most 2^24 bytes after its kind and its length
 abbrev pub IsShortPlace : Expect → Type 0
-IsShortPlace place = frame_length place [] ≤ 2 ^ 24 + 5
+IsShortPlace place = frame_length place [] ≤ MAX_PAYLOAD + 5
 
 -- What is taken can still become a frame that is expected, and is no longer than that; where none is expected nothing is
 -- taken, and nothing is bad.

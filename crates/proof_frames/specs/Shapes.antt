@@ -54,14 +54,14 @@ header shape = kind_number shape.kind ∷ to_le_bytes w32 (payload_length shape.
 abbrev pub spelled : List ℕ → List ℕ → List ℕ → List ℕ
 spelled start elements part = start ++ flat_map element_bytes elements ++ part
 
--- so many bytes behind the header, or fewer, of which the first is within its range
+-- so many bytes after the header, or fewer, of which the first is within its range
 pub record HoldsBytes (count least most : ℕ) (start elements part : List ℕ) : Type 0 where
   pub within : length start ≤ 5 + count
   pub no_elements : elements ≡ []
   pub no_part : part ≡ []
   pub ranged : 5 < length start → (least ≤ get_or start 5 0) × (get_or start 5 0 ≤ most)
 
--- so many elements behind the header, or fewer, and part of the next
+-- so many elements after the header, or fewer, and part of the next
 pub record HoldsElements (count : ℕ) (start elements part : List ℕ) : Type 0 where
   pub header : length start ≤ 5
   pub first : length start < 5 → (elements ≡ []) × (part ≡ [])
@@ -107,13 +107,13 @@ pub record BeginsTrees (count width most : ℕ) (bytes : List ℕ) : Type 0 wher
   pub within : length bytes ≤ count * (width + 8)
   pub spelled : bytes ≡ flat_map tree_bytes trees ++ part
 
--- the bytes of trees behind the header, as they came
+-- the bytes of trees after the header, as they came
 pub record HoldsTrees (count width most : ℕ) (start elements part : List ℕ) : Type 0 where
   pub no_elements : elements ≡ []
   pub no_part : part ≡ []
   pub begins : BeginsTrees count width most (drop 5 start)
 
--- what is held of a payload, behind the header
+-- what is held of a payload, after the header
 abbrev pub HoldsPayload : Payload → List ℕ → List ℕ → List ℕ → Type 0
 HoldsPayload (payload.Bytes count least most) start elements part = HoldsBytes count least most start elements part
 HoldsPayload (payload.Elements count) start elements part = HoldsElements count start elements part

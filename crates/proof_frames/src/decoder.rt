@@ -54,7 +54,7 @@ impl Model for Decoder {
 }
 
 impl Decoder {
-    ghost use Rattle.proof_frames.specs.Frames.{said};
+    ghost use Rattle.proof_frames.specs.Frames.{frame_value};
     ghost use Rattle.proof_frames.specs.Readings.{IsShortPlace, IsReading, wanted, Takes, Refuses, Gives, IsNotWhole, IsIdle};
 
     /// A decoder that has received nothing and expects nothing.
@@ -155,7 +155,7 @@ impl Decoder {
 
     /// The frame, once it is whole. Then nothing is expected any more.
     pub fn next(&mut self) -> Option<Frame>
-        ensures gives { IfSome result (λ frame. Gives self.old (said frame) self.new) }
+        ensures gives { IfSome result (λ frame. Gives self.old (frame_value frame) self.new) }
         ensures not_whole { IfNone result (IsNotWhole self.old) }
         ensures wanting { IfNone result (IsIdle self.old ⊎ 0 < wanted self.old) }
         ensures kept { IfNone result (self.new ≡ self.old) }

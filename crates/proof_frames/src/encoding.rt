@@ -6,7 +6,8 @@ ghost use Rattle.zk_model.specs.Bytes.{element_bytes};
 ghost use Rattle.zk_model.specs.Field.{IsElement};
 ghost use Rattle.zk_model.specs.Frames.{frame_spelling};
 ghost use Rattle.zk_model.specs.Transcript.{kind_number, frame_bytes, hello_frame, grant_frame, ask_frame, reply_frame, sums_frame, verdict_frame, refuse_frame};
-ghost use Rattle.proof_frames.specs.Frames.{said, ask_bytes, message_bytes, reply_bytes, sums_payload, IsShort, IsRanged};
+ghost use Rattle.proof_frames.specs.Frames.{frame_value, ask_bytes, message_bytes, reply_bytes, sums_payload, IsShort, IsRanged};
+ghost use Rattle.zk_model.specs.declared.limits.TheConstants.{MAX_PAYLOAD};
 
 use crate::frame::{Frame, Grant, Hello, number_of};
 use mersenne_field::Fe;
@@ -17,7 +18,7 @@ use zk_model::FrameKind;
 
 /// A frame of this kind whose payload will have so many bytes, without the payload.
 fn begin(alloc: Global, kind: FrameKind, length: usize) -> Result<Vec<u8>, AllocError>
-    requires { length ≤ 2 ^ 24 }
+    requires { length ≤ MAX_PAYLOAD }
     ensures { IfOk result (λ bytes. bytes.items ≡ kind_number kind ∷ to_le_bytes w32 length) }
 {
     let mut bytes = Vec::with_capacity(alloc, length + 5)?;
@@ -97,7 +98,7 @@ fn push_replies(bytes: &mut Vec<u8>, replies: &[TreeReply]) -> Result<(), AllocE
 
 /// A frame of this kind and payload.
 fn framed(alloc: Global, kind: FrameKind, payload: &[u8]) -> Result<Vec<u8>, AllocError>
-    requires { length payload.now ≤ 2 ^ 24 }
+    requires { length payload.now ≤ MAX_PAYLOAD }
     ensures { IfOk result (λ bytes. bytes.items ≡ frame_bytes kind payload.now) }
 {
     let mut bytes = begin(alloc, kind, payload.len())?;
@@ -143,7 +144,7 @@ pub fn encode_grant(alloc: Global, grant: &Grant) -> Result<Vec<u8>, AllocError>
 ///
 /// Only where memory runs out.
 pub fn encode_asks(alloc: Global, asks: &[TreeAsk]) -> Result<Vec<u8>, AllocError>
-    requires { length (flat_map ask_bytes asks.now) ≤ 2 ^ 24 }
+    requires { length (flat_map ask_bytes asks.now) ≤ MAX_PAYLOAD }
     ensures bytes { IfOk result (λ bytes. bytes.items ≡ ask_frame asks.now) }
     ensures range { OnOk result (All (λ ask. IsElement ask.base_correction) asks.now) }
 {
@@ -159,7 +160,7 @@ pub fn encode_asks(alloc: Global, asks: &[TreeAsk]) -> Result<Vec<u8>, AllocErro
 ///
 /// Only where memory runs out.
 pub fn encode_replies(alloc: Global, replies: &[TreeReply]) -> Result<Vec<u8>, AllocError>
-    requires { length (flat_map reply_bytes replies.now) ≤ 2 ^ 24 }
+    requires { length (flat_map reply_bytes replies.now) ≤ MAX_PAYLOAD }
     ensures bytes { IfOk result (λ bytes. bytes.items ≡ reply_frame replies.now) }
     ensures range { OnOk result (All (λ reply. IsElement reply.leaf_offset) replies.now) }
 {
@@ -178,7 +179,7 @@ pub fn encode_elements(
     kind: FrameKind,
     elements: &[Fe],
 ) -> Result<Vec<u8>, AllocError>
-    requires { 8 * length elements.now ≤ 2 ^ 24 }
+    requires { 8 * length elements.now ≤ MAX_PAYLOAD }
     ensures bytes { IfOk result (λ bytes. bytes.items
         ≡ frame_bytes kind (flat_map element_bytes elements.now)) }
     ensures range { OnOk result (All IsElement elements.now) }
@@ -194,7 +195,7 @@ pub fn encode_elements(
 ///
 /// Only where memory runs out.
 pub fn encode_sums(alloc: Global, sums: &[(Fe, Fe)]) -> Result<Vec<u8>, AllocError>
-    requires { 16 * length sums.now ≤ 2 ^ 24 }
+    requires { 16 * length sums.now ≤ MAX_PAYLOAD }
     ensures bytes { IfOk result (λ bytes. bytes.items ≡ sums_frame sums.now) }
     ensures range { OnOk result (All (λ both. IsElement both.0 × IsElement both.1) sums.now) }
 {
@@ -232,9 +233,9 @@ fn encode_refuse(alloc: Global, code: u8) -> Result<Vec<u8>, AllocError>
 ///
 /// Only where memory runs out.
 pub fn encode(alloc: Global, frame: &Frame) -> Result<Vec<u8>, AllocError>
-    requires { IsShort (said frame.now) }
-    ensures bytes { IfOk result (λ bytes. bytes.items ≡ frame_spelling (said frame.now)) }
-    ensures range { OnOk result (IsRanged (said frame.now)) }
+    requires { IsShort (frame_value frame.now) }
+    ensures bytes { IfOk result (λ bytes. bytes.items ≡ frame_spelling (frame_value frame.now)) }
+    ensures range { OnOk result (IsRanged (frame_value frame.now)) }
 {
     let bytes = match frame {
         Frame::Hello(hello) => encode_hello(alloc, hello)?,

@@ -82,11 +82,11 @@ pub enum Frame {
 }
 
 impl Frame {
-    ghost use Rattle.proof_frames.specs.Frames.{said, kind_of};
+    ghost use Rattle.proof_frames.specs.Frames.{frame_value, kind_of};
 
     /// The kind of the frame.
     pub fn kind(&self) -> FrameKind
-        ensures { result ≡ kind_of (said self.now) }
+        ensures { result ≡ kind_of (frame_value self.now) }
     {
         match self {
             Frame::Hello(_) => FrameKind::Hello,

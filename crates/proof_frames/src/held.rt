@@ -11,7 +11,7 @@ use crate::shape::{Level, Payload, Shape};
 use mersenne_field::Fe;
 use std::alloc::{AllocError, Global};
 use std::mem;
-use zk_model::{Expect, FrameKind};
+use zk_model::{Expect, FrameKind, HELLO_LENGTH};
 
 /// The bytes that are taken: the header, and the payload if it has trees or no elements, as they came; whole elements as
 /// elements; and the bytes of an element that is not whole.
@@ -22,7 +22,7 @@ pub(crate) struct Held {
     pub(crate) part: Vec<u8>,
 }
 
-/// The element at the front, and the bytes behind it, if the front spells one.
+/// The element at the front, and the bytes after it, if the front spells one.
 #[inline]
 fn element_at(bytes: &[u8]) -> Option<(Fe, &[u8])>
     ensures { IfSome result (λ found.
@@ -58,7 +58,7 @@ fn take_elements<'a>(elements: &mut Vec<Fe>, piece: &'a [u8]) -> &'a [u8]
 
 /// The 8 bytes of an element of which 7 are there.
 fn completed(part: &[u8], last: u8) -> Option<[u8; 8]>
-    ensures some { IfSome result (λ word. (word ≡ part.now ++ last ∷ []) × (length part.now ≡ 7)) }
+    ensures word { IfSome result (λ word. (word ≡ part.now ++ last ∷ []) × (length part.now ≡ 7)) }
     ensures none { IfNone result (length part.now ≢ 7) }
 {
     let [b0, b1, b2, b3, b4, b5, b6] = part else {
@@ -79,7 +79,7 @@ fn ends_element(bytes: &[u8], last: u8) -> bool
     }
 }
 
-/// Whether a byte may stand at a place of a tree, behind other bytes: for a level one that is no more than the most, and at
+/// Whether a byte may stand at a place of a tree, after other bytes: for a level one that is no more than the most, and at
 /// the end of an element one that leaves it below the prime.
 fn may_follow(bytes: &[u8], at: usize, width: usize, most: u8, byte: u8) -> bool
     requires small { width + 7 ≤ 2 ^ 25 }
@@ -121,7 +121,7 @@ impl Held {
     ghost use Rattle.proof_frames.specs.Readings.{IsShortPlace};
     ghost use Rattle.proof_frames.specs.Shapes.{shape_of, level_width};
     ghost use Rattle.proof_frames.specs.declared.shape.Payload.TheVariants as payload;
-    ghost use Rattle.proof_frames.specs.Holding.{bytes_of, IsEmpty, HasRoom, Holds, Steps, Runs, elements_at};
+    ghost use Rattle.proof_frames.specs.Holding.{bytes_of, IsEmpty, HasFrameRoom, Holds, Steps, Runs, elements_at};
 
     /// Nothing.
     pub(crate) fn new(alloc: Global) -> Self
@@ -322,7 +322,7 @@ impl Held {
         ensures empty { IsEmpty self.new }
         ensures holds { OnOk result (Holds place self.new) }
     {
-        self.start.reserve(raw_room(place).max(102))?;
+        self.start.reserve(raw_room(place).max(HELLO_LENGTH))?;
         self.part.reserve(8)?;
         self.elements.reserve(elements_room(place))?;
         Ok(())

@@ -2,6 +2,7 @@
 ghost use Rattle.std.specs.Prelude.{◌≡◌, ◌+◌, ◌*◌, ◌^◌, ◌≤◌};
 ghost use Rattle.proof_frames.specs.Readings.{IsShortPlace};
 ghost use Rattle.proof_frames.specs.Shapes.{level_width};
+ghost use Rattle.zk_model.specs.declared.limits.TheConstants.{MAX_PAYLOAD};
 
 use crate::frame::number_of;
 use zk_model::{Expect, FrameKind};
@@ -15,7 +16,7 @@ pub(crate) enum Level {
     Messages,
 }
 
-/// What stands behind a frame's header.
+/// What stands after a frame's header.
 #[derive(Clone, Copy, Debug, PartialEq, Eq)]
 pub(crate) enum Payload {
     /// So many bytes, of which the first is in a range.
@@ -36,7 +37,7 @@ pub(crate) enum Payload {
     },
 }
 
-/// The kind of a frame, and what stands behind its header.
+/// The kind of a frame, and what stands after its header.
 #[derive(Clone, Copy, Debug, PartialEq, Eq)]
 pub(crate) struct Shape {
     pub(crate) kind: FrameKind,
@@ -48,7 +49,7 @@ impl Level {
 
     /// How many bytes stand for all levels of a tree of this height.
     pub(crate) fn width(self, height: usize) -> usize
-        requires { level_width self height ≤ 2 ^ 24 }
+        requires { level_width self height ≤ MAX_PAYLOAD }
         ensures { result ≡ level_width self height }
     {
         match self {
@@ -70,7 +71,7 @@ impl Level {
 
 /// How many bytes stand for so many trees of this height.
 fn trees_length(trees: usize, height: usize, level: Level) -> usize
-    requires { trees * (level_width level height + 8) ≤ 2 ^ 24 }
+    requires { trees * (level_width level height + 8) ≤ MAX_PAYLOAD }
     ensures { result ≡ trees * (level_width level height + 8) }
 {
     if trees == 0 {
@@ -84,7 +85,7 @@ impl Payload {
 
     /// How many bytes it has.
     fn length(self) -> usize
-        requires { payload_length self ≤ 2 ^ 24 }
+        requires { payload_length self ≤ MAX_PAYLOAD }
         ensures { result ≡ payload_length self }
     {
         match self {
@@ -159,7 +160,7 @@ impl Shape {
 
     /// How many bytes the frame has.
     pub(crate) fn length(self) -> usize
-        requires { payload_length self.payload ≤ 2 ^ 24 }
+        requires { payload_length self.payload ≤ MAX_PAYLOAD }
         ensures { result ≡ 5 + payload_length self.payload }
     {
         5 + self.payload.length()
@@ -167,7 +168,7 @@ impl Shape {
 
     /// The bytes of the kind and of the length.
     pub(crate) fn header(self) -> [u8; 5]
-        requires { payload_length self.payload ≤ 2 ^ 24 }
+        requires { payload_length self.payload ≤ MAX_PAYLOAD }
         ensures { result ≡ header self }
     {
         let [l0, l1, l2, l3] = (self.payload.length() as u32).to_le_bytes();

@@ -2,9 +2,10 @@
 ghost use Rattle.std.specs.Prelude.{◌≡◌, ℕ, ◌+◌, ◌*◌, ◌≤◌, ◌<◌, length, take, drop, OnOk, vec_len, vec_capacity, [], ◌++◌};
 ghost use Rattle.std.specs.Int.{w32, w64, to_le_bytes, from_le_bytes};
 ghost use Rattle.zk_model.specs.Frames as model;
-ghost use Rattle.proof_frames.specs.Frames.{said, flattened, hello_in, grant_in, grant_or_refusal_in, verdict_in};
+ghost use Rattle.proof_frames.specs.Frames.{frame_value, flattened, hello_in, grant_in, grant_or_refusal_in, verdict_in};
 ghost use Rattle.proof_frames.specs.Holding.{bytes_of, IsEmpty, Holds, pairs_at};
 ghost use Rattle.proof_frames.specs.Rooms.{HasTreeRooms};
+ghost use Rattle.zk_model.specs.declared.limits.TheConstants.{HELLO_LENGTH};
 
 use crate::frame::{Frame, Grant, Hello};
 use crate::held::Held;
@@ -47,7 +48,7 @@ fn word32_at(bytes: &[u8], at: usize) -> u32
 
 /// The greeting of 102 bytes.
 fn hello_of(bytes: &[u8]) -> Hello
-    requires { length bytes.now ≡ 102 }
+    requires { length bytes.now ≡ HELLO_LENGTH }
     ensures { result ≡ hello_in bytes.now }
 {
     Hello {
@@ -72,9 +73,9 @@ fn grant_of(bytes: &[u8]) -> Grant
 
 /// The grant, or the refusal in its place.
 fn grant_or_refusal_of(bytes: &[u8]) -> Frame
-    requires some { 1 ≤ length bytes.now }
+    requires at_least_one { 1 ≤ length bytes.now }
     requires whole { length bytes.now ≡ model.frame_length Expect.Grant bytes.now }
-    ensures { said result ≡ grant_or_refusal_in bytes.now }
+    ensures { frame_value result ≡ grant_or_refusal_in bytes.now }
 {
     if bytes[0] == 10 {
         Frame::Refuse { code: bytes[5] }
@@ -86,7 +87,7 @@ fn grant_or_refusal_of(bytes: &[u8]) -> Frame
 /// The verdict of 10 bytes.
 fn verdict_of(bytes: &[u8]) -> Frame
     requires { length bytes.now ≡ 10 }
-    ensures { said result ≡ verdict_in bytes.now }
+    ensures { frame_value result ≡ verdict_in bytes.now }
 {
     Frame::Verdict {
         code: bytes[5],
@@ -123,7 +124,7 @@ fn frame_of(
     requires empty { pairs.old.items ≡ [] }
     requires room { pairs_at place ≤ vec_capacity pairs.old }
     requires trees { HasTreeRooms place trees.old }
-    ensures frame { model.IsWhole place (bytes_of held.old) (said result) }
+    ensures frame { model.IsWhole place (bytes_of held.old) (frame_value result) }
     ensures pairs { pairs.new.items ≡ [] }
 {
     match place {
@@ -156,7 +157,7 @@ pub(crate) fn whole_frame(
     requires empty { pairs.old.items ≡ [] }
     requires room { pairs_at place ≤ vec_capacity pairs.old }
     requires trees { HasTreeRooms place trees.old }
-    ensures frame { model.IsWhole place (bytes_of held.old) (said result) }
+    ensures frame { model.IsWhole place (bytes_of held.old) (frame_value result) }
     ensures held { IsEmpty held.new }
     ensures pairs { pairs.new.items ≡ [] }
 {

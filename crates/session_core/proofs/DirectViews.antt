@@ -1,4 +1,4 @@
--- The pairs of a session over files of kind direct.
+-- The pairs of a session over direct files.
 use Rattle.std.proofs.Common.{ℕ, ◌+◌, ◌-◌, List, [], map, refl, sym, ◌∙◌, arith}
 use Rattle.std.specs.List.{range_with_len}
 use Rattle.std.proofs.lemmas.List.{length-map}

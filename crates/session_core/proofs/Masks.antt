@@ -1,4 +1,4 @@
--- Masks: those of the sections, of all correlations behind the given values.
+-- Masks: those of the sections, of all correlations after the given values.
 use Rattle.std.proofs.Common.{◌≡◌, ℕ, ◌<◌, List, map, take, get_or, ap, sym, ◌∙◌, subst, arith}
 use Rattle.std.specs.Prelude.{slice_index, slice_index_or}
 use Rattle.std.specs.List.{range_with_len}

@@ -10,9 +10,9 @@ use Rattle.zk_model.specs.Files.{ProverFile, prover_unit}
 use Rattle.zk_model.specs.Transcript.{Hello, Grant, TreeAsk, TreeReply, Setup}
 use Rattle.zk_model.specs.Correlations.{IsExtension, IsProverView}
 use Rattle.zk_model.specs.HonestProver.{honest_asks, round_asks}
-use Rattle.zk_laws.proofs.Ranges.{range-append}
+use Rattle.circuit_laws.proofs.Ranges.{range-append}
 use Rattle.zk_model.specs.Frames as model
-use Rattle.proof_frames.specs.Frames.{said}
+use Rattle.proof_frames.specs.Frames.{frame_value}
 use Rattle.proof_frames.specs.declared.frame.Frame.{Frame}
 use Rattle.session_core.specs.Extending.{asks_in, replies_in, asks_of, replies_of}
 use Rattle.session_core.specs.Fixing.{AreFirstPairs}
@@ -49,16 +49,16 @@ le_or (suc a) (suc b) = either (le_or a b)
 pub each_more : {B : Type 0} (P : ℕ → List B → Type 0) (parts : List (List B)) (part : List B) (n : ℕ) → length parts ≡ n
     → ((k : ℕ) → k < n → P k (get_or parts k [])) → P n part
     → (k : ℕ) → k < n + 1 → P k (get_or (parts ++ part ∷ []) k [])
-each_more P parts part n sized far now k below = by_place (le_or n k)
+each_more P parts part n sized far now k below = by_stage (le_or n k)
   where
     last : get_or (parts ++ part ∷ []) n [] ≡ part
     last = ap (λ m. get_or (parts ++ part ∷ []) m []) (omega (arith, sized)) ∙ get_or-append-add parts (part ∷ []) 0 []
 
-    by_place : (n ≤ k) ⊎ (k < n) → P k (get_or (parts ++ part ∷ []) k [])
-    by_place (inl end) =
+    by_stage : (n ≤ k) ⊎ (k < n) → P k (get_or (parts ++ part ∷ []) k [])
+    by_stage (inl end) =
         let at : n ≡ k = omega (arith, end, below) in
         subst (λ m. P m (get_or (parts ++ part ∷ []) m [])) at (subst (P n) (sym last) now)
-    by_place (inr before) = subst (P k) (sym (get_or_append_left parts (part ∷ []) [] k (omega (arith, sized, before)))) (far k before)
+    by_stage (inr before) = subst (P k) (sym (get_or_append_left parts (part ∷ []) [] k (omega (arith, sized, before)))) (far k before)
 
 -- items by their numbers, in two ways
 pub numbered : {A B : Type 0} (f : ℕ → A → B) (a : ℕ) (items : List A) (none : A) (other : B)
@@ -73,33 +73,33 @@ numbered f a items none other =
 
 -- ---- frames and the trees that they speak of
 
-pub asks_are : (frames : List Frame) (asks : List (List TreeAsk)) → map said frames ≡ map model.asks asks → asks_of frames ≡ asks
-asks_are [] [] is = refl
-asks_are [] (one ∷ more) is = absurd (omega (arith, ap length is))
-asks_are (frame ∷ frames) [] is = absurd (omega (arith, ap length is))
-asks_are (frame ∷ frames) (one ∷ more) is =
-    λ i. ap asks_in (ap (λ l. get_or l 0 (model.refuse 0)) is) i ∷ asks_are frames more (ap (drop 1) is) i
+trees_are : {A : Type 0} (said : A → model.Frame) (read : model.Frame → A) → ((trees : A) → read (said trees) ≡ trees)
+    → (frames : List Frame) (trees : List A) → map frame_value frames ≡ map said trees → map (λ f. read (frame_value f)) frames ≡ trees
+trees_are said read back [] [] is = refl
+trees_are said read back [] (one ∷ more) is = absurd (omega (arith, ap length is))
+trees_are said read back (frame ∷ frames) [] is = absurd (omega (arith, ap length is))
+trees_are said read back (frame ∷ frames) (one ∷ more) is =
+    λ i. (ap read (ap (λ l. get_or l 0 (model.refuse 0)) is) ∙ back one) i ∷ trees_are said read back frames more (ap (drop 1) is) i
 
-pub replies_are : (frames : List Frame) (replies : List (List TreeReply)) → map said frames ≡ map model.replies replies → replies_of frames ≡ replies
-replies_are [] [] is = refl
-replies_are [] (one ∷ more) is = absurd (omega (arith, ap length is))
-replies_are (frame ∷ frames) [] is = absurd (omega (arith, ap length is))
-replies_are (frame ∷ frames) (one ∷ more) is =
-    λ i. ap replies_in (ap (λ l. get_or l 0 (model.refuse 0)) is) i ∷ replies_are frames more (ap (drop 1) is) i
+pub asks_are : (frames : List Frame) (asks : List (List TreeAsk)) → map frame_value frames ≡ map model.asks asks → asks_of frames ≡ asks
+asks_are = trees_are model.asks asks_in (λ trees. refl)
+
+pub replies_are : (frames : List Frame) (replies : List (List TreeReply)) → map frame_value frames ≡ map model.replies replies → replies_of frames ≡ replies
+replies_are = trees_are model.replies replies_in (λ trees. refl)
 
 -- the asks of frame i
 pub asks_at : (P : List TreeAsk → Type 0) (frames : List Frame) (i : ℕ) (frame : Frame) (trees : List TreeAsk) → All P (asks_of frames) → i < length frames
-    → frame ≡ get_or frames i frame → trees ≡ asks_in (said frame) → (trees ≡ get_or (asks_of frames) i []) × P trees
+    → frame ≡ get_or frames i frame → trees ≡ asks_in (frame_value frame) → (trees ≡ get_or (asks_of frames) i []) × P trees
 asks_at P frames i frame trees all below at is =
-    let there : trees ≡ get_or (asks_of frames) i [] = is ∙ ap (λ f. asks_in (said f)) at ∙ sym (get_or-map (λ f. asks_in (said f)) frames i frame [] below) in
-    (there, subst P (sym there) (all i [] (omega (arith, below, length-map frames (λ f. asks_in (said f))))))
+    let there : trees ≡ get_or (asks_of frames) i [] = is ∙ ap (λ f. asks_in (frame_value f)) at ∙ sym (get_or-map (λ f. asks_in (frame_value f)) frames i frame [] below) in
+    (there, subst P (sym there) (all i [] (omega (arith, below, length-map frames (λ f. asks_in (frame_value f))))))
 
 -- the replies of frame i
 pub replies_at : (P : List TreeReply → Type 0) (frames : List Frame) (i : ℕ) (frame : Frame) (trees : List TreeReply) → All P (replies_of frames) → i < length frames
-    → frame ≡ get_or frames i frame → trees ≡ replies_in (said frame) → (trees ≡ get_or (replies_of frames) i []) × P trees
+    → frame ≡ get_or frames i frame → trees ≡ replies_in (frame_value frame) → (trees ≡ get_or (replies_of frames) i []) × P trees
 replies_at P frames i frame trees all below at is =
-    let there : trees ≡ get_or (replies_of frames) i [] = is ∙ ap (λ f. replies_in (said f)) at ∙ sym (get_or-map (λ f. replies_in (said f)) frames i frame [] below) in
-    (there, subst P (sym there) (all i [] (omega (arith, below, length-map frames (λ f. replies_in (said f))))))
+    let there : trees ≡ get_or (replies_of frames) i [] = is ∙ ap (λ f. replies_in (frame_value f)) at ∙ sym (get_or-map (λ f. replies_in (frame_value f)) frames i frame [] below) in
+    (there, subst P (sym there) (all i [] (omega (arith, below, length-map frames (λ f. replies_in (frame_value f))))))
 
 -- ---- what the prover sees
 

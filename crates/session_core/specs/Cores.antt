@@ -32,20 +32,20 @@ use Rattle.session_core.specs.declared.judgement.Judgement.{Judgement}
 -- What a verifier waits for: the hello; nothing, while its own grant is due; then, with the first unit of its grant and what
 -- it has taken since, the asks of the next unit, the corrections, the sums, and the openings; nothing more, once it has judged or
 -- found a fault.
-pub data VerifierPlace : Type 0 where
-  awaits_hello : VerifierPlace
-  owes_grant : VerifierPlace
-  awaits_asks : ℕ → List (List TreeAsk) → VerifierPlace
-  awaits_corrections : ℕ → VerifierPlace
-  awaits_sums : ℕ → List ℕ → VerifierPlace
-  awaits_openings : ℕ → List ℕ → List (ℕ × ℕ) → VerifierPlace
-  has_judged : ℕ → Judgement → VerifierPlace
-  has_refused : VerifierPlace
+pub data VerifierStage : Type 0 where
+  awaits_hello : VerifierStage
+  owes_grant : VerifierStage
+  awaits_asks : ℕ → List (List TreeAsk) → VerifierStage
+  awaits_corrections : ℕ → VerifierStage
+  awaits_sums : ℕ → List ℕ → VerifierStage
+  awaits_openings : ℕ → List ℕ → List (ℕ × ℕ) → VerifierStage
+  has_judged : ℕ → Judgement → VerifierStage
+  has_refused : VerifierStage
 
 -- a verifier in a session
 pub record VerifierState : Type 0 where
   pub job : VerifierJob
-  pub place : VerifierPlace
+  pub stage : VerifierStage
 
 -- asks of fewer units than the grant has, an ask for each tree
 pub record AreAsksSoFar (job : VerifierJob) (asked : List (List TreeAsk)) : Type 0 where
@@ -54,23 +54,23 @@ pub record AreAsksSoFar (job : VerifierJob) (asked : List (List TreeAsk)) : Type
   pub each : All (AreAsks job.task.file.params.height job.task.file.params.trees) asked
 
 -- the grant lies in the file, and what was taken since is as much as the statement wants
-abbrev pub IsVerifierPlace : VerifierJob → VerifierPlace → Type 0
-IsVerifierPlace job awaits_hello = Unit {0}
-IsVerifierPlace job owes_grant = Unit {0}
-IsVerifierPlace job (awaits_asks start asked) =
+abbrev pub IsVerifierStage : VerifierJob → VerifierStage → Type 0
+IsVerifierStage job awaits_hello = Unit {0}
+IsVerifierStage job owes_grant = Unit {0}
+IsVerifierStage job (awaits_asks start asked) =
     (start + units_of_job job ≤ job.task.file.params.total) × AreAsksSoFar job asked
-IsVerifierPlace job (awaits_corrections start) = start + units_of_job job ≤ job.task.file.params.total
-IsVerifierPlace job (awaits_sums start d) =
+IsVerifierStage job (awaits_corrections start) = start + units_of_job job ≤ job.task.file.params.total
+IsVerifierStage job (awaits_sums start d) =
     (start + units_of_job job ≤ job.task.file.params.total) × (length d ≡ job.task.statement.program.givens)
-IsVerifierPlace job (awaits_openings start d both) =
+IsVerifierStage job (awaits_openings start d both) =
     (start + units_of_job job ≤ job.task.file.params.total)
     × (length d ≡ job.task.statement.program.givens)
     × (length both ≡ section_count job.task.statement.program job.section_length)
-IsVerifierPlace job (has_judged start judgement) = Unit {0}
-IsVerifierPlace job has_refused = Unit {0}
+IsVerifierStage job (has_judged start judgement) = Unit {0}
+IsVerifierStage job has_refused = Unit {0}
 
 -- what it found, where it has judged
-abbrev pub judgement_at : VerifierPlace → Option Judgement
+abbrev pub judgement_at : VerifierStage → Option Judgement
 judgement_at awaits_hello = None
 judgement_at owes_grant = None
 judgement_at (awaits_asks start asked) = None
@@ -81,7 +81,7 @@ judgement_at (has_judged start judgement) = Some judgement
 judgement_at has_refused = None
 
 -- the frame that it expects
-abbrev pub verifier_expects : VerifierJob → VerifierPlace → Option Expect
+abbrev pub verifier_expects : VerifierJob → VerifierStage → Option Expect
 verifier_expects job awaits_hello = Some expect.Hello
 verifier_expects job owes_grant = None
 verifier_expects job (awaits_asks start asked) =
@@ -94,16 +94,16 @@ verifier_expects job (awaits_openings start d both) =
 verifier_expects job (has_judged start judgement) = None
 verifier_expects job has_refused = None
 
--- what it waits for behind its grant: in kind extended the asks of the units
-abbrev pub behind_grant : VerifierJob → ℕ → VerifierPlace
+-- what it waits for after its grant: in kind extended the asks of the units
+abbrev pub behind_grant : VerifierJob → ℕ → VerifierStage
 behind_grant job start = by_kind job.task.file.params.kind
   where
-    by_kind : Kind → VerifierPlace
+    by_kind : Kind → VerifierStage
     by_kind Direct = awaits_corrections start
     by_kind Extended = awaits_asks start []
 
 -- asks of so many units are answered by nothing, as long as others are to come, and then by the replies to all of them
-abbrev pub AnswersAsks : VerifierJob → ℕ → List (List TreeAsk) → List Frame → VerifierPlace → Type 0
+abbrev pub AnswersAsks : VerifierJob → ℕ → List (List TreeAsk) → List Frame → VerifierStage → Type 0
 AnswersAsks job start asked answer now =
     ((length asked < units_of_job job) × (answer ≡ []) × (now ≡ awaits_asks start asked))
     ⊎ ((length asked ≡ units_of_job job)
@@ -112,7 +112,7 @@ AnswersAsks job start asked answer now =
 
 -- The wanted hello leaves its grant due. The asks of the last unit are answered by all replies, corrections by the coin of the
 -- first unit, sums by nothing, and openings by what it finds of the whole session.
-abbrev pub VerifierAnswers : VerifierJob → VerifierPlace → Frame → List Frame → VerifierPlace → Type 0
+abbrev pub VerifierAnswers : VerifierJob → VerifierStage → Frame → List Frame → VerifierStage → Type 0
 VerifierAnswers job awaits_hello frame answer now =
     (frame ≡ hello (wanted_hello job.task.file.id job.task.statement)) × (answer ≡ []) × (now ≡ owes_grant)
 VerifierAnswers job owes_grant frame answer now = ⊥
@@ -145,30 +145,30 @@ DiffersFirst wanted other (Version want got) =
     × (want ≡ wanted.version) × (got ≡ other.version) × (want ≢ got)
 
 -- why a verifier refuses a frame: a hello that differs
-abbrev pub VerifierRefuses : VerifierJob → VerifierPlace → Frame → VerifierFault → Type 0
-VerifierRefuses job place frame (BadHello differs) = (other : Hello)
-    × (place ≡ awaits_hello) × (frame ≡ hello other)
+abbrev pub VerifierRefuses : VerifierJob → VerifierStage → Frame → VerifierFault → Type 0
+VerifierRefuses job stage frame (BadHello differs) = (other : Hello)
+    × (stage ≡ awaits_hello) × (frame ≡ hello other)
     × DiffersFirst (wanted_hello job.task.file.id job.task.statement) other differs
-VerifierRefuses job place frame verifier.NoMemory = Unit {0}
+VerifierRefuses job stage frame verifier.NoMemory = Unit {0}
 
 -- ---- the prover
 
 -- What a prover waits for: a grant; with that, the number of units whose replies have come and the pairs that these make, the
 -- replies of the next unit; with the pairs of all correlations and of all wires, the challenge; the verdict; nothing more.
-pub data ProverPlace : Type 0 where
-  awaits_grant : ProverPlace
-  awaits_replies : Grant → ℕ → List Pair → ProverPlace
-  awaits_challenge : Grant → List Pair → WirePairs → ProverPlace
-  awaits_verdict : ProverPlace
-  has_ended : ProverPlace
+pub data ProverStage : Type 0 where
+  awaits_grant : ProverStage
+  awaits_replies : Grant → ℕ → List Pair → ProverStage
+  awaits_challenge : Grant → List Pair → WirePairs → ProverStage
+  awaits_verdict : ProverStage
+  has_ended : ProverStage
 
 -- a prover in a session
 pub record ProverState : Type 0 where
   pub job : ProverJob
-  pub place : ProverPlace
+  pub stage : ProverStage
 
 -- the frame that it expects
-abbrev pub prover_expects : ProverJob → ProverPlace → Option Expect
+abbrev pub prover_expects : ProverJob → ProverStage → Option Expect
 prover_expects job awaits_grant = Some expect.Grant
 prover_expects job (awaits_replies given done pairs) =
     Some (expect.Reply job.file.params.height job.file.params.trees (given.count - done))
@@ -177,14 +177,14 @@ prover_expects job awaits_verdict = Some expect.Verdict
 prover_expects job has_ended = None
 
 -- pairs of all correlations are answered by the corrections that make them those of the given values, which fixes all wires
-abbrev pub Commits : ProverJob → Grant → List Pair → List Frame → ProverPlace → Type 0
+abbrev pub Commits : ProverJob → Grant → List Pair → List Frame → ProverStage → Type 0
 Commits job given pairs answer now = (d : List ℕ) × (wires : WirePairs)
     × IsFixed job.statement job.given pairs d wires
     × (answer ≡ corrections d ∷ [])
     × (now ≡ awaits_challenge given pairs wires)
 
 -- the dealt pairs of a grant's units are those of kind direct, and in kind extended the prover asks for the trees of all units
-abbrev pub AnswersGrant : ProverJob → Grant → List Frame → ProverPlace → Type 0
+abbrev pub AnswersGrant : ProverJob → Grant → List Frame → ProverStage → Type 0
 AnswersGrant job given answer now = by_kind job.file.params.kind
   where
     by_kind : Kind → Type 0
@@ -199,14 +199,14 @@ AreRoundPairs file unit trees pairs =
     (record { asks = honest_asks file unit; replies = trees }) pairs
 
 -- pairs of so many units are answered by nothing, as long as replies of others are to come
-abbrev pub GoesOn : ProverJob → Grant → ℕ → List Pair → List Frame → ProverPlace → Type 0
+abbrev pub GoesOn : ProverJob → Grant → ℕ → List Pair → List Frame → ProverStage → Type 0
 GoesOn job given done pairs answer now =
     ((done < given.count) × (answer ≡ []) × (now ≡ awaits_replies given done pairs))
     ⊎ ((done ≡ given.count) × Commits job given pairs answer now)
 
 -- A grant is answered by the corrections or the asks, the replies of the last unit by the corrections, the challenge by the sums
 -- of all sections and the MACs of the opened wires, and a verdict by nothing.
-abbrev pub ProverAnswers : ProverJob → ProverPlace → Frame → List Frame → ProverPlace → Type 0
+abbrev pub ProverAnswers : ProverJob → ProverStage → Frame → List Frame → ProverStage → Type 0
 ProverAnswers job awaits_grant frame answer now = (given : Grant)
     × (frame ≡ grant given)
     × IsGrant job.file.params job.statement.program given
@@ -232,8 +232,8 @@ StaysWithin job frame = (given : Grant) → frame ≡ grant given → Suits job.
     → given.start + given.count ≤ job.file.params.total
 
 -- why a prover refuses a frame: a grant that does not suit the program, or a refusal
-abbrev pub ProverRefuses : ProverJob → ProverPlace → Frame → ProverFault → Type 0
-ProverRefuses job place frame BadGrant = (given : Grant)
-    × (place ≡ awaits_grant) × (frame ≡ grant given) × ¬ Suits job.file.params job.statement.program given
-ProverRefuses job place frame (PeerRefused code) = (place ≡ awaits_grant) × (frame ≡ refuse code)
-ProverRefuses job place frame prover.NoMemory = Unit {0}
+abbrev pub ProverRefuses : ProverJob → ProverStage → Frame → ProverFault → Type 0
+ProverRefuses job stage frame BadGrant = (given : Grant)
+    × (stage ≡ awaits_grant) × (frame ≡ grant given) × ¬ Suits job.file.params job.statement.program given
+ProverRefuses job stage frame (PeerRefused code) = (stage ≡ awaits_grant) × (frame ≡ refuse code)
+ProverRefuses job stage frame prover.NoMemory = Unit {0}

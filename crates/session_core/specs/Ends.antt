@@ -11,7 +11,7 @@ use Rattle.zk_model.specs.HonestProver.{honest_corrections}
 abbrev pub whole_grant : ℕ → ℕ → Grant
 whole_grant total section_length = record { start = 0; count = total; section_length = section_length }
 
--- the masks of the sections: as many items as there are, behind those of the given values
+-- the masks of the sections: as many items as there are, after those of the given values
 abbrev pub masks_in : {A : Type 0} → Program → ℕ → List A → List A
 masks_in program section_length items = take (section_count program section_length) (drop program.givens items)
 

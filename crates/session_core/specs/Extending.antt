@@ -2,7 +2,7 @@
 use Rattle.std.specs.Prelude.{List, [], map}
 use Rattle.zk_model.specs.Transcript.{TreeAsk, TreeReply}
 use Rattle.zk_model.specs.Frames as model
-use Rattle.proof_frames.specs.Frames.{said}
+use Rattle.proof_frames.specs.Frames.{frame_value}
 use Rattle.proof_frames.specs.declared.frame.Frame.{Frame}
 
 -- the asks of a frame, none where it has none
@@ -33,8 +33,8 @@ replies_in (model.refuse code) = []
 
 -- the asks of frames, unit by unit
 abbrev pub asks_of : List Frame → List (List TreeAsk)
-asks_of frames = map (λ frame. asks_in (said frame)) frames
+asks_of frames = map (λ frame. asks_in (frame_value frame)) frames
 
 -- the replies of frames, unit by unit
 abbrev pub replies_of : List Frame → List (List TreeReply)
-replies_of frames = map (λ frame. replies_in (said frame)) frames
+replies_of frames = map (λ frame. replies_in (frame_value frame)) frames

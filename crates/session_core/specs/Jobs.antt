@@ -10,6 +10,7 @@ use Rattle.zk_model.specs.Transcript.{Grant, units_for}
 use Rattle.zk_model.specs.ServedVerifier.{VerifierTask}
 use Rattle.zk_model.specs.declared.Params.{Params}
 use Rattle.session_core.specs.declared.verifier_job.TooLarge.{TooLarge}
+use Rattle.zk_model.specs.declared.limits.TheConstants.{MAX_SECTION_LENGTH, MAX_UNITS}
 
 -- a verifier's file and statement, and how many products its sections have
 pub record VerifierJob : Type 0 where
@@ -23,8 +24,8 @@ units_of_job job = units_for job.task.file.params (correlations_needed job.task.
 -- a length of sections within its limits, and few units
 pub record IsVerifierJob (job : VerifierJob) : Type 0 where
   pub section_some : 1 ≤ job.section_length
-  pub section_most : job.section_length ≤ 2 ^ 20
-  pub units_most : units_of_job job ≤ 4096
+  pub section_most : job.section_length ≤ MAX_SECTION_LENGTH
+  pub units_most : units_of_job job ≤ MAX_UNITS
 
 -- the grant of its units from this one on
 abbrev pub granted_from : VerifierJob → ℕ → Grant
@@ -63,12 +64,12 @@ pub record IsProverJob (job : ProverJob) : Type 0 where
 -- What a prover tests of a grant: a length of sections within its limits, as many units as the program then needs, and few.
 pub record Suits (params : Params) (program : Program) (grant : Grant) : Type 0 where
   pub section_some : 1 ≤ grant.section_length
-  pub section_most : grant.section_length ≤ 2 ^ 20
+  pub section_most : grant.section_length ≤ MAX_SECTION_LENGTH
   pub count : grant.count ≡ units_for params (correlations_needed program grant.section_length)
-  pub count_most : grant.count ≤ 4096
+  pub count_most : grant.count ≤ MAX_UNITS
 
 -- the session of such a job would take more than 4,096 units
 pub record IsTooLarge (job : VerifierJob) (found : TooLarge) : Type 0 where
   pub need : found.need ≡ correlations_needed job.task.statement.program job.section_length
   pub units : found.units ≡ units_of_job job
-  pub many : 4096 < found.units
+  pub many : MAX_UNITS < found.units

@@ -5,4 +5,4 @@ pub mod Rounds
 pub mod Cores
 pub mod Extending
 pub mod Fixing
-pub mod Places
+pub mod Stages

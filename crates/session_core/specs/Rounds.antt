@@ -1,4 +1,4 @@
--- The rounds of a session behind its grant.
+-- The rounds of a session after its grant.
 use Rattle.std.specs.Prelude.{◌≡◌, ℕ, List, map, flat_map, length, All}
 use Rattle.zk_model.specs.Files.{VerifierFile, rounds_of}
 use Rattle.zk_model.specs.Transcript.{Grant, Round, IsRound, ask_frame, reply_frame}

@@ -6,11 +6,12 @@ ghost use Rattle.session_core.specs.Jobs.{WireBitsAreValues};
 
 use crate::statement::{Statement, elements_of, outputs_digest};
 use bristol_reader::Circuit;
-use gate_translate::{FieldProgram, translate};
+use circuit_laws::{bits_solve, circuit_is_statement};
+use field_program::FieldProgram;
+use gate_translate::translate;
 use mersenne_field::Fe;
 use std::alloc::{AllocError, Global};
 use std::marker::Model;
-use zk_laws::{bits_solve, circuit_is_statement};
 
 /// The claim that some input bits make a circuit give these output bits: its program, and what a hello says of it. Contracts see
 /// the statement.

@@ -9,7 +9,7 @@ ghost use Rattle.zk_model.specs.HonestProver.{round_asks};
 ghost use Rattle.zk_model.specs.ServedVerifier.{round_replies};
 ghost use Rattle.zk_model.specs.View.{span_of};
 ghost use Rattle.zk_model.specs.declared.Kind.TheVariants.{Extended};
-ghost use Rattle.proof_frames.specs.Frames.{said};
+ghost use Rattle.proof_frames.specs.Frames.{frame_value};
 ghost use Rattle.vole_extend.specs.Rounds.{unit_code};
 ghost use Rattle.session_core.specs.Cores.{AreRoundPairs};
 ghost use Rattle.session_core.specs.Extending.{asks_in, replies_in, asks_of, replies_of};
@@ -34,7 +34,7 @@ pub struct Replied {
 
 /// The asks of a frame, none where it has none.
 fn asks_in(frame: &Frame) -> &[TreeAsk]
-    ensures { result.now ≡ asks_in (said frame.now) }
+    ensures { result.now ≡ asks_in (frame_value frame.now) }
 {
     match frame {
         Frame::ExtendAsk(trees) => trees,
@@ -44,7 +44,7 @@ fn asks_in(frame: &Frame) -> &[TreeAsk]
 
 /// The replies of a frame, none where it has none.
 fn replies_in(frame: &Frame) -> &[TreeReply]
-    ensures { result.now ≡ replies_in (said frame.now) }
+    ensures { result.now ≡ replies_in (frame_value frame.now) }
 {
     match frame {
         Frame::ExtendReply(trees) => trees,
@@ -56,7 +56,8 @@ fn replies_in(frame: &Frame) -> &[TreeReply]
 pub fn ask_units(alloc: Global, file: &ProverFile, grant: Grant) -> Result<Vec<Frame>, AllocError>
     requires extended { file.now.params.kind ≡ Extended }
     requires within { grant.start + grant.count ≤ file.now.params.total }
-    ensures { IfOk result (λ frames. map said frames.items ≡ map model.asks (round_asks file.now grant)) }
+    ensures { IfOk result (λ frames. map frame_value frames.items
+        ≡ map model.asks (round_asks file.now grant)) }
 {
     let _total = file.total();
     let mut frames = Vec::with_capacity(alloc, grant.count as usize)?;
@@ -105,7 +106,8 @@ pub fn finish_units(
     requires within { grant.start + grant.count ≤ file.now.params.total }
     requires columns { columns.now ≡ unit_code file.now.params file.now.code_seed }
     requires count { length replies.now ≡ grant.count }
-    requires replies { All (AreReplies file.now.params.height file.now.params.trees) (replies_of replies.now) }
+    requires replies { All (AreReplies file.now.params.height file.now.params.trees)
+        (replies_of replies.now) }
     ensures pairs { IfOk result (λ pairs. AreFirstPairs file.now grant (replies_of replies.now) pairs.items) }
     ensures count { IfOk result (λ pairs. length pairs.items
         ≡ grant.count * correlations_per_unit file.now.params) }
@@ -153,7 +155,7 @@ pub fn reply_units(
     requires columns { columns.now ≡ unit_code file.now.params file.now.code_seed }
     requires count { length asked.now ≡ grant.count }
     requires asks { All (AreAsks file.now.params.height file.now.params.trees) (asks_of asked.now) }
-    ensures replies { IfOk result (λ r. map said r.replies.items
+    ensures replies { IfOk result (λ r. map frame_value r.replies.items
         ≡ map model.replies (round_replies file.now grant (asks_of asked.now))) }
     ensures keys { IfOk result (λ r. r.keys.items ≡ span_keys file.now (span_of grant)) }
     ensures count { IfOk result (λ r. length r.keys.items

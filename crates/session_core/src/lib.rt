@@ -31,6 +31,6 @@ pub use prover_core::ProverCore;
 pub use prover_job::{Committed, Opened, ProverJob};
 pub use statement::{Statement, outputs_digest};
 pub use verifier_core::VerifierCore;
-pub use verifier_job::{MAX_UNITS, TooLarge, VerifierJob, units_for};
+pub use verifier_job::{TooLarge, VerifierJob, units_for};
 pub use wire_auth::Correlations;
 pub use zk_model::Verdict;

@@ -6,9 +6,9 @@ ghost use Rattle.zk_model.specs.Frames as model;
 ghost use Rattle.zk_model.specs.Transcript.{IsGrant, wanted_hello};
 ghost use Rattle.zk_model.specs.declared.Expect.TheVariants as expect;
 ghost use Rattle.zk_model.specs.declared.Kind.TheVariants.{Extended};
-ghost use Rattle.proof_frames.specs.Frames.{said};
+ghost use Rattle.proof_frames.specs.Frames.{frame_value};
 ghost use Rattle.proof_frames.specs.Readings.{IsShortPlace};
-ghost use Rattle.wire_auth.specs.Held.{held_in};
+ghost use Rattle.wire_auth.specs.Held.{items_in};
 ghost use Rattle.vole_extend.specs.Rounds.{unit_code};
 ghost use Rattle.session_core.specs.Fixing.{IsFixedUnder, IsGrowing};
 ghost use Rattle.session_core.specs.Cores.{AnswersGrant, Commits, GoesOn, ProverAnswers, ProverRefuses, StaysWithin, awaits_grant, awaits_replies, awaits_challenge, awaits_verdict, has_ended, prover_expects};
@@ -29,7 +29,7 @@ use zk_model::{Expect, Kind, Params};
 
 /// What the prover waits for, with the grant, the pairs of so many units that replies have made, or the pairs of all wires, which it has fixed.
 #[derive(Debug, Drop)]
-pub(crate) enum Place<'a> {
+pub(crate) enum Stage<'a> {
     Grant,
     Replies {
         grant: Grant,
@@ -50,18 +50,18 @@ pub(crate) enum Place<'a> {
 #[derive(Debug, Drop)]
 pub struct ProverCore<'a> {
     job: &'a ProverJob<'a>,
-    place: Place<'a>,
+    stage: Stage<'a>,
 }
 
 impl<'a> Model for ProverCore<'a> {
     ghost use Rattle.session_core.specs.Cores as cores;
-    ghost use Rattle.session_core.specs.Places.{prover_place, IsHeldAt};
+    ghost use Rattle.session_core.specs.Stages.{prover_stage, IsHeldAt};
 
     ghost Value = { cores.ProverState };
 
-    ghost view = { λ c. record { job = c.job.now; place = prover_place c.place } };
+    ghost view = { λ c. record { job = c.job.now; stage = prover_stage c.stage } };
 
-    ghost invariant = { λ c. IsHeldAt c.job.now c.place };
+    ghost invariant = { λ c. IsHeldAt c.job.now c.stage };
 }
 
 /// A list of two frames.
@@ -83,10 +83,10 @@ fn opened<'a>(
     frame: Frame,
 ) -> Result<Vec<Frame>, AllocError>
     requires held { IsFixedUnder job.now grant wires.now }
-    requires expected { Allows expect.Challenge (said frame) }
+    requires expected { Allows expect.Challenge (frame_value frame) }
     ensures answered { IfOk result (λ answer. ProverAnswers job.now
         (awaits_challenge grant wires.now.dealt wires.now.pairs)
-        (said frame) (map said answer.items) awaits_verdict) }
+        (frame_value frame) (map frame_value answer.items) awaits_verdict) }
 {
     let Frame::Challenge(challenge) = frame else {
         unreachable!();
@@ -99,32 +99,33 @@ fn opened<'a>(
 impl<'a> ProverCore<'a> {
     /// A prover that waits for a grant, and its greeting.
     pub fn new(job: &'a ProverJob<'a>) -> (Self, Frame)
-        ensures core { result.0 ≡ record { job = job.now; place = awaits_grant } }
-        ensures greeting { said result.1 ≡ model.hello (wanted_hello job.now.file.id job.now.statement) }
+        ensures core { result.0 ≡ record { job = job.now; stage = awaits_grant } }
+        ensures greeting { frame_value result.1
+            ≡ model.hello (wanted_hello job.now.file.id job.now.statement) }
     {
         let core = ProverCore {
             job,
-            place: Place::Grant,
+            stage: Stage::Grant,
         };
         (core, Frame::Hello(job.greet()))
     }
 
     /// The frame that it expects: none exactly where it has ended.
     pub fn expects(&self) -> Option<Expect>
-        ensures place { result ≡ prover_expects self.now.job self.now.place }
+        ensures stage { result ≡ prover_expects self.now.job self.now.stage }
         ensures short { IfSome result IsShortPlace }
     {
         let Params { height, trees, .. } = self.job.file().params();
-        match &self.place {
-            Place::Grant => Some(Expect::Grant),
-            Place::Replies { grant, done, .. } => Some(Expect::Reply {
+        match &self.stage {
+            Stage::Grant => Some(Expect::Grant),
+            Stage::Replies { grant, done, .. } => Some(Expect::Reply {
                 height: usize::from(height),
                 trees: trees as usize,
                 units_left: (grant.count - *done) as usize,
             }),
-            Place::Challenge { .. } => Some(Expect::Challenge),
-            Place::Verdict => Some(Expect::Verdict),
-            Place::Ended => None,
+            Stage::Challenge { .. } => Some(Expect::Challenge),
+            Stage::Verdict => Some(Expect::Verdict),
+            Stage::Ended => None,
         }
     }
 
@@ -135,39 +136,39 @@ impl<'a> ProverCore<'a> {
     /// `BadGrant` where a grant does not suit, `PeerRefused` where a refusal comes in its place, `NoMemory`. It then has
     /// ended.
     pub fn step(&mut self, alloc: Global, frame: Frame) -> Result<Vec<Frame>, ProverFault>
-        requires expected { IsSomeAnd (prover_expects self.old.job self.old.place)
-            (λ place. Allows place (said frame)) }
-        requires within { StaysWithin self.old.job (said frame) }
-        ensures answered { IfOk result (λ answer. ProverAnswers self.old.job self.old.place
-            (said frame) (map said answer.items) self.new.place) }
-        ensures refused { IfErr result (ProverRefuses self.old.job self.old.place (said frame)) }
-        ensures over { OnErr result (self.new.place ≡ has_ended) }
+        requires expected { IsSomeAnd (prover_expects self.old.job self.old.stage)
+            (λ stage. Allows stage (frame_value frame)) }
+        requires within { StaysWithin self.old.job (frame_value frame) }
+        ensures answered { IfOk result (λ answer. ProverAnswers self.old.job self.old.stage
+            (frame_value frame) (map frame_value answer.items) self.new.stage) }
+        ensures refused { IfErr result (ProverRefuses self.old.job self.old.stage (frame_value frame)) }
+        ensures ended { OnErr result (self.new.stage ≡ has_ended) }
         ensures job { self.new.job ≡ self.old.job }
     {
-        match mem::replace(&mut self.place, Place::Ended) {
-            Place::Grant => self.take_grant(alloc, frame),
-            Place::Replies {
+        match mem::replace(&mut self.stage, Stage::Ended) {
+            Stage::Grant => self.take_grant(alloc, frame),
+            Stage::Replies {
                 grant,
                 done,
                 pairs,
                 columns,
             } => Ok(self.take_replies(alloc, grant, done, pairs, columns, frame)?),
-            Place::Challenge { grant, wires } => {
+            Stage::Challenge { grant, wires } => {
                 Ok(self.take_challenge(alloc, grant, wires, frame)?)
             }
-            Place::Verdict => Ok(Vec::new(alloc)),
-            Place::Ended => unreachable!(),
+            Stage::Verdict => Ok(Vec::new(alloc)),
+            Stage::Ended => unreachable!(),
         }
     }
 
     /// Takes a grant, and answers by the corrections, or in kind extended by the asks for all units.
     fn take_grant(&mut self, alloc: Global, frame: Frame) -> Result<Vec<Frame>, ProverFault>
-        requires expected { Allows expect.Grant (said frame) }
-        requires within { StaysWithin self.old.job (said frame) }
+        requires expected { Allows expect.Grant (frame_value frame) }
+        requires within { StaysWithin self.old.job (frame_value frame) }
         ensures answered { IfOk result (λ answer. ProverAnswers self.old.job awaits_grant
-            (said frame) (map said answer.items) self.new.place) }
-        ensures refused { IfErr result (ProverRefuses self.old.job awaits_grant (said frame)) }
-        ensures over { OnErr result (self.new.place ≡ self.old.place) }
+            (frame_value frame) (map frame_value answer.items) self.new.stage) }
+        ensures refused { IfErr result (ProverRefuses self.old.job awaits_grant (frame_value frame)) }
+        ensures ended { OnErr result (self.new.stage ≡ self.old.stage) }
         ensures job { self.new.job ≡ self.old.job }
     {
         match frame {
@@ -186,8 +187,8 @@ impl<'a> ProverCore<'a> {
     fn answer_grant(&mut self, alloc: Global, grant: Grant) -> Result<Vec<Frame>, AllocError>
         requires granted { IsGrant self.old.job.file.params self.old.job.statement.program grant }
         ensures answered { IfOk result (λ answer.
-            AnswersGrant self.old.job grant (map said answer.items) self.new.place) }
-        ensures over { OnErr result (self.new.place ≡ self.old.place) }
+            AnswersGrant self.old.job grant (map frame_value answer.items) self.new.stage) }
+        ensures ended { OnErr result (self.new.stage ≡ self.old.stage) }
         ensures job { self.new.job ≡ self.old.job }
     {
         let file = self.job.file();
@@ -200,7 +201,7 @@ impl<'a> ProverCore<'a> {
             Kind::Extended => {
                 let answer = ask_units(alloc, file, grant)?;
                 let columns = columns_of(alloc, &params, &file.code_seed())?;
-                self.place = Place::Replies {
+                self.stage = Stage::Replies {
                     grant,
                     done: 0,
                     pairs: Vec::new(alloc),
@@ -211,7 +212,7 @@ impl<'a> ProverCore<'a> {
         }
     }
 
-    /// Takes the replies for a unit; behind those for the last it answers by the corrections.
+    /// Takes the replies for a unit; after those for the last it answers by the corrections.
     fn take_replies(
         &mut self,
         alloc: Global,
@@ -223,11 +224,11 @@ impl<'a> ProverCore<'a> {
     ) -> Result<Vec<Frame>, AllocError>
         requires growing { IsGrowing self.old.job grant done pairs.items columns }
         requires expected { (left : ℕ) × Allows (expect.Reply self.old.job.file.params.height
-            self.old.job.file.params.trees left) (said frame) }
+            self.old.job.file.params.trees left) (frame_value frame) }
         ensures answered { IfOk result (λ answer. ProverAnswers self.old.job
             (awaits_replies grant done pairs.items)
-            (said frame) (map said answer.items) self.new.place) }
-        ensures over { OnErr result (self.new.place ≡ self.old.place) }
+            (frame_value frame) (map frame_value answer.items) self.new.stage) }
+        ensures ended { OnErr result (self.new.stage ≡ self.old.stage) }
         ensures job { self.new.job ≡ self.old.job }
     {
         let Frame::ExtendReply(trees) = frame else {
@@ -242,7 +243,7 @@ impl<'a> ProverCore<'a> {
         self.go_on(alloc, grant, done + 1, pairs, columns)
     }
 
-    /// Goes on with the pairs of so many units: as long as others are wanting, it waits for their replies.
+    /// Goes on with the pairs of so many units: as long as others are missing, it waits for their replies.
     fn go_on(
         &mut self,
         alloc: Global,
@@ -253,18 +254,18 @@ impl<'a> ProverCore<'a> {
     ) -> Result<Vec<Frame>, AllocError>
         requires extended { self.old.job.file.params.kind ≡ Extended }
         requires granted { IsGrant self.old.job.file.params self.old.job.statement.program grant }
-        requires few { done ≤ grant.count }
+        requires bounded { done ≤ grant.count }
         requires count { length pairs.items ≡ done * correlations_per_unit self.old.job.file.params }
         requires code { columns ≡ unit_code self.old.job.file.params self.old.job.file.code_seed }
         ensures answered { IfOk result (λ answer.
-            GoesOn self.old.job grant done pairs.items (map said answer.items) self.new.place) }
-        ensures over { OnErr result (self.new.place ≡ self.old.place) }
+            GoesOn self.old.job grant done pairs.items (map frame_value answer.items) self.new.stage) }
+        ensures ended { OnErr result (self.new.stage ≡ self.old.stage) }
         ensures job { self.new.job ≡ self.old.job }
     {
         if done == grant.count {
             return self.commit(alloc, grant, Correlations::Made(pairs));
         }
-        self.place = Place::Replies {
+        self.stage = Stage::Replies {
             grant,
             done,
             pairs,
@@ -282,15 +283,15 @@ impl<'a> ProverCore<'a> {
         frame: Frame,
     ) -> Result<Vec<Frame>, AllocError>
         requires held { IsFixedUnder self.old.job grant wires }
-        requires expected { Allows expect.Challenge (said frame) }
+        requires expected { Allows expect.Challenge (frame_value frame) }
         ensures answered { IfOk result (λ answer. ProverAnswers self.old.job
             (awaits_challenge grant wires.entry.dealt wires.entry.pairs)
-            (said frame) (map said answer.items) self.new.place) }
-        ensures over { OnErr result (self.new.place ≡ self.old.place) }
+            (frame_value frame) (map frame_value answer.items) self.new.stage) }
+        ensures ended { OnErr result (self.new.stage ≡ self.old.stage) }
         ensures job { self.new.job ≡ self.old.job }
     {
         let answer = opened(alloc, self.job, grant, &wires, frame)?;
-        self.place = Place::Verdict;
+        self.stage = Stage::Verdict;
         Ok(answer)
     }
 
@@ -302,16 +303,17 @@ impl<'a> ProverCore<'a> {
         pairs: Correlations<'a, Pair>,
     ) -> Result<Vec<Frame>, AllocError>
         requires granted { IsGrant self.old.job.file.params self.old.job.statement.program grant }
-        requires count { length (held_in pairs) ≡ grant.count * correlations_per_unit self.old.job.file.params }
+        requires count { length (items_in pairs)
+            ≡ grant.count * correlations_per_unit self.old.job.file.params }
         ensures answered { IfOk result (λ answer.
-            Commits self.old.job grant (held_in pairs.entry) (map said answer.items) self.new.place) }
-        ensures over { OnErr result (self.new.place ≡ self.old.place) }
+            Commits self.old.job grant (items_in pairs.entry) (map frame_value answer.items) self.new.stage) }
+        ensures ended { OnErr result (self.new.stage ≡ self.old.stage) }
         ensures job { self.new.job ≡ self.old.job }
     {
         let _params = self.job.file().params();
         let committed = self.job.commit(alloc, grant, pairs)?;
         let answer = one_frame(alloc, Frame::Corrections(committed.corrections))?;
-        self.place = Place::Challenge {
+        self.stage = Stage::Challenge {
             grant,
             wires: committed.wires,
         };

@@ -8,13 +8,14 @@ ghost use Rattle.zk_model.specs.Check.{all_sums, opened_pairs};
 ghost use Rattle.zk_model.specs.Transcript.{IsGrant, wanted_hello};
 ghost use Rattle.zk_model.specs.View.{span_of};
 ghost use Rattle.zk_model.specs.declared.Kind.TheVariants.{Direct};
-ghost use Rattle.wire_auth.specs.Held.{held_in};
+ghost use Rattle.wire_auth.specs.Held.{items_in};
 ghost use Rattle.session_core.specs.Ends.{IsFixed, masks_in};
 ghost use Rattle.session_core.specs.Jobs.{AreValues, IsProverJob, Suits, prover_of};
 ghost use Rattle.session_core.specs.Fixing.{AreEnough, IsFixedUnder};
+ghost use Rattle.zk_model.specs.declared.limits.TheConstants.{MAX_DEALT_UNITS, MAX_WIRES};
 
 use crate::statement::Statement;
-use crate::verifier_job::{MAX_UNITS, units_for};
+use crate::verifier_job::units_for;
 use dealer_files::ProverFile;
 use mersenne_field::{Fe, Pair};
 use mult_check::prover_sums;
@@ -22,10 +23,7 @@ use proof_frames::{Grant, Hello};
 use std::alloc::{AllocError, Global};
 use std::marker::Model;
 use wire_auth::{Correlations, ProverWires};
-use zk_model::Span;
-
-/// The most products of a section.
-const MOST_SECTION: u32 = 1 << 20;
+use zk_model::{MAX_SECTION_LENGTH, MAX_UNITS, Span};
 
 /// What a prover is to do: its statement and its file, and the bits of all wires that it proves with.
 #[derive(Debug, Drop)]
@@ -61,7 +59,7 @@ pub struct Opened {
     pub openings: Vec<Fe>,
 }
 
-/// As many items as there are sections, behind those of the given values.
+/// As many items as there are sections, after those of the given values.
 pub(crate) fn masks_of<T>(items: &[T], givens: usize, sections: usize) -> &[T]
     requires { givens + sections ≤ length items.now }
     ensures masks { result.now ≡ take sections (drop givens items.now) }
@@ -72,7 +70,7 @@ pub(crate) fn masks_of<T>(items: &[T], givens: usize, sections: usize) -> &[T]
 
 /// The units of a grant.
 pub(crate) fn units_of(grant: Grant) -> Span
-    requires { grant.start + grant.count ≤ 2 ^ 32 }
+    requires { grant.start + grant.count ≤ MAX_DEALT_UNITS }
     ensures { result ≡ span_of grant }
 {
     Span {
@@ -86,7 +84,7 @@ fn opened_macs(alloc: Global, wires: &ProverWires<'_>) -> Result<Vec<Fe>, AllocE
     ensures macs { IfOk result (λ macs. macs.items
         ≡ macs_of (opened_pairs wires.now.program wires.now.pairs)) }
     ensures one_each { IfOk result (λ macs. length macs.items ≡ length wires.now.program.opened) }
-    ensures few { length wires.now.program.opened ≤ 2 ^ 20 }
+    ensures bounded { length wires.now.program.opened ≤ MAX_WIRES }
 {
     let opened = wires.program().opened();
     let mut macs = Vec::with_capacity(alloc, opened.len())?;
@@ -140,7 +138,7 @@ impl<'a> ProverJob<'a> {
         ensures yes { result ≡ true → Suits self.now.file.params self.now.statement.program grant }
         ensures no { result ≡ false → ¬ Suits self.now.file.params self.now.statement.program grant }
     {
-        if grant.section < 1 || grant.section > MOST_SECTION {
+        if grant.section < 1 || grant.section > MAX_SECTION_LENGTH {
             return false;
         }
         let need = self.statement.program().need(u64::from(grant.section));
@@ -166,11 +164,11 @@ impl<'a> ProverJob<'a> {
         grant: Grant,
         pairs: Correlations<'a, Pair>,
     ) -> Result<Committed<'a>, AllocError>
-        requires some { 1 ≤ grant.section_length }
-        requires enough { AreEnough self.now grant.section_length (held_in pairs) }
+        requires at_least_one { 1 ≤ grant.section_length }
+        requires enough { AreEnough self.now grant.section_length (items_in pairs) }
         ensures fixed { IfOk result (λ c. IsFixed self.now.statement self.now.given
-            (held_in pairs.entry) c.corrections.items c.wires.pairs) }
-        ensures same { IfOk result (λ c. c.wires.dealt ≡ held_in pairs.entry) }
+            (items_in pairs.entry) c.corrections.items c.wires.pairs) }
+        ensures dealt_kept { IfOk result (λ c. c.wires.dealt ≡ items_in pairs.entry) }
         ensures held { IfOk result (λ c. IsFixedUnder self.now grant c.wires) }
         ensures one_each { IfOk result (λ c. length c.corrections.items
             ≡ self.now.statement.program.givens) }
@@ -199,7 +197,7 @@ impl<'a> ProverJob<'a> {
             ≡ section_count self.now.statement.program grant.section_length) }
         ensures opening_count { IfOk result (λ o. length o.openings.items
             ≡ length self.now.statement.program.opened) }
-        ensures few { IfOk result (λ o. length o.openings.items ≤ 2 ^ 20) }
+        ensures bounded { IfOk result (λ o. length o.openings.items ≤ MAX_WIRES) }
     {
         let section = u64::from(grant.section);
         let program = self.statement.program();

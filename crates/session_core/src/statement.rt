@@ -5,7 +5,7 @@ ghost use Rattle.zk_model.specs.Statement.{IsStatement};
 ghost use Rattle.zk_model.specs.Transcript.{wanted_hello};
 ghost use Rattle.sha2.specs.Sha256.{sha256};
 
-use gate_translate::FieldProgram;
+use field_program::FieldProgram;
 use mersenne_field::Fe;
 use proof_frames::Hello;
 use sha2::{Digest, Sha256};

@@ -3,8 +3,8 @@ ghost use Rattle.std.specs.Prelude.{◌≡◌, ◌+◌, ◌≤◌, ℕ, [], ◌�
 ghost use Rattle.zk_model.specs.Frames.{Allows, AreAsks};
 ghost use Rattle.zk_model.specs.View.{verdict_code, verdict_number};
 ghost use Rattle.zk_model.specs.Frames as model;
-ghost use Rattle.proof_frames.specs.Frames.{said};
-ghost use Rattle.wire_auth.specs.Held.{held_in};
+ghost use Rattle.proof_frames.specs.Frames.{frame_value};
+ghost use Rattle.wire_auth.specs.Held.{items_in};
 ghost use Rattle.proof_frames.specs.Readings.{IsShortPlace};
 ghost use Rattle.session_core.specs.Jobs.{units_of_job, granted_from};
 ghost use Rattle.session_core.specs.Judgements.{verdict_in};
@@ -13,7 +13,7 @@ ghost use Rattle.zk_model.specs.declared.Kind.TheVariants.{Extended};
 ghost use Rattle.zk_model.specs.Program.{section_count};
 ghost use Rattle.session_core.specs.Extending.{asks_of};
 ghost use Rattle.session_core.specs.Fixing.{HoldsKeys};
-ghost use Rattle.session_core.specs.Cores.{AnswersAsks, VerifierAnswers, VerifierRefuses, IsVerifierPlace, awaits_hello, owes_grant, behind_grant, awaits_asks, awaits_corrections, awaits_sums, awaits_openings, has_refused, verifier_expects, judgement_at, DiffersFirst};
+ghost use Rattle.session_core.specs.Cores.{AnswersAsks, VerifierAnswers, VerifierRefuses, IsVerifierStage, awaits_hello, owes_grant, behind_grant, awaits_asks, awaits_corrections, awaits_sums, awaits_openings, has_refused, verifier_expects, judgement_at, DiffersFirst};
 
 use crate::extending::reply_units;
 use crate::fault::{HelloDiffers, VerifierFault};
@@ -30,7 +30,7 @@ use zk_model::{Expect, Kind, Params, Span, Verdict};
 
 /// What the verifier waits for, with the first unit of its grant, what it has taken since, and its keys once they are fixed.
 #[derive(Debug, Drop)]
-pub(crate) enum Place<'a> {
+pub(crate) enum Stage<'a> {
     Hello,
     Grant,
     Asks {
@@ -65,25 +65,25 @@ pub(crate) enum Place<'a> {
 #[derive(Debug, Drop)]
 pub struct VerifierCore<'a> {
     job: &'a VerifierJob<'a>,
-    place: Place<'a>,
+    stage: Stage<'a>,
 }
 
 impl<'a> Model for VerifierCore<'a> {
     ghost use Rattle.session_core.specs.Cores as cores;
-    ghost use Rattle.session_core.specs.Places.{place_value, HoldsKeysAt};
+    ghost use Rattle.session_core.specs.Stages.{verifier_stage, HoldsKeysAt};
 
     ghost Value = { cores.VerifierState };
 
-    ghost view = { λ c. record { job = c.job.now; place = place_value c.place } };
+    ghost view = { λ c. record { job = c.job.now; stage = verifier_stage c.stage } };
 
-    ghost invariant = { λ c. cores.IsVerifierPlace c.job.now (place_value c.place)
-        × HoldsKeysAt c.job.now c.place };
+    ghost invariant = { λ c. cores.IsVerifierStage c.job.now (verifier_stage c.stage)
+        × HoldsKeysAt c.job.now c.stage };
 }
 
 /// The first field of a hello that is not the wanted one.
 fn difference(wanted: &Hello, hello: &Hello) -> Option<HelloDiffers>
     ensures differs { IfSome result (DiffersFirst wanted.now hello.now) }
-    ensures same { IfNone result (wanted.now ≡ hello.now) }
+    ensures equal { IfNone result (wanted.now ≡ hello.now) }
 {
     if wanted.id != hello.id {
         return Some(HelloDiffers::Id {
@@ -114,7 +114,7 @@ fn difference(wanted: &Hello, hello: &Hello) -> Option<HelloDiffers>
 
 /// The frame of a verdict.
 fn verdict_frame(judgement: &Judgement) -> Frame
-    ensures { said result ≡ model.verdict (verdict_code (verdict_in judgement.now))
+    ensures { frame_value result ≡ model.verdict (verdict_code (verdict_in judgement.now))
         (verdict_number (verdict_in judgement.now)) }
 {
     match judgement.verdict() {
@@ -142,69 +142,69 @@ pub(crate) fn one_frame(alloc: Global, frame: Frame) -> Result<Vec<Frame>, Alloc
 impl<'a> VerifierCore<'a> {
     /// A verifier that waits for the hello.
     pub fn new(job: &'a VerifierJob<'a>) -> Self
-        ensures { result ≡ record { job = job.now; place = awaits_hello } }
+        ensures { result ≡ record { job = job.now; stage = awaits_hello } }
     {
         VerifierCore {
             job,
-            place: Place::Hello,
+            stage: Stage::Hello,
         }
     }
 
     /// The frame that it expects: none exactly where its own grant is due, or where it has judged or refused.
     pub fn expects(&self) -> Option<Expect>
-        ensures place { result ≡ verifier_expects self.now.job self.now.place }
+        ensures stage { result ≡ verifier_expects self.now.job self.now.stage }
         ensures short { IfSome result IsShortPlace }
     {
         let program = self.job.statement().program();
         let _products = program.products();
         let Params { height, trees, .. } = self.job.file().params();
-        match &self.place {
-            Place::Hello => Some(Expect::Hello),
-            Place::Asks { asked, .. } => Some(Expect::Ask {
+        match &self.stage {
+            Stage::Hello => Some(Expect::Hello),
+            Stage::Asks { asked, .. } => Some(Expect::Ask {
                 height: usize::from(height),
                 trees: trees as usize,
                 units_left: self.job.units() as usize - asked.len(),
             }),
-            Place::Corrections { .. } => Some(Expect::Corrections {
+            Stage::Corrections { .. } => Some(Expect::Corrections {
                 count: program.givens(),
             }),
-            Place::Sums { .. } => {
+            Stage::Sums { .. } => {
                 let sections = program.sections(u64::from(self.job.section())) as usize;
                 Some(Expect::Sums { sections })
             }
-            Place::Openings { .. } => Some(Expect::Openings {
+            Stage::Openings { .. } => Some(Expect::Openings {
                 count: program.opened().len(),
             }),
-            Place::Grant | Place::Judged { .. } | Place::Refused => None,
+            Stage::Grant | Stage::Judged { .. } | Stage::Refused => None,
         }
     }
 
     /// What it found, once it has judged.
     pub fn judgement(&self) -> Option<Judgement>
-        ensures { result ≡ judgement_at self.now.place }
+        ensures { result ≡ judgement_at self.now.stage }
     {
-        match &self.place {
-            Place::Judged { judgement, .. } => Some(*judgement),
+        match &self.stage {
+            Stage::Judged { judgement, .. } => Some(*judgement),
             _ => None,
         }
     }
 
     /// Its grant, where it is due: of a span of its units that lies in its file.
     pub fn grant(&mut self, alloc: Global, span: Span) -> Frame
-        requires due { self.old.place ≡ owes_grant }
+        requires due { self.old.stage ≡ owes_grant }
         requires units { span.end ≡ span.start + units_of_job self.old.job }
         requires within { span.end ≤ self.old.job.task.file.params.total }
-        ensures frame { said result ≡ model.grant (granted_from self.old.job span.start) }
-        ensures place { self.new ≡ record self.old { place = behind_grant self.old.job span.start } }
+        ensures frame { frame_value result ≡ model.grant (granted_from self.old.job span.start) }
+        ensures stage { self.new ≡ record self.old { stage = behind_grant self.old.job span.start } }
     {
         let start = span.start;
         let grant = self.job.grant(start);
-        self.place = match self.job.file().params().kind {
-            Kind::Direct => Place::Corrections {
+        self.stage = match self.job.file().params().kind {
+            Kind::Direct => Stage::Corrections {
                 start,
                 keys: Correlations::Dealt(self.job.dealt_keys(start)),
             },
-            Kind::Extended => Place::Asks {
+            Kind::Extended => Stage::Asks {
                 start,
                 asked: Vec::new(alloc),
             },
@@ -219,42 +219,42 @@ impl<'a> VerifierCore<'a> {
     /// `BadHello` where a hello is not the wanted one, with the first field that differs; `NoMemory`. It then expects
     /// nothing more. That a check fails is no error: the verdict says it.
     pub fn step(&mut self, alloc: Global, frame: Frame) -> Result<Vec<Frame>, VerifierFault>
-        requires expected { IsSomeAnd (verifier_expects self.old.job self.old.place)
-            (λ place. Allows place (said frame)) }
-        ensures answered { IfOk result (λ answer. VerifierAnswers self.old.job self.old.place
-            (said frame) (map said answer.items) self.new.place) }
-        ensures refused { IfErr result (VerifierRefuses self.old.job self.old.place (said frame)) }
-        ensures over { OnErr result (self.new.place ≡ has_refused) }
+        requires expected { IsSomeAnd (verifier_expects self.old.job self.old.stage)
+            (λ expect. Allows expect (frame_value frame)) }
+        ensures answered { IfOk result (λ answer. VerifierAnswers self.old.job self.old.stage
+            (frame_value frame) (map frame_value answer.items) self.new.stage) }
+        ensures refused { IfErr result (VerifierRefuses self.old.job self.old.stage (frame_value frame)) }
+        ensures ended { OnErr result (self.new.stage ≡ has_refused) }
         ensures job { self.new.job ≡ self.old.job }
     {
-        match mem::replace(&mut self.place, Place::Refused) {
-            Place::Hello => self.meet(alloc, frame),
-            Place::Asks { start, asked } => Ok(self.take_asks(alloc, start, asked, frame)?),
-            Place::Corrections { start, keys } => {
+        match mem::replace(&mut self.stage, Stage::Refused) {
+            Stage::Hello => self.meet(alloc, frame),
+            Stage::Asks { start, asked } => Ok(self.take_asks(alloc, start, asked, frame)?),
+            Stage::Corrections { start, keys } => {
                 Ok(self.take_corrections(alloc, start, keys, frame)?)
             }
-            Place::Sums {
+            Stage::Sums {
                 start,
                 keys,
                 corrections,
             } => Ok(self.take_sums(alloc, start, keys, corrections, frame)),
-            Place::Openings {
+            Stage::Openings {
                 start,
                 keys,
                 corrections,
                 sums,
             } => Ok(self.take_openings(alloc, start, keys, corrections, sums, frame)?),
-            Place::Grant | Place::Judged { .. } | Place::Refused => unreachable!(),
+            Stage::Grant | Stage::Judged { .. } | Stage::Refused => unreachable!(),
         }
     }
 
     /// Meets a hello: the wanted one leaves its grant due.
     fn meet(&mut self, alloc: Global, frame: Frame) -> Result<Vec<Frame>, VerifierFault>
-        requires expected { Allows expect.Hello (said frame) }
+        requires expected { Allows expect.Hello (frame_value frame) }
         ensures answered { IfOk result (λ answer. VerifierAnswers self.old.job awaits_hello
-            (said frame) (map said answer.items) self.new.place) }
-        ensures refused { IfErr result (VerifierRefuses self.old.job awaits_hello (said frame)) }
-        ensures over { OnErr result (self.new.place ≡ self.old.place) }
+            (frame_value frame) (map frame_value answer.items) self.new.stage) }
+        ensures refused { IfErr result (VerifierRefuses self.old.job awaits_hello (frame_value frame)) }
+        ensures ended { OnErr result (self.new.stage ≡ self.old.stage) }
         ensures job { self.new.job ≡ self.old.job }
     {
         let Frame::Hello(hello) = frame else {
@@ -264,11 +264,11 @@ impl<'a> VerifierCore<'a> {
         if let Some(differs) = difference(&wanted, &hello) {
             return Err(VerifierFault::BadHello(differs));
         }
-        self.place = Place::Grant;
+        self.stage = Stage::Grant;
         Ok(Vec::new(alloc))
     }
 
-    /// Takes the asks for a unit; behind those for the last it answers by the replies to all.
+    /// Takes the asks for a unit; after those for the last it answers by the replies to all.
     fn take_asks(
         &mut self,
         alloc: Global,
@@ -276,13 +276,13 @@ impl<'a> VerifierCore<'a> {
         asked: Vec<Frame>,
         frame: Frame,
     ) -> Result<Vec<Frame>, AllocError>
-        requires held { IsVerifierPlace self.old.job (awaits_asks start (asks_of asked.items)) }
+        requires held { IsVerifierStage self.old.job (awaits_asks start (asks_of asked.items)) }
         requires expected { (left : ℕ) × Allows (expect.Ask self.old.job.task.file.params.height
-            self.old.job.task.file.params.trees left) (said frame) }
+            self.old.job.task.file.params.trees left) (frame_value frame) }
         ensures answered { IfOk result (λ answer. VerifierAnswers self.old.job
             (awaits_asks start (asks_of asked.items))
-            (said frame) (map said answer.items) self.new.place) }
-        ensures over { OnErr result (self.new.place ≡ self.old.place) }
+            (frame_value frame) (map frame_value answer.items) self.new.stage) }
+        ensures ended { OnErr result (self.new.stage ≡ self.old.stage) }
         ensures job { self.new.job ≡ self.old.job }
     {
         let mut asked = asked;
@@ -290,7 +290,7 @@ impl<'a> VerifierCore<'a> {
         self.answer_asks(alloc, start, asked)
     }
 
-    /// Answers the asks for so many units: as long as others are wanting, it waits for these.
+    /// Answers the asks for so many units: as long as others are missing, it waits for these.
     fn answer_asks(
         &mut self,
         alloc: Global,
@@ -299,23 +299,23 @@ impl<'a> VerifierCore<'a> {
     ) -> Result<Vec<Frame>, AllocError>
         requires extended { self.old.job.task.file.params.kind ≡ Extended }
         requires within { start + units_of_job self.old.job ≤ self.old.job.task.file.params.total }
-        requires few { length asked.items ≤ units_of_job self.old.job }
+        requires bounded { length asked.items ≤ units_of_job self.old.job }
         requires each { All (AreAsks self.old.job.task.file.params.height
             self.old.job.task.file.params.trees) (asks_of asked.items) }
         ensures answered { IfOk result (λ answer. AnswersAsks self.old.job start
-            (asks_of asked.items) (map said answer.items) self.new.place) }
-        ensures over { OnErr result (self.new.place ≡ self.old.place) }
+            (asks_of asked.items) (map frame_value answer.items) self.new.stage) }
+        ensures ended { OnErr result (self.new.stage ≡ self.old.stage) }
         ensures job { self.new.job ≡ self.old.job }
     {
         if asked.len() < self.job.units() as usize {
-            self.place = Place::Asks { start, asked };
+            self.stage = Stage::Asks { start, asked };
             return Ok(Vec::new(alloc));
         }
         let file = self.job.file();
         let columns = columns_of(alloc, &file.params(), &file.code_seed())?;
         let replied = reply_units(alloc, file, &columns, self.job.grant(start), &asked)?;
         let keys = Correlations::Made(replied.keys);
-        self.place = Place::Corrections { start, keys };
+        self.stage = Stage::Corrections { start, keys };
         Ok(replied.replies)
     }
 
@@ -328,12 +328,12 @@ impl<'a> VerifierCore<'a> {
         frame: Frame,
     ) -> Result<Vec<Frame>, AllocError>
         requires within { start + units_of_job self.old.job ≤ self.old.job.task.file.params.total }
-        requires keys { HoldsKeys self.old.job start (held_in keys) }
+        requires keys { HoldsKeys self.old.job start (items_in keys) }
         requires expected { Allows (expect.Corrections self.old.job.task.statement.program.givens)
-            (said frame) }
+            (frame_value frame) }
         ensures answered { IfOk result (λ answer. VerifierAnswers self.old.job (awaits_corrections start)
-            (said frame) (map said answer.items) self.new.place) }
-        ensures over { OnErr result (self.new.place ≡ self.old.place) }
+            (frame_value frame) (map frame_value answer.items) self.new.stage) }
+        ensures ended { OnErr result (self.new.stage ≡ self.old.stage) }
         ensures job { self.new.job ≡ self.old.job }
     {
         let Frame::Corrections(corrections) = frame else {
@@ -341,7 +341,7 @@ impl<'a> VerifierCore<'a> {
         };
         let _total = self.job.file().total();
         let challenge = one_frame(alloc, Frame::Challenge(self.job.challenge(start)))?;
-        self.place = Place::Sums {
+        self.stage = Stage::Sums {
             start,
             keys,
             corrections,
@@ -358,19 +358,19 @@ impl<'a> VerifierCore<'a> {
         corrections: Vec<Fe>,
         frame: Frame,
     ) -> Vec<Frame>
-        requires held { IsVerifierPlace self.old.job (awaits_sums start corrections.items) }
-        requires keys { HoldsKeys self.old.job start (held_in keys) }
+        requires held { IsVerifierStage self.old.job (awaits_sums start corrections.items) }
+        requires keys { HoldsKeys self.old.job start (items_in keys) }
         requires expected { Allows (expect.Sums (section_count self.old.job.task.statement.program
-            self.old.job.section_length)) (said frame) }
+            self.old.job.section_length)) (frame_value frame) }
         ensures answered { VerifierAnswers self.old.job
             (awaits_sums start corrections.items)
-            (said frame) (map said result.items) self.new.place }
+            (frame_value frame) (map frame_value result.items) self.new.stage }
         ensures job { self.new.job ≡ self.old.job }
     {
         let Frame::Sums(sums) = frame else {
             unreachable!();
         };
-        self.place = Place::Openings {
+        self.stage = Stage::Openings {
             start,
             keys,
             corrections,
@@ -389,14 +389,14 @@ impl<'a> VerifierCore<'a> {
         sums: Vec<(Fe, Fe)>,
         frame: Frame,
     ) -> Result<Vec<Frame>, AllocError>
-        requires held { IsVerifierPlace self.old.job (awaits_openings start corrections.items sums.items) }
-        requires keys { HoldsKeys self.old.job start (held_in keys) }
+        requires held { IsVerifierStage self.old.job (awaits_openings start corrections.items sums.items) }
+        requires keys { HoldsKeys self.old.job start (items_in keys) }
         requires expected { Allows (expect.Openings (length self.old.job.task.statement.program.opened))
-            (said frame) }
+            (frame_value frame) }
         ensures answered { IfOk result (λ answer. VerifierAnswers self.old.job
             (awaits_openings start corrections.items sums.items)
-            (said frame) (map said answer.items) self.new.place) }
-        ensures over { OnErr result (self.new.place ≡ self.old.place) }
+            (frame_value frame) (map frame_value answer.items) self.new.stage) }
+        ensures ended { OnErr result (self.new.stage ≡ self.old.stage) }
         ensures job { self.new.job ≡ self.old.job }
     {
         let Frame::Openings(openings) = frame else {
@@ -407,7 +407,7 @@ impl<'a> VerifierCore<'a> {
             .job
             .judge(alloc, start, keys, &corrections, &sums, &openings)?;
         let verdict = one_frame(alloc, verdict_frame(&judgement))?;
-        self.place = Place::Judged { start, judgement };
+        self.stage = Stage::Judged { start, judgement };
         Ok(verdict)
     }
 }

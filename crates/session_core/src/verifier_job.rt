@@ -10,6 +10,7 @@ ghost use Rattle.mult_check.specs.Checks.{product_check, opening_check};
 ghost use Rattle.session_core.specs.Jobs.{IsVerifierJob, IsTooLarge, units_of_job, granted_from, verifier_of};
 ghost use Rattle.session_core.specs.Fixing.{HoldsKeys};
 ghost use Rattle.session_core.specs.Judgements.{HasSides, Finds, verdict_in};
+ghost use Rattle.zk_model.specs.declared.limits.TheConstants.{MAX_DEALT_UNITS, MAX_SECTION_LENGTH, MAX_UNITS};
 
 use crate::judgement::Judgement;
 use crate::prover_job::{masks_of, units_of};
@@ -22,16 +23,13 @@ use std::alloc::{AllocError, Global};
 use std::marker::Model;
 use thiserror::Error;
 use wire_auth::VerifierWires;
-use zk_model::{Kind, Params};
-
-/// The most units of a session.
-pub const MAX_UNITS: u64 = 4096;
+use zk_model::{Kind, MAX_UNITS, Params};
 
 /// How many correlations a unit gives to a session.
 pub(crate) fn correlations_per_unit(params: &Params) -> u64
     requires { AreParams params.now }
     ensures count { result ≡ correlations_per_unit params.now }
-    ensures some { 1 ≤ result }
+    ensures at_least_one { 1 ≤ result }
 {
     match params.kind {
         Kind::Direct => 64,
@@ -100,7 +98,7 @@ fn judgement_of(
     openings: &[Fe],
     claims: &[Fe],
 ) -> Judgement
-    requires some { 1 ≤ section }
+    requires at_least_one { 1 ≤ section }
     requires masks { length masks.now ≡ section_count wires.now.program section }
     requires sums { length sums.now ≡ length masks.now }
     requires openings { length openings.now ≡ length wires.now.program.opened }
@@ -134,10 +132,10 @@ impl<'a> VerifierJob<'a> {
         file: &'a VerifierFile,
         section: u32,
     ) -> Result<Self, TooLarge>
-        requires some { 1 ≤ section }
-        requires most { section ≤ 2 ^ 20 }
+        requires at_least_one { 1 ≤ section }
+        requires at_most { section ≤ MAX_SECTION_LENGTH }
         ensures fits { IfOk result (λ job. job ≡ verifier_of statement.now file.now section) }
-        ensures few { IfOk result (λ job. units_of_job job ≤ 4096) }
+        ensures bounded { IfOk result (λ job. units_of_job job ≤ MAX_UNITS) }
         ensures many { IfErr result (IsTooLarge (verifier_of statement.now file.now section)) }
     {
         let need = statement.program().need(u64::from(section));
@@ -212,7 +210,7 @@ impl<'a> VerifierJob<'a> {
 
     /// The challenge of the session whose first unit this is: its coin.
     pub fn challenge(&self, start: u64) -> Fe
-        requires { start ≤ 2 ^ 32 }
+        requires { start ≤ MAX_DEALT_UNITS }
         ensures { result ≡ challenge_coin self.now.task.file start }
     {
         self.file.challenge(start)

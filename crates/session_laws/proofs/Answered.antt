@@ -12,10 +12,10 @@ use Rattle.session_laws.proofs.Completed.{AreBoth, task_of, counterparts}
 use Rattle.session_laws.proofs.MetTurns.{Agree, answered_in, served_transcript_is}
 use Rattle.session_laws.proofs.Prefixes.{answer_said, answer_answered}
 use Rattle.session_laws.proofs.SessionsMeet.{both_of, as_long, in_met_turn, in_met_answer}
-use Rattle.zk_laws.proofs.Codes.{same_front}
+use Rattle.frame_laws.proofs.Codes.{same_front}
 use Rattle.zk_laws.proofs.HonestIsAccepted.{honest_session_is_accepted}
-use Rattle.zk_laws.proofs.OneTranscript.{one_transcript}
-use Rattle.zk_laws.proofs.SentBytes.{sent_by-prover, sent_by-verifier}
+use Rattle.frame_laws.proofs.OneTranscript.{one_transcript}
+use Rattle.frame_laws.proofs.SentBytes.{sent_by-prover, sent_by-verifier}
 use Rattle.zk_model.specs.Statement.{Statement, IsStatement}
 use Rattle.zk_model.specs.Files.{VerifierFile, rounds_of}
 use Rattle.zk_model.specs.Transcript.{Grant, Transcript, IsTranscript, wanted_hello, hello_frame, bytes_from, turn_bytes, session_turns, spelling, sent_by}
@@ -116,15 +116,8 @@ heard_turns prover file t w m n more_said rest more both is = record {
 -- both ends have the same first turns
 heard_agree : (prover : ProverTask) (file : VerifierFile) (t w : Transcript) (m n : ℕ) (more_said rest more : List ℕ)
     → IsHeardBy prover file t w m n more_said rest more → Heard prover t w m n more_said rest more → Agree prover file t w n
-heard_agree prover file t w m n more_said rest more is heard = record {
-  transcript = is.mine;
-  honest = is.honest;
-  verdict = is.verdict;
-  served = is.served;
-  grant = heard.grant;
-  below = is.below;
-  same = heard.same;
-}
+heard_agree prover file t w m n more_said rest more is heard =
+    record { transcript = is.mine; honest = is.honest; verdict = is.verdict; served = is.served; grant = heard.grant; below = is.below; same = heard.same }
 
 -- ---- a log that ends in an answer
 

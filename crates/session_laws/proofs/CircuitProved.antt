@@ -3,9 +3,9 @@ use Rattle.std.proofs.Common.{◌≡◌, ℕ, List, [], ◌∷◌, map, drop, le
 use Rattle.std.specs.Prelude.{Bool, true, false}
 use Rattle.session_laws.specs.Peers.{HasWitness, GivesClaims}
 use Rattle.session_laws.specs.Circuits.{CircuitIsProved}
-use Rattle.zk_laws.specs.Booleans.{AreSatisfying}
-use Rattle.zk_laws.proofs.OneOutcome.{one_outcome}
-use Rattle.zk_laws.proofs.Satisfied.{satisfied_is_solved, solved_is_satisfied}
+use Rattle.circuit_laws.specs.Circuits.{AreSatisfying}
+use Rattle.circuit_laws.proofs.OneOutcome.{one_outcome}
+use Rattle.circuit_laws.proofs.Satisfied.{satisfied_is_solved, solved_is_satisfied}
 use Rattle.zk_model.specs.Bits.{from_bit}
 use Rattle.zk_model.specs.Boolean.{circuit_program}
 use Rattle.zk_model.specs.Circuit.{Circuit, Satisfies, IsWellFormed}

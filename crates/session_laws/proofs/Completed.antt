@@ -5,9 +5,9 @@ use Rattle.std.proofs.lemmas.List.FromFn.{length-map-range_with_len}
 use Rattle.mersenne_field.proofs.FieldLaws.{reduced}
 use Rattle.session_laws.specs.Peers.{GivesClaims}
 use Rattle.session_laws.proofs.Followed.{AreEnds}
-use Rattle.session_laws.proofs.Honest.{IsMade, HasHonestSetup, made_transcript, opened_macs, sums_are_elements, honest_session_exists, honest_setup_exists}
+use Rattle.session_laws.proofs.Honest.{IsMade, HasHonestSetup, made_transcript, opened_macs, sums_are_elements, honest_as, honest_session_exists, honest_setup_exists}
 use Rattle.session_laws.proofs.Served.{given_count}
-use Rattle.zk_laws.specs.Rehearsing.{AreCounterparts}
+use Rattle.zk_laws.specs.Completeness.{AreCounterparts}
 use Rattle.zk_laws.proofs.Follow.{wires_follow}
 use Rattle.zk_laws.proofs.HonestIsAccepted.{honest_session_is_accepted}
 use Rattle.zk_laws.proofs.HonestSession.{honest_session_holds}
@@ -88,18 +88,7 @@ completed prover file u both is honest replies = (
     }
 
     honestly : IsHonest prover s
-    honestly = record {
-      hello = honest.hello;
-      asks = honest.asks;
-      wires = honest.wires;
-      given = honest.given;
-      witness = honest.witness;
-      view = honest.view;
-      seen = honest.seen;
-      corrections = honest.corrections;
-      sums = refl;
-      openings = refl;
-    }
+    honestly = honest_as prover u (challenge_coin file u.commitment.setup.grant.start) 0 0 _ _ honest refl refl
 
     claims : opened_values prover.statement.program honest.wires ≡ prover.statement.claims
     claims = both.claims honest.wires honest.given honest.witness

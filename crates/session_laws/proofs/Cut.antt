@@ -5,9 +5,9 @@ use Rattle.std.proofs.lemmas.List.{take_all}
 use Rattle.session_laws.specs.Cuts.{CutIsNotWhole, CutIsNotAccepted, VerdictIsSaid, OneVerdictOfCode}
 use Rattle.session_laws.proofs.Turns.{answered, cut_answered, no_more_turns, as_many}
 use Rattle.session_laws.proofs.Sizes.{same_sizes, all_answered, count_is}
-use Rattle.zk_laws.proofs.FrameCodes.{grant_code}
-use Rattle.zk_laws.proofs.OneTranscript.{one_transcript}
-use Rattle.zk_laws.proofs.SentBytes.{sent_by-verifier}
+use Rattle.frame_laws.proofs.FrameCodes.{grant_code}
+use Rattle.frame_laws.proofs.OneTranscript.{one_transcript}
+use Rattle.frame_laws.proofs.SentBytes.{sent_by-verifier}
 use Rattle.zk_model.specs.Program.{Program}
 use Rattle.zk_model.specs.Files.{AreParams, rounds_of}
 use Rattle.zk_model.specs.Transcript.{Transcript, IsTranscript, session_turns, sent_by}

@@ -9,8 +9,8 @@ use Rattle.session_laws.proofs.Turns.{said, answered}
 use Rattle.session_laws.proofs.Sizes.{round_turns, asks_length, hello_length, count_is}
 use Rattle.session_laws.proofs.Cut.{one_grant}
 use Rattle.session_laws.proofs.Honest.{AsksAre, IsMade, HasHonestSetup, honest_session_exists, honest_setup_exists}
-use Rattle.zk_laws.proofs.Codes.{same_front}
-use Rattle.zk_laws.proofs.FrameCodes.{round_code}
+use Rattle.frame_laws.proofs.Codes.{same_front}
+use Rattle.frame_laws.proofs.FrameCodes.{round_code}
 use Rattle.zk_model.specs.Statement.{IsStatement}
 use Rattle.zk_model.specs.Files.{VerifierFile, IsProverFile, IsVerifierFile, rounds_of}
 use Rattle.zk_model.specs.Transcript.{Grant, TreeAsk, Round, Transcript, IsRound, IsTranscript, BeginsWith, wanted_hello, hello_frame, grant_frame, ask_frame, reply_frame, corrections_frame, challenge_frame, sums_frame, openings_frame, verdict_frame, setup_turns, session_turns}
@@ -271,8 +271,8 @@ followed prover verifier t n received honest rest extra more ends led heard byte
   u = answer.u;
   transcript = answer.transcript;
   honest = answer.honest;
-  grant = same;
   within = answer.within;
+  grant = same;
   begun = answer.begun;
   sent_is = answer.sent_is;
 }

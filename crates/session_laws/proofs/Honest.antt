@@ -11,7 +11,7 @@ use Rattle.session_laws.proofs.Shapes.{round_asks_shaped, round_replies_shaped}
 use Rattle.zk_laws.proofs.FoundPairs.{pairs_exist}
 use Rattle.zk_laws.proofs.OnePairs.{one_pairs}
 use Rattle.zk_laws.proofs.WholePairs.{pairs_are_whole}
-use Rattle.zk_laws.proofs.Unique.{set_element}
+use Rattle.circuit_laws.proofs.Unique.{set_element}
 use Rattle.zk_laws.proofs.Views.{rounds_are, enough_pairs, view_exists, mac_at_place}
 use Rattle.zk_model.specs.Field.{IsElement, ◌-ₚ◌}
 use Rattle.zk_model.specs.Program.{Program}
@@ -109,6 +109,15 @@ made_transcript program commitment view challenge code number = record {
   number = number;
 }
 
+-- what the prover fixed was honest, so it is where sums and openings are made of it, whatever the verifier says
+abbrev pub honest_as : (prover : ProverTask) (t : Transcript) (challenge code number : ℕ) (sums : List (ℕ × ℕ)) (openings : List ℕ) → (honest : IsHonest prover t)
+    → sums ≡ all_sums prover.statement.program t.commitment.setup.grant.section_length challenge honest.view.carried
+    (view_masks prover.statement.program honest.view)
+    → openings ≡ macs_of (opened_pairs prover.statement.program honest.view.carried)
+    → IsHonest prover (record t { challenge = challenge; sums = sums; openings = openings; code = code; number = number })
+honest_as prover t challenge code number sums openings honest summed opened =
+    record { hello = honest.hello; asks = honest.asks; wires = honest.wires; given = honest.given; witness = honest.witness; view = honest.view; seen = honest.seen; corrections = honest.corrections; sums = summed; openings = opened }
+
 pub honest_session_exists : (prover : ProverTask) (setup : Setup) (challenge code number : ℕ) (wires given : List ℕ)
     → IsProverFile prover.file → IsStatement prover.statement → IsWitness prover.statement prover.inputs wires given
     → IsSetup prover.file.params prover.statement.program setup
@@ -131,9 +140,9 @@ honest_session_exists prover setup challenge code number wires given is stated w
     hello = hello;
     asks = asks;
     wires = wires;
+    view = view.0;
     given = given;
     witness = witness;
-    view = view.0;
     seen = view.1;
     corrections = ap (honest_corrections given) (one_pairs prover.file setup pairs.0 view.0.pairs pairs.1 view.1.pairs);
     sums = refl;
@@ -220,12 +229,7 @@ pub honest_setup_exists : (prover : ProverTask) (verifier : VerifierFile) (grant
 honest_setup_exists prover verifier grant left stated right same granted = record {
   setup = record { hello = wanted_hello prover.file.id prover.statement; grant = grant; rounds = honest_rounds prover.file verifier grant prover.file.params.kind };
   granted = refl;
-  is = record {
-    hello = record { id = left.id; circuit = stated.circuit; outputs = stated.outputs; version = stated.version };
-    grant = granted;
-    round_count = rounds.count;
-    rounds = rounds.each;
-  };
+  is = record { hello = record { id = left.id; circuit = stated.circuit; outputs = stated.outputs; version = stated.version }; grant = granted; round_count = rounds.count; rounds = rounds.each };
   hello = refl;
   asks = rounds.asks;
   replies = rounds.replies;

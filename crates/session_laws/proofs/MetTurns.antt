@@ -11,7 +11,7 @@ use Rattle.session_laws.proofs.Sizes.{round_turns, count_is}
 use Rattle.session_laws.proofs.Followed.{last_two, same_asks, one_round}
 use Rattle.session_laws.proofs.PeersHonest.{setup_count, same_challenge, turns_before, before_count, before_is, last_apart, last_is, same_but_verdict, honest_with}
 use Rattle.session_laws.proofs.Completed.{AreBoth, IsCompleted, task_of, counterparts, completed, fresh_session}
-use Rattle.zk_laws.proofs.FrameCodes.{round_code}
+use Rattle.frame_laws.proofs.FrameCodes.{round_code}
 use Rattle.zk_laws.proofs.HonestIsAccepted.{honest_session_is_accepted}
 use Rattle.zk_model.specs.Program.{Program}
 use Rattle.zk_model.specs.Files.{VerifierFile, rounds_of}

@@ -10,7 +10,7 @@ use Rattle.session_laws.proofs.Cut.{one_grant}
 use Rattle.session_laws.proofs.PeersHonest.{led_of}
 use Rattle.session_laws.proofs.MetTurns.{answered_in}
 use Rattle.session_laws.proofs.Prefixes.{EndsIn, at_end, in_turn, in_answer, where_it_ends, answer_said, answer_answered}
-use Rattle.zk_laws.proofs.SentBytes.{sent_by-prover, sent_by-verifier}
+use Rattle.frame_laws.proofs.SentBytes.{sent_by-prover, sent_by-verifier}
 use Rattle.zk_model.specs.Files.{AreParams}
 use Rattle.zk_model.specs.Transcript.{Transcript, IsTranscript, BeginsWith, hello_frame, bytes_from, turn_bytes, session_turns, spelling, sent_by}
 use Rattle.zk_model.specs.HonestProver.{ProverTask, IsHonest, SentAfter, AreHonestBytes}

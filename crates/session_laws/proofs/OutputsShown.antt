@@ -3,8 +3,8 @@ use Rattle.std.proofs.Common.{◌≡◌, ℕ, List, [], map, sym, ◌∙◌, sub
 use Rattle.std.specs.Prelude.{Bool}
 use Rattle.session_laws.proofs.CircuitProved.{same_bits}
 use Rattle.session_laws.specs.Circuits.{ExtractedShowsOutputs}
-use Rattle.zk_laws.proofs.CircuitIsStatement.{found_bits}
-use Rattle.zk_laws.specs.Booleans.{AreSatisfying}
+use Rattle.zk_laws.proofs.FoundBits.{found_bits}
+use Rattle.circuit_laws.specs.Circuits.{AreSatisfying}
 use Rattle.zk_laws.specs.Extraction.{Shows}
 use Rattle.zk_model.specs.Bits.{from_bit}
 use Rattle.zk_model.specs.Circuit.{Circuit, Satisfies, IsWellFormed}

@@ -4,12 +4,13 @@ use Rattle.std.proofs.lemmas.List.{length-map, take_all, take_at, get_or-take, g
 use Rattle.session_laws.specs.Peers.{HasWitness, IsServedTurns, IsHonestUpTo, HonestTurn, HonestTurnEnds, HonestWhole, HonestWholeIsAccepted, said_in}
 use Rattle.session_laws.proofs.Turns.{said, answered, sizes, same_said, same_answered, same_turns, no_more_turns, said_more, answered_more, fewer_answered, same_length_in, cut_said, cut_answered}
 use Rattle.session_laws.proofs.Sizes.{round_turns, count_is, same_sizes, all_answered}
+use Rattle.session_laws.proofs.Honest.{honest_as}
 use Rattle.session_laws.proofs.Followed.{AreEnds, IsLed, IsFollowed, first_answer, followed, granted_session}
-use Rattle.zk_laws.specs.Rehearsing.{AreCounterparts}
-use Rattle.zk_laws.proofs.Codes.{element_code, frame_code, same_front}
+use Rattle.zk_laws.specs.Completeness.{AreCounterparts}
+use Rattle.frame_laws.proofs.Codes.{element_code, frame_code, same_front}
 use Rattle.zk_laws.proofs.HonestIsAccepted.{honest_session_is_accepted}
-use Rattle.zk_laws.proofs.OneTranscript.{one_transcript}
-use Rattle.zk_laws.proofs.SentBytes.{sent_by-prover, sent_by-verifier}
+use Rattle.frame_laws.proofs.OneTranscript.{one_transcript}
+use Rattle.frame_laws.proofs.SentBytes.{sent_by-prover, sent_by-verifier}
 use Rattle.zk_model.specs.Field.{IsElement}
 use Rattle.zk_model.specs.Bytes.{element_bytes}
 use Rattle.zk_model.specs.Program.{Program}
@@ -209,16 +210,7 @@ pub same_but_verdict : (params : Params) (program : Program) (t u : Transcript) 
     → record t { code = u.code; number = u.number } ≡ u
 same_but_verdict params program t u is also are same same_last =
     one_transcript params program (record t { code = u.code; number = u.number }) u are
-    (record {
-      commitment = is.commitment;
-      challenge = is.challenge;
-      sum_count = is.sum_count;
-      sums = is.sums;
-      opening_count = is.opening_count;
-      openings = is.openings;
-      code = also.code;
-      number = also.number;
-    })
+    (record { commitment = is.commitment; challenge = is.challenge; sum_count = is.sum_count; sums = is.sums; opening_count = is.opening_count; openings = is.openings; code = also.code; number = also.number })
     also
     (ap turn_bytes (last_apart (record t { code = u.code; number = u.number })
     ∙ (λ i. before i ++ (last i, verdict_frame u.code u.number) ∷ [])
@@ -231,35 +223,13 @@ same_but_verdict params program t u is also are same same_last =
     last = sym (last_is params program t is) ∙ sym same_last ∙ last_is params program u also
 
 -- the verdict does not decide whether the prover is honest
-pub honest_before : (prover : ProverTask) (t : Transcript) (code number : ℕ) → IsHonest prover (record t { code = code; number = number })
-    → IsHonest prover t
-honest_before prover t code number honest = record {
-  hello = honest.hello;
-  asks = honest.asks;
-  wires = honest.wires;
-  given = honest.given;
-  witness = honest.witness;
-  view = honest.view;
-  seen = honest.seen;
-  corrections = honest.corrections;
-  sums = honest.sums;
-  openings = honest.openings;
-}
-
 pub honest_with : (prover : ProverTask) (t : Transcript) (code number : ℕ) → IsHonest prover t
     → IsHonest prover (record t { code = code; number = number })
-honest_with prover t code number honest = record {
-  hello = honest.hello;
-  asks = honest.asks;
-  wires = honest.wires;
-  given = honest.given;
-  witness = honest.witness;
-  view = honest.view;
-  seen = honest.seen;
-  corrections = honest.corrections;
-  sums = honest.sums;
-  openings = honest.openings;
-}
+honest_with prover t code number honest = honest_as prover t t.challenge code number t.sums t.openings honest honest.sums honest.openings
+
+pub honest_before : (prover : ProverTask) (t : Transcript) (code number : ℕ) → IsHonest prover (record t { code = code; number = number })
+    → IsHonest prover t
+honest_before prover t code number = honest_with prover (record t { code = code; number = number }) t.code t.number
 
 pub whole_honest : (prover : ProverTask) (verifier : VerifierFile) (t : Transcript) (honest more : List ℕ)
     → AreEnds prover verifier → IsLed prover verifier t → AreHonestBytes prover (answered (session_turns t)) honest

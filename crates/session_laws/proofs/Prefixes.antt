@@ -3,7 +3,7 @@ use Rattle.std.proofs.Common.{◌≡◌, ℕ, zero, suc, ◌<◌, List, [], ◌�
 use Rattle.std.proofs.lemmas.List.{map-append}
 use Rattle.std.proofs.lemmas.Grind.{flat_map-append}
 use Rattle.session_laws.proofs.Turns.{said, answered}
-use Rattle.zk_laws.proofs.SentBytes.{sent_by-prover, sent_by-verifier}
+use Rattle.frame_laws.proofs.SentBytes.{sent_by-prover, sent_by-verifier}
 use Rattle.zk_model.specs.Transcript.{BeginsWith, bytes_from, turn_bytes, sent_by}
 use Rattle.zk_model.specs.declared.Side.{Side}
 use Rattle.zk_model.specs.declared.Side.TheVariants.{Prover, Verifier}

@@ -1,19 +1,18 @@
 -- A verifier can serve a session, whatever the prover fixes in it: by the verifier's keys some sums and openings meet its
 -- equations.
-use Rattle.std.proofs.Common.{◌≡◌, ℕ, zero, suc, ◌+◌, ◌-◌, ◌*◌, ◌%◌, ◌^◌, ◌<◌, ◌≤◌, max, List, [], map, zip, flat_map, length, slice_index, sym, ◌∙◌, ap, arith, le_trans, le_refl, length-append, refl, zero-add}
+use Rattle.std.proofs.Common.{◌≡◌, ℕ, zero, suc, ◌+◌, ◌-◌, ◌*◌, ◌%◌, ◌^◌, ◌<◌, ◌≤◌, List, [], map, zip, flat_map, length, slice_index, sym, ◌∙◌, ap, arith, length-append, refl, zero-add}
 use Rattle.std.specs.Prelude.{All}
 use Rattle.std.specs.List.{range_with_len}
 use Rattle.std.proofs.lemmas.List.{length-map}
 use Rattle.std.proofs.lemmas.List.Elements.{All-map}
 use Rattle.std.proofs.lemmas.List.FromFn.{length-enumerate_from, length-map-range_with_len, get_or-map-range_with_len}
-use Rattle.std.proofs.lemmas.Nat.{mul-le, pow_pos}
 use Rattle.std.proofs.lemmas.Slice.Zip.{length-zip}
 use Rattle.mersenne_field.proofs.FieldLaws.{reduced, plus_comm, plus-minus}
 use Rattle.mersenne_field.proofs.Flatten.{flatten}
 use Rattle.zk_model.specs.Field.{prime, IsElement, ◌+ₚ◌, ◌-ₚ◌, ◌*ₚ◌}
-use Rattle.zk_model.specs.Program.{Program, Carries, part_count, section_count, correlations_needed}
+use Rattle.zk_model.specs.Program.{Program, Carries, section_count, correlations_needed}
 use Rattle.zk_model.specs.Mac.{corrected_key, corrected_keys}
-use Rattle.zk_model.specs.Files.{VerifierFile, AreWithinLimits, IsVerifierUnit, IsVerifierFile, correlations_per_unit, verifier_unit}
+use Rattle.zk_model.specs.Files.{VerifierFile, IsVerifierUnit, IsVerifierFile, correlations_per_unit, verifier_unit}
 use Rattle.zk_model.specs.Correlations.{tree_root, unit_leaves, unit_keys}
 use Rattle.zk_model.specs.Tree.{tree_leaves, leaf_at}
 use Rattle.zk_model.specs.Transcript.{Commitment, Transcript, IsGrant, sections_of}
@@ -21,7 +20,8 @@ use Rattle.zk_model.specs.Check.{WireKeys, ProductCheck, OpeningCheck, SectionHo
 use Rattle.zk_model.specs.View.{AreSessionKeys, session_keys, session_products, session_openings}
 use Rattle.zk_model.specs.ServedVerifier.{VerifierTask, challenge_coin}
 use Rattle.zk_laws.proofs.Follow.{wires_follow}
-use Rattle.zk_laws.proofs.Unique.{set_element}
+use Rattle.zk_laws.proofs.Views.{gives_some, parts_hold}
+use Rattle.circuit_laws.proofs.Unique.{set_element}
 use Rattle.session_laws.specs.Serving.{ServedSessionExists}
 use Rattle.zk_model.specs.declared.Kind.{Kind}
 use Rattle.zk_model.specs.declared.Kind.TheVariants.{Direct, Extended}
@@ -75,22 +75,6 @@ session_length file program commitment is granted =
         → length (unit_keys file (commitment.setup.grant.start + i)) ≡ correlations_per_unit file.params
     each i below = unit_length file file.params.kind (commitment.setup.grant.start + i)
         (is.units (commitment.setup.grant.start + i) (record { keys = []; trees = [] }) (omega (arith, below, is.count, granted.within)))
-
--- every kind gives some
-gives_some : (params : Params) (kind : Kind) → AreWithinLimits kind (record params { kind = kind })
-    → 1 ≤ correlations_per_unit (record params { kind = kind })
-gives_some params Direct limits = omega arith
-gives_some params Extended limits = mul-le 1 1 params.trees (2 ^ params.height) limits.2 (pow_pos params.height)
-
--- as many parts as hold n hold n, and so do more
-parts_hold : (n size count : ℕ) → 1 ≤ size → count ≡ max 1 (part_count n size) → n ≤ count * size
-parts_hold n size count some is = le_trans hold (mul-le (part_count n size) size count size more (le_refl size))
-  where
-    more : part_count n size ≤ count
-    more = omega (arith, is)
-
-    hold : n ≤ part_count n size * size
-    hold = omega (arith, some)
 
 -- so there is a key for each given value
 pub given_count : (file : VerifierFile) (program : Program) (commitment : Commitment) → IsVerifierFile file

@@ -9,10 +9,10 @@ use Rattle.session_laws.proofs.PeersHonest.{ends_of, led_of, turn_said, whole_ho
 use Rattle.session_laws.proofs.Completed.{AreBoth, task_of, counterparts}
 use Rattle.session_laws.proofs.MetTurns.{Agree, IsMet, answered_in, met, served_transcript_is}
 use Rattle.session_laws.proofs.Prefixes.{EndsIn, at_end, in_turn, in_answer, where_it_ends, begins_in_turn, begins_in_answer, answer_said, answer_answered}
-use Rattle.zk_laws.specs.Rehearsing.{AreCounterparts}
-use Rattle.zk_laws.proofs.Codes.{same_front}
+use Rattle.zk_laws.specs.Completeness.{AreCounterparts}
+use Rattle.frame_laws.proofs.Codes.{same_front}
 use Rattle.zk_laws.proofs.HonestIsAccepted.{honest_session_is_accepted}
-use Rattle.zk_laws.proofs.SentBytes.{sent_by-prover, sent_by-verifier}
+use Rattle.frame_laws.proofs.SentBytes.{sent_by-prover, sent_by-verifier}
 use Rattle.zk_model.specs.Statement.{Statement, IsStatement}
 use Rattle.zk_model.specs.Files.{VerifierFile}
 use Rattle.zk_model.specs.Transcript.{Grant, Transcript, IsTranscript, BeginsWith, hello_frame, bytes_from, turn_bytes, session_turns, spelling, sent_by}
@@ -39,6 +39,16 @@ led prover file t verdict log both served =
 
 -- ---- a log that ends in a turn of the prover
 
+-- sessions that meet in n turns have more
+met_below : (prover : ProverTask) (file : VerifierFile) (u w : Transcript) (n : ℕ) → AreBoth prover file → Agree prover file u w n
+    → (found : IsMet prover file u w n) → n < length (session_turns found.s)
+met_below prover file u w n both agree found =
+    let left = count_is prover.file.params prover.statement.program found.s
+    (served_transcript_is prover file found.s Accepted (spelling found.s) both found.session.served) in
+    let right = count_is prover.file.params prover.statement.program u agree.transcript in
+    let under = agree.below in
+    omega (arith, left, right, under)
+
 -- turns that meet, and a part of the next
 pub in_met_turn : (prover : ProverTask) (file : VerifierFile) (u w : Transcript) (n : ℕ) (rest more : List ℕ) (log : List (Side × ℕ))
     → AreBoth prover file → Agree prover file u w n → said_in u n ≡ rest ++ more
@@ -49,19 +59,11 @@ in_met_turn prover file u w n rest more log both agree says bytes = record {
   session = found.session;
   begun = subst (BeginsWith (spelling found.s))
       (ap (λ turns. turn_bytes turns ++ bytes_from Prover rest) found.same ∙ sym bytes)
-      (begins_in_turn (session_turns found.s) n rest more below (found.says ∙ says));
+      (begins_in_turn (session_turns found.s) n rest more (met_below prover file u w n both agree found) (found.says ∙ says));
 }
   where
     found : IsMet prover file u w n
     found = met prover file u w n both agree
-
-    below : n < length (session_turns found.s)
-    below =
-        let left = count_is prover.file.params prover.statement.program found.s
-        (served_transcript_is prover file found.s Accepted (spelling found.s) both found.session.served) in
-        let right = count_is prover.file.params prover.statement.program u agree.transcript in
-        let under = agree.below in
-        omega (arith, left, right, under)
 
 -- turns that meet, the next, and a part of the answer to it
 pub in_met_answer : (prover : ProverTask) (file : VerifierFile) (u w : Transcript) (n : ℕ) (rest more : List ℕ) (log : List (Side × ℕ))
@@ -73,19 +75,11 @@ in_met_answer prover file u w n rest more log both agree same answers bytes = re
   session = found.session;
   begun = subst (BeginsWith (spelling found.s))
       ((λ i. turn_bytes (found.same i) ++ (bytes_from Prover (found.says i) ++ bytes_from Verifier rest)) ∙ sym bytes)
-      (begins_in_answer (session_turns found.s) n rest more below (found.answers same ∙ answers));
+      (begins_in_answer (session_turns found.s) n rest more (met_below prover file u w n both agree found) (found.answers same ∙ answers));
 }
   where
     found : IsMet prover file u w n
     found = met prover file u w n both agree
-
-    below : n < length (session_turns found.s)
-    below =
-        let left = count_is prover.file.params prover.statement.program found.s
-        (served_transcript_is prover file found.s Accepted (spelling found.s) both found.session.served) in
-        let right = count_is prover.file.params prover.statement.program u agree.transcript in
-        let under = agree.below in
-        omega (arith, left, right, under)
 
 -- ---- what a verifier serves
 

@@ -1,17 +1,17 @@
 -- What both ends ask and reply in a round has the right counts and ranges.
-use Rattle.std.proofs.Common.{◌≡◌, ℕ, zero, suc, ◌+◌, ◌^◌, ◌<◌, ◌≤◌, Bool, true, false, not, List, [], map, length, slice_index_or, refl, sym, ◌∙◌, ap, subst, arith}
+use Rattle.std.proofs.Common.{◌≡◌, ℕ, ◌+◌, ◌<◌, ◌≤◌, true, false, List, [], map, length, slice_index_or, sym, ◌∙◌, subst, arith}
 use Rattle.std.specs.Prelude.{All}
 use Rattle.std.specs.List.{range_with_len, enumerate_from}
 use Rattle.std.proofs.lemmas.List.{length-map}
-use Rattle.std.proofs.lemmas.List.Elements.{All-map, All-from_recursion, All-replicate}
+use Rattle.std.proofs.lemmas.List.Elements.{All-map, All-from_recursion}
 use Rattle.std.proofs.lemmas.List.FromFn.{length-enumerate_from, length-map-range_with_len, get_or-enumerate_from}
 use Rattle.std.proofs.lemmas.Slice.Zip.{length-zip}
 use Rattle.mersenne_field.proofs.FieldLaws.{reduced}
-use Rattle.zk_laws.proofs.Octets.{child_bytes}
-use Rattle.zk_laws.proofs.Xors.{xor_are_bytes, sum_are_bytes, range_all}
-use Rattle.zk_model.specs.Bytes.{LeftRight, AreBytes, AreBothBytes}
-use Rattle.zk_model.specs.Tree.{child_of, path_to, node_at, level_sum}
-use Rattle.zk_model.specs.Extension.{choice_of, masked_messages}
+use Rattle.tree_laws.proofs.Xors.{range_all}
+use Rattle.tree_laws.proofs.Messages.{path_length, level_bytes, masked_bytes}
+use Rattle.zk_model.specs.Bytes.{LeftRight, AreBothBytes}
+use Rattle.zk_model.specs.Tree.{path_to}
+use Rattle.zk_model.specs.Extension.{masked_messages}
 use Rattle.zk_model.specs.Files.{Transfer, ProverFile, VerifierFile, IsProverUnit, IsProverFile, IsVerifierUnit, IsVerifierFile, prover_unit, verifier_unit}
 use Rattle.zk_model.specs.Transcript.{Grant, TreeAsk, IsTreeAsk, IsTreeReply, ForEachTree}
 use Rattle.zk_model.specs.Correlations.{tree_root}
@@ -34,10 +34,6 @@ all_of_range : {A : Type 0} (P : A → Type 0) (f : ℕ → A) (a n : ℕ) → (
 all_of_range P f a n each = All-from_recursion P (map f (range_with_len a n)) (range_all P f a n each)
 
 -- ---- asks
-
-path_length : (h j : ℕ) → length (path_to h j) ≡ h
-path_length zero j = refl
-path_length (suc h) j = ap suc (path_length h j)
 
 ask_shaped : (file : ProverFile) (unit tree : ℕ) (transfers : List Transfer) → length transfers ≡ file.params.height
     → IsTreeAsk file.params.height (honest_ask file unit tree transfers)
@@ -67,25 +63,6 @@ round_asks_shaped file grant is within = (
 )
 
 -- ---- replies
-
-level_bytes : (root : List ℕ) (level : ℕ) (side : Bool) → AreBytes 16 (level_sum root level side)
-level_bytes root level side = sum_are_bytes 16 (map child (range_with_len 0 (2 ^ level))) _
-    (refl, All-replicate (λ byte. byte < 256) 16 0 (omega arith))
-    (range_all (AreBytes 16) child 0 (2 ^ level) (λ j low high. child_bytes side (node_at root (path_to level j))))
-  where
-    child : ℕ → List ℕ
-    child j = child_of side (node_at root (path_to level j))
-
-choice_bytes : (side : Bool) (both : LeftRight) → AreBothBytes 16 both → AreBytes 16 (choice_of side both)
-choice_bytes false both is = is.0
-choice_bytes true both is = is.1
-
-masked_bytes : (pads : LeftRight) (flip : Bool) (messages : LeftRight) → AreBothBytes 16 pads → AreBothBytes 16 messages
-    → AreBothBytes 16 (masked_messages pads flip messages)
-masked_bytes pads flip messages left right = (
-  xor_are_bytes 16 messages.left (choice_of flip pads) right.0 (choice_bytes flip pads left),
-  xor_are_bytes 16 messages.right (choice_of (not flip) pads) right.1 (choice_bytes (not flip) pads left),
-)
 
 reply_shaped : (file : VerifierFile) (unit tree : ℕ) (ask : TreeAsk) → IsVerifierUnit file.params (verifier_unit file unit)
     → tree < file.params.trees → IsTreeReply file.params.height (tree_reply file unit tree ask)

@@ -10,7 +10,7 @@ use Rattle.zk_model.specs.Field.{IsElement}
 use Rattle.zk_model.specs.Bytes.{LeftRight, AreBothBytes, element_bytes}
 use Rattle.zk_model.specs.Program.{Program, section_count}
 use Rattle.zk_model.specs.Files.{rounds_of}
-use Rattle.zk_model.specs.Transcript.{Hello, Grant, TreeAsk, TreeReply, Round, Setup, Transcript, frame_bytes, hello_frame, ask_frame, reply_frame, corrections_frame, challenge_frame, sums_frame, openings_frame, verdict_frame, setup_turns, session_turns, IsHello, IsTreeAsk, IsTreeReply, IsRound, IsTranscript}
+use Rattle.zk_model.specs.Transcript.{Hello, Grant, TreeAsk, TreeReply, Round, Setup, Transcript, frame_bytes, hello_frame, grant_frame, ask_frame, reply_frame, corrections_frame, challenge_frame, sums_frame, openings_frame, verdict_frame, setup_turns, session_turns, IsHello, IsTreeAsk, IsTreeReply, IsRound, IsTranscript}
 use Rattle.zk_model.specs.declared.FrameKind.{FrameKind}
 use Rattle.zk_model.specs.declared.FrameKind.TheVariants as kind
 use Rattle.zk_model.specs.declared.Params.{Params}
@@ -171,63 +171,52 @@ count_is params program t is =
     let count = is.commitment.setup.round_count in
     omega (arith, whole, mapped, count)
 
--- ---- every turn has an answer
+-- ---- every turn has an answer, and in every turn the prover says something
 
-some_replies : (trees : List TreeReply) (more : List (List TreeReply)) → 1 ≤ length (flat_map reply_frame (trees ∷ more))
-some_replies trees more = let whole = length-append (reply_frame trees) (flat_map reply_frame more) in omega (arith, whole)
+-- as many frames as units, of which there is one at least
+frames_some : {A : Type 0} (frame : A → List ℕ) (grant : Grant) (items : List A) → ((item : A) → 1 ≤ length (frame item)) → 1 ≤ grant.count
+    → length items ≡ grant.count → 1 ≤ length (flat_map frame items)
+frames_some frame grant [] each some counted = absurd (omega (arith, some, counted))
+frames_some frame grant (item ∷ items) each some counted =
+    let whole = length-append (frame item) (flat_map frame items) in let first = each item in omega (arith, whole, first)
 
--- a round of one unit at least has replies
-round_answers : (params : Params) (grant : Grant) (replies : List (List TreeReply)) → 1 ≤ grant.count → length replies ≡ grant.count
-    → 1 ≤ length (flat_map reply_frame replies)
-round_answers params grant [] some counted = absurd (omega (arith, some, counted))
-round_answers params grant (trees ∷ more) some counted = some_replies trees more
+-- the turn of a round
+abbrev round_turn : Round → List ℕ × List ℕ
+round_turn round = (flat_map ask_frame round.asks, flat_map reply_frame round.replies)
 
--- rounds and the two turns behind them
-rounds_answer : (params : Params) (grant : Grant) (rounds : List Round) (turns : List (List ℕ × List ℕ)) → 1 ≤ grant.count
-    → AllByRecursion (IsRound params grant) rounds → AllByRecursion (λ turn. 1 ≤ length turn.1) turns
-    → AllByRecursion (λ turn. 1 ≤ length turn.1) (round_turns rounds ++ turns)
-rounds_answer params grant [] turns some all rest = rest
-rounds_answer params grant (round ∷ rounds) turns some all rest =
-    (round_answers params grant round.replies some all.0.replies.0, rounds_answer params grant rounds turns some all.1 rest)
+-- rounds of which each has some of a part of its turn, and the turns after them
+rounds_some : (part : List ℕ × List ℕ → List ℕ) (params : Params) (grant : Grant)
+    → ((round : Round) → IsRound params grant round → 1 ≤ length (part (round_turn round))) → (rounds : List Round) (turns : List (List ℕ × List ℕ))
+    → AllByRecursion (IsRound params grant) rounds → AllByRecursion (λ turn. 1 ≤ length (part turn)) turns
+    → AllByRecursion (λ turn. 1 ≤ length (part turn)) (round_turns rounds ++ turns)
+rounds_some part params grant each [] turns all rest = rest
+rounds_some part params grant each (round ∷ rounds) turns all rest =
+    (each round all.0, rounds_some part params grant each rounds turns all.1 rest)
+
+-- a session in each turn of which there is some of a part
+turns_some : (part : List ℕ × List ℕ → List ℕ) (params : Params) (program : Program) (t : Transcript) → IsTranscript params program t
+    → ((round : Round) → IsRound params t.commitment.setup.grant round → 1 ≤ t.commitment.setup.grant.count → 1 ≤ length (part (round_turn round)))
+    → 1 ≤ length (part (hello_frame t.commitment.setup.hello, grant_frame t.commitment.setup.grant))
+    → 1 ≤ length (part (corrections_frame t.commitment.corrections, challenge_frame t.challenge))
+    → 1 ≤ length (part (sums_frame t.sums ++ openings_frame t.openings, verdict_frame t.code t.number))
+    → AllByRecursion (λ turn. 1 ≤ length (part turn)) (session_turns t)
+turns_some part params program t is each first behind last = (
+  first,
+  rounds_some part params t.commitment.setup.grant
+      (λ round meets. each round meets (let count = is.commitment.setup.grant.count in omega (arith, count)))
+      t.commitment.setup.rounds _
+      (recursion_from_All (IsRound params t.commitment.setup.grant) t.commitment.setup.rounds is.commitment.setup.rounds)
+      (behind, (last, tt)),
+)
 
 pub all_answered : (params : Params) (program : Program) (t : Transcript) → IsTranscript params program t
     → AllByRecursion (λ turn. 1 ≤ length turn.1) (session_turns t)
-all_answered params program t is = (
-  omega arith,
-  rounds_answer params t.commitment.setup.grant t.commitment.setup.rounds
-      ((corrections_frame t.commitment.corrections, challenge_frame t.challenge)
-      ∷ (sums_frame t.sums ++ openings_frame t.openings, verdict_frame t.code t.number) ∷ [])
-      (let count = is.commitment.setup.grant.count in omega (arith, count))
-      (recursion_from_All (IsRound params t.commitment.setup.grant) t.commitment.setup.rounds is.commitment.setup.rounds)
-      (omega arith, (omega arith, tt)),
-)
-
--- ---- and in every turn the prover says something
-
-some_asks : (trees : List TreeAsk) (more : List (List TreeAsk)) → 1 ≤ length (flat_map ask_frame (trees ∷ more))
-some_asks trees more = let whole = length-append (ask_frame trees) (flat_map ask_frame more) in omega (arith, whole)
-
--- a round of one unit at least has asks
-round_says : (grant : Grant) (asks : List (List TreeAsk)) → 1 ≤ grant.count → length asks ≡ grant.count
-    → 1 ≤ length (flat_map ask_frame asks)
-round_says grant [] some counted = absurd (omega (arith, some, counted))
-round_says grant (trees ∷ more) some counted = some_asks trees more
-
-rounds_say : (params : Params) (grant : Grant) (rounds : List Round) (turns : List (List ℕ × List ℕ)) → 1 ≤ grant.count
-    → AllByRecursion (IsRound params grant) rounds → AllByRecursion (λ turn. 1 ≤ length turn.0) turns
-    → AllByRecursion (λ turn. 1 ≤ length turn.0) (round_turns rounds ++ turns)
-rounds_say params grant [] turns some all rest = rest
-rounds_say params grant (round ∷ rounds) turns some all rest =
-    (round_says grant round.asks some all.0.asks.0, rounds_say params grant rounds turns some all.1 rest)
+all_answered params program t is = turns_some (λ turn. turn.1) params program t is
+    (λ round meets some. frames_some reply_frame t.commitment.setup.grant round.replies (λ trees. omega arith) some meets.replies.0)
+    (omega arith) (omega arith) (omega arith)
 
 pub all_said : (params : Params) (program : Program) (t : Transcript) → IsTranscript params program t
     → AllByRecursion (λ turn. 1 ≤ length turn.0) (session_turns t)
-all_said params program t is = (
-  omega arith,
-  rounds_say params t.commitment.setup.grant t.commitment.setup.rounds
-      ((corrections_frame t.commitment.corrections, challenge_frame t.challenge)
-      ∷ (sums_frame t.sums ++ openings_frame t.openings, verdict_frame t.code t.number) ∷ [])
-      (let count = is.commitment.setup.grant.count in omega (arith, count))
-      (recursion_from_All (IsRound params t.commitment.setup.grant) t.commitment.setup.rounds is.commitment.setup.rounds)
-      (omega arith, (omega arith, tt)),
-)
+all_said params program t is = turns_some (λ turn. turn.0) params program t is
+    (λ round meets some. frames_some ask_frame t.commitment.setup.grant round.asks (λ trees. omega arith) some meets.asks.0)
+    (omega arith) (omega arith) (omega arith)

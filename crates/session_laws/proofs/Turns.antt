@@ -2,8 +2,8 @@
 use Rattle.std.proofs.Common.{◌≡◌, ℕ, zero, suc, ◌<◌, ◌≤◌, List, [], ◌∷◌, ◌++◌, map, flat_map, take, drop, length, get_or, refl, ap, arith, ◌∙◌, sym, length-append, append-nil, append_assoc}
 use Rattle.std.specs.List.{AllByRecursion}
 use Rattle.std.proofs.lemmas.Grind.{flat_map-append}
-use Rattle.zk_laws.proofs.Codes.{regroup, same_front}
-use Rattle.zk_laws.proofs.SentBytes.{sent_by-prover, sent_by-verifier}
+use Rattle.frame_laws.proofs.Codes.{regroup, same_front}
+use Rattle.frame_laws.proofs.SentBytes.{sent_by-prover, sent_by-verifier}
 use Rattle.zk_model.specs.Transcript.{bytes_from, turn_bytes, sent_by}
 use Rattle.zk_model.specs.declared.Side.TheVariants.{Prover, Verifier}
 
@@ -36,35 +36,35 @@ as_many [] (t ∷ ts) sized = let whole = ap length sized in absurd (omega (arit
 as_many (u ∷ us) [] sized = let whole = ap length sized in absurd (omega (arith, whole))
 as_many (u ∷ us) (t ∷ ts) sized = ap suc (as_many us ts (first_sizes u t us ts sized).2)
 
--- what is said in as many first turns tells each of them, and what comes after them
+-- a part of a turn, of which turns of the same sizes have as much
+abbrev IsSized : (List ℕ × List ℕ → List ℕ) → Type 0
+IsSized part = (u t : List ℕ × List ℕ) → length u.0 ≡ length t.0 → length u.1 ≡ length t.1 → length (part u) ≡ length (part t)
+
+-- the parts of as many first turns, joined, tell each of them, and what comes after them
+same_parts : (part : List ℕ × List ℕ → List ℕ) → IsSized part → (n : ℕ) (us ts : List (List ℕ × List ℕ)) (xs ys : List ℕ)
+    → sizes us ≡ sizes ts → flat_map part (take n us) ++ xs ≡ flat_map part (take n ts) ++ ys
+    → (map part (take n us) ≡ map part (take n ts)) × (xs ≡ ys)
+same_parts part alike zero us ts xs ys sized same = (refl, same)
+same_parts part alike (suc n) [] [] xs ys sized same = (refl, same)
+same_parts part alike (suc n) [] (t ∷ ts) xs ys sized same = let whole = as_many [] (t ∷ ts) sized in absurd (omega (arith, whole))
+same_parts part alike (suc n) (u ∷ us) [] xs ys sized same = let whole = as_many (u ∷ us) [] sized in absurd (omega (arith, whole))
+same_parts part alike (suc n) (u ∷ us) (t ∷ ts) xs ys sized same =
+    let sizes_of = first_sizes u t us ts sized in
+    let first = same_front (part u) (part t) (flat_map part (take n us) ++ xs) (flat_map part (take n ts) ++ ys)
+    (alike u t sizes_of.0 sizes_of.1)
+    (regroup (part u) (flat_map part (take n us)) xs (part t) (flat_map part (take n ts)) ys same) in
+    let rest = same_parts part alike n us ts xs ys sizes_of.2 first.1 in
+    (λ i. first.0 i ∷ rest.0 i, rest.1)
+
 pub same_said : (n : ℕ) (us ts : List (List ℕ × List ℕ)) (xs ys : List ℕ) → sizes us ≡ sizes ts
     → said (take n us) ++ xs ≡ said (take n ts) ++ ys
     → (map (λ turn. turn.0) (take n us) ≡ map (λ turn. turn.0) (take n ts)) × (xs ≡ ys)
-same_said zero us ts xs ys sized same = (refl, same)
-same_said (suc n) [] [] xs ys sized same = (refl, same)
-same_said (suc n) [] (t ∷ ts) xs ys sized same = let whole = as_many [] (t ∷ ts) sized in absurd (omega (arith, whole))
-same_said (suc n) (u ∷ us) [] xs ys sized same = let whole = as_many (u ∷ us) [] sized in absurd (omega (arith, whole))
-same_said (suc n) (u ∷ us) (t ∷ ts) xs ys sized same =
-    let part = first_sizes u t us ts sized in
-    let first = same_front u.0 t.0 (said (take n us) ++ xs) (said (take n ts) ++ ys) part.0
-    (regroup u.0 (said (take n us)) xs t.0 (said (take n ts)) ys same) in
-    let rest = same_said n us ts xs ys part.2 first.1 in
-    (λ i. first.0 i ∷ rest.0 i, rest.1)
+same_said n us ts xs ys sized same = same_parts (λ turn. turn.0) (λ u t left right. left) n us ts xs ys sized same
 
--- and so does what is answered in them
 pub same_answered : (n : ℕ) (us ts : List (List ℕ × List ℕ)) (xs ys : List ℕ) → sizes us ≡ sizes ts
     → answered (take n us) ++ xs ≡ answered (take n ts) ++ ys
     → (map (λ turn. turn.1) (take n us) ≡ map (λ turn. turn.1) (take n ts)) × (xs ≡ ys)
-same_answered zero us ts xs ys sized same = (refl, same)
-same_answered (suc n) [] [] xs ys sized same = (refl, same)
-same_answered (suc n) [] (t ∷ ts) xs ys sized same = let whole = as_many [] (t ∷ ts) sized in absurd (omega (arith, whole))
-same_answered (suc n) (u ∷ us) [] xs ys sized same = let whole = as_many (u ∷ us) [] sized in absurd (omega (arith, whole))
-same_answered (suc n) (u ∷ us) (t ∷ ts) xs ys sized same =
-    let part = first_sizes u t us ts sized in
-    let first = same_front u.1 t.1 (answered (take n us) ++ xs) (answered (take n ts) ++ ys) part.1
-    (regroup u.1 (answered (take n us)) xs t.1 (answered (take n ts)) ys same) in
-    let rest = same_answered n us ts xs ys part.2 first.1 in
-    (λ i. first.0 i ∷ rest.0 i, rest.1)
+same_answered n us ts xs ys sized same = same_parts (λ turn. turn.1) (λ u t left right. right) n us ts xs ys sized same
 
 -- the answers in as many first turns are as long
 pub as_long_answered : (n : ℕ) (us ts : List (List ℕ × List ℕ)) → sizes us ≡ sizes ts
@@ -81,41 +81,33 @@ as_long_answered (suc n) (u ∷ us) (t ∷ ts) sized =
     let right = length-append t.1 (answered (take n ts)) in
     omega (arith, same, rest, left, right)
 
--- where every turn has an answer, turns whose answers are no longer than those of n turns are n at most
+-- where every turn has some of a part, turns that have no more of it than n turns are n at most
+no_more_parts : (part : List ℕ × List ℕ → List ℕ) → IsSized part → (m n : ℕ) (us ts : List (List ℕ × List ℕ)) → sizes us ≡ sizes ts
+    → AllByRecursion (λ turn. 1 ≤ length (part turn)) us → m ≤ length us
+    → length (flat_map part (take m us)) ≤ length (flat_map part (take n ts)) → m ≤ n
+no_more_parts part alike zero n us ts sized some within most = omega arith
+no_more_parts part alike (suc m) n [] ts sized some within most = absurd (omega (arith, within))
+no_more_parts part alike (suc m) zero (u ∷ us) ts sized some within most =
+    let joined = length-append (part u) (flat_map part (take m us)) in let first = some.0 in absurd (omega (arith, joined, first, most))
+no_more_parts part alike (suc m) (suc n) (u ∷ us) [] sized some within most =
+    let whole = as_many (u ∷ us) [] sized in absurd (omega (arith, whole))
+no_more_parts part alike (suc m) (suc n) (u ∷ us) (t ∷ ts) sized some within most =
+    let sizes_of = first_sizes u t us ts sized in
+    let same = alike u t sizes_of.0 sizes_of.1 in
+    let left = length-append (part u) (flat_map part (take m us)) in
+    let right = length-append (part t) (flat_map part (take n ts)) in
+    let rest = no_more_parts part alike m n us ts sizes_of.2 some.1 (omega (arith, within)) (omega (arith, same, left, right, most)) in
+    omega (arith, rest)
+
 pub no_more_turns : (m n : ℕ) (us ts : List (List ℕ × List ℕ)) → sizes us ≡ sizes ts
     → AllByRecursion (λ turn. 1 ≤ length turn.1) us → m ≤ length us
     → length (answered (take m us)) ≤ length (answered (take n ts)) → m ≤ n
-no_more_turns zero n us ts sized some within most = omega arith
-no_more_turns (suc m) n [] ts sized some within most = absurd (omega (arith, within))
-no_more_turns (suc m) zero (u ∷ us) ts sized some within most =
-    let joined = length-append u.1 (answered (take m us)) in let first = some.0 in absurd (omega (arith, joined, first, most))
-no_more_turns (suc m) (suc n) (u ∷ us) [] sized some within most =
-    let whole = as_many (u ∷ us) [] sized in absurd (omega (arith, whole))
-no_more_turns (suc m) (suc n) (u ∷ us) (t ∷ ts) sized some within most =
-    let part = first_sizes u t us ts sized in
-    let same = part.1 in
-    let left = length-append u.1 (answered (take m us)) in
-    let right = length-append t.1 (answered (take n ts)) in
-    let rest = no_more_turns m n us ts part.2 some.1 (omega (arith, within)) (omega (arith, same, left, right, most)) in
-    omega (arith, rest)
+no_more_turns = no_more_parts (λ turn. turn.1) (λ u t left right. right)
 
--- and alike for what is said
 pub no_more_said : (m n : ℕ) (us ts : List (List ℕ × List ℕ)) → sizes us ≡ sizes ts
     → AllByRecursion (λ turn. 1 ≤ length turn.0) us → m ≤ length us
     → length (said (take m us)) ≤ length (said (take n ts)) → m ≤ n
-no_more_said zero n us ts sized some within most = omega arith
-no_more_said (suc m) n [] ts sized some within most = absurd (omega (arith, within))
-no_more_said (suc m) zero (u ∷ us) ts sized some within most =
-    let joined = length-append u.0 (said (take m us)) in let first = some.0 in absurd (omega (arith, joined, first, most))
-no_more_said (suc m) (suc n) (u ∷ us) [] sized some within most =
-    let whole = as_many (u ∷ us) [] sized in absurd (omega (arith, whole))
-no_more_said (suc m) (suc n) (u ∷ us) (t ∷ ts) sized some within most =
-    let part = first_sizes u t us ts sized in
-    let same = part.0 in
-    let left = length-append u.0 (said (take m us)) in
-    let right = length-append t.0 (said (take n ts)) in
-    let rest = no_more_said m n us ts part.2 some.1 (omega (arith, within)) (omega (arith, same, left, right, most)) in
-    omega (arith, rest)
+no_more_said = no_more_parts (λ turn. turn.0) (λ u t left right. left)
 
 -- turns are the same where what is said and what is answered are
 pub same_turns : (us ts : List (List ℕ × List ℕ)) → map (λ turn. turn.0) us ≡ map (λ turn. turn.0) ts
@@ -131,40 +123,39 @@ same_turns (u ∷ us) (t ∷ ts) left right =
 
 -- ---- one turn more
 
+part_more : (part : List ℕ × List ℕ → List ℕ) (n : ℕ) (turns : List (List ℕ × List ℕ)) → n < length turns
+    → flat_map part (take (suc n) turns) ≡ flat_map part (take n turns) ++ part (get_or turns n ([], []))
+part_more part n [] below = absurd (omega (arith, below))
+part_more part zero (turn ∷ turns) below = append-nil (part turn)
+part_more part (suc n) (turn ∷ turns) below =
+    ap (λ l. part turn ++ l) (part_more part n turns (omega (arith, below)))
+    ∙ sym (append_assoc (part turn) (flat_map part (take n turns)) (part (get_or turns n ([], []))))
+
 pub said_more : (n : ℕ) (turns : List (List ℕ × List ℕ)) → n < length turns
     → said (take (suc n) turns) ≡ said (take n turns) ++ (get_or turns n ([], [])).0
-said_more n [] below = absurd (omega (arith, below))
-said_more zero (turn ∷ turns) below = append-nil turn.0
-said_more (suc n) (turn ∷ turns) below =
-    ap (λ l. turn.0 ++ l) (said_more n turns (omega (arith, below)))
-    ∙ sym (append_assoc turn.0 (said (take n turns)) (get_or turns n ([], [])).0)
+said_more = part_more (λ turn. turn.0)
 
 pub answered_more : (n : ℕ) (turns : List (List ℕ × List ℕ)) → n < length turns
     → answered (take (suc n) turns) ≡ answered (take n turns) ++ (get_or turns n ([], [])).1
-answered_more n [] below = absurd (omega (arith, below))
-answered_more zero (turn ∷ turns) below = append-nil turn.1
-answered_more (suc n) (turn ∷ turns) below =
-    ap (λ l. turn.1 ++ l) (answered_more n turns (omega (arith, below)))
-    ∙ sym (append_assoc turn.1 (answered (take n turns)) (get_or turns n ([], [])).1)
+answered_more = part_more (λ turn. turn.1)
 
 -- fewer turns are a beginning
+fewer_parts : (part : List ℕ × List ℕ → List ℕ) (n m : ℕ) (turns : List (List ℕ × List ℕ)) → n ≤ m
+    → (rest : List ℕ) × (flat_map part (take m turns) ≡ flat_map part (take n turns) ++ rest)
+fewer_parts part zero m turns within = (flat_map part (take m turns), refl)
+fewer_parts part (suc n) zero turns within = absurd (omega (arith, within))
+fewer_parts part (suc n) (suc m) [] within = ([], refl)
+fewer_parts part (suc n) (suc m) (turn ∷ turns) within =
+    let later = fewer_parts part n m turns (omega (arith, within)) in
+    (later.0, ap (λ l. part turn ++ l) later.1 ∙ sym (append_assoc (part turn) (flat_map part (take n turns)) later.0))
+
 pub fewer_answered : (n m : ℕ) (turns : List (List ℕ × List ℕ)) → n ≤ m
     → (rest : List ℕ) × (answered (take m turns) ≡ answered (take n turns) ++ rest)
-fewer_answered zero m turns within = (answered (take m turns), refl)
-fewer_answered (suc n) zero turns within = absurd (omega (arith, within))
-fewer_answered (suc n) (suc m) [] within = ([], refl)
-fewer_answered (suc n) (suc m) (turn ∷ turns) within =
-    let later = fewer_answered n m turns (omega (arith, within)) in
-    (later.0, ap (λ l. turn.1 ++ l) later.1 ∙ sym (append_assoc turn.1 (answered (take n turns)) later.0))
+fewer_answered = fewer_parts (λ turn. turn.1)
 
 pub fewer_said : (n m : ℕ) (turns : List (List ℕ × List ℕ)) → n ≤ m
     → (rest : List ℕ) × (said (take m turns) ≡ said (take n turns) ++ rest)
-fewer_said zero m turns within = (said (take m turns), refl)
-fewer_said (suc n) zero turns within = absurd (omega (arith, within))
-fewer_said (suc n) (suc m) [] within = ([], refl)
-fewer_said (suc n) (suc m) (turn ∷ turns) within =
-    let later = fewer_said n m turns (omega (arith, within)) in
-    (later.0, ap (λ l. turn.0 ++ l) later.1 ∙ sym (append_assoc turn.0 (said (take n turns)) later.0))
+fewer_said = fewer_parts (λ turn. turn.0)
 
 -- turns of the same sizes are as long at each place
 pub same_length_in : (n : ℕ) (us ts : List (List ℕ × List ℕ)) → sizes us ≡ sizes ts

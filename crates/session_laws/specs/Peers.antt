@@ -6,7 +6,7 @@ use Rattle.zk_model.specs.Transcript.{Transcript, IsTranscript, BeginsWith, want
 use Rattle.zk_model.specs.HonestProver.{ProverTask, IsWitness, IsHonest}
 use Rattle.zk_model.specs.ServedVerifier.{VerifierTask, RepliesAre, IsServed}
 use Rattle.zk_model.specs.Peers.{IsFromHonestProver, HasEndedHonestly}
-use Rattle.zk_laws.specs.Rehearsing.{AreCounterparts}
+use Rattle.zk_laws.specs.Completeness.{AreCounterparts}
 use Rattle.zk_model.specs.declared.Side.{Side}
 use Rattle.zk_model.specs.declared.Side.TheVariants.{Prover}
 use Rattle.zk_model.specs.declared.Verdict.{Verdict}

@@ -5,7 +5,7 @@ use Rattle.zk_model.specs.HonestProver.{ProverTask, IsHonest}
 use Rattle.zk_model.specs.ServedVerifier.{VerifierTask, ServesWith}
 use Rattle.zk_model.specs.BothEnds.{IsHonestSession}
 use Rattle.zk_model.specs.Peers.{IsFromHonestProver, IsFromHonestVerifier}
-use Rattle.zk_laws.specs.Rehearsing.{AreCounterparts}
+use Rattle.zk_laws.specs.Completeness.{AreCounterparts}
 use Rattle.session_laws.specs.Peers.{HasWitness, GivesClaims, said_in}
 use Rattle.zk_model.specs.declared.Side.{Side}
 use Rattle.zk_model.specs.declared.Side.TheVariants.{Prover, Verifier}

@@ -3,7 +3,7 @@ use Rattle.std.specs.Prelude.{◌≡◌, ◌⊎◌, ℕ, List, [], false, Option
 use Rattle.zk_model.specs.declared.Side.{Side}
 use Rattle.zk_model.specs.declared.Side.TheVariants.{Verifier}
 use Rattle.zk_model.specs.declared.Span.{Span}
-use Rattle.zk_port.specs.Doors.{IsFresh}
+use Rattle.zk_port.specs.Doors.{IsFreshLink}
 use Rattle.zk_port.specs.Links.{LinkState}
 use Rattle.frame_link.specs.Lines.{snapshot}
 use Rattle.lease_store.specs.declared.LeaseFault.{LeaseFault}
@@ -36,7 +36,7 @@ pub record IsSessionOf (job : VerifierJob) (granted : Option Span) (outcome : Ve
   pub sends : SendsRightly job granted outcome log
   pub related : KeepsKeys job log
   pub first : LinkState
-  pub fresh : IsFresh first
+  pub fresh : IsFreshLink first
   pub cause : EndsBecause job answer outcome (snapshot Verifier [] first) (snapshot Verifier log link)
   pub told : IsTold job granted outcome (snapshot Verifier [] first) (snapshot Verifier log link)
   pub faults : CountsFaults outcome (snapshot Verifier [] first) (snapshot Verifier log link)

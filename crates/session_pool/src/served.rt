@@ -2,7 +2,7 @@
 use session_verifier::SessionNote;
 
 /// What came of the sessions with the peers that called: a note for each, in order; whether a call of the door failed, and whether
-/// memory was wanting for a link or its note.
+/// memory was missing for a link or its note.
 #[derive(Drop)]
 pub struct Served<L> {
     pub notes: Vec<SessionNote<L>>,

@@ -1,6 +1,6 @@
 // The session with the first peer that calls.
 ghost use Rattle.std.specs.Prelude.{◌≡◌, ◌≤◌, All, IsTrue, length};
-ghost use Rattle.zk_port.specs.Doors.{IsFresh};
+ghost use Rattle.zk_port.specs.Doors.{IsFreshLink};
 ghost use Rattle.session_pool.specs.Notes.{IsNote};
 ghost use Rattle.session_pool.specs.Doors.{TakesOneAtMost};
 
@@ -18,7 +18,7 @@ fn serve_link<L: Link, G: Gate>(
     link: L,
     gate: &G,
 ) -> SessionNote<L>
-    requires fresh { IsFresh (L.state link) }
+    requires fresh { IsFreshLink (L.state link) }
     ensures { IsNote L.state job.now result }
 {
     let mut first = FirstUnits::new(job.file().total());

@@ -20,7 +20,7 @@ use Rattle.zk_model.specs.declared.Side.TheVariants.{Prover, Verifier}
 use Rattle.frame_link.specs.Lines.{IsUnfinished}
 use Rattle.session_core.specs.Jobs.{ProverJob}
 use Rattle.session_core.specs.Ends.{IsFixed}
-use Rattle.session_core.specs.Cores.{ProverPlace, awaits_grant, awaits_replies, awaits_challenge, awaits_verdict, has_ended, prover_expects, Commits, AnswersGrant, AreRoundPairs, GoesOn, ProverAnswers}
+use Rattle.session_core.specs.Cores.{ProverStage, awaits_grant, awaits_replies, awaits_challenge, awaits_verdict, has_ended, prover_expects, Commits, AnswersGrant, AreRoundPairs, GoesOn, ProverAnswers}
 use Rattle.session_prover.specs.Stages.{Claim, ClaimedFor, AreAskedRounds, AreSomeReplies, IsLogAt, IsLogTaken, setup_for, all_asks, granted_log, asked_log, replied_log, rounds_log, challenged_log, sums_for, openings_for}
 use Rattle.session_prover.specs.Notes.{task_of}
 use Rattle.session_prover.specs.Turns.{IsSound}
@@ -33,21 +33,11 @@ use Rattle.session_prover.proofs.Waiting.{has_answered}
 
 -- ---- frames that differ
 
-grant_or : Grant → Frame → Grant
-grant_or other (grant said) = said
-grant_or other frame = other
-
-element_or : ℕ → Frame → ℕ
-element_or other (challenge said) = said
-element_or other frame = other
-
 pub same_grant : (one other : Grant) → grant one ≡ grant other → one ≡ other
-unfolding grant_or
-same_grant one other is = ap (grant_or one) is
+same_grant one other is = cc
 
 pub same_element : (one other : ℕ) → challenge one ≡ challenge other → one ≡ other
-unfolding element_or
-same_element one other is = ap (element_or one) is
+same_element one other is = cc
 
 -- which kinds there are of a frame that a prover answers
 abbrev IsGrantFrame : Frame → Type 0
@@ -92,17 +82,17 @@ abbrev of_kind : ProverJob → Kind → ProverJob
 of_kind job kind = record job { file = record job.file { params = record job.file.params { kind = kind } } }
 
 -- corrections of the dealt pairs in kind direct, and the asks of all units in kind extended
-abbrev pub IsGrantAnswer : ProverJob → Grant → List Frame → ProverPlace → Type 0
+abbrev pub IsGrantAnswer : ProverJob → Grant → List Frame → ProverStage → Type 0
 IsGrantAnswer job given answer now =
     ((job.file.params.kind ≡ Direct) × Commits job given (span_pairs job.file (span_of given)) answer now)
     ⊎ ((job.file.params.kind ≡ Extended) × (answer ≡ map asks (round_asks job.file given)) × (now ≡ awaits_replies given 0 []))
 
-by_kind : (job : ProverJob) (kind : Kind) (given : Grant) (answer : List Frame) (now : ProverPlace) → AnswersGrant (of_kind job kind) given answer now
+by_kind : (job : ProverJob) (kind : Kind) (given : Grant) (answer : List Frame) (now : ProverStage) → AnswersGrant (of_kind job kind) given answer now
     → IsGrantAnswer (of_kind job kind) given answer now
 by_kind job Direct given answer now answers = inl (refl, answers)
 by_kind job Extended given answer now answers = inr (refl, answers.0, answers.1)
 
-pub grant_answer : (job : ProverJob) (given : Grant) (answer : List Frame) (now : ProverPlace) → AnswersGrant job given answer now
+pub grant_answer : (job : ProverJob) (given : Grant) (answer : List Frame) (now : ProverStage) → AnswersGrant job given answer now
     → IsGrantAnswer job given answer now
 grant_answer job given answer now answers = by_kind job job.file.params.kind given answer now answers
 
@@ -114,7 +104,7 @@ record CanCommit (job : ProverJob) (given : Grant) (pairs : List Pair) : Type 0 
 
 answer_of_kind : (job : ProverJob) (kind : Kind) (given : Grant)
     → (kind ≡ Direct → CanCommit (of_kind job kind) given (span_pairs (of_kind job kind).file (span_of given)))
-    → (answer : List Frame) × (now : ProverPlace) × AnswersGrant (of_kind job kind) given answer now
+    → (answer : List Frame) × (now : ProverStage) × AnswersGrant (of_kind job kind) given answer now
 answer_of_kind job Direct given can =
     let c = can refl in
     (corrections c.d ∷ [], awaits_challenge given (span_pairs (of_kind job Direct).file (span_of given)) c.wires, (c.d, c.wires, c.fixed, refl, refl))
@@ -129,8 +119,8 @@ commits_to job given rounds pairs sound granted asked seen =
 
 -- ---- the answer
 
--- a prover that is where it waits, behind its corrections
-commits_at : (job : ProverJob) (claim : Claim) (given : Grant) (rounds : List Round) (pairs : List Pair) (answer : List Frame) (now : ProverPlace) (log : List (Side × ℕ))
+-- a prover that is where it waits, after its corrections
+commits_at : (job : ProverJob) (claim : Claim) (given : Grant) (rounds : List Round) (pairs : List Pair) (answer : List Frame) (now : ProverStage) (log : List (Side × ℕ))
     → ClaimedFor claim given → IsGrant job.file.params job.statement.program given → AreAskedRounds job given rounds
     → IsProverView job.file (setup_for job given rounds) pairs → log ≡ rounds_log job given rounds → Commits job given pairs answer now
     → IsLogAt job claim now (log ++ bytes_from Prover (flat_map frame_spelling answer))
@@ -144,12 +134,12 @@ commits_at job claim given rounds pairs answer now log claimed granted asked see
           ∙ ap (λ l. rounds_log job given rounds ++ bytes_from Prover l) (append-nil (corrections_frame d)),
     )
 
--- behind its asks
+-- after its asks
 pub spelled_asks : (trees : List (List TreeAsk)) → flat_map frame_spelling (map asks trees) ≡ flat_map ask_frame trees
 spelled_asks [] = refl
 spelled_asks (first ∷ trees) = ap (λ l. ask_frame first ++ l) (spelled_asks trees)
 
-asks_at : (job : ProverJob) (claim : Claim) (given : Grant) (answer : List Frame) (now : ProverPlace) (log : List (Side × ℕ))
+asks_at : (job : ProverJob) (claim : Claim) (given : Grant) (answer : List Frame) (now : ProverStage) (log : List (Side × ℕ))
     → ClaimedFor claim given → IsGrant job.file.params job.statement.program given → job.file.params.kind ≡ Extended
     → log ≡ granted_log job given → answer ≡ map asks (round_asks job.file given) → now ≡ awaits_replies given 0 []
     → IsLogAt job claim now (log ++ bytes_from Prover (flat_map frame_spelling answer))
@@ -188,8 +178,8 @@ whole_log job given came =
     append_assoc (granted_log job given) (bytes_from Prover (all_asks job given)) (bytes_from Verifier (flat_map reply_frame came))
     ∙ ap (λ l. granted_log job given ++ l) (sym (append-nil (bytes_from Prover (all_asks job given) ++ bytes_from Verifier (flat_map reply_frame came))))
 
--- behind the replies of one unit more
-replies_at : (job : ProverJob) (claim : Claim) (given : Grant) (done : ℕ) (pairs more : List Pair) (came : List (List TreeReply)) (trees : List TreeReply) (answer : List Frame) (now : ProverPlace) (log : List (Side × ℕ))
+-- after the replies of one unit more
+replies_at : (job : ProverJob) (claim : Claim) (given : Grant) (done : ℕ) (pairs more : List Pair) (came : List (List TreeReply)) (trees : List TreeReply) (answer : List Frame) (now : ProverStage) (log : List (Side × ℕ))
     → IsSound job → ClaimedFor claim given → AreSomeReplies job given done pairs came → AreReplies job.file.params.height job.file.params.trees trees
     → log ≡ replied_log job given (came ++ trees ∷ []) → AreRoundPairs job.file (given.start + done) trees more
     → GoesOn job given (done + 1) (pairs ++ more) answer now
@@ -216,9 +206,9 @@ replies_at job claim given done pairs more came trees answer now log sound claim
     (first_more job.file given came trees pairs more done some.count some.made one))
     (at ∙ whole_log job given (came ++ trees ∷ [])) commits
 
--- a prover that is where it waits, behind its answer
-pub answered : (job : ProverJob) (claim : Claim) (place : ProverPlace) (frame : Frame) (answer : List Frame) (now : ProverPlace) (log : List (Side × ℕ)) → IsSound job
-    → IsLogTaken job claim place frame log → ProverAnswers job place frame answer now
+-- a prover that is where it waits, after its answer
+pub answered : (job : ProverJob) (claim : Claim) (stage : ProverStage) (frame : Frame) (answer : List Frame) (now : ProverStage) (log : List (Side × ℕ)) → IsSound job
+    → IsLogTaken job claim stage frame log → ProverAnswers job stage frame answer now
     → IsLogAt job claim now (log ++ bytes_from Prover (flat_map frame_spelling answer))
 answered job claim awaits_grant frame answer now log sound (given, is, claimed, granted, at) (other, is_too, fits, answers) =
     of_kind_of (grant_answer job given answer now (subst (λ g. AnswersGrant job g answer now) (sym same) answers))
@@ -263,26 +253,26 @@ answered job claim (awaits_challenge given pairs wires) frame answer now log sou
 answered job claim awaits_verdict frame answer now log sound taken answers = absurd taken
 answered job claim has_ended frame answer now log sound taken answers = absurd taken
 
--- where a prover waits behind its answer it expects a frame
-record IsNext (job : ProverJob) (now : ProverPlace) : Type 0 where
+-- where a prover waits after its answer it expects a frame
+record IsNext (job : ProverJob) (now : ProverStage) : Type 0 where
   awaited : Expect
   expected : prover_expects job now ≡ Some awaited
   none_yet : IsUnfinished awaited []
 
 -- a frame of replies has some bytes
-next_reply : (job : ProverJob) (given : Grant) (done : ℕ) (pairs : List Pair) (now : ProverPlace) → now ≡ awaits_replies given done pairs → IsNext job now
+next_reply : (job : ProverJob) (given : Grant) (done : ℕ) (pairs : List Pair) (now : ProverStage) → now ≡ awaits_replies given done pairs → IsNext job now
 next_reply job given done pairs now next = record {
   awaited = expect.Reply job.file.params.height job.file.params.trees (given.count - done);
   expected = ap (prover_expects job) next;
   none_yet = inl (omega arith);
 }
 
-next_challenge : (job : ProverJob) (given : Grant) (pairs : List Pair) (answer : List Frame) (now : ProverPlace) → Commits job given pairs answer now → IsNext job now
+next_challenge : (job : ProverJob) (given : Grant) (pairs : List Pair) (answer : List Frame) (now : ProverStage) → Commits job given pairs answer now → IsNext job now
 next_challenge job given pairs answer now (d, wires, fixed, said, next) =
     record { awaited = expect.Challenge; expected = ap (prover_expects job) next; none_yet = inl (omega arith) }
 
-next_of : (job : ProverJob) (claim : Claim) (place : ProverPlace) (frame : Frame) (answer : List Frame) (now : ProverPlace) (log : List (Side × ℕ))
-    → IsLogTaken job claim place frame log → ProverAnswers job place frame answer now → IsNext job now
+next_of : (job : ProverJob) (claim : Claim) (stage : ProverStage) (frame : Frame) (answer : List Frame) (now : ProverStage) (log : List (Side × ℕ))
+    → IsLogTaken job claim stage frame log → ProverAnswers job stage frame answer now → IsNext job now
 next_of job claim awaits_grant frame answer now log taken (other, is_too, fits, answers) = of_answer (grant_answer job other answer now answers)
   where
     of_answer : IsGrantAnswer job other answer now → IsNext job now
@@ -298,8 +288,8 @@ next_of job claim awaits_verdict frame answer now log taken answers = absurd tak
 next_of job claim has_ended frame answer now log taken answers = absurd taken
 
 -- a frame that has come has an answer
-pub answer_exists : (job : ProverJob) (claim : Claim) (place : ProverPlace) (frame : Frame) (log : List (Side × ℕ)) → IsSound job
-    → IsLogTaken job claim place frame log → (answer : List Frame) × (now : ProverPlace) × ProverAnswers job place frame answer now
+pub answer_exists : (job : ProverJob) (claim : Claim) (stage : ProverStage) (frame : Frame) (log : List (Side × ℕ)) → IsSound job
+    → IsLogTaken job claim stage frame log → (answer : List Frame) × (now : ProverStage) × ProverAnswers job stage frame answer now
 answer_exists job claim awaits_grant frame log sound (given, is, claimed, granted, at) =
     let found = answer_of_kind job job.file.params.kind given (λ direct. commits_to job given [] (span_pairs job.file (span_of given)) sound granted
     (asked_none job given direct) (pairs_seen job.file (setup_for job given []))) in
@@ -311,7 +301,7 @@ answer_exists job claim (awaits_replies given done pairs) frame log sound (trees
         (let within = some.granted.within in let less = some.more in omega (arith, within, less)) are
 
     by_count : (done + 1 < given.count) ⊎ (given.count ≤ done + 1)
-        → (answer : List Frame) × (now : ProverPlace) × ProverAnswers job (awaits_replies given done pairs) frame answer now
+        → (answer : List Frame) × (now : ProverStage) × ProverAnswers job (awaits_replies given done pairs) frame answer now
     by_count (inl less) = ([], awaits_replies given (done + 1) (pairs ++ found.0), (trees, found.0, is, found.1, inl (less, refl, refl)))
     by_count (inr few) =
         let all : done + 1 ≡ given.count = (let less = some.more in omega (arith, few, less)) in
@@ -327,13 +317,13 @@ answer_exists job claim awaits_verdict frame log sound taken = absurd taken
 answer_exists job claim has_ended frame log sound taken = absurd taken
 
 -- the answer is what an honest prover sends next
-pub answer_is_honest : (job : ProverJob) (claim : Claim) (place : ProverPlace) (frame : Frame) (answer : List Frame) (now : ProverPlace) (log : List (Side × ℕ)) (inputs values : List ℕ)
-    → IsSound job → IsLogTaken job claim place frame log → ProverAnswers job place frame answer now → IsWitness job.statement inputs values job.given
+pub answer_is_honest : (job : ProverJob) (claim : Claim) (stage : ProverStage) (frame : Frame) (answer : List Frame) (now : ProverStage) (log : List (Side × ℕ)) (inputs values : List ℕ)
+    → IsSound job → IsLogTaken job claim stage frame log → ProverAnswers job stage frame answer now → IsWitness job.statement inputs values job.given
     → AreHonestBytes (task_of job inputs) (sent_by Verifier log) (sent_by Prover log ++ flat_map frame_spelling answer)
-answer_is_honest job claim place frame answer now log inputs values sound taken answers witness =
+answer_is_honest job claim stage frame answer now log inputs values sound taken answers witness =
     subst (λ (q : List ℕ × List ℕ). AreHonestBytes (task_of job inputs) q.0 q.1)
     (λ i. ((ap (sent_by Verifier) (append-nil (log ++ said)) ∙ verifier_hears log bytes) i, (ap (sent_by Prover) (append-nil (log ++ said)) ∙ prover_says log bytes) i))
-    (has_answered job claim now next.awaited (log ++ said) [] inputs values sound (answered job claim place frame answer now log sound taken answers) next.expected
+    (has_answered job claim now next.awaited (log ++ said) [] inputs values sound (answered job claim stage frame answer now log sound taken answers) next.expected
     (omega arith) next.none_yet witness)
   where
     bytes : List ℕ
@@ -343,4 +333,4 @@ answer_is_honest job claim place frame answer now log inputs values sound taken 
     said = bytes_from Prover bytes
 
     next : IsNext job now
-    next = next_of job claim place frame answer now log taken answers
+    next = next_of job claim stage frame answer now log taken answers

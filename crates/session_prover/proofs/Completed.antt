@@ -8,7 +8,7 @@ use Rattle.zk_model.specs.Transcript.{Grant, Transcript, IsTranscript, bytes_fro
 use Rattle.zk_model.specs.Frames.{IsFirstBad, frame_length, frame_spelling}
 use Rattle.zk_model.specs.Program.{Program}
 use Rattle.zk_model.specs.Statement.{Statement}
-use Rattle.zk_laws.specs.Rehearsing.{AreCounterparts}
+use Rattle.zk_laws.specs.Completeness.{AreCounterparts}
 use Rattle.zk_model.specs.ServedVerifier.{VerifierTask}
 use Rattle.zk_model.specs.declared.Expect.{Expect}
 use Rattle.zk_model.specs.declared.Params.{Params}
@@ -18,7 +18,7 @@ use Rattle.zk_model.specs.declared.Span.{Span}
 use Rattle.claim_store.specs.declared.ClaimFault.{ClaimFault}
 use Rattle.frame_link.proofs.LineLemmas.{frame_most}
 use Rattle.session_core.specs.Jobs.{ProverJob}
-use Rattle.session_core.specs.Cores.{ProverPlace, awaits_grant, awaits_replies, awaits_challenge, awaits_verdict, has_ended, prover_expects}
+use Rattle.session_core.specs.Cores.{ProverStage, awaits_grant, awaits_replies, awaits_challenge, awaits_verdict, has_ended, prover_expects}
 use Rattle.session_laws.specs.Sessions.{HonestVerdict}
 use Rattle.session_prover.specs.declared.note.ProverOutcome.{ProverOutcome}
 use Rattle.session_prover.specs.declared.note.ProverOutcome.TheVariants as outcome
@@ -80,7 +80,7 @@ all_said job inputs verifier log counterparts spoken = (
 )
 
 -- the turns that have come are not all
-few_turns : (job : ProverJob) (place : ProverPlace) → suc (turns_at job place) ≤ rounds_of job.file.params.kind + 3
+few_turns : (job : ProverJob) (stage : ProverStage) → suc (turns_at job stage) ≤ rounds_of job.file.params.kind + 3
 few_turns job awaits_grant = omega arith
 few_turns job (awaits_replies given done pairs) = omega arith
 few_turns job (awaits_challenge given pairs wires) = omega arith
@@ -88,11 +88,11 @@ few_turns job awaits_verdict = omega arith
 few_turns job has_ended = omega arith
 
 -- where the prover waits, what the verifier says goes on with a frame of the place
-said_next : (job : ProverJob) (claim : Claim) (place : ProverPlace) (awaited : Expect) (before log : List (Side × ℕ)) (rest inputs : List ℕ) → IsSound job
-    → (said : IsSaid job (sent_by Verifier log)) → log ≡ before ++ bytes_from Verifier rest → IsLogAt job claim place before
-    → prover_expects job place ≡ Some awaited → IsNextFrame awaited (rest ++ said.more)
-said_next job claim place awaited before log rest inputs sound said logged at expected =
-    next_frame job claim place awaited before (rest ++ said.more) inputs sound at expected (record {
+said_next : (job : ProverJob) (claim : Claim) (stage : ProverStage) (awaited : Expect) (before log : List (Side × ℕ)) (rest inputs : List ℕ) → IsSound job
+    → (said : IsSaid job (sent_by Verifier log)) → log ≡ before ++ bytes_from Verifier rest → IsLogAt job claim stage before
+    → prover_expects job stage ≡ Some awaited → IsNextFrame awaited (rest ++ said.more)
+said_next job claim stage awaited before log rest inputs sound said logged at expected =
+    next_frame job claim stage awaited before (rest ++ said.more) inputs sound at expected (record {
       u = said.t;
       is = said.is;
       more = later.0;
@@ -105,9 +105,9 @@ said_next job claim place awaited before log rest inputs sound said logged at ex
     ts = session_turns said.t
 
     later : (rest : List ℕ) × (answered (take (length (session_turns said.t)) (session_turns said.t))
-        ≡ answered (take (suc (turns_at job place)) (session_turns said.t)) ++ rest)
-    later = fewer_answered (suc (turns_at job place)) (length ts) ts
-        (let few = few_turns job place in let count = count_is job.file.params job.statement.program said.t said.is in omega (arith, few, count))
+        ≡ answered (take (suc (turns_at job stage)) (session_turns said.t)) ++ rest)
+    later = fewer_answered (suc (turns_at job stage)) (length ts) ts
+        (let few = few_turns job stage in let count = count_is job.file.params job.statement.program said.t said.is in omega (arith, few, count))
 
 -- ---- outcomes that are left out
 
@@ -115,7 +115,7 @@ said_next job claim place awaited before log rest inputs sound said logged at ex
 no_bad : (job : ProverJob) (claim : Claim) (log : List (Side × ℕ)) (n : ℕ) → IsSound job → IsSaid job (sent_by Verifier log)
     → (stops : StopsBehind job claim log (λ awaited rest. IsFirstBad awaited rest n)) → ⊥
 no_bad job claim log n sound said stops =
-    let next = said_next job claim stops.place stops.expect stops.before log stops.rest [] sound said stops.logged stops.waited stops.expected in
+    let next = said_next job claim stops.stage stops.expect stops.before log stops.rest [] sound said stops.logged stops.waited stops.expected in
     let few = stops.few in
     let long = next.long in
     none_bad stops.expect next.frame stops.rest said.more next.tail n next.allowed (omega (arith, few, long)) next.begun stops.cause
@@ -124,7 +124,7 @@ no_bad job claim log n sound said stops =
 no_end : (job : ProverJob) (claim : Claim) (log : List (Side × ℕ)) → IsSound job → (said : IsSaid job (sent_by Verifier log)) → said.more ≡ []
     → (stops : StopsBehind job claim log (λ awaited rest. length rest < frame_length awaited rest)) → ⊥
 no_end job claim log sound said all stops =
-    let next = said_next job claim stops.place stops.expect stops.before log stops.rest [] sound said stops.logged stops.waited stops.expected in
+    let next = said_next job claim stops.stage stops.expect stops.before log stops.rest [] sound said stops.logged stops.waited stops.expected in
     let whole = ap length next.begun in
     let left = length-append stops.rest said.more in
     let none = ap length all in
@@ -160,10 +160,10 @@ completes job claim granted log told (outcome.Rejected code number) law sound is
 completes job claim granted log told (outcome.PeerEnded at) law sound is (stops, count, ended, nothing) inputs verifier span peer some calm =
     let all = all_said job inputs verifier log peer.counterparts (peer.ended tt) in
     absurd (no_end job claim log sound all.0 all.1
-    (record { place = stops.place; before = stops.before; waited = stops.waited; expect = stops.expect; expected = stops.expected; rest = stops.rest; few = stops.few; logged = stops.logged; cause = stops.cause.1 }))
+    (record { stage = stops.stage; before = stops.before; waited = stops.waited; expect = stops.expect; expected = stops.expected; rest = stops.rest; few = stops.few; logged = stops.logged; cause = stops.cause.1 }))
 completes job claim granted log told (outcome.BadFrame at) law sound is (n, stops) inputs verifier span peer some calm =
     absurd (no_bad job claim log n sound (is_said job inputs verifier (outcome.BadFrame at) log peer)
-    (record { place = stops.place; before = stops.before; waited = stops.waited; expect = stops.expect; expected = stops.expected; rest = stops.rest; few = stops.few; logged = stops.logged; cause = stops.cause.0 }))
+    (record { stage = stops.stage; before = stops.before; waited = stops.waited; expect = stops.expect; expected = stops.expected; rest = stops.rest; few = stops.few; logged = stops.logged; cause = stops.cause.0 }))
 completes job claim granted log told outcome.BadGrant law sound is (given, fits, unsuited, logged) inputs verifier span peer some calm =
     let said = is_said job inputs verifier outcome.BadGrant log peer in
     absurd (unsuited (suits_is job.file.params job.statement.program given

@@ -1,12 +1,9 @@
 -- How many answers of the prover's a log has.
-use Rattle.std.proofs.Common.{◌≡◌, ℕ, ◌+◌, ◌≤◌, List, [], ◌∷◌, ◌++◌, flat_map, length, true, refl, ap, sym, ◌∙◌, length-append, arith}
-use Rattle.std.proofs.Math.Numerals.{add-one}
+use Rattle.std.proofs.Common.{◌≡◌, ℕ, ◌+◌, ◌≤◌, List, [], ◌∷◌, ◌++◌, flat_map, length, refl, ap, sym, ◌∙◌, length-append, arith}
 use Rattle.zk_model.specs.Transcript.{bytes_from}
 use Rattle.zk_model.specs.Frames.{Frame, hello, grant, asks, replies, corrections, challenge, sums, openings, verdict, refuse, frame_spelling}
 use Rattle.zk_model.specs.declared.Side.{Side}
 use Rattle.zk_model.specs.declared.Side.TheVariants.{Prover, Verifier}
-use Rattle.zk_port.specs.Counts.{counted}
-use Rattle.frame_link.specs.Lines.{counted_times}
 use Rattle.session_prover.specs.Stages.{new_answer, answers_behind, answers_in}
 
 no_answer : (last : Side) → new_answer last Verifier ≡ 0
@@ -31,7 +28,7 @@ heard_behind last (entry ∷ log) bytes = ap (λ n. new_answer last entry.0 + n)
 pub answers_heard : (log : List (Side × ℕ)) (bytes : List ℕ) → answers_in (log ++ bytes_from Verifier bytes) ≡ answers_in log
 answers_heard log bytes = heard_behind Verifier log bytes
 
--- what the prover says behind the verifier's bytes is one answer
+-- what the prover says after the verifier's bytes is one answer
 said_first : (bytes : List ℕ) → 1 ≤ length bytes → answers_behind Verifier (bytes_from Prover bytes) ≡ 1
 said_first [] some = absurd (omega (arith, some))
 said_first (byte ∷ bytes) some = let rest = none_more bytes in omega (arith, rest)
@@ -88,7 +85,3 @@ frames_some (frame ∷ frames) some =
     let first = frame_some frame in
     let both = length-append (frame_spelling frame) (flat_map frame_spelling frames) in
     omega (arith, first, both)
-
--- one send more
-pub one_send_more : (n before now : ℕ) → now ≡ counted true (counted_times n before) → now ≡ counted_times (n + 1) before
-one_send_more n before now is = is ∙ ap (λ (k : ℕ). counted_times k before) (sym (add-one n))

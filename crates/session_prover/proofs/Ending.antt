@@ -19,15 +19,16 @@ use Rattle.frame_link.specs.declared.fault.LineFault.TheVariants as fault
 use Rattle.proof_frames.specs.Readings.{Reading}
 use Rattle.session_core.specs.Jobs.{ProverJob}
 use Rattle.session_core.specs.Rounds.{round_turns}
-use Rattle.session_core.specs.Cores.{ProverPlace, awaits_grant, awaits_replies, awaits_challenge, awaits_verdict, has_ended, prover_expects}
+use Rattle.session_core.specs.Cores.{ProverStage, awaits_grant, awaits_replies, awaits_challenge, awaits_verdict, has_ended, prover_expects}
 use Rattle.session_prover.specs.declared.note.ProverOutcome.{ProverOutcome}
 use Rattle.session_prover.specs.Outcomes.{line_outcome}
 use Rattle.session_prover.specs.Stages.{answers_in, Claim, ClaimedFor, Course, IsLogAt, GoesWell, IsLineAt, greeted_log, granted_log, all_asks, sums_for, openings_for}
-use Rattle.session_prover.specs.Notes.{task_of, IsGrantRead, IsAskedRight, SendsOnceClaimed, IsRelated, StopsBehind, told_by, IsOutcome, CountsOutcome, SendsHonestly, AnswersGrantPlace, IsLogged, Ends}
+use Rattle.session_prover.specs.Notes.{task_of, IsGrantRead, IsAskedRight, SendsOnceClaimed, IsRelated, StopsBehind, told_by, IsOutcome, CountsOutcome, SendsHonestly, AnswersGrantPlace, IsLogged, IsEnded}
 use Rattle.session_prover.specs.Turns.{IsSound, IsBehindGrant, Comes}
-use Rattle.session_prover.proofs.Sides.{prover_hears, verifier_says, appended_more, before_more}
+use Rattle.frame_link.proofs.LineLemmas.{appended_more, before_more}
+use Rattle.session_prover.proofs.Sides.{prover_hears, verifier_says}
 use Rattle.session_prover.proofs.Related.{read_is, related_at}
-use Rattle.session_prover.proofs.Waiting.{same_place, turns_at, greeted_sent, greeted_heard, not_heard, has_answered, from_ended}
+use Rattle.session_prover.proofs.Waiting.{same_stage, turns_at, greeted_sent, greeted_heard, not_heard, has_answered, from_ended}
 use Rattle.session_prover.proofs.Counting.{answers_heard}
 use Rattle.session_prover.proofs.GrantPlace.{whole_is_finished, answers_unread, answers_claimed}
 use Rattle.session_prover.proofs.Unread.{unread}
@@ -41,7 +42,7 @@ record IsClaimRead (job : ProverJob) (claim : Claim) (log : List (Side × ℕ)) 
   read : IsGrantRead job log given
   claimed : ClaimedFor claim given
 
-claim_read : (job : ProverJob) (claim : Claim) (place : ProverPlace) (before more : List (Side × ℕ)) → IsBehindGrant place → IsLogAt job claim place before
+claim_read : (job : ProverJob) (claim : Claim) (stage : ProverStage) (before more : List (Side × ℕ)) → IsBehindGrant stage → IsLogAt job claim stage before
     → IsClaimRead job claim (before ++ more)
 claim_read job claim awaits_grant before more behind at = absurd behind
 claim_read job claim (awaits_replies given done pairs) before more behind (came, claimed, some, at) = record {
@@ -88,7 +89,7 @@ claim_read job claim awaits_verdict before more behind opened = record {
     o = bytes_from Prover (openings_frame (openings_for job opened.wires))
 claim_read job claim has_ended before more behind at = absurd at
 
-read_at : (job : ProverJob) (claim : Claim) (place : ProverPlace) (before more : List (Side × ℕ)) → IsLogAt job claim place before
+read_at : (job : ProverJob) (claim : Claim) (stage : ProverStage) (before more : List (Side × ℕ)) → IsLogAt job claim stage before
     → (claim.answer ≡ None) × (before ≡ greeted_log job) ⊎ IsClaimRead job claim (before ++ more)
 read_at job claim awaits_grant before more at = inl at
 read_at job claim (awaits_replies given done pairs) before more at = inr (claim_read job claim (awaits_replies given done pairs) before more tt at)
@@ -97,17 +98,17 @@ read_at job claim awaits_verdict before more at = inr (claim_read job claim awai
 read_at job claim has_ended before more at = absurd at
 
 -- where the prover waits, the claimant was asked right
-pub asked_at : (job : ProverJob) (claim : Claim) (place : ProverPlace) (before more : List (Side × ℕ)) → IsLogAt job claim place before
+pub asked_at : (job : ProverJob) (claim : Claim) (stage : ProverStage) (before more : List (Side × ℕ)) → IsLogAt job claim stage before
     → IsAskedRight job claim (before ++ more)
-asked_at job claim place before more at = elim (read_at job claim place before more at) [
+asked_at job claim stage before more at = elim (read_at job claim stage before more at) [
   | inl none ↦ inl none.0
   | inr read ↦ inr (read.given, read.read, inl read.claimed)
 ]
 
 -- and nothing is sent past the greeting unless it claimed
-pub once_claimed : (job : ProverJob) (claim : Claim) (place : ProverPlace) (before : List (Side × ℕ)) (rest : List ℕ) → IsLogAt job claim place before
+pub once_claimed : (job : ProverJob) (claim : Claim) (stage : ProverStage) (before : List (Side × ℕ)) (rest : List ℕ) → IsLogAt job claim stage before
     → SendsOnceClaimed job claim (before ++ bytes_from Verifier rest)
-once_claimed job claim place before rest at = elim (read_at job claim place before (bytes_from Verifier rest) at) [
+once_claimed job claim stage before rest at = elim (read_at job claim stage before (bytes_from Verifier rest) at) [
   | inl none ↦ inl (
     [],
     sym (append-nil (sent_by Prover (before ++ bytes_from Verifier rest))
@@ -116,22 +117,22 @@ once_claimed job claim place before rest at = elim (read_at job claim place befo
   | inr read ↦ inr (read.given, read.read, read.claimed)
 ]
 
--- what is in the grant's place is answered, where the prover waits behind it
-pub answers_behind_claim : (job : ProverJob) (claim : Claim) (place : ProverPlace) (before more : List (Side × ℕ)) (outcome : ProverOutcome)
-    → IsSound job → IsBehindGrant place → IsLogAt job claim place before → AnswersGrantPlace job claim outcome (before ++ more)
-answers_behind_claim job claim place before more outcome sound behind at =
-    let read = claim_read job claim place before more behind at in
+-- what is in the grant's place is answered, where the prover waits after it
+pub answers_behind_claim : (job : ProverJob) (claim : Claim) (stage : ProverStage) (before more : List (Side × ℕ)) (outcome : ProverOutcome)
+    → IsSound job → IsBehindGrant stage → IsLogAt job claim stage before → AnswersGrantPlace job claim outcome (before ++ more)
+answers_behind_claim job claim stage before more outcome sound behind at =
+    let read = claim_read job claim stage before more behind at in
     answers_claimed job claim read.given outcome (before ++ more) sound read.claimed read.granted read.read.begun
 
 -- what is in the grant's place is answered: no whole frame is there yet, or its units were claimed
-pub answers_at : (job : ProverJob) (claim : Claim) (place : ProverPlace) (awaited : Expect) (before : List (Side × ℕ)) (bytes : List ℕ) (outcome : ProverOutcome)
-    → IsSound job → IsLogAt job claim place before → prover_expects job place ≡ Some awaited → IsUnfinished awaited bytes
+pub answers_at : (job : ProverJob) (claim : Claim) (stage : ProverStage) (awaited : Expect) (before : List (Side × ℕ)) (bytes : List ℕ) (outcome : ProverOutcome)
+    → IsSound job → IsLogAt job claim stage before → prover_expects job stage ≡ Some awaited → IsUnfinished awaited bytes
     → AnswersGrantPlace job claim outcome (before ++ bytes_from Verifier bytes)
 answers_at job claim awaits_grant awaited before bytes outcome sound at expected unfinished =
     answers_unread job claim outcome (before ++ bytes_from Verifier bytes) at.0
     (λ frame allowed is. whole_is_finished expect.Grant frame bytes allowed
     (ap (λ l. l ++ bytes) (sym (ap (sent_by Verifier) at.1 ∙ greeted_heard job)) ∙ sym (verifier_says before bytes) ∙ is)
-    (subst (λ (e : Expect). IsUnfinished e bytes) (same_place expect.Grant awaited expected) unfinished))
+    (subst (λ (e : Expect). IsUnfinished e bytes) (same_stage expect.Grant awaited expected) unfinished))
 answers_at job claim (awaits_replies given done pairs) awaited before bytes outcome sound at expected unfinished =
     answers_behind_claim job claim (awaits_replies given done pairs) before (bytes_from Verifier bytes) outcome sound tt at
 answers_at job claim (awaits_challenge given pairs wires) awaited before bytes outcome sound at expected unfinished =
@@ -192,9 +193,9 @@ came_well first old new bytes well came = record {
 -- ---- a frame came, or none
 
 -- a frame has come
-pub comes : (job : ProverJob) (course : Course) (place : ProverPlace) (awaited : Expect) (frame : Frame) (old new : LineState)
-    → IsLineAt job course place old → Arrives awaited frame old new → Comes job course place frame new
-comes job course place awaited frame old new at arrives = record {
+pub comes : (job : ProverJob) (course : Course) (stage : ProverStage) (awaited : Expect) (frame : Frame) (old new : LineState)
+    → IsLineAt job course stage old → Arrives awaited frame old new → Comes job course stage frame new
+comes job course stage awaited frame old new at arrives = record {
   before = old.log;
   waited = at.log;
   logged = well.logged ∙ ap (λ l. old.log ++ bytes_from Verifier l) arrives.whole.spelled;
@@ -234,21 +235,21 @@ sent_line fault.Link job log ended inputs wires witness = from_ended job inputs 
 sent_line fault.NoMemory job log ended inputs wires witness = from_ended job inputs log (ended inputs wires witness)
 
 -- none has come
-pub stops_taking : (job : ProverJob) (course : Course) (place : ProverPlace) (awaited : Expect) (f : LineFault) (old new : LineState)
-    → IsSound job → IsLineAt job course place old → prover_expects job place ≡ Some awaited → Fails awaited f old new
-    → Ends job course (line_outcome f) new
-stops_taking job course place awaited f old new sound at expected fails = record {
+pub stops_taking : (job : ProverJob) (course : Course) (stage : ProverStage) (awaited : Expect) (f : LineFault) (old new : LineState)
+    → IsSound job → IsLineAt job course stage old → prover_expects job stage ≡ Some awaited → Fails awaited f old new
+    → IsEnded job course (line_outcome f) new
+stops_taking job course stage awaited f old new sound at expected fails = record {
   outcome_is = by_fault f fails.broken fails.cut;
-  asked = subst (λ l. IsAskedRight job course.claim l) (sym well.logged) (asked_at job course.claim place old.log (bytes_from Verifier fails.bytes) at.log);
+  asked = subst (λ l. IsAskedRight job course.claim l) (sym well.logged) (asked_at job course.claim stage old.log (bytes_from Verifier fails.bytes) at.log);
   honest = sent_line f job new.log ended;
   claimed = claimed;
-  related = subst (IsRelated job) (sym well.logged) (related_at job course.claim place old.log fails.bytes sound at.log);
+  related = subst (IsRelated job) (sym well.logged) (related_at job course.claim stage old.log fails.bytes sound at.log);
   answers = subst (AnswersGrantPlace job course.claim (line_outcome f)) (sym well.logged)
-      (answers_at job course.claim place awaited old.log fails.bytes (line_outcome f) sound at.log expected fails.unfinished);
+      (answers_at job course.claim stage awaited old.log fails.bytes (line_outcome f) sound at.log expected fails.unfinished);
   verdict = unread job (line_outcome f) new.log (record {
-    turn = turns_at job place;
-    unheard = λ heard. not_heard job course.claim place awaited old.log fails.bytes [] sound at.log expected fails.few fails.unfinished
-        (subst (λ l. Hears (task_of job []) l (turns_at job place)) well.heard heard);
+    turn = turns_at job stage;
+    unheard = λ heard. not_heard job course.claim stage awaited old.log fails.bytes [] sound at.log expected fails.few fails.unfinished
+        (subst (λ l. Hears (task_of job []) l (turns_at job stage)) well.heard heard);
   });
   sends = inl well.sends;
   logged = logged_whole job course.claim (line_outcome f) new.log course.first.told new.told well.told
@@ -265,59 +266,33 @@ stops_taking job course place awaited f old new sound at expected fails = record
 
     ended : (inputs wires : List ℕ) → IsWitness job.statement inputs wires job.given → HasEndedHonestly (task_of job inputs) new.log
     ended inputs wires witness = subst (λ l. HasEndedHonestly (task_of job inputs) l) (sym well.logged)
-        (has_answered job course.claim place awaited old.log fails.bytes inputs wires sound at.log expected fails.few fails.unfinished witness)
+        (has_answered job course.claim stage awaited old.log fails.bytes inputs wires sound at.log expected fails.few fails.unfinished witness)
 
     claimed : SendsOnceClaimed job course.claim new.log
-    claimed = subst (λ l. SendsOnceClaimed job course.claim l) (sym well.logged) (once_claimed job course.claim place old.log fails.bytes at.log)
+    claimed = subst (λ l. SendsOnceClaimed job course.claim l) (sym well.logged) (once_claimed job course.claim stage old.log fails.bytes at.log)
 
     received : old.reading.received ≡ length (sent_by Verifier old.log)
     received = ap (λ (r : Reading). r.received) at.well.received
 
-    stops_short : IsCutShort awaited fails.bytes → StopsBehind job course.claim new.log IsCutShort
-    stops_short cut = record {
-      place = place;
+    stops_with : (Cause : Expect → List ℕ → Type 0) → Cause awaited fails.bytes → StopsBehind job course.claim new.log Cause
+    stops_with Cause cause = record {
+      stage = stage;
       before = old.log;
       waited = at.log;
-      expect = awaited;
-      expected = expected;
-      rest = fails.bytes;
-      few = fails.few;
+      cause = cause;
       logged = well.logged;
-      cause = cut;
+      rest = fails.bytes;
+      expect = awaited;
+      few = fails.few;
+      expected = expected;
     }
 
     by_fault : (f : LineFault) → lines.Breaks awaited fails.bytes old new f → (lines.IsNoBadByte f → IsCutShort awaited fails.bytes)
         → IsOutcome job course.claim new.log
         (told_by (snapshot_of course.first) (snapshot_of new)) (line_outcome f)
-    by_fault (fault.PeerEnded place_at) broken cut = (
-      record {
-        place = place;
-        before = old.log;
-        waited = at.log;
-        expect = awaited;
-        expected = expected;
-        rest = fails.bytes;
-        few = fails.few;
-        logged = well.logged;
-        cause = (broken.1, broken.2);
-      },
-      broken.0 ∙ ap (λ n. n + length fails.bytes) received ∙ sym well.count,
-      broken.3,
-      broken.4,
-    )
-    by_fault (fault.BadFrame place_at) broken cut = (
-      broken.0,
-      record {
-        place = place;
-        before = old.log;
-        waited = at.log;
-        expect = awaited;
-        expected = expected;
-        rest = fails.bytes;
-        few = fails.few;
-        logged = well.logged;
-        cause = (broken.1, (let is = broken.2 in omega (arith, is, received, well.count)));
-      },
-    )
-    by_fault fault.Link broken cut = (subst (λ n. Rose n new.faults) at.well.faults broken, inl (stops_short (cut tt), well.sends))
-    by_fault fault.NoMemory broken cut = inl (stops_short (cut tt))
+    by_fault (fault.PeerEnded place_at) broken cut =
+        (stops_with _ (broken.1, broken.2), broken.0 ∙ ap (λ n. n + length fails.bytes) received ∙ sym well.count, broken.3, broken.4)
+    by_fault (fault.BadFrame place_at) broken cut =
+        (broken.0, stops_with _ (broken.1, (let is = broken.2 in omega (arith, is, received, well.count))))
+    by_fault fault.Link broken cut = (subst (λ n. Rose n new.faults) at.well.faults broken, inl (stops_with IsCutShort (cut tt), well.sends))
+    by_fault fault.NoMemory broken cut = inl (stops_with IsCutShort (cut tt))

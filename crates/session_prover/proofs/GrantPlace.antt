@@ -1,7 +1,7 @@
 -- What was read in the grant's place, and what the claimant answered, is the outcome.
 use Rattle.std.proofs.Common.{◌≡◌, inl, inr, ℕ, zero, suc, ◌+◌, ◌≤◌, List, [], ◌∷◌, ◌++◌, take, drop, length, Option, Some, None, Result, Ok, Err, refl, ap, sym, ◌∙◌, subst, append-nil, arith}
 use Rattle.std.proofs.lemmas.List.{take-append-drop}
-use Rattle.zk_laws.proofs.SentBytes.{sent_by-append}
+use Rattle.frame_laws.proofs.SentBytes.{sent_by-append}
 use Rattle.zk_model.specs.Transcript.{Grant, IsGrant, BeginsWith, bytes_from, sent_by, grant_frame, refuse_frame}
 use Rattle.zk_model.specs.Frames.{Frame, grant, refuse, Allows, IsFirstBad, FitsGrant, FitsRefusal, frame_spelling}
 use Rattle.zk_model.specs.declared.Expect.{Expect}
@@ -48,13 +48,8 @@ same_fits given other fits fits_too same =
     (record { allowed = inl (given, refl, fits); spelled = refl })
     (record { allowed = inl (other, refl, fits_too); spelled = same }))
 
-code_or : ℕ → Frame → ℕ
-code_or other (refuse code) = code
-code_or other frame = other
-
 pub same_code : (one other : ℕ) → refuse one ≡ refuse other → one ≡ other
-unfolding code_or
-same_code one other is = ap (code_or one) is
+same_code one other is = cc
 
 same_refusal : (code other : ℕ) → FitsRefusal code → FitsRefusal other → refuse_frame code ≡ refuse_frame other → code ≡ other
 same_refusal code other fits fits_too same =
@@ -68,9 +63,9 @@ take_of_front (suc k) [] b few = absurd (omega (arith, few))
 take_of_front (suc k) (x ∷ a) b few = ap (λ l. x ∷ l) (take_of_front k a b (omega (arith, few)))
 
 -- bytes that a frame of the place begins with have none that is bad
-pub none_bad : (place : Expect) (frame : Frame) (rest more tail : List ℕ) (n : ℕ) → Allows place frame
-    → length rest ≤ length (frame_spelling frame) → rest ++ more ≡ frame_spelling frame ++ tail → IsFirstBad place rest n → ⊥
-none_bad place frame rest more tail n allowed few is bad =
+pub none_bad : (stage : Expect) (frame : Frame) (rest more tail : List ℕ) (n : ℕ) → Allows stage frame
+    → length rest ≤ length (frame_spelling frame) → rest ++ more ≡ frame_spelling frame ++ tail → IsFirstBad stage rest n → ⊥
+none_bad stage frame rest more tail n allowed few is bad =
     bad.ends (record { frame = frame; allowed = allowed; begun = (drop (n + 1) (frame_spelling frame), same) })
   where
     fronts : take (n + 1) rest ≡ take (n + 1) (frame_spelling frame)
@@ -83,11 +78,11 @@ none_bad place frame rest more tail n allowed few is bad =
     same = sym (take-append-drop (n + 1) (frame_spelling frame)) ∙ ap (λ l. l ++ drop (n + 1) (frame_spelling frame)) (sym fronts)
 
 -- a whole frame is not unfinished
-pub whole_is_finished : (place : Expect) (frame : Frame) (bytes : List ℕ) → Allows place frame → bytes ≡ frame_spelling frame → IsUnfinished place bytes → ⊥
-whole_is_finished place frame bytes allowed is (inl wanting) =
-    let whole = whole_length place bytes frame (record { allowed = allowed; spelled = is }) in absurd (omega (arith, whole, wanting))
-whole_is_finished place frame bytes allowed is (inr (n, bad)) =
-    none_bad place frame bytes [] [] n allowed (let same = ap length is in omega (arith, same)) (ap (λ l. l ++ []) is) bad
+pub whole_is_finished : (stage : Expect) (frame : Frame) (bytes : List ℕ) → Allows stage frame → bytes ≡ frame_spelling frame → IsUnfinished stage bytes → ⊥
+whole_is_finished stage frame bytes allowed is (inl wanting) =
+    let whole = whole_length stage bytes frame (record { allowed = allowed; spelled = is }) in absurd (omega (arith, whole, wanting))
+whole_is_finished stage frame bytes allowed is (inr (n, bad)) =
+    none_bad stage frame bytes [] [] n allowed (let same = ap length is in omega (arith, same)) (ap (λ l. l ++ []) is) bad
 
 -- ---- what the claimant answered
 

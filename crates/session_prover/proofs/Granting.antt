@@ -18,14 +18,17 @@ use Rattle.frame_link.specs.Lines.{LineState, Sends, counted_times, snapshot_of}
 use Rattle.frame_link.specs.declared.fault.LineFault.{LineFault}
 use Rattle.proof_frames.specs.Readings.{Reading}
 use Rattle.session_core.specs.Jobs.{ProverJob, Suits}
-use Rattle.session_core.specs.Cores.{ProverPlace, awaits_grant}
+use Rattle.session_core.specs.Cores.{ProverStage, awaits_grant}
 use Rattle.session_prover.specs.declared.note.ProverOutcome.{ProverOutcome}
 use Rattle.session_prover.specs.declared.note.ProverOutcome.TheVariants as outcome
 use Rattle.session_prover.specs.Outcomes.{line_outcome, claim_outcome}
 use Rattle.session_prover.specs.Stages.{answers_in, Claim, ClaimedFor, RefusedFor, Course, IsLogTaken, GoesWell, IsLineAt, IsLineTaken, greeting, greeted_log, granted_log}
-use Rattle.session_prover.specs.Notes.{task_of, IsRelated, IsOutcome, told_by, SendsHonestly, AnswersGrantPlace, Ends}
-use Rattle.session_prover.specs.Turns.{IsSound, SendStops, IsFresh, Comes, IsGrantTaken, IsNoGrant}
-use Rattle.session_prover.proofs.Sides.{own_bytes, appended_none, before_none, prover_hears}
+use Rattle.session_prover.specs.Notes.{task_of, IsRelated, IsOutcome, told_by, SendsHonestly, AnswersGrantPlace, IsEnded}
+use Rattle.session_prover.specs.Turns.{IsSound, SendStops, IsFreshLine, Comes, IsGrantTaken, IsNoGrant}
+use Rattle.frame_laws.proofs.SentBytes.{own_bytes}
+use Rattle.frame_link.proofs.LineLemmas.{appended_none, before_none}
+use Rattle.frame_link.proofs.AnswerLemmas.{one_send_more}
+use Rattle.session_prover.proofs.Sides.{prover_hears}
 use Rattle.session_prover.proofs.Heard.{Hears, honest_bytes}
 use Rattle.session_prover.proofs.Unheard.{one_grant}
 use Rattle.session_prover.proofs.Waiting.{greeted_sent, greeted_heard, granted_sent, granted_heard, from_ended}
@@ -35,12 +38,12 @@ use Rattle.session_prover.proofs.Answering.{same_grant, no_refusal_is_grant, ans
 use Rattle.session_prover.proofs.GrantPlace.{refused_heard, same_code, answers_unread, answers_unsuited, answers_refusal, answers_unclaimed}
 use Rattle.session_prover.proofs.Stopping.{IsDue, stops_sending_at, taken_unheard}
 use Rattle.session_prover.proofs.Unread.{IsUnheard, unread}
-use Rattle.session_prover.proofs.Counting.{answers_first, frame_is_some, one_send_more}
+use Rattle.session_prover.proofs.Counting.{answers_first, frame_is_some}
 
 -- ---- the greeting
 
 -- nothing has passed
-fresh_well : (line : LineState) → IsFresh line → GoesWell line line
+fresh_well : (line : LineState) → IsFreshLine line → GoesWell line line
 fresh_well line fresh = record {
   received = fresh.reading ∙ ap idle (ap length (ap (sent_by Verifier) (sym fresh.log)));
   told = appended_none line.told ∙ ap (λ l. appended l line.told) (sym fresh.log);
@@ -75,7 +78,7 @@ greeting_due job claim sound unasked = record {
 }
 
 -- it is sent
-pub greeted : (job : ProverJob) (course : Course) (old new : LineState) → course.first ≡ old → course.claim.answer ≡ None → IsFresh old
+pub greeted : (job : ProverJob) (course : Course) (old new : LineState) → course.first ≡ old → course.claim.answer ≡ None → IsFreshLine old
     → Sends (greeting job) old new → IsLineAt job course awaits_grant new
 greeted job course old new first unasked fresh sends = record {
   log = (unasked, logged);
@@ -103,7 +106,7 @@ greeted job course old new first unasked fresh sends = record {
 
 -- it is not sent
 pub stops_greeting : (job : ProverJob) (course : Course) (f : LineFault) (old new : LineState) → IsSound job → course.first ≡ old
-    → course.claim.answer ≡ None → IsFresh old → SendStops (greeting job) f old new → Ends job course (line_outcome f) new
+    → course.claim.answer ≡ None → IsFreshLine old → SendStops (greeting job) f old new → IsEnded job course (line_outcome f) new
 stops_greeting job course f old new sound first unasked fresh stops =
     stops_sending_at job course (greeting job) f old new (subst (λ (s : LineState). GoesWell s old) (sym first) (fresh_well old fresh))
     (subst (λ l. IsDue job course.claim l (greeting job)) (sym fresh.log) (greeting_due job course.claim sound unasked)) (inl (unasked, fresh.log)) stops
@@ -123,7 +126,7 @@ ends_greeted : (job : ProverJob) (course : Course) (result : ProverOutcome) (new
     → SendsHonestly job new.log result
     → AnswersGrantPlace job course.claim result new.log
     → IsOutcome job course.claim new.log (told_by (snapshot_of course.first) (snapshot_of new)) result
-    → Ends job course result new
+    → IsEnded job course result new
 ends_greeted job course result new well unasked sent ended unheard honest answers is = record {
   outcome_is = is;
   answers = answers;
@@ -158,7 +161,7 @@ grant_taken job course frame given new come allowed is = record {
 
 -- no grant that suits has come
 pub ends_ungranted : (job : ProverJob) (course : Course) (frame : Frame) (result : ProverOutcome) (new : LineState) → IsSound job
-    → Comes job course awaits_grant frame new → Allows expect.Grant frame → IsNoGrant job frame result → Ends job course result new
+    → Comes job course awaits_grant frame new → Allows expect.Grant frame → IsNoGrant job frame result → IsEnded job course result new
 ends_ungranted job course frame outcome.BadGrant new sound come allowed (given, is, unsuited) =
     ends_greeted job course outcome.BadGrant new come.well come.waited.0 sent ended unheard (λ inputs wires witness. (ended inputs wires witness, sent))
     (answers_unsuited job course.claim given new.log come.waited.0 taken.fits unsuited taken.log)
@@ -214,17 +217,17 @@ ends_ungranted job course frame (outcome.PeerRefused code) new sound come allowe
       turn = 0;
       unheard = λ h. too_short [] (subst (λ l. Hears (task_of job []) l 0) (ap (sent_by Verifier) logged ∙ refused_heard job code) h);
     }
-ends_ungranted job course frame outcome.Accepted new sound come allowed is = absurd is
 ends_ungranted job course frame (outcome.Rejected code number) new sound come allowed is = absurd is
+ends_ungranted job course frame outcome.Accepted new sound come allowed is = absurd is
 ends_ungranted job course frame (outcome.PeerEnded at) new sound come allowed is = absurd is
+ends_ungranted job course frame outcome.Device new sound come allowed is = absurd is
 ends_ungranted job course frame (outcome.BadFrame at) new sound come allowed is = absurd is
+ends_ungranted job course frame outcome.Link new sound come allowed is = absurd is
 ends_ungranted job course frame (outcome.Broken first) new sound come allowed is = absurd is
+ends_ungranted job course frame outcome.NoMemory new sound come allowed is = absurd is
 ends_ungranted job course frame (outcome.OutOfRange total) new sound come allowed is = absurd is
 ends_ungranted job course frame (outcome.Overlap earlier) new sound come allowed is = absurd is
 ends_ungranted job course frame (outcome.Full slots) new sound come allowed is = absurd is
-ends_ungranted job course frame outcome.Device new sound come allowed is = absurd is
-ends_ungranted job course frame outcome.Link new sound come allowed is = absurd is
-ends_ungranted job course frame outcome.NoMemory new sound come allowed is = absurd is
 
 -- ---- the claim
 
@@ -253,7 +256,7 @@ claimed_taken job course given line suits within taken claimed =
 -- the claimant has refused
 pub ends_unclaimed : (job : ProverJob) (course : Course) (given : Grant) (f : ClaimFault) (line : LineState) → IsSound job
     → Suits job.file.params job.statement.program given → IsGrantTaken job course.first given line → RefusedFor course.claim given f
-    → Ends job course (claim_outcome f) line
+    → IsEnded job course (claim_outcome f) line
 ends_unclaimed job course given f line sound suits taken refused = record {
   outcome_is = caused f refused;
   answers = answers_unclaimed job course.claim given f line.log taken.fits suits refused taken.log;
@@ -337,10 +340,10 @@ ends_unclaimed job course given f line sound suits taken refused = record {
     honest refusal.NoMemory inputs wires witness = from inputs wires witness
 
 -- the same, where the prover waits for a grant
-pub claimed_at : (job : ProverJob) (course : Course) (place : ProverPlace) (given : Grant) (line : LineState) → place ≡ awaits_grant
+pub claimed_at : (job : ProverJob) (course : Course) (stage : ProverStage) (given : Grant) (line : LineState) → stage ≡ awaits_grant
     → Suits job.file.params job.statement.program given → given.start + given.count ≤ job.file.params.total
-    → IsGrantTaken job course.first given line → ClaimedFor course.claim given → IsLineTaken job course place (grant given) line
-claimed_at job course place given line there suits within taken claimed =
+    → IsGrantTaken job course.first given line → ClaimedFor course.claim given → IsLineTaken job course stage (grant given) line
+claimed_at job course stage given line there suits within taken claimed =
     subst (λ p. IsLineTaken job course p (grant given) line) (sym there) (claimed_taken job course given line suits within taken claimed)
 
 -- what a claimant answered, by cases

@@ -5,8 +5,8 @@ use Rattle.std.specs.List.{AllByRecursion}
 use Rattle.std.proofs.lemmas.Bool.{ltb-true, ltb-false}
 use Rattle.std.proofs.lemmas.List.{length-map}
 use Rattle.std.proofs.lemmas.List.Elements.{recursion_from_All}
-use Rattle.zk_laws.proofs.Codes.{same_front}
-use Rattle.zk_laws.proofs.FrameCodes.{grant_code}
+use Rattle.frame_laws.proofs.Codes.{same_front}
+use Rattle.frame_laws.proofs.FrameCodes.{grant_code}
 use Rattle.session_laws.proofs.Turns.{answered, fewer_answered}
 use Rattle.session_laws.proofs.Followed.{last_two}
 use Rattle.session_laws.proofs.Sizes.{count_is}
@@ -23,7 +23,7 @@ use Rattle.frame_link.specs.Lines.{longest}
 use Rattle.session_core.specs.Rounds.{round_turns}
 use Rattle.session_prover.proofs.Rounds.{unit_size, unit_length, each_replied, rounds_length, next_part}
 
--- ---- turns behind rounds
+-- ---- turns after rounds
 
 -- what is in turns, one more, and the last two
 pub turns_to : {T B : Type 0} (f : T → List B) (turns : List T) (c : T) (more : List T)
@@ -110,7 +110,7 @@ next_grant params program u bytes more total is begun = record {
   begun = begun ∙ ap (λ l. l ++ more) (append-nil (grant_frame u.commitment.setup.grant));
 }
 
--- what stands behind a grant
+-- what stands after a grant
 record IsBehind (given : Grant) (u : Transcript) (bytes later : List ℕ) : Type 0 where
   same : given ≡ u.commitment.setup.grant
   rest : bytes ≡ later

@@ -295,11 +295,11 @@ finishes job given rounds pairs d wires element code number inputs values sound 
   most = most;
 }
   where
-    turns : List (List ℕ × List ℕ)
-    turns = round_turns rounds
-
     c : List ℕ × List ℕ
     c = (corrections_frame d, challenge_frame element)
+
+    turns : List (List ℕ × List ℕ)
+    turns = round_turns rounds
 
     e : List ℕ × List ℕ
     e = (sums_frame (sums_for job given pairs wires element) ++ openings_frame (openings_for job wires), verdict_frame code number)

@@ -11,15 +11,15 @@ use Rattle.zk_model.specs.Peers.{HasEndedHonestly}
 use Rattle.zk_model.specs.Check.{WirePairs}
 use Rattle.zk_model.specs.declared.Expect.TheVariants as expect
 use Rattle.zk_model.specs.declared.Side.TheVariants.{Prover, Verifier}
-use Rattle.frame_link.specs.Lines.{LineState}
+use Rattle.frame_link.specs.Lines.{LineState, snapshot_of}
 use Rattle.session_core.specs.Jobs.{ProverJob}
 use Rattle.session_core.specs.Rounds.{round_turns}
-use Rattle.session_core.specs.Cores.{ProverPlace, awaits_grant, awaits_replies, awaits_challenge, awaits_verdict, has_ended, prover_expects}
+use Rattle.session_core.specs.Cores.{ProverStage, awaits_grant, awaits_replies, awaits_challenge, awaits_verdict, has_ended, prover_expects}
 use Rattle.session_prover.specs.declared.note.ProverOutcome.{ProverOutcome}
 use Rattle.session_prover.specs.declared.note.ProverOutcome.TheVariants as outcome
 use Rattle.session_prover.specs.Outcomes.{verdict_outcome}
 use Rattle.session_prover.specs.Stages.{Course, IsOpenedLog, IsLineTaken, granted_log, opened_log, sums_for, openings_for}
-use Rattle.session_prover.specs.Notes.{task_of, ReadsVerdict, IsAskedRight, SendsOnceClaimed, IsRelated, AnswersGrantPlace, Ends}
+use Rattle.session_prover.specs.Notes.{task_of, ReadsVerdict, IsAskedRight, SendsOnceClaimed, IsRelated, AnswersGrantPlace, IsOutcome, SendsHonestly, IsEnded, told_by}
 use Rattle.session_prover.specs.Turns.{IsSound, Expects, IsToAnswer, Comes, IsRejection}
 use Rattle.session_prover.proofs.Sides.{bytes_more, prover_hears, verifier_says}
 use Rattle.session_prover.proofs.Honest.{made, made_is, made_honest, finishes, all_sent}
@@ -30,9 +30,9 @@ use Rattle.session_prover.proofs.Replies.{replied_on}
 use Rattle.session_prover.proofs.Unread.{read_so}
 
 -- replies or a challenge have come
-pub frame_taken : (job : ProverJob) (course : Course) (place : ProverPlace) (frame : Frame) (line : LineState) → IsToAnswer place
-    → Comes job course place frame line → IsSomeAnd (prover_expects job place) (λ e. Allows e frame)
-    → IsLineTaken job course place frame line
+pub frame_taken : (job : ProverJob) (course : Course) (stage : ProverStage) (frame : Frame) (line : LineState) → IsToAnswer stage
+    → Comes job course stage frame line → IsSomeAnd (prover_expects job stage) (λ e. Allows e frame)
+    → IsLineTaken job course stage frame line
 frame_taken job course awaits_grant frame line answers come allowed = absurd answers
 frame_taken job course (awaits_replies given done pairs) frame line answers come (trees, is, are) = record {
   log = (
@@ -63,14 +63,14 @@ frame_taken job course awaits_verdict frame line answers come allowed = absurd a
 frame_taken job course has_ended frame line answers come allowed = absurd answers
 
 -- where a frame is to be answered, one is expected
-pub expects_some : (job : ProverJob) (place : ProverPlace) → IsToAnswer place → Expects job place
+pub expects_some : (job : ProverJob) (stage : ProverStage) → IsToAnswer stage → Expects job stage
 expects_some job awaits_grant answers = absurd answers
 expects_some job (awaits_replies given done pairs) answers = (expect.Reply job.file.params.height job.file.params.trees (given.count - done), refl)
 expects_some job (awaits_challenge given pairs wires) answers = (expect.Challenge, refl)
 expects_some job awaits_verdict answers = absurd answers
 expects_some job has_ended answers = absurd answers
 
--- seven lists in a row, as turns behind the first
+-- seven lists in a row, as turns after the first
 in_turns : {X : Type 0} (g r c b s o v : List X)
     → g ++ r ++ c ++ b ++ s ++ o ++ v ≡ g ++ (r ++ ((c ++ b) ++ (((s ++ o) ++ v) ++ [])))
 in_turns g r c b s o v =
@@ -163,19 +163,21 @@ fits_of frame code number (some, other, is_too, fits) is =
     number_in (verdict said named) = named
     number_in frame = 0
 
--- that every check holds
-pub ends_accepted : (job : ProverJob) (course : Course) (frame : Frame) (number : ℕ) (line : LineState) → IsSound job
-    → Comes job course awaits_verdict frame line → Allows expect.Verdict frame → frame ≡ verdict 0 number → Ends job course outcome.Accepted line
-ends_accepted job course frame number line sound come allowed is = record {
-  outcome_is = (number, read.reads);
+-- a session whose verdict was read has ended as it says
+ends_read : (job : ProverJob) (course : Course) (frame : Frame) (result : ProverOutcome) (code number : ℕ) (line : LineState) → IsSound job
+    → Comes job course awaits_verdict frame line → IsRead job course code number line → result ≡ verdict_outcome code number
+    → IsOutcome job course.claim line.log (told_by (snapshot_of course.first) (snapshot_of line)) result → SendsHonestly job line.log result
+    → IsEnded job course result line
+ends_read job course frame result code number line sound come read verdict_is outcome_is honest = record {
+  outcome_is = outcome_is;
   asked = read.asked;
-  honest = read.ended;
+  honest = honest;
   claimed = read.claimed;
   related = read.related;
-  answers = read.answers outcome.Accepted;
-  verdict = read_so job outcome.Accepted line.log 0 number sound read.reads refl;
+  answers = read.answers result;
+  verdict = read_so job result line.log code number sound read.reads verdict_is;
   sends = inl come.well.sends;
-  logged = logged_whole job course.claim outcome.Accepted line.log course.first.told line.told come.well.told
+  logged = logged_whole job course.claim result line.log course.first.told line.told come.well.told
       (λ inputs wires witness. from_ended job inputs line.log (read.ended inputs wires witness)) read.claimed;
   came = come.well.came;
   receives = (let few = come.well.receives in omega (arith, few));
@@ -183,9 +185,13 @@ ends_accepted job course frame number line sound come allowed is = record {
   side = come.well.side;
   is_open = come.well.is_open;
 }
-  where
-    read : IsRead job course 0 number line
-    read = is_read job course frame 0 number line sound come (fits_of frame 0 number allowed is) is
+
+-- that every check holds
+pub ends_accepted : (job : ProverJob) (course : Course) (frame : Frame) (number : ℕ) (line : LineState) → IsSound job
+    → Comes job course awaits_verdict frame line → Allows expect.Verdict frame → frame ≡ verdict 0 number → IsEnded job course outcome.Accepted line
+ends_accepted job course frame number line sound come allowed is =
+    let read = is_read job course frame 0 number line sound come (fits_of frame 0 number allowed is) is in
+    ends_read job course frame outcome.Accepted 0 number line sound come read refl (number, read.reads) read.ended
 
 is_rejected : (code number : ℕ) → 1 ≤ code → outcome.Rejected code number ≡ verdict_outcome code number
 is_rejected zero number some = absurd (omega (arith, some))
@@ -193,27 +199,10 @@ is_rejected (suc code) number some = refl
 
 -- or that one does not
 pub ends_rejected : (job : ProverJob) (course : Course) (frame : Frame) (result : ProverOutcome) (line : LineState) → IsSound job
-    → Comes job course awaits_verdict frame line → Allows expect.Verdict frame → IsRejection frame result → Ends job course result line
-ends_rejected job course frame (outcome.Rejected code number) line sound come allowed (some, is) = record {
-  outcome_is = (some, read.reads);
-  asked = read.asked;
-  honest = read.ended;
-  claimed = read.claimed;
-  related = read.related;
-  answers = read.answers (outcome.Rejected code number);
-  verdict = read_so job (outcome.Rejected code number) line.log code number sound read.reads (is_rejected code number some);
-  sends = inl come.well.sends;
-  logged = logged_whole job course.claim (outcome.Rejected code number) line.log course.first.told line.told come.well.told
-      (λ inputs wires witness. from_ended job inputs line.log (read.ended inputs wires witness)) read.claimed;
-  came = come.well.came;
-  receives = (let few = come.well.receives in omega (arith, few));
-  count = (let same = come.well.faults in record { later = omega (arith, same); unfailed = λ _. same });
-  side = come.well.side;
-  is_open = come.well.is_open;
-}
-  where
-    read : IsRead job course code number line
-    read = is_read job course frame code number line sound come (fits_of frame code number allowed is) is
+    → Comes job course awaits_verdict frame line → Allows expect.Verdict frame → IsRejection frame result → IsEnded job course result line
+ends_rejected job course frame (outcome.Rejected code number) line sound come allowed (some, is) =
+    let read = is_read job course frame code number line sound come (fits_of frame code number allowed is) is in
+    ends_read job course frame (outcome.Rejected code number) code number line sound come read (is_rejected code number some) (some, read.reads) read.ended
 ends_rejected job course frame outcome.Accepted line sound come allowed is = absurd is
 ends_rejected job course frame (outcome.PeerEnded at) line sound come allowed is = absurd is
 ends_rejected job course frame (outcome.BadFrame at) line sound come allowed is = absurd is
@@ -229,7 +218,7 @@ ends_rejected job course frame outcome.NoMemory line sound come allowed is = abs
 
 -- how a session ended, by whether it was accepted
 pub ends_with : (job : ProverJob) (course : Course) (held : Result (Unit {0}) ProverOutcome) (result : ProverOutcome) (line : LineState)
-    → OnOk held (Ends job course outcome.Accepted line) → IfErr held (λ o. Ends job course o line)
-    → OnOk held (result ≡ outcome.Accepted) → IfErr held (λ o. result ≡ o) → Ends job course result line
-ends_with job course (Ok done) result line accepted ends is other = subst (λ o. Ends job course o line) (sym is) accepted
-ends_with job course (Err o) result line accepted ends is other = subst (λ r. Ends job course r line) (sym other) ends
+    → OnOk held (IsEnded job course outcome.Accepted line) → IfErr held (λ o. IsEnded job course o line)
+    → OnOk held (result ≡ outcome.Accepted) → IfErr held (λ o. result ≡ o) → IsEnded job course result line
+ends_with job course (Ok done) result line accepted ends is other = subst (λ o. IsEnded job course o line) (sym is) accepted
+ends_with job course (Err o) result line accepted ends is other = subst (λ r. IsEnded job course r line) (sym other) ends

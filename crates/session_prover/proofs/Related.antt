@@ -11,7 +11,7 @@ use Rattle.zk_model.specs.declared.Params.{Params}
 use Rattle.zk_model.specs.declared.Side.{Side}
 use Rattle.zk_model.specs.declared.Side.TheVariants.{Prover, Verifier}
 use Rattle.session_core.specs.Jobs.{ProverJob, Suits}
-use Rattle.session_core.specs.Cores.{ProverPlace, awaits_grant, awaits_replies, awaits_challenge, awaits_verdict, has_ended}
+use Rattle.session_core.specs.Cores.{ProverStage, awaits_grant, awaits_replies, awaits_challenge, awaits_verdict, has_ended}
 use Rattle.session_prover.specs.Stages.{Claim, Fixes, IsLogAt, greeting, all_asks, granted_log, replied_log, fixed_log, sums_for, openings_for}
 use Rattle.session_prover.specs.Notes.{IsGrantRead, IsRelated}
 use Rattle.session_prover.specs.Turns.{IsSound}
@@ -27,7 +27,7 @@ pub suits_is : (params : Params) (program : Program) (given : Grant) → IsGrant
 suits_is params program given is =
     record { section_some = is.section_some; section_most = is.section_most; count = is.count; count_most = is.count_most }
 
--- a log that goes on behind a grant
+-- a log that goes on after a grant
 pub read_is : (job : ProverJob) (given : Grant) (log more : List (Side × ℕ)) → IsGrant job.file.params job.statement.program given
     → log ≡ granted_log job given ++ more → IsGrantRead job log given
 read_is job given log more granted is = record { suits = suits_is job.file.params job.statement.program given granted; begun = (more, is) }
@@ -81,9 +81,13 @@ related_replied job given came log more extended granted is =
     (ap (sent_by Prover) is ∙ prover_hears (replied_log job given came) more ∙ replied_sent job given came)
     (sym (append-nil (all_asks job given)))
 
+-- five lists in a row
+in_a_row : {T : Type 0} (a b c d e : List T) → (a ++ b ++ c ++ d) ++ e ≡ a ++ (b ++ (c ++ (d ++ e)))
+in_a_row a b c d e = append_assoc (a ++ b ++ c) d e ∙ append_assoc (a ++ b) c (d ++ e) ∙ append_assoc a b (c ++ (d ++ e))
+
 -- where a prover waits, and bytes have come since
-pub related_at : (job : ProverJob) (claim : Claim) (place : ProverPlace) (before : List (Side × ℕ)) (rest : List ℕ) → IsSound job
-    → IsLogAt job claim place before → IsRelated job (before ++ bytes_from Verifier rest)
+pub related_at : (job : ProverJob) (claim : Claim) (stage : ProverStage) (before : List (Side × ℕ)) (rest : List ℕ) → IsSound job
+    → IsLogAt job claim stage before → IsRelated job (before ++ bytes_from Verifier rest)
 related_at job claim awaits_grant before rest sound at =
     related_greeting job (before ++ bytes_from Verifier rest) (prover_hears before rest ∙ ap (sent_by Prover) at.1 ∙ greeted_sent job)
 related_at job claim (awaits_replies given done pairs) before rest sound (came, claimed, some, at) =
@@ -91,21 +95,11 @@ related_at job claim (awaits_replies given done pairs) before rest sound (came, 
 related_at job claim (awaits_challenge given pairs wires) before rest sound (rounds, d, claimed, fixes, at) =
     related_fixed job given rounds pairs d wires (before ++ bytes_from Verifier rest) (bytes_from Verifier rest) sound fixes (ap (λ l. l ++ bytes_from Verifier rest) at)
 related_at job claim awaits_verdict before rest sound opened =
-    related_fixed job opened.given opened.rounds opened.pairs opened.d opened.wires (before ++ v) (b ++ (s ++ (o ++ v))) sound opened.fixes
-    (ap (λ l. l ++ v) opened.logged ∙ append_assoc (f ++ b ++ s) o v ∙ append_assoc (f ++ b) s (o ++ v) ∙ append_assoc f b (s ++ (o ++ v)))
-  where
-    f : List (Side × ℕ)
-    f = fixed_log job opened.given opened.rounds opened.d
-
-    b : List (Side × ℕ)
-    b = bytes_from Verifier (challenge_frame opened.element)
-
-    s : List (Side × ℕ)
-    s = bytes_from Prover (sums_frame (sums_for job opened.given opened.pairs opened.wires opened.element))
-
-    o : List (Side × ℕ)
-    o = bytes_from Prover (openings_frame (openings_for job opened.wires))
-
-    v : List (Side × ℕ)
-    v = bytes_from Verifier rest
+    let fixed = fixed_log job opened.given opened.rounds opened.d in
+    let challenged = bytes_from Verifier (challenge_frame opened.element) in
+    let summed = bytes_from Prover (sums_frame (sums_for job opened.given opened.pairs opened.wires opened.element)) in
+    let opening = bytes_from Prover (openings_frame (openings_for job opened.wires)) in
+    let more = bytes_from Verifier rest in
+    related_fixed job opened.given opened.rounds opened.pairs opened.d opened.wires (before ++ more) (challenged ++ (summed ++ (opening ++ more))) sound opened.fixes
+    (ap (λ l. l ++ more) opened.logged ∙ in_a_row fixed challenged summed opening more)
 related_at job claim has_ended before rest sound at = absurd at

@@ -11,7 +11,7 @@ use Rattle.zk_model.specs.View.{span_of}
 use Rattle.zk_model.specs.declared.Side.{Side}
 use Rattle.zk_model.specs.declared.Side.TheVariants.{Prover, Verifier}
 use Rattle.session_core.specs.Jobs.{ProverJob}
-use Rattle.session_core.specs.Cores.{ProverPlace, awaits_grant, awaits_replies, awaits_challenge, awaits_verdict, has_ended, Commits, AnswersGrant, ProverAnswers}
+use Rattle.session_core.specs.Cores.{ProverStage, awaits_grant, awaits_replies, awaits_challenge, awaits_verdict, has_ended, Commits, AnswersGrant, ProverAnswers}
 use Rattle.session_prover.specs.Stages.{Claim, IsLogAt, IsLogTaken, replied_log, fixed_log}
 use Rattle.session_prover.specs.Notes.{IsRelated}
 use Rattle.session_prover.specs.Turns.{IsSound}
@@ -31,7 +31,7 @@ none_of_none zero = refl
 none_of_none (suc n) = refl
 
 -- where corrections answer, none of them are sent, or all
-related_commits : (job : ProverJob) (claim : Claim) (given : Grant) (pairs : List Pair) (answer : List Frame) (now : ProverPlace) (log : List (Side × ℕ)) (n : ℕ) → IsSound job
+related_commits : (job : ProverJob) (claim : Claim) (given : Grant) (pairs : List Pair) (answer : List Frame) (now : ProverStage) (log : List (Side × ℕ)) (n : ℕ) → IsSound job
     → Commits job given pairs answer now → IsLogAt job claim now (log ++ bytes_from Prover (flat_map frame_spelling answer)) → IsRelated job log
     → IsRelated job (log ++ bytes_from Prover (flat_map frame_spelling (take n answer)))
 related_commits job claim given pairs answer now log n sound (d, wires, fixed, said, next) at before =
@@ -49,9 +49,9 @@ related_commits job claim given pairs answer now log n sound (d, wires, fixed, s
     by_count (inr all) = subst (λ (l : List Frame). IsRelated job (log ++ bytes_from Prover (flat_map frame_spelling l))) (said ∙ sym all)
         (subst (IsRelated job) (append-nil (log ++ bytes_from Prover (flat_map frame_spelling answer))) whole)
 
--- a log behind which a frame is to be answered
-related_taken : (job : ProverJob) (claim : Claim) (place : ProverPlace) (frame : Frame) (log : List (Side × ℕ)) → IsSound job
-    → IsLogTaken job claim place frame log → IsRelated job log
+-- a log after which a frame is to be answered
+related_taken : (job : ProverJob) (claim : Claim) (stage : ProverStage) (frame : Frame) (log : List (Side × ℕ)) → IsSound job
+    → IsLogTaken job claim stage frame log → IsRelated job log
 related_taken job claim awaits_grant frame log sound (given, is, claimed, granted, at) =
     related_greeting job log (ap (sent_by Prover) at ∙ granted_sent job given)
 related_taken job claim (awaits_replies given done pairs) frame log sound (trees, came, is, are, claimed, some, at) =
@@ -62,8 +62,8 @@ related_taken job claim awaits_verdict frame log sound taken = absurd taken
 related_taken job claim has_ended frame log sound taken = absurd taken
 
 -- and the first frames of its answer
-pub related_answer : (job : ProverJob) (claim : Claim) (place : ProverPlace) (frame : Frame) (answer : List Frame) (now : ProverPlace) (log : List (Side × ℕ)) (n : ℕ) → IsSound job
-    → IsLogTaken job claim place frame log → ProverAnswers job place frame answer now
+pub related_answer : (job : ProverJob) (claim : Claim) (stage : ProverStage) (frame : Frame) (answer : List Frame) (now : ProverStage) (log : List (Side × ℕ)) (n : ℕ) → IsSound job
+    → IsLogTaken job claim stage frame log → ProverAnswers job stage frame answer now
     → IsRelated job (log ++ bytes_from Prover (flat_map frame_spelling (take n answer)))
 related_answer job claim awaits_grant frame answer now log n sound (given, is, claimed, granted, at) (other, is_too, fits, answers) =
     of_answer (grant_answer job given answer now (subst (λ g. AnswersGrant job g answer now) (sym (same_grant given other (sym is ∙ is_too))) answers))

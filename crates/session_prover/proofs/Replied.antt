@@ -2,9 +2,9 @@
 use Rattle.std.proofs.Common.{◌≡◌, ℕ, zero, suc, ◌≤◌, List, [], ◌∷◌, ◌++◌, flat_map, take, length, refl, ap, sym, ◌∙◌, subst, append_assoc, append-nil, length-append, arith}
 use Rattle.std.specs.Prelude.{All}
 use Rattle.std.proofs.lemmas.List.Elements.{All-nil, All-cons}
-use Rattle.zk_laws.proofs.Codes.{same_front, many_code}
-use Rattle.zk_laws.proofs.FrameCodes.{grant_code, asks_code, replies_code}
-use Rattle.zk_laws.proofs.SentBytes.{sent_by-append}
+use Rattle.frame_laws.proofs.Codes.{same_front, many_code}
+use Rattle.frame_laws.proofs.FrameCodes.{grant_code, asks_code, replies_code}
+use Rattle.frame_laws.proofs.SentBytes.{sent_by-append}
 use Rattle.session_laws.proofs.Turns.{said, answered}
 use Rattle.session_laws.proofs.Sizes.{hello_length}
 use Rattle.session_laws.proofs.Followed.{last_two}

@@ -1,4 +1,4 @@
--- Replies behind replies.
+-- Replies after replies.
 use Rattle.std.proofs.Common.{◌≡◌, List, [], ◌∷◌, ◌++◌, flat_map, ap, sym, ◌∙◌, append_assoc, append-nil}
 use Rattle.std.proofs.lemmas.Grind.{flat_map-append}
 use Rattle.zk_model.specs.Transcript.{Grant, TreeReply, bytes_from, reply_frame}

@@ -6,7 +6,7 @@ use Rattle.std.proofs.lemmas.List.{length-replicate}
 use Rattle.std.proofs.lemmas.Grind.{flat_map-append}
 use Rattle.std.proofs.lemmas.List.Elements.{All-nil, All-cons, All-weaker, All-replicate, recursion_from_All}
 use Rattle.std.proofs.lemmas.List.FromFn.{get_or-map-range_with_len}
-use Rattle.zk_laws.proofs.Codes.{same_front}
+use Rattle.frame_laws.proofs.Codes.{same_front}
 use Rattle.zk_laws.proofs.FoundPairs.{pairs_exist}
 use Rattle.session_laws.proofs.Shapes.{round_asks_shaped}
 use Rattle.session_laws.proofs.Turns.{answered}
@@ -74,7 +74,7 @@ rounds_length params given (round ∷ rounds) all =
 
 -- ---- the next of some parts
 
--- behind parts that are fewer than others, where all are of one length, stands the next of those
+-- after parts that are fewer than others, where all are of one length, stands the next of those
 pub next_part : {A : Type 0} (f : A → List ℕ) (P : A → Type 0) (per : ℕ) → ((x : A) → P x → length (f x) ≡ per)
     → (xs ys : List A) (bytes tail : List ℕ) → AllByRecursion P xs → AllByRecursion P ys → length xs < length ys
     → flat_map f xs ++ bytes ≡ flat_map f ys ++ tail

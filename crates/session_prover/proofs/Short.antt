@@ -26,7 +26,7 @@ use Rattle.session_core.proofs.DirectViews.{pairs_seen}
 use Rattle.session_core.proofs.Enough.{parts_within}
 use Rattle.session_core.proofs.Rounds.{whole_view}
 use Rattle.session_core.specs.Jobs.{ProverJob}
-use Rattle.session_core.specs.Cores.{ProverPlace, awaits_grant, awaits_replies, awaits_challenge, awaits_verdict, has_ended, Commits, AreRoundPairs, ProverAnswers}
+use Rattle.session_core.specs.Cores.{ProverStage, awaits_grant, awaits_replies, awaits_challenge, awaits_verdict, has_ended, Commits, AreRoundPairs, ProverAnswers}
 use Rattle.session_prover.specs.Stages.{Claim, AreAskedRounds, IsLogTaken, setup_for, sums_for, openings_for}
 use Rattle.session_prover.specs.Turns.{IsSound}
 use Rattle.session_prover.proofs.Rounds.{first_more, asked_none, asked_round}
@@ -78,7 +78,7 @@ all_asks_short file given is within =
 
 -- ---- corrections
 
-commits_short : (job : ProverJob) (given : Grant) (rounds : List Round) (pairs : List Pair) (answer : List Frame) (now : ProverPlace) → IsSound job
+commits_short : (job : ProverJob) (given : Grant) (rounds : List Round) (pairs : List Pair) (answer : List Frame) (now : ProverStage) → IsSound job
     → IsGrant job.file.params job.statement.program given → AreAskedRounds job given rounds → IsProverView job.file (setup_for job given rounds) pairs
     → Commits job given pairs answer now → All IsShort answer
 commits_short job given rounds pairs answer now sound granted asked seen (d, wires, fixed, said, next) =
@@ -90,8 +90,8 @@ commits_short job given rounds pairs answer now sound granted asked seen (d, wir
     few : job.statement.program.givens ≤ 2 ^ 20
     few = sound.givens
 
-pub answer_short : (job : ProverJob) (claim : Claim) (place : ProverPlace) (frame : Frame) (answer : List Frame) (now : ProverPlace) (log : List (Side × ℕ))
-    → IsSound job → IsLogTaken job claim place frame log → ProverAnswers job place frame answer now → All IsShort answer
+pub answer_short : (job : ProverJob) (claim : Claim) (stage : ProverStage) (frame : Frame) (answer : List Frame) (now : ProverStage) (log : List (Side × ℕ))
+    → IsSound job → IsLogTaken job claim stage frame log → ProverAnswers job stage frame answer now → All IsShort answer
 answer_short job claim awaits_grant frame answer now log sound taken (given, is, granted, answers) = of_answer (grant_answer job given answer now answers)
   where
     of_answer : IsGrantAnswer job given answer now → All IsShort answer

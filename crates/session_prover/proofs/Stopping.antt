@@ -17,23 +17,25 @@ use Rattle.frame_link.specs.declared.fault.LineFault.TheVariants as fault
 use Rattle.proof_frames.specs.Readings.{Reading}
 use Rattle.session_core.specs.Jobs.{ProverJob, Suits}
 use Rattle.session_core.specs.Rounds.{round_turns}
-use Rattle.session_core.specs.Cores.{ProverPlace, awaits_grant, awaits_replies, awaits_challenge, awaits_verdict, has_ended, ProverAnswers, ProverRefuses, prover_expects}
+use Rattle.session_core.specs.Cores.{ProverStage, awaits_grant, awaits_replies, awaits_challenge, awaits_verdict, has_ended, ProverAnswers, ProverRefuses, prover_expects}
 use Rattle.session_core.specs.declared.fault.ProverFault.{ProverFault}
 use Rattle.session_core.specs.declared.fault.ProverFault.TheVariants as session
 use Rattle.session_prover.specs.declared.note.ProverOutcome.{ProverOutcome}
 use Rattle.session_prover.specs.declared.note.ProverOutcome.TheVariants.{NoMemory}
 use Rattle.session_prover.specs.Outcomes.{line_outcome, session_outcome}
 use Rattle.session_prover.specs.Stages.{answers_in, Claim, ClaimedFor, Course, IsLogAt, IsLogTaken, GoesWell, IsLineAt, IsLineTaken, all_asks, greeted_log, granted_log, replied_log, fixed_log}
-use Rattle.session_prover.specs.Notes.{task_of, IsGrantRead, IsAskedRight, SendsOnceClaimed, IsRelated, IsAnswerDue, told_by, IsOutcome, CountsOutcome, SendsHonestly, SendsEach, AnswersGrantPlace, AnswersVerdict, IsLogged, Ends}
+use Rattle.session_prover.specs.Notes.{task_of, IsGrantRead, IsAskedRight, SendsOnceClaimed, IsRelated, IsAnswerDue, told_by, IsOutcome, CountsOutcome, SendsHonestly, SendsEach, AnswersGrantPlace, AnswersVerdict, IsLogged, IsEnded}
 use Rattle.session_prover.specs.Notes as notes
-use Rattle.session_prover.specs.Turns.{IsSound, IsBehindGrant, answers_left, Follows, SendsAnswer, SendStops}
-use Rattle.session_prover.proofs.Sides.{prover_says, verifier_hears, appended_more}
+use Rattle.session_prover.specs.Turns.{IsSound, IsBehindGrant, answers_left, FollowsStage, SendsAnswer, SendStops}
+use Rattle.frame_link.proofs.LineLemmas.{appended_more}
+use Rattle.frame_link.proofs.AnswerLemmas.{IsAnswered, is_answered, one_send_more}
+use Rattle.session_prover.proofs.Sides.{prover_says, verifier_hears}
 use Rattle.session_prover.proofs.Related.{suits_is, read_is}
 use Rattle.session_prover.proofs.RelatedAnswers.{related_answer}
 use Rattle.session_prover.proofs.Answering.{same_grant, no_challenge_is_grant, no_replies_is_grant, no_refusal_is_grant, no_refusal_is_replies, no_refusal_is_challenge, IsGrantAnswer, grant_answer, answered, answer_exists, answer_is_honest}
 use Rattle.session_prover.proofs.GrantPlace.{answers_claimed}
-use Rattle.session_prover.proofs.Sending.{stops_before, IsAnswered, is_answered}
-use Rattle.session_prover.proofs.Counting.{EndsHeard, answers_more, frame_is_some, frames_some, one_send_more}
+use Rattle.session_prover.proofs.Sending.{stops_before}
+use Rattle.session_prover.proofs.Counting.{EndsHeard, answers_more, frame_is_some, frames_some}
 use Rattle.session_prover.proofs.Unread.{IsUnheard, unread}
 use Rattle.session_prover.proofs.Heard.{Hears}
 use Rattle.session_prover.proofs.Waiting.{turns_at, next_frame}
@@ -41,7 +43,7 @@ use Rattle.session_prover.proofs.Replies.{replied_on}
 
 -- ---- where sending stops
 
--- What is to be sent behind a log: what an honest prover sends next; each beginning of it may be sent.
+-- What is to be sent after a log: what an honest prover sends next; each beginning of it may be sent.
 pub record IsDue (job : ProverJob) (claim : Claim) (log : List (Side × ℕ)) (bytes : List ℕ) : Type 0 where
   pub honest : (inputs wires : List ℕ) → IsWitness job.statement inputs wires job.given
       → AreHonestBytes (task_of job inputs) (sent_by Verifier log) (sent_by Prover log ++ bytes)
@@ -74,7 +76,7 @@ some_for fault.NoMemory count some = omega arith
 pub stops_sending_at : (job : ProverJob) (course : Course) (bytes : List ℕ) (f : LineFault) (old new : LineState)
     → GoesWell course.first old → IsDue job course.claim old.log bytes → IsAnswerDue job course.claim (least_for f) old.log
     → SendStops bytes f old new → IsRelated job old.log → IsUnheard job old.log
-    → Ends job course (line_outcome f) new
+    → IsEnded job course (line_outcome f) new
 stops_sending_at job course bytes f old new well due owed stops related unheard = record {
   outcome_is = caused f stops.cause owed stops.sends;
   asked = subst (λ l. IsAskedRight job course.claim l) (append-nil old.log ∙ sym stops.logged) (due.asked []);
@@ -167,7 +169,7 @@ record IsUnder (job : ProverJob) (claim : Claim) (log : List (Side × ℕ)) : Ty
   more : List (Side × ℕ)
   logged : log ≡ granted_log job given ++ more
 
-under : (job : ProverJob) (claim : Claim) (place : ProverPlace) (frame : Frame) (log : List (Side × ℕ)) → IsLogTaken job claim place frame log
+under : (job : ProverJob) (claim : Claim) (stage : ProverStage) (frame : Frame) (log : List (Side × ℕ)) → IsLogTaken job claim stage frame log
     → IsUnder job claim log
 under job claim awaits_grant frame log (given, is, claimed, granted, at) =
     record { given = given; claimed = claimed; granted = granted; more = []; logged = at ∙ sym (append-nil (granted_log job given)) }
@@ -190,25 +192,25 @@ under job claim awaits_verdict frame log taken = absurd taken
 under job claim has_ended frame log taken = absurd taken
 
 -- an answer is due
-answer_due : (job : ProverJob) (claim : Claim) (place : ProverPlace) (frame : Frame) (answer : List Frame) (now : ProverPlace) (log : List (Side × ℕ))
-    → IsSound job → IsLogTaken job claim place frame log → ProverAnswers job place frame answer now
+answer_due : (job : ProverJob) (claim : Claim) (stage : ProverStage) (frame : Frame) (answer : List Frame) (now : ProverStage) (log : List (Side × ℕ))
+    → IsSound job → IsLogTaken job claim stage frame log → ProverAnswers job stage frame answer now
     → IsDue job claim log (flat_map frame_spelling answer)
-answer_due job claim place frame answer now log sound taken answers = record {
-  honest = λ inputs wires witness. answer_is_honest job claim place frame answer now log inputs wires sound taken answers witness;
+answer_due job claim stage frame answer now log sound taken answers = record {
+  honest = λ inputs wires witness. answer_is_honest job claim stage frame answer now log inputs wires sound taken answers witness;
   asked = λ more. inr (u.given, read more, inl u.claimed);
   claimed = λ more rest is. inr (u.given, read (bytes_from Prover more), u.claimed);
   answers = λ outcome. answers_claimed job claim u.given outcome log sound u.claimed u.granted (u.more, u.logged);
 }
   where
     u : IsUnder job claim log
-    u = under job claim place frame log taken
+    u = under job claim stage frame log taken
 
     read : (more : List (Side × ℕ)) → IsGrantRead job (log ++ more) u.given
     read more = read_is job u.given (log ++ more) (u.more ++ more) u.granted
         (ap (λ l. l ++ more) u.logged ∙ append_assoc (granted_log job u.given) u.more more)
 
 -- a log with a frame that is to be answered ends with it
-ends_heard : (job : ProverJob) (claim : Claim) (place : ProverPlace) (frame : Frame) (log : List (Side × ℕ)) → IsLogTaken job claim place frame log → EndsHeard log
+ends_heard : (job : ProverJob) (claim : Claim) (stage : ProverStage) (frame : Frame) (log : List (Side × ℕ)) → IsLogTaken job claim stage frame log → EndsHeard log
 ends_heard job claim awaits_grant frame log (given, is, claimed, granted, at) =
     record { before = greeted_log job; heard = grant_frame given; some = frame_is_some (grant given); is = at }
 ends_heard job claim (awaits_replies given done pairs) frame log (trees, came, is, are, claimed, some, at) = record {
@@ -234,17 +236,17 @@ sends_on log answer first old new heard counts (inr some) =
     ∙ ap (λ (k : ℕ). counted_times k first) (sym (answers_more log (flat_map frame_spelling answer) heard (frames_some answer some.0)))
 
 -- an answer is sent
-pub goes_on : (job : ProverJob) (course : Course) (place : ProverPlace) (frame : Frame) (answer : List Frame) (now : ProverPlace) (old new : LineState)
-    → IsSound job → IsLineTaken job course place frame old → ProverAnswers job place frame answer now → SendsAnswer answer old new
+pub goes_on : (job : ProverJob) (course : Course) (stage : ProverStage) (frame : Frame) (answer : List Frame) (now : ProverStage) (old new : LineState)
+    → IsSound job → IsLineTaken job course stage frame old → ProverAnswers job stage frame answer now → SendsAnswer answer old new
     → IsLineAt job course now new
-goes_on job course place frame answer now old new sound taken answers by = record {
-  log = subst (λ l. IsLogAt job course.claim now l) (sym logged) (answered job course.claim place frame answer now old.log sound taken.log answers);
+goes_on job course stage frame answer now old new sound taken answers by = record {
+  log = subst (λ l. IsLogAt job course.claim now l) (sym logged) (answered job course.claim stage frame answer now old.log sound taken.log answers);
   well = record {
     received = sends.others.reading ∙ taken.well.received ∙ ap idle (ap length (sym heard));
     told = sends.told ∙ (λ i. appended (bytes_from (taken.well.side i) bytes) (taken.well.told i))
         ∙ appended_more old.log (bytes_from Prover bytes) course.first.told ∙ ap (λ l. appended l course.first.told) (sym logged);
     came = taken.well.came ∙ (λ i. put_before (sym heard i) (sym sends.others.to_come i));
-    sends = sends_on old.log answer course.first.sends old.sends new.sends (ends_heard job course.claim place frame old.log taken.log) taken.well.sends sends.sends
+    sends = sends_on old.log answer course.first.sends old.sends new.sends (ends_heard job course.claim stage frame old.log taken.log) taken.well.sends sends.sends
         ∙ ap (λ (l : List (Side × ℕ)). counted_times (answers_in l) course.first.sends) (sym logged);
     side = sends.others.side ∙ taken.well.side;
     is_open = sends.others.is_open ∙ taken.well.is_open;
@@ -269,14 +271,14 @@ goes_on job course place frame answer now old new sound taken answers by = recor
     idle n = record { received = n; expected = None; taken = []; bad = None }
 
 -- where a prover waits then
-follows_to : (place now later : ProverPlace) → now ≡ later → IsBehindGrant later → answers_left later < answers_left place → Follows place now
-follows_to place now later next behind fewer = subst (λ p. Follows place p) (sym next) (record { behind = behind; fewer = fewer })
+follows_to : (stage now later : ProverStage) → now ≡ later → IsBehindGrant later → answers_left later < answers_left stage → FollowsStage stage now
+follows_to stage now later next behind fewer = subst (λ p. FollowsStage stage p) (sym next) (record { behind = behind; fewer = fewer })
 
-pub follows : (job : ProverJob) (claim : Claim) (place : ProverPlace) (frame : Frame) (answer : List Frame) (now : ProverPlace) (log : List (Side × ℕ))
-    → IsLogTaken job claim place frame log → ProverAnswers job place frame answer now → Follows place now
+pub follows : (job : ProverJob) (claim : Claim) (stage : ProverStage) (frame : Frame) (answer : List Frame) (now : ProverStage) (log : List (Side × ℕ))
+    → IsLogTaken job claim stage frame log → ProverAnswers job stage frame answer now → FollowsStage stage now
 follows job claim awaits_grant frame answer now log taken (given, is, fits, answers) = of_answer (grant_answer job given answer now answers)
   where
-    of_answer : IsGrantAnswer job given answer now → Follows awaits_grant now
+    of_answer : IsGrantAnswer job given answer now → FollowsStage awaits_grant now
     of_answer (inl (direct, (d, wires, fixed, said, next))) = follows_to awaits_grant now _ next tt (omega arith)
     of_answer (inr (extended, said, next)) = follows_to awaits_grant now _ next tt (let most = fits.count_most in omega (arith, most))
 follows job claim (awaits_replies given done pairs) frame answer now log taken (trees, more, is, one, inl (less, said, next)) =
@@ -288,22 +290,22 @@ follows job claim (awaits_challenge given pairs wires) frame answer now log take
 follows job claim awaits_verdict frame answer now log taken answers = absurd taken
 follows job claim has_ended frame answer now log taken answers = absurd taken
 
--- behind a grant a frame is expected
-expects_behind : (job : ProverJob) (place : ProverPlace) → IsBehindGrant place → (expect : Expect) × (prover_expects job place ≡ Some expect)
+-- after a grant a frame is expected
+expects_behind : (job : ProverJob) (stage : ProverStage) → IsBehindGrant stage → (expect : Expect) × (prover_expects job stage ≡ Some expect)
 expects_behind job awaits_grant behind = absurd behind
 expects_behind job (awaits_replies given done pairs) behind = (expect.Reply job.file.params.height job.file.params.trees (given.count - done), refl)
 expects_behind job (awaits_challenge given pairs wires) behind = (expect.Challenge, refl)
 expects_behind job awaits_verdict behind = (expect.Verdict, refl)
 expects_behind job has_ended behind = absurd behind
 
--- where a frame is to be answered, what comes behind it was not heard
-pub taken_unheard : (job : ProverJob) (claim : Claim) (place : ProverPlace) (frame : Frame) (log : List (Side × ℕ)) → IsSound job
-    → IsLogTaken job claim place frame log → IsUnheard job log
-taken_unheard job claim place frame log sound taken =
-    let found = answer_exists job claim place frame log sound taken in
+-- where a frame is to be answered, what comes after it was not heard
+pub taken_unheard : (job : ProverJob) (claim : Claim) (stage : ProverStage) (frame : Frame) (log : List (Side × ℕ)) → IsSound job
+    → IsLogTaken job claim stage frame log → IsUnheard job log
+taken_unheard job claim stage frame log sound taken =
+    let found = answer_exists job claim stage frame log sound taken in
     let bytes = flat_map frame_spelling found.0 in
-    let at = answered job claim place frame found.0 found.1 log sound taken found.2 in
-    let next = expects_behind job found.1 (follows job claim place frame found.0 found.1 log taken found.2).behind in
+    let at = answered job claim stage frame found.0 found.1 log sound taken found.2 in
+    let next = expects_behind job found.1 (follows job claim stage frame found.0 found.1 log taken found.2).behind in
     record {
       turn = turns_at job found.1;
       unheard = λ heard.
@@ -317,30 +319,30 @@ taken_unheard job claim place frame log sound taken =
     }
 
 -- an answer is not sent
-pub stops_answering : (job : ProverJob) (course : Course) (place : ProverPlace) (frame : Frame) (answer : List Frame) (now : ProverPlace) (f : LineFault) (old new : LineState)
-    → IsSound job → IsLineTaken job course place frame old → ProverAnswers job place frame answer now → least_for f ≤ length answer
-    → SendStops (flat_map frame_spelling answer) f old new → Ends job course (line_outcome f) new
-stops_answering job course place frame answer now f old new sound taken answers some stop =
+pub stops_answering : (job : ProverJob) (course : Course) (stage : ProverStage) (frame : Frame) (answer : List Frame) (now : ProverStage) (f : LineFault) (old new : LineState)
+    → IsSound job → IsLineTaken job course stage frame old → ProverAnswers job stage frame answer now → least_for f ≤ length answer
+    → SendStops (flat_map frame_spelling answer) f old new → IsEnded job course (line_outcome f) new
+stops_answering job course stage frame answer now f old new sound taken answers some stop =
     stops_sending_at job course (flat_map frame_spelling answer) f old new taken.well
-    (answer_due job course.claim place frame answer now old.log sound taken.log answers)
-    (inr (record { place = place; frame = frame; taken = taken.log; answer = answer; next = now; answers = answers; some = some })) stop
-    (subst (IsRelated job) (append-nil old.log) (related_answer job course.claim place frame answer now old.log 0 sound taken.log answers))
-    (taken_unheard job course.claim place frame old.log sound taken.log)
+    (answer_due job course.claim stage frame answer now old.log sound taken.log answers)
+    (inr (record { stage = stage; frame = frame; taken = taken.log; answer = answer; next = now; answers = answers; some = some })) stop
+    (subst (IsRelated job) (append-nil old.log) (related_answer job course.claim stage frame answer now old.log 0 sound taken.log answers))
+    (taken_unheard job course.claim stage frame old.log sound taken.log)
 
 -- no answer is found
-pub stops_unanswered : (job : ProverJob) (course : Course) (place : ProverPlace) (frame : Frame) (line : LineState)
-    → IsSound job → IsLineTaken job course place frame line → Ends job course NoMemory line
-stops_unanswered job course place frame line sound taken =
-    let found = answer_exists job course.claim place frame line.log sound taken.log in
-    stops_answering job course place frame found.0 found.1 fault.NoMemory line line sound taken found.2 (omega arith) (stops_before (flat_map frame_spelling found.0) line)
+pub stops_unanswered : (job : ProverJob) (course : Course) (stage : ProverStage) (frame : Frame) (line : LineState)
+    → IsSound job → IsLineTaken job course stage frame line → IsEnded job course NoMemory line
+stops_unanswered job course stage frame line sound taken =
+    let found = answer_exists job course.claim stage frame line.log sound taken.log in
+    stops_answering job course stage frame found.0 found.1 fault.NoMemory line line sound taken found.2 (omega arith) (stops_before (flat_map frame_spelling found.0) line)
 
 -- the prover refuses to answer: only for want of memory
-pub refuses_nothing : (job : ProverJob) (course : Course) (place : ProverPlace) (frame : Frame) (f : ProverFault) (line : LineState)
-    → IsSound job → IsLineTaken job course place frame line → ProverRefuses job place frame f → Ends job course (session_outcome f) line
-refuses_nothing job course place frame session.BadGrant line sound taken (given, there, is, unsuited) =
-    absurd (elsewhere place frame taken.log is unsuited)
+pub refuses_nothing : (job : ProverJob) (course : Course) (stage : ProverStage) (frame : Frame) (f : ProverFault) (line : LineState)
+    → IsSound job → IsLineTaken job course stage frame line → ProverRefuses job stage frame f → IsEnded job course (session_outcome f) line
+refuses_nothing job course stage frame session.BadGrant line sound taken (given, there, is, unsuited) =
+    absurd (elsewhere stage frame taken.log is unsuited)
   where
-    elsewhere : (place : ProverPlace) (frame : Frame) → IsLogTaken job course.claim place frame line.log → frame ≡ grant given
+    elsewhere : (stage : ProverStage) (frame : Frame) → IsLogTaken job course.claim stage frame line.log → frame ≡ grant given
         → (Suits job.file.params job.statement.program given → ⊥) → ⊥
     elsewhere awaits_grant frame (other, is_too, claimed, granted, at) is unsuited =
         unsuited (suits_is job.file.params job.statement.program given
@@ -349,12 +351,12 @@ refuses_nothing job course place frame session.BadGrant line sound taken (given,
     elsewhere (awaits_challenge other pairs wires) frame (element, rounds, d, is_too, ranged, claimed, fixes, at) is unsuited = no_challenge_is_grant element given (sym is_too ∙ is)
     elsewhere awaits_verdict frame taken is unsuited = taken
     elsewhere has_ended frame taken is unsuited = taken
-refuses_nothing job course place frame (session.PeerRefused code) line sound taken (there, is) = absurd (elsewhere place frame taken.log is)
+refuses_nothing job course stage frame (session.PeerRefused code) line sound taken (there, is) = absurd (elsewhere stage frame taken.log is)
   where
-    elsewhere : (place : ProverPlace) (frame : Frame) → IsLogTaken job course.claim place frame line.log → frame ≡ refuse code → ⊥
+    elsewhere : (stage : ProverStage) (frame : Frame) → IsLogTaken job course.claim stage frame line.log → frame ≡ refuse code → ⊥
     elsewhere awaits_grant frame (given, is_too, claimed, granted, at) is = no_refusal_is_grant code given (sym is ∙ is_too)
     elsewhere (awaits_replies other done pairs) frame (trees, came, is_too, are, claimed, some, at) is = no_refusal_is_replies code trees (sym is ∙ is_too)
     elsewhere (awaits_challenge other pairs wires) frame (element, rounds, d, is_too, ranged, claimed, fixes, at) is = no_refusal_is_challenge code element (sym is ∙ is_too)
     elsewhere awaits_verdict frame taken is = taken
     elsewhere has_ended frame taken is = taken
-refuses_nothing job course place frame session.NoMemory line sound taken refused = stops_unanswered job course place frame line sound taken
+refuses_nothing job course stage frame session.NoMemory line sound taken refused = stops_unanswered job course stage frame line sound taken

@@ -7,11 +7,11 @@ use Rattle.zk_model.specs.HonestProver.{ProverTask}
 use Rattle.zk_model.specs.declared.Expect.{Expect}
 use Rattle.zk_model.specs.declared.Expect.TheVariants as expect
 use Rattle.zk_model.specs.declared.Params.{Params}
+use Rattle.frame_laws.proofs.Codes.{same_front}
 use Rattle.frame_link.specs.Lines.{longest, IsUnfinished}
 use Rattle.frame_link.proofs.LineLemmas.{frame_most}
 use Rattle.proof_frames.proofs.Unique.{one_frame}
 use Rattle.session_prover.proofs.Heard.{Hears, grant_fits}
-use Rattle.session_prover.proofs.Sides.{take_front}
 
 take_rest : (n : ℕ) (l : List ℕ) → l ≡ take n l ++ drop n l
 take_rest zero l = refl
@@ -24,15 +24,15 @@ nothing_more [] (y ∷ b) few = absurd (omega (arith, few))
 nothing_more (x ∷ a) b few = ap (λ l. x ∷ l) (nothing_more a b (omega (arith, few)))
 
 -- bytes that are no whole frame don't begin with the longest frame of the place
-pub unstarted : (place : Expect) (rest : List ℕ) (frame : Frame) (more : List ℕ) → Allows place frame
-    → length (frame_spelling frame) ≡ longest place → length rest ≤ longest place → IsUnfinished place rest
+pub unstarted : (stage : Expect) (rest : List ℕ) (frame : Frame) (more : List ℕ) → Allows stage frame
+    → length (frame_spelling frame) ≡ longest stage → length rest ≤ longest stage → IsUnfinished stage rest
     → rest ≡ frame_spelling frame ++ more → ⊥
-unstarted place rest frame more allowed long few (inl wanting) is =
+unstarted stage rest frame more allowed long few (inl wanting) is =
     let whole = ap length is in
     let all = length-append (frame_spelling frame) more in
-    let most = frame_most place rest in
+    let most = frame_most stage rest in
     absurd (omega (arith, whole, all, long, most, wanting))
-unstarted place rest frame more allowed long few (inr (n, bad)) is =
+unstarted stage rest frame more allowed long few (inr (n, bad)) is =
     bad.ends (record { frame = frame; allowed = allowed; begun = (drop (n + 1) rest, sym same ∙ take_rest (n + 1) rest) })
   where
     same : rest ≡ frame_spelling frame
@@ -46,7 +46,7 @@ same_bytes_grant params program given other more tail total fits is begins = sub
     frames : grant given ≡ grant other
     frames = one_frame expect.Grant (grant_frame given) (grant given) (grant other)
         (record { allowed = inl (given, refl, fits); spelled = refl })
-        (record { allowed = inl (other, refl, grant_fits params program other total is); spelled = take_front (grant_frame given) (grant_frame other) more tail (omega arith) begins })
+        (record { allowed = inl (other, refl, grant_fits params program other total is); spelled = (same_front (grant_frame given) (grant_frame other) more tail (omega arith) begins).0 })
 
     grant_or : Grant → Frame → Grant
     grant_or instead (grant said) = said

@@ -2,8 +2,8 @@
 use Rattle.std.proofs.Common.{◌≡◌, ℕ, suc, List, [], take, drop, ap, sym, ◌∙◌}
 use Rattle.std.proofs.lemmas.List.{take-append-drop}
 use Rattle.std.proofs.lemmas.Grind.{flat_map-append}
-use Rattle.zk_laws.proofs.SentBytes.{sent_by-verifier}
-use Rattle.zk_laws.proofs.OneTranscript.{one_transcript}
+use Rattle.frame_laws.proofs.SentBytes.{sent_by-verifier}
+use Rattle.frame_laws.proofs.OneTranscript.{one_transcript}
 use Rattle.session_laws.proofs.Turns.{answered}
 use Rattle.zk_model.specs.Transcript.{Transcript, IsInOrder, session_turns, sent_by}
 use Rattle.zk_model.specs.declared.Side.{Side}

@@ -2,7 +2,7 @@
 use Rattle.std.proofs.Common.{◌≡◌, ℕ, suc, ◌+◌, ◌*◌, ◌≤◌, ◌^◌, List, [], ◌∷◌, ◌++◌, flat_map, length, ap, sym, ◌∙◌, subst, append-nil, append_assoc, length-append, arith, Option, Some, None}
 use Rattle.std.proofs.lemmas.Nat.{mul-le}
 use Rattle.std.proofs.lemmas.List.Elements.{recursion_from_All}
-use Rattle.zk_laws.proofs.SentBytes.{sent_by-append, sent_by-prover, sent_by-verifier}
+use Rattle.frame_laws.proofs.SentBytes.{sent_by-append, own_bytes, none_of_prover, sent_by-prover, sent_by-verifier}
 use Rattle.session_laws.proofs.Turns.{said, answered}
 use Rattle.zk_model.specs.Mac.{Pair}
 use Rattle.zk_model.specs.Check.{WirePairs}
@@ -21,22 +21,22 @@ use Rattle.zk_model.specs.declared.Side.TheVariants.{Prover, Verifier}
 use Rattle.frame_link.specs.Lines.{longest, IsUnfinished}
 use Rattle.session_core.specs.Jobs.{ProverJob}
 use Rattle.session_core.specs.Rounds.{round_turns}
-use Rattle.session_core.specs.Cores.{ProverPlace, awaits_grant, awaits_replies, awaits_challenge, awaits_verdict, has_ended, prover_expects}
+use Rattle.session_core.specs.Cores.{ProverStage, awaits_grant, awaits_replies, awaits_challenge, awaits_verdict, has_ended, prover_expects}
 use Rattle.session_prover.specs.Stages.{Claim, AreAskedRounds, IsLogAt, greeting, all_asks, greeted_log, granted_log, asked_log, replied_log, rounds_log, fixed_log, challenged_log, opened_log, sums_for, openings_for}
 use Rattle.session_prover.specs.Notes.{task_of}
 use Rattle.session_prover.specs.Turns.{IsSound}
-use Rattle.session_prover.proofs.Sides.{own_bytes, none_of_prover, prover_says, verifier_says, prover_hears, verifier_hears}
+use Rattle.session_prover.proofs.Sides.{prover_says, verifier_says, prover_hears, verifier_hears}
 use Rattle.session_prover.proofs.Rounds.{unit_size, units_length, rounds_length, some_rounds}
 use Rattle.session_prover.proofs.Heard.{Hears, IsNextFrame, honest_bytes, next_grant, next_replies, next_challenge, next_verdict}
 use Rattle.session_prover.proofs.Honest.{fixable, asks_after, corrections_after, openings_after, all_sent}
 use Rattle.session_prover.proofs.Unheard.{unstarted}
 
-pub same_place : (some other : Expect) → Some some ≡ Some other → other ≡ some
-same_place some other same = ap (λ (o : Option Expect). or_else o) (sym same)
+pub same_stage : (some other : Expect) → Some some ≡ Some other → other ≡ some
+same_stage some other same = ap (λ (o : Option Expect). or_else o) (sym same)
   where
     or_else : Option Expect → Expect
     or_else None = some
-    or_else (Some place) = place
+    or_else (Some stage) = stage
 
 -- ---- side by side
 
@@ -141,7 +141,7 @@ few_rounds job given rounds sound few asked =
     one_round Direct count = omega (arith, count)
     one_round Extended count = omega (arith, count)
 
-pub few_heard : (job : ProverJob) (claim : Claim) (place : ProverPlace) (log : List (Side × ℕ)) → IsSound job → IsLogAt job claim place log
+pub few_heard : (job : ProverJob) (claim : Claim) (stage : ProverStage) (log : List (Side × ℕ)) → IsSound job → IsLogAt job claim stage log
     → length (sent_by Verifier log) ≤ 2 ^ 33
 few_heard job claim awaits_grant log sound at =
     let none = ap length (ap (sent_by Verifier) at.1 ∙ greeted_heard job) in omega (arith, none)
@@ -167,7 +167,7 @@ few_heard job claim has_ended log sound at = absurd at
 -- ---- what comes next, and what was sent
 
 -- the turns that have come where a prover waits
-abbrev pub turns_at : ProverJob → ProverPlace → ℕ
+abbrev pub turns_at : ProverJob → ProverStage → ℕ
 turns_at job awaits_grant = 0
 turns_at job (awaits_replies given done pairs) = 1
 turns_at job (awaits_challenge given pairs wires) = suc (rounds_of job.file.params.kind)
@@ -175,24 +175,24 @@ turns_at job awaits_verdict = suc (suc (rounds_of job.file.params.kind))
 turns_at job has_ended = 0
 
 -- where what came goes on as the turns of some session do, it goes on with a frame of the place
-pub next_frame : (job : ProverJob) (claim : Claim) (place : ProverPlace) (awaited : Expect) (before : List (Side × ℕ)) (bytes inputs : List ℕ) → IsSound job
-    → IsLogAt job claim place before → prover_expects job place ≡ Some awaited
-    → Hears (task_of job inputs) (sent_by Verifier before ++ bytes) (turns_at job place) → IsNextFrame awaited bytes
+pub next_frame : (job : ProverJob) (claim : Claim) (stage : ProverStage) (awaited : Expect) (before : List (Side × ℕ)) (bytes inputs : List ℕ) → IsSound job
+    → IsLogAt job claim stage before → prover_expects job stage ≡ Some awaited
+    → Hears (task_of job inputs) (sent_by Verifier before ++ bytes) (turns_at job stage) → IsNextFrame awaited bytes
 next_frame job claim awaits_grant awaited before bytes inputs sound at is heard =
-    subst (λ e. IsNextFrame e bytes) (sym (same_place expect.Grant awaited is))
+    subst (λ e. IsNextFrame e bytes) (sym (same_stage expect.Grant awaited is))
     (next_grant job.file.params job.statement.program heard.u bytes heard.more sound.file.params.total heard.is
     (ap (λ l. l ++ bytes) (sym (ap (sent_by Verifier) at.1 ∙ greeted_heard job)) ∙ heard.begun))
 next_frame job claim (awaits_replies given done pairs) awaited before bytes inputs sound (came, claimed, some, at) is heard =
-    subst (λ e. IsNextFrame e bytes) (sym (same_place _ awaited is))
+    subst (λ e. IsNextFrame e bytes) (sym (same_stage _ awaited is))
     (next_replies (task_of job inputs) given came _ heard.u bytes heard.more sound.file some.extended some.granted
     (omega (arith, some.count, some.more)) some.each heard.is
     (ap (λ l. l ++ bytes) (sym (ap (sent_by Verifier) at ∙ replied_heard job given came)) ∙ heard.begun))
 next_frame job claim (awaits_challenge given pairs wires) awaited before bytes inputs sound (rounds, d, claimed, fixes, at) is heard =
-    subst (λ e. IsNextFrame e bytes) (sym (same_place expect.Challenge awaited is))
+    subst (λ e. IsNextFrame e bytes) (sym (same_stage expect.Challenge awaited is))
     (next_challenge (task_of job inputs) given rounds heard.u bytes heard.more sound.file fixes.granted fixes.asked.count fixes.asked.ranged heard.is
     (ap (λ l. l ++ bytes) (sym (ap (sent_by Verifier) at ∙ fixed_heard job given rounds d)) ∙ heard.begun))
 next_frame job claim awaits_verdict awaited before bytes inputs sound opened is heard =
-    subst (λ e. IsNextFrame e bytes) (sym (same_place expect.Verdict awaited is))
+    subst (λ e. IsNextFrame e bytes) (sym (same_stage expect.Verdict awaited is))
     (next_verdict (task_of job inputs) opened.given opened.rounds opened.element heard.u bytes heard.more sound.file opened.fixes.granted
     opened.fixes.asked.count opened.fixes.asked.ranged heard.is
     (ap (λ l. l ++ bytes) (sym (ap (sent_by Verifier) opened.logged
@@ -200,9 +200,9 @@ next_frame job claim awaits_verdict awaited before bytes inputs sound opened is 
 next_frame job claim has_ended awaited before bytes inputs sound at is heard = absurd at
 
 -- what was sent where a prover waits is what an honest prover sends after as many turns
-sent_after : (job : ProverJob) (claim : Claim) (place : ProverPlace) (before : List (Side × ℕ)) (rest inputs values : List ℕ) → IsSound job
-    → IsLogAt job claim place before → IsWitness job.statement inputs values job.given
-    → SentAfter (task_of job inputs) (sent_by Verifier before ++ rest) (turns_at job place) (sent_by Prover before)
+sent_after : (job : ProverJob) (claim : Claim) (stage : ProverStage) (before : List (Side × ℕ)) (rest inputs values : List ℕ) → IsSound job
+    → IsLogAt job claim stage before → IsWitness job.statement inputs values job.given
+    → SentAfter (task_of job inputs) (sent_by Verifier before ++ rest) (turns_at job stage) (sent_by Prover before)
 sent_after job claim awaits_grant before rest inputs values sound at witness = ap (sent_by Prover) at.1 ∙ greeted_sent job
 sent_after job claim (awaits_replies given done pairs) before rest inputs values sound (came, claimed, some, at) witness =
     subst (λ (q : List ℕ × List ℕ). SentAfter (task_of job inputs) (q.0 ++ rest) 1 q.1)
@@ -232,24 +232,24 @@ sent_after job claim awaits_verdict before rest inputs values sound opened witne
 sent_after job claim has_ended before rest inputs values sound at witness = absurd at
 
 -- Where a prover waits, and what came since is no whole frame, the next turn was not heard.
-pub not_heard : (job : ProverJob) (claim : Claim) (place : ProverPlace) (awaited : Expect) (before : List (Side × ℕ)) (rest : List ℕ) (inputs : List ℕ)
-    → IsSound job → IsLogAt job claim place before → prover_expects job place ≡ Some awaited
+pub not_heard : (job : ProverJob) (claim : Claim) (stage : ProverStage) (awaited : Expect) (before : List (Side × ℕ)) (rest : List ℕ) (inputs : List ℕ)
+    → IsSound job → IsLogAt job claim stage before → prover_expects job stage ≡ Some awaited
     → length rest ≤ longest awaited → IsUnfinished awaited rest
-    → Hears (task_of job inputs) (sent_by Verifier before ++ rest) (turns_at job place) → ⊥
-not_heard job claim place awaited before rest inputs sound at is few unfinished heard =
-    let next = next_frame job claim place awaited before rest inputs sound at is heard in
+    → Hears (task_of job inputs) (sent_by Verifier before ++ rest) (turns_at job stage) → ⊥
+not_heard job claim stage awaited before rest inputs sound at is few unfinished heard =
+    let next = next_frame job claim stage awaited before rest inputs sound at is heard in
     unstarted awaited rest next.frame next.tail next.allowed next.long few unfinished next.begun
 
 -- Where a prover waits, and what came since is no whole frame, it has sent all that an honest prover sends.
-pub has_answered : (job : ProverJob) (claim : Claim) (place : ProverPlace) (awaited : Expect) (before : List (Side × ℕ)) (rest : List ℕ) (inputs values : List ℕ)
-    → IsSound job → IsLogAt job claim place before → prover_expects job place ≡ Some awaited
+pub has_answered : (job : ProverJob) (claim : Claim) (stage : ProverStage) (awaited : Expect) (before : List (Side × ℕ)) (rest : List ℕ) (inputs values : List ℕ)
+    → IsSound job → IsLogAt job claim stage before → prover_expects job stage ≡ Some awaited
     → length rest ≤ longest awaited → IsUnfinished awaited rest → IsWitness job.statement inputs values job.given
     → HasEndedHonestly (task_of job inputs) (before ++ bytes_from Verifier rest)
-has_answered job claim place awaited before rest inputs values sound at is few unfinished witness =
+has_answered job claim stage awaited before rest inputs values sound at is few unfinished witness =
     subst (λ (q : List ℕ × List ℕ). AreHonestBytes (task_of job inputs) q.0 q.1) (λ i. (sym (verifier_says before rest) i, sym (prover_hears before rest) i))
-    (honest_bytes (task_of job inputs) (sent_by Verifier before ++ rest) (sent_by Prover before) (turns_at job place)
-    (sent_after job claim place before rest inputs values sound at witness)
-    (not_heard job claim place awaited before rest inputs sound at is few unfinished))
+    (honest_bytes (task_of job inputs) (sent_by Verifier before ++ rest) (sent_by Prover before) (turns_at job stage)
+    (sent_after job claim stage before rest inputs values sound at witness)
+    (not_heard job claim stage awaited before rest inputs sound at is few unfinished))
 
 -- where it ended so, it sent a beginning of it
 pub from_ended : (job : ProverJob) (inputs : List ℕ) (log : List (Side × ℕ)) → HasEndedHonestly (task_of job inputs) log

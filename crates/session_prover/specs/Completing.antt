@@ -9,7 +9,7 @@ use Rattle.zk_model.specs.declared.Side.TheVariants.{Verifier}
 use Rattle.zk_model.specs.declared.Span.{Span}
 use Rattle.zk_model.specs.declared.Verdict.{Verdict}
 use Rattle.zk_port.specs.Counts.{Rose}
-use Rattle.zk_laws.specs.Rehearsing.{AreCounterparts}
+use Rattle.zk_laws.specs.Completeness.{AreCounterparts}
 use Rattle.session_laws.specs.Peers.{GivesClaims}
 use Rattle.session_core.specs.Jobs.{ProverJob}
 use Rattle.session_prover.specs.Notes.{Told, task_of}
@@ -29,7 +29,7 @@ pub record HasSpoken (verifier : VerifierTask) (log : List (Side × ℕ)) : Type
   pub spoken : sent_by Verifier log ≡ flat_map (λ turn. turn.1) (session_turns t)
 
 -- The peer is an honest verifier with the same statement and a file that is dealt with the job's, whose given values give the
--- claims: what came from it is a beginning of what such a verifier says to what the prover sent, and it ended only behind all
+-- claims: what came from it is a beginning of what such a verifier says to what the prover sent, and it ended only after all
 -- of that.
 pub record HasHonestPeer
     (job : ProverJob)
@@ -45,7 +45,7 @@ pub record HasHonestPeer
   pub ended : IsPeerEnd outcome → HasSpoken verifier log
 
 -- with an honest peer, where the units are claimed and the link's count did not rise, the session is accepted, unless memory
--- was wanting
+-- was missing
 abbrev pub Completes : ProverJob → Option Span → List (Side × ℕ) → Told → ProverOutcome → Type 0
 Completes job granted log told outcome = (inputs : List ℕ) (verifier : VerifierTask) (span : Span)
     → HasHonestPeer job inputs verifier outcome log → granted ≡ Some span → ¬ Rose told.before told.after

@@ -20,7 +20,7 @@ use Rattle.claim_store.specs.declared.ClaimFault.{ClaimFault}
 use Rattle.claim_store.specs.declared.ClaimFault.TheVariants as refusal
 use Rattle.frame_link.specs.Lines.{LineState, LinkSnapshot, IsCutShort, counted_times, longest, snapshot_of}
 use Rattle.session_core.specs.Jobs.{ProverJob, Suits}
-use Rattle.session_core.specs.Cores.{ProverPlace, ProverAnswers, prover_expects}
+use Rattle.session_core.specs.Cores.{ProverStage, ProverAnswers, prover_expects}
 use Rattle.session_prover.specs.Outcomes.{claim_outcome, verdict_outcome}
 use Rattle.session_prover.specs.Stages.{answers_in, Claim, ClaimedFor, RefusedFor, Course, AreAskedRounds, greeting, all_asks, greeted_log, granted_log, fixed_log, setup_for, IsLogAt, IsLogTaken}
 use Rattle.session_prover.specs.declared.note.ProverOutcome.{ProverOutcome}
@@ -38,7 +38,7 @@ granted_of None = None
 granted_of (Some (Ok span)) = Some span
 granted_of (Some (Err fault)) = None
 
--- the grant was read right behind the greeting, and it suits the job
+-- the grant was read right after the greeting, and it suits the job
 pub record IsGrantRead (job : ProverJob) (log : List (Side × ℕ)) (given : Grant) : Type 0 where
   pub suits : Suits job.file.params job.statement.program given
   pub begun : BeginsWith log (granted_log job given)
@@ -74,25 +74,25 @@ pub record ReadsVerdict (job : ProverJob) (log : List (Side × ℕ)) (code numbe
   pub code_is : t.code ≡ code
   pub number_is : t.number ≡ number
 
--- behind what is logged where the prover waited, bytes came of the frame that it expected, no more than such a frame has
+-- after what is logged where the prover waited, bytes came of the frame that it expected, no more than such a frame has
 pub record StopsBehind
     (job : ProverJob)
     (claim : Claim)
     (log : List (Side × ℕ))
     (P : Expect → List ℕ → Type 0) : Type 0 where
-  pub place : ProverPlace
+  pub stage : ProverStage
   pub before : List (Side × ℕ)
-  pub waited : IsLogAt job claim place before
+  pub waited : IsLogAt job claim stage before
   pub expect : Expect
-  pub expected : prover_expects job place ≡ Some expect
+  pub expected : prover_expects job stage ≡ Some expect
   pub rest : List ℕ
   pub few : length rest ≤ longest expect
   pub logged : log ≡ before ++ bytes_from Verifier rest
   pub cause : P expect rest
 
 -- the claimant refused the units of the grant that was read
-abbrev pub IsRefused : ProverJob → Claim → List (Side × ℕ) → ClaimFault → Type 0
-IsRefused job claim log fault = (given : Grant)
+abbrev pub IsClaimRefused : ProverJob → Claim → List (Side × ℕ) → ClaimFault → Type 0
+IsClaimRefused job claim log fault = (given : Grant)
     × Suits job.file.params job.statement.program given × RefusedFor claim given fault × (log ≡ granted_log job given)
 
 -- what the link tells in the end: whether the peer was seen to have ended, what is to come, and how often a call has failed and how
@@ -118,12 +118,12 @@ told_by first now = record {
 
 -- a frame was read that is to be answered, by at least so many frames
 pub record OwesAnswer (job : ProverJob) (claim : Claim) (least : ℕ) (log : List (Side × ℕ)) : Type 0 where
-  pub place : ProverPlace
+  pub stage : ProverStage
   pub frame : Frame
-  pub taken : IsLogTaken job claim place frame log
+  pub taken : IsLogTaken job claim stage frame log
   pub answer : List Frame
-  pub next : ProverPlace
-  pub answers : ProverAnswers job place frame answer next
+  pub next : ProverStage
+  pub answers : ProverAnswers job stage frame answer next
   pub some : least ≤ length answer
 
 -- the greeting is due, before the claimant is asked; or the answer to a frame, with at least so many frames
@@ -140,7 +140,7 @@ FailsLink job claim log told =
 -- where memory was missing: for a frame of which bytes are missing, for an answer that was due, or for the claim
 abbrev pub LacksMemory : ProverJob → Claim → List (Side × ℕ) → Type 0
 LacksMemory job claim log =
-    StopsBehind job claim log IsCutShort ⊎ (IsAnswerDue job claim 0 log ⊎ IsRefused job claim log refusal.NoMemory)
+    StopsBehind job claim log IsCutShort ⊎ (IsAnswerDue job claim 0 log ⊎ IsClaimRefused job claim log refusal.NoMemory)
 
 -- Why a session ended so. A verdict, a refusal or a grant was read; the peer has ended, with bytes still wanted, when so many
 -- bytes had come; a byte at this place of all that came is the first bad one; the claimant refused; the link failed, or memory
@@ -160,11 +160,11 @@ IsOutcome job claim log told BadGrant =
     (given : Grant) × FitsGrant given × ¬ Suits job.file.params job.statement.program given × (log ≡ granted_log job given)
 IsOutcome job claim log told (PeerRefused code) =
     FitsRefusal code × (log ≡ greeted_log job ++ bytes_from Verifier (refuse_frame code))
-IsOutcome job claim log told (Broken first) = IsRefused job claim log (refusal.Broken first)
-IsOutcome job claim log told (OutOfRange total) = IsRefused job claim log (refusal.OutOfRange total)
-IsOutcome job claim log told (Overlap earlier) = IsRefused job claim log (refusal.Overlap earlier)
-IsOutcome job claim log told (Full slots) = IsRefused job claim log (refusal.Full slots)
-IsOutcome job claim log told Device = IsRefused job claim log refusal.Device
+IsOutcome job claim log told (Broken first) = IsClaimRefused job claim log (refusal.Broken first)
+IsOutcome job claim log told (OutOfRange total) = IsClaimRefused job claim log (refusal.OutOfRange total)
+IsOutcome job claim log told (Overlap earlier) = IsClaimRefused job claim log (refusal.Overlap earlier)
+IsOutcome job claim log told (Full slots) = IsClaimRefused job claim log (refusal.Full slots)
+IsOutcome job claim log told Device = IsClaimRefused job claim log refusal.Device
 IsOutcome job claim log told Link = Rose told.before told.after × FailsLink job claim log told
 IsOutcome job claim log told NoMemory = LacksMemory job claim log
 
@@ -190,11 +190,11 @@ abbrev pub AnswersVerdict : ProverJob → ProverOutcome → List (Side × ℕ) �
 AnswersVerdict job outcome log = (t : Transcript) → IsInOrder job.file.params job.file.id job.statement t log
     → outcome ≡ verdict_outcome t.code t.number
 
--- What was read in the grant's place, and what the claimant answered, is answered: its refusal is the outcome, with nothing behind
--- the grant that it refused; so are a grant that does not suit, and a refusal of the peer's; and behind a grant that suits the
+-- What was read in the grant's place, and what the claimant answered, is answered: its refusal is the outcome, with nothing after
+-- the grant that it refused; so are a grant that does not suit, and a refusal of the peer's; and after a grant that suits the
 -- claimant is asked.
 pub record AnswersGrantPlace (job : ProverJob) (claim : Claim) (outcome : ProverOutcome) (log : List (Side × ℕ)) : Type 0 where
-  pub refused : (fault : ClaimFault) → claim.answer ≡ Some (Err fault) → (outcome ≡ claim_outcome fault) × IsRefused job claim log fault
+  pub refused : (fault : ClaimFault) → claim.answer ≡ Some (Err fault) → (outcome ≡ claim_outcome fault) × IsClaimRefused job claim log fault
   pub unsuited : (given : Grant) → FitsGrant given → ¬ Suits job.file.params job.statement.program given
       → log ≡ granted_log job given → outcome ≡ BadGrant
   pub turned_away : (code : ℕ) → FitsRefusal code → log ≡ greeted_log job ++ bytes_from Verifier (refuse_frame code)
@@ -283,7 +283,7 @@ IsRelated job log = SendsNoCorrections job log ⊎ SendsCorrections job log
 -- ---- all together
 
 -- a session over a line that ended so
-pub record Ends (job : ProverJob) (course : Course) (outcome : ProverOutcome) (now : LineState) : Type 0 where
+pub record IsEnded (job : ProverJob) (course : Course) (outcome : ProverOutcome) (now : LineState) : Type 0 where
   pub outcome_is : IsOutcome job course.claim now.log
       (told_by (snapshot_of course.first) (snapshot_of now)) outcome
   pub asked : IsAskedRight job course.claim now.log

@@ -19,7 +19,7 @@ use Rattle.frame_link.specs.Lines.{LineState, counted_times}
 use Rattle.session_core.specs.Ends.{IsFixed}
 use Rattle.session_core.specs.Jobs.{ProverJob}
 use Rattle.session_core.specs.Rounds.{round_turns}
-use Rattle.session_core.specs.Cores.{ProverPlace, awaits_grant, awaits_replies, awaits_challenge, awaits_verdict, has_ended}
+use Rattle.session_core.specs.Cores.{ProverStage, awaits_grant, awaits_replies, awaits_challenge, awaits_verdict, has_ended}
 use Rattle.session_core.specs.Fixing.{AreFirstPairs}
 
 -- ---- what was claimed
@@ -65,7 +65,7 @@ asked_log job given = granted_log job given ++ bytes_from Prover (all_asks job g
 abbrev pub replied_log : ProverJob → Grant → List (List TreeReply) → List (Side × ℕ)
 replied_log job given came = asked_log job given ++ bytes_from Verifier (flat_map reply_frame came)
 
--- all rounds behind a grant are whole: none in kind direct
+-- all rounds after a grant are whole: none in kind direct
 abbrev pub rounds_log : ProverJob → Grant → List Round → List (Side × ℕ)
 rounds_log job given rounds = granted_log job given ++ turn_bytes (round_turns rounds)
 
@@ -146,7 +146,7 @@ pub record IsOpenedLog (job : ProverJob) (claim : Claim) (log : List (Side × �
 
 -- What is logged where a prover waits: its greeting, and the frames that came, each with its answer. The claimant is asked
 -- once a grant has come, which is answered only where its units are claimed.
-abbrev pub IsLogAt : ProverJob → Claim → ProverPlace → List (Side × ℕ) → Type 0
+abbrev pub IsLogAt : ProverJob → Claim → ProverStage → List (Side × ℕ) → Type 0
 IsLogAt job claim awaits_grant log = (claim.answer ≡ None) × (log ≡ greeted_log job)
 IsLogAt job claim (awaits_replies given done pairs) log = (came : List (List TreeReply))
     × ClaimedFor claim given × AreSomeReplies job given done pairs came × (log ≡ replied_log job given came)
@@ -156,7 +156,7 @@ IsLogAt job claim awaits_verdict log = IsOpenedLog job claim log
 IsLogAt job claim has_ended log = ⊥
 
 -- What is logged where a frame has come that is to be answered: a grant whose units are claimed, replies, or a challenge.
-abbrev pub IsLogTaken : ProverJob → Claim → ProverPlace → Frame → List (Side × ℕ) → Type 0
+abbrev pub IsLogTaken : ProverJob → Claim → ProverStage → Frame → List (Side × ℕ) → Type 0
 IsLogTaken job claim awaits_grant frame log = (given : Grant)
     × (frame ≡ grant given) × ClaimedFor claim given × IsGrant job.file.params job.statement.program given
     × (log ≡ granted_log job given)
@@ -172,13 +172,13 @@ IsLogTaken job claim has_ended frame log = ⊥
 
 -- ---- the answers
 
--- what is said behind a byte of this side is a new answer of the prover's
+-- what is said after a byte of this side is a new answer of the prover's
 abbrev pub new_answer : Side → Side → ℕ
 new_answer Verifier Prover = 1
 new_answer Prover Prover = 0
 new_answer last Verifier = 0
 
--- how many answers of the prover's a log has behind a byte of this side: runs of its bytes
+-- how many answers of the prover's a log has after a byte of this side: runs of its bytes
 abbrev pub answers_behind : Side → List (Side × ℕ) → ℕ
 answers_behind last [] = 0
 answers_behind last (entry ∷ log) = new_answer last entry.0 + answers_behind entry.0 log
@@ -207,16 +207,16 @@ pub record GoesWell (first now : LineState) : Type 0 where
   pub faults : now.faults ≡ first.faults
 
 -- a line where a prover waits
-pub record IsLineAt (job : ProverJob) (course : Course) (place : ProverPlace) (now : LineState) : Type 0 where
-  pub log : IsLogAt job course.claim place now.log
+pub record IsLineAt (job : ProverJob) (course : Course) (stage : ProverStage) (now : LineState) : Type 0 where
+  pub log : IsLogAt job course.claim stage now.log
   pub well : GoesWell course.first now
 
 -- a line where a frame is to be answered
 pub record IsLineTaken
     (job : ProverJob)
     (course : Course)
-    (place : ProverPlace)
+    (stage : ProverStage)
     (frame : Frame)
     (now : LineState) : Type 0 where
-  pub log : IsLogTaken job course.claim place frame now.log
+  pub log : IsLogTaken job course.claim stage frame now.log
   pub well : GoesWell course.first now

@@ -13,26 +13,27 @@ use Rattle.frame_link.specs.Lines.{LineState, Sends, OnlySends, IsSendCause, Cou
 use Rattle.frame_link.specs.declared.fault.LineFault.{LineFault}
 use Rattle.frame_link.specs.declared.fault.LineFault.TheVariants.{NoMemory}
 use Rattle.session_core.specs.Jobs.{ProverJob, IsProverJob, Suits}
-use Rattle.session_core.specs.Cores.{ProverPlace, awaits_grant, awaits_replies, awaits_challenge, awaits_verdict, has_ended, prover_expects}
+use Rattle.session_core.specs.Cores.{ProverStage, awaits_grant, awaits_replies, awaits_challenge, awaits_verdict, has_ended, prover_expects}
 use Rattle.session_prover.specs.declared.note.ProverOutcome.{ProverOutcome}
 use Rattle.session_prover.specs.declared.note.ProverOutcome.TheVariants.{BadGrant, PeerRefused, Rejected}
 use Rattle.session_prover.specs.Stages.{Course, IsLogAt, granted_log, GoesWell}
+use Rattle.zk_model.specs.declared.limits.TheConstants.{MAX_WIRES}
 
 -- a job over a file and a statement as they are read, whose program has few given values, products and opened wires
 pub record IsSound (job : ProverJob) : Type 0 where
   pub is : IsProverJob job
   pub file : IsProverFile job.file
   pub stated : IsStatement job.statement
-  pub givens : job.statement.program.givens ≤ 2 ^ 20
-  pub products : length job.statement.program.products ≤ 2 ^ 20
-  pub opened : length job.statement.program.opened ≤ 2 ^ 20
+  pub givens : job.statement.program.givens ≤ MAX_WIRES
+  pub products : length job.statement.program.products ≤ MAX_WIRES
+  pub opened : length job.statement.program.opened ≤ MAX_WIRES
 
 -- a frame is expected
-abbrev pub Expects : ProverJob → ProverPlace → Type 0
-Expects job place = (expect : Expect) × (prover_expects job place ≡ Some expect)
+abbrev pub Expects : ProverJob → ProverStage → Type 0
+Expects job stage = (expect : Expect) × (prover_expects job stage ≡ Some expect)
 
 -- a grant is answered
-abbrev pub IsBehindGrant : ProverPlace → Type 0
+abbrev pub IsBehindGrant : ProverStage → Type 0
 IsBehindGrant awaits_grant = ⊥
 IsBehindGrant (awaits_replies given done pairs) = Unit {0}
 IsBehindGrant (awaits_challenge given pairs wires) = Unit {0}
@@ -40,15 +41,15 @@ IsBehindGrant awaits_verdict = Unit {0}
 IsBehindGrant has_ended = ⊥
 
 -- a frame is expected that is to be answered: replies or a challenge
-abbrev pub IsToAnswer : ProverPlace → Type 0
+abbrev pub IsToAnswer : ProverStage → Type 0
 IsToAnswer awaits_grant = ⊥
 IsToAnswer (awaits_replies given done pairs) = Unit {0}
 IsToAnswer (awaits_challenge given pairs wires) = Unit {0}
 IsToAnswer awaits_verdict = ⊥
 IsToAnswer has_ended = ⊥
 
--- how many frames are answered yet: behind a grant at most the replies of 4,096 units, and the challenge
-abbrev pub answers_left : ProverPlace → ℕ
+-- how many frames are answered yet: after a grant at most the replies of 4,096 units, and the challenge
+abbrev pub answers_left : ProverStage → ℕ
 answers_left awaits_grant = 4098
 answers_left (awaits_replies given done pairs) = given.count - done + 1
 answers_left (awaits_challenge given pairs wires) = 1
@@ -56,9 +57,9 @@ answers_left awaits_verdict = 0
 answers_left has_ended = 0
 
 -- where a prover waits next, once a frame is answered
-pub record Follows (place now : ProverPlace) : Type 0 where
+pub record FollowsStage (stage now : ProverStage) : Type 0 where
   pub behind : IsBehindGrant now
-  pub fewer : answers_left now < answers_left place
+  pub fewer : answers_left now < answers_left stage
 
 -- an answer was sent by one send, or has no frames
 abbrev pub SendsAnswer : List Frame → LineState → LineState → Type 0
@@ -78,7 +79,7 @@ pub record SendStops (bytes : List ℕ) (fault : LineFault) (old new : LineState
   pub count : CountsFault fault old new
 
 -- a line over which nothing has passed yet
-pub record IsFresh (now : LineState) : Type 0 where
+pub record IsFreshLine (now : LineState) : Type 0 where
   pub log : now.log ≡ []
   pub reading : now.reading ≡ record { received = 0; expected = None; taken = []; bad = None }
   pub side : now.side ≡ Prover
@@ -88,11 +89,11 @@ pub record IsFresh (now : LineState) : Type 0 where
 pub record Comes
     (job : ProverJob)
     (course : Course)
-    (place : ProverPlace)
+    (stage : ProverStage)
     (frame : Frame)
     (now : LineState) : Type 0 where
   pub before : List (Side × ℕ)
-  pub waited : IsLogAt job course.claim place before
+  pub waited : IsLogAt job course.claim stage before
   pub logged : now.log ≡ before ++ bytes_from Verifier (frame_spelling frame)
   pub well : GoesWell course.first now
 

@@ -22,7 +22,7 @@ pub trait Claimant {
     /// Claims so many units from this one on, which end at or below the total, or says why not.
     fn claim(&mut self, start: u64, count: u32) -> Result<Span, ClaimFault>
         requires once { answer self.old ≡ None }
-        requires some { 1 ≤ count }
+        requires at_least_one { 1 ≤ count }
         ensures asked { asked self.new ≡ Some (start, count) }
         ensures told { answer self.new ≡ Some result }
         ensures start { IfOk result (λ span. span.start ≡ start) }

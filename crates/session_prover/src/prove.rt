@@ -5,12 +5,12 @@ ghost use Rattle.zk_model.specs.Transcript.{sent_by, wanted_hello};
 ghost use Rattle.zk_model.specs.declared.Side.TheVariants.{Prover, Verifier};
 ghost use Rattle.zk_port.specs.Logs.{put_before};
 ghost use Rattle.frame_link.specs.Lines.{snapshot};
-ghost use Rattle.proof_frames.specs.Frames.{said};
+ghost use Rattle.proof_frames.specs.Frames.{frame_value};
 ghost use Rattle.session_core.specs.Cores.{awaits_grant};
 ghost use Rattle.session_prover.specs.Stages.{ClaimedFor, RefusedFor};
-ghost use Rattle.session_prover.specs.Notes.{Ends, IsGranted, IsOutcome, AnswersGrantPlace, AnswersVerdict, SendsHonestly, SendsOnceClaimed, SendsEach, IsRelated, IsLogged, CountsOutcome, granted_of, told_by};
+ghost use Rattle.session_prover.specs.Notes.{IsEnded, IsGranted, IsOutcome, AnswersGrantPlace, AnswersVerdict, SendsHonestly, SendsOnceClaimed, SendsEach, IsRelated, IsLogged, CountsOutcome, granted_of, told_by};
 ghost use Rattle.session_prover.specs.Completing.{Completes};
-ghost use Rattle.session_prover.specs.Turns.{IsSound, IsFresh};
+ghost use Rattle.session_prover.specs.Turns.{IsSound, IsFreshLine};
 ghost use Rattle.session_prover.specs.declared.note.ProverOutcome.TheVariants.{Accepted};
 
 use crate::claimant::Claimant;
@@ -28,7 +28,7 @@ use zk_port::Link;
 /// Has the units of a grant claimed.
 fn claim_units<C: Claimant>(claimant: &mut C, grant: Grant) -> Result<Span, ClaimFault>
     requires once { C.answer claimant.old ≡ None }
-    requires some { 1 ≤ grant.count }
+    requires at_least_one { 1 ≤ grant.count }
     ensures claimed { IfOk result (λ _. ClaimedFor
         (record { asked = C.asked claimant.new; answer = C.answer claimant.new }) grant) }
     ensures refused { IfErr result (RefusedFor
@@ -41,7 +41,7 @@ fn claim_units<C: Claimant>(claimant: &mut C, grant: Grant) -> Result<Span, Clai
 
 /// A session over a line: the greeting, the claim of the units that are granted, and the answers to the grant and the
 /// challenge.
-fn hold<C: Claimant, L: Link>(
+fn run_session<C: Claimant, L: Link>(
     alloc: Global,
     job: &ProverJob<'_>,
     core: &mut ProverCore<'_>,
@@ -50,19 +50,19 @@ fn hold<C: Claimant, L: Link>(
     line: &mut Line<L>,
     granted: &mut Option<Span>,
 ) -> Result<(), ProverOutcome>
-    requires core { core.old ≡ record { job = job.now; place = awaits_grant } }
-    requires greeting { said greeting ≡ model.hello (wanted_hello job.now.file.id job.now.statement) }
+    requires core { core.old ≡ record { job = job.now; stage = awaits_grant } }
+    requires greeting { frame_value greeting ≡ model.hello (wanted_hello job.now.file.id job.now.statement) }
     requires sound { IsSound job.now }
-    requires fresh { IsFresh line.old }
+    requires fresh { IsFreshLine line.old }
     requires unasked { C.answer claimant.old ≡ None }
     requires total { C.total claimant.old ≤ job.now.file.params.total }
     requires none { granted.old ≡ None }
     ensures granted { granted.new ≡ granted_of (C.answer claimant.new) }
-    ensures accepted { OnOk result (Ends job.now (record {
+    ensures accepted { OnOk result (IsEnded job.now (record {
       first = line.old;
       claim = record { asked = C.asked claimant.new; answer = C.answer claimant.new };
     }) Accepted line.new) }
-    ensures ends { IfErr result (λ outcome. Ends job.now (record {
+    ensures ends { IfErr result (λ outcome. IsEnded job.now (record {
       first = line.old;
       claim = record { asked = C.asked claimant.new; answer = C.answer claimant.new };
     }) outcome line.new) }
@@ -132,7 +132,7 @@ pub fn prove_session<C: Claimant, L: Link>(
     let mut line = Line::new(alloc, link, Side::Prover);
     let (mut core, greeting) = ProverCore::new(job);
     let mut granted = None;
-    let held = hold(
+    let held = run_session(
         alloc,
         job,
         &mut core,

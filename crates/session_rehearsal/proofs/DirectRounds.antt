@@ -1,4 +1,4 @@
--- The rounds of a session over files of kind direct: none.
+-- The rounds of a session over direct files: none.
 use Rattle.std.proofs.Common.{◌≡◌, ℕ, List, [], sym, ap, subst, append-nil}
 use Rattle.std.proofs.lemmas.List.Elements.{All-nil}
 use Rattle.zk_model.specs.Mac.{Pair}

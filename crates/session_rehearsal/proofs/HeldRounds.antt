@@ -1,4 +1,4 @@
--- The one round of a session of kind extended, as both ends hold it.
+-- The one round of an extended session, as both ends hold it.
 use Rattle.std.proofs.Common.{◌≡◌, ℕ, ◌+◌, ◌*◌, ◌≤◌, List, [], ◌∷◌, ◌++◌, map, flat_map, length, refl, sym, ◌∙◌, ap, subst, arith, append-nil, append_assoc}
 use Rattle.std.specs.Prelude.{All}
 use Rattle.std.proofs.lemmas.List.{length-map}
@@ -17,7 +17,7 @@ use Rattle.zk_model.specs.declared.Kind.TheVariants.{Extended}
 use Rattle.zk_model.specs.declared.Params.{Params}
 use Rattle.zk_model.specs.declared.Side.{Side}
 use Rattle.zk_model.specs.declared.Side.TheVariants.{Prover, Verifier}
-use Rattle.proof_frames.specs.Frames.{said, IsShort}
+use Rattle.proof_frames.specs.Frames.{frame_value, IsShort}
 use Rattle.proof_frames.specs.declared.frame.Frame.{Frame}
 use Rattle.proof_frames.proofs.Lengths.{whole_length}
 use Rattle.session_laws.specs.Rounds.{AsksAreInRange, RepliesAreInRange}
@@ -28,7 +28,7 @@ use Rattle.session_core.proofs.Rounds.{asks_are, replies_are, whole_view}
 
 -- ---- frames of a round are short
 
--- the limits of a file of kind extended
+-- the limits of an extended file
 pub limits_of : (params : Params) → AreWithinLimits params.kind params → params.kind ≡ Extended → AreWithinLimits Extended params
 limits_of params limits is = subst (λ (kind : Kind). AreWithinLimits kind params) is limits
 
@@ -60,33 +60,33 @@ all_replies params grant units each k none below = record { counted = (each.1 k 
 
 -- frames of asks for all units
 pub record AreAskFrames (params : Params) (count : ℕ) (frames : List Frame) : Type 0 where
-  pub short : All IsShort (map said frames)
+  pub short : All IsShort (map frame_value frames)
   pub counted : length frames ≡ count
   pub each : All (AreAsks params.height params.trees) (asks_of frames)
 
 pub ask_frames : (params : Params) (grant : Grant) (units : List (List TreeAsk)) (frames : List Frame) → AreWithinLimits Extended params
-    → ForEachTree params grant (IsTreeAsk params.height) units → map said frames ≡ map model.asks units → AreAskFrames params grant.count frames
+    → ForEachTree params grant (IsTreeAsk params.height) units → map frame_value frames ≡ map model.asks units → AreAskFrames params grant.count frames
 ask_frames params grant units frames limits each are =
     let all = all_asks params grant units each in
     record {
       short = subst (All IsShort) (sym are) (All-map IsShort model.asks units (λ k none below. asks_short params _ limits (all k none below)));
-      counted = sym (length-map frames said) ∙ ap length are ∙ length-map units model.asks ∙ each.0;
+      counted = sym (length-map frames frame_value) ∙ ap length are ∙ length-map units model.asks ∙ each.0;
       each = subst (All (AreAsks params.height params.trees)) (sym (asks_are frames units are)) all;
     }
 
 -- frames of replies for all units
 pub record AreReplyFrames (params : Params) (count : ℕ) (frames : List Frame) : Type 0 where
-  pub short : All IsShort (map said frames)
+  pub short : All IsShort (map frame_value frames)
   pub counted : length frames ≡ count
   pub each : All (AreReplies params.height params.trees) (replies_of frames)
 
 pub reply_frames : (params : Params) (grant : Grant) (units : List (List TreeReply)) (frames : List Frame) → AreWithinLimits Extended params
-    → ForEachTree params grant (IsTreeReply params.height) units → map said frames ≡ map model.replies units → AreReplyFrames params grant.count frames
+    → ForEachTree params grant (IsTreeReply params.height) units → map frame_value frames ≡ map model.replies units → AreReplyFrames params grant.count frames
 reply_frames params grant units frames limits each are =
     let all = all_replies params grant units each in
     record {
       short = subst (All IsShort) (sym are) (All-map IsShort model.replies units (λ k none below. replies_short params _ limits (all k none below)));
-      counted = sym (length-map frames said) ∙ ap length are ∙ length-map units model.replies ∙ each.0;
+      counted = sym (length-map frames frame_value) ∙ ap length are ∙ length-map units model.replies ∙ each.0;
       each = subst (All (AreReplies params.height params.trees)) (sym (replies_are frames units are)) all;
     }
 
@@ -113,17 +113,17 @@ spelled_replies : (units : List (List TreeReply)) → flat_map frame_spelling (m
 spelled_replies [] = refl
 spelled_replies (unit ∷ units) = ap (λ l. reply_frame unit ++ l) (spelled_replies units)
 
--- all asks and all replies, noted one behind another, are the turn of the round
+-- all asks and all replies, noted one after another, are the turn of the round
 pub round_held : (prover : ProverFile) (verifier : VerifierFile) (grant : Grant) (asked replied : List Frame) (pairs : List Pair) (old mid new : List (Side × ℕ))
     → verifier.params.kind ≡ Extended → IsRound verifier.params grant (held_round prover verifier grant)
-    → map said asked ≡ map model.asks (round_asks prover grant)
-    → map said replied ≡ map model.replies (round_replies verifier grant (asks_of asked))
+    → map frame_value asked ≡ map model.asks (round_asks prover grant)
+    → map frame_value replied ≡ map model.replies (round_replies verifier grant (asks_of asked))
     → AreFirstPairs prover grant (replies_of replied) pairs
-    → mid ≡ old ++ bytes_from Prover (flat_map frame_spelling (map said asked))
-    → new ≡ mid ++ bytes_from Verifier (flat_map frame_spelling (map said replied))
+    → mid ≡ old ++ bytes_from Prover (flat_map frame_spelling (map frame_value asked))
+    → new ≡ mid ++ bytes_from Verifier (flat_map frame_spelling (map frame_value replied))
     → HoldsRounds prover verifier grant pairs old new
 round_held prover verifier grant asked replied pairs old mid new extended ranged asks replies first m n =
-    let answered : map said replied ≡ map model.replies (round_replies verifier grant (round_asks prover grant)) =
+    let answered : map frame_value replied ≡ map model.replies (round_replies verifier grant (round_asks prover grant)) =
     replies ∙ ap (λ l. map model.replies (round_replies verifier grant l)) (asks_are asked (round_asks prover grant) asks) in
     let given : replies_of replied ≡ round_replies verifier grant (round_asks prover grant) = replies_are replied _ answered in
     record {
@@ -164,13 +164,13 @@ knows_round prover verifier grant asks_law replies_law is file same extended wit
 }
 
 pub asked_are : (prover : ProverFile) (verifier : VerifierFile) (grant : Grant) (asked frames : List Frame) → KnowsRound prover verifier grant
-    → frames ≡ asked → map said asked ≡ map model.asks (round_asks prover grant) → AreAskFrames verifier.params grant.count frames
+    → frames ≡ asked → map frame_value asked ≡ map model.asks (round_asks prover grant) → AreAskFrames verifier.params grant.count frames
 asked_are prover verifier grant asked frames knows same are =
     subst (AreAskFrames verifier.params grant.count) (sym same) (ask_frames verifier.params grant (round_asks prover grant) asked knows.limits knows.ranged.asks are)
 
 pub replied_are : (prover : ProverFile) (verifier : VerifierFile) (grant : Grant) (asked replied known frames : List Frame) → KnowsRound prover verifier grant
-    → frames ≡ replied → known ≡ asked → map said asked ≡ map model.asks (round_asks prover grant)
-    → map said replied ≡ map model.replies (round_replies verifier grant (asks_of known)) → AreReplyFrames verifier.params grant.count frames
+    → frames ≡ replied → known ≡ asked → map frame_value asked ≡ map model.asks (round_asks prover grant)
+    → map frame_value replied ≡ map model.replies (round_replies verifier grant (asks_of known)) → AreReplyFrames verifier.params grant.count frames
 replied_are prover verifier grant asked replied known frames knows same k asks are =
     subst (AreReplyFrames verifier.params grant.count) (sym same)
     (reply_frames verifier.params grant (round_replies verifier grant (round_asks prover grant)) replied knows.limits knows.ranged.replies

@@ -17,13 +17,13 @@ use Rattle.zk_model.specs.declared.Side.{Side}
 use Rattle.zk_model.specs.declared.Side.TheVariants.{Verifier}
 use Rattle.zk_model.specs.declared.Verdict.{Verdict}
 use Rattle.zk_model.specs.declared.Verdict.TheVariants.{Accepted}
-use Rattle.zk_laws.specs.Booleans.{BitsSolve}
-use Rattle.zk_laws.specs.Rehearsing.{HonestSessionIsAccepted}
-use Rattle.zk_laws.proofs.BitsSolve.{value_of_bit}
-use Rattle.zk_laws.proofs.Satisfied.{inputs_are, outputs_are}
+use Rattle.circuit_laws.specs.Circuits.{BitsSolve}
+use Rattle.zk_laws.specs.Completeness.{HonestSessionIsAccepted}
+use Rattle.circuit_laws.proofs.BitsSolve.{value_of_bit}
+use Rattle.circuit_laws.proofs.Satisfied.{inputs_are, outputs_are}
 use Rattle.session_rehearsal.proofs.Spelled.{before_verdict, ends_with_verdict}
 use Rattle.session_core.specs.Ends.{whole_grant}
-use Rattle.session_rehearsal.specs.Holding.{Ends, IsSessionOf, ends_from}
+use Rattle.session_rehearsal.specs.Holding.{BothEnds, IsSessionOf, ends_from}
 use Rattle.session_rehearsal.specs.Rehearsals.{rehearsed_params, AreRehearsedFiles, EndsWithVerdict, rehearsed_prover, rehearsed_verifier}
 
 -- ---- the grant
@@ -73,7 +73,7 @@ claims_are circuit bits formed whole =
 -- ---- the session
 
 -- what both ends of a rehearsal have, where these are the bits of all wires
-abbrev pub rehearsed_ends : Circuit → List Bool → Kind → ℕ → List ℕ → Ends
+abbrev pub rehearsed_ends : Circuit → List Bool → Kind → ℕ → List ℕ → BothEnds
 rehearsed_ends circuit bits kind units seed =
     ends_from (circuit_statement circuit (replicate 32 0) (drop (output_wire circuit 0) bits)) bits
     (dealt_prover (rehearsed_params kind units) seed) (dealt_verifier (rehearsed_params kind units) seed)

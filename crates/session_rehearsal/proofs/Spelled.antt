@@ -1,4 +1,4 @@
--- The log that the frames of a session make, one behind another.
+-- The log that the frames of a session make, one after another.
 use Rattle.std.proofs.Common.{◌≡◌, ℕ, List, [], ◌∷◌, ◌++◌, ap, refl, sym, ◌∙◌, append_assoc, append-nil}
 use mathlib.Core.List.{map-append}
 use Rattle.std.proofs.lemmas.Grind.{flat_map-append}
@@ -6,7 +6,7 @@ use Rattle.zk_model.specs.Transcript.{Hello, Grant, Transcript, hello_frame, gra
 use Rattle.zk_model.specs.declared.Side.{Side}
 use Rattle.zk_model.specs.declared.Side.TheVariants.{Prover, Verifier}
 
--- a hello, a grant, and the asks and replies of rounds behind them
+-- a hello, a grant, and the asks and replies of rounds after them
 pub setup_noted : (hello : Hello) (grant : Grant) (asks replies : List (Side × ℕ)) (turns : List (List ℕ × List ℕ))
     → asks ++ replies ≡ [] ++ turn_bytes turns
     → bytes_from Prover (hello_frame hello) ++ bytes_from Verifier (grant_frame grant) ++ asks ++ replies
@@ -25,7 +25,7 @@ in_turns s c d e f g =
     ∙ append_assoc s (c ++ d) (e ++ f ++ g)
     ∙ ap (λ l. s ++ ((c ++ d) ++ l)) (sym (append-nil (e ++ f ++ g)))
 
--- a log to which all frames behind the setup are noted, one behind another, is what the transcript spells
+-- a log to which all frames after the setup are noted, one after another, is what the transcript spells
 pub spelled : (t : Transcript) (l2 l3 l4 l5 l6 l7 : List (Side × ℕ)) → l2 ≡ turn_bytes (setup_turns t.commitment.setup)
     → l3 ≡ l2 ++ bytes_from Prover (corrections_frame t.commitment.corrections)
     → l4 ≡ l3 ++ bytes_from Verifier (challenge_frame t.challenge)
@@ -61,7 +61,7 @@ spelled t l2 l3 l4 l5 l6 l7 e2 e3 e4 e5 e6 e7 =
     g : List (Side × ℕ)
     g = bytes_from Verifier (verdict_frame t.code t.number)
 
--- all frames, one behind another
+-- all frames, one after another
 pub log_spelled : (t : Transcript) (turns : List (List ℕ × List ℕ)) (hello : Hello) (grant : Grant) (asks replies : List (Side × ℕ)) (challenge code number : ℕ)
     → asks ++ replies ≡ [] ++ turn_bytes turns
     → turn_bytes ((hello_frame hello, grant_frame grant) ∷ turns) ≡ turn_bytes (setup_turns t.commitment.setup)

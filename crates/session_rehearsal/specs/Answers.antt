@@ -5,16 +5,16 @@ use Rattle.zk_model.specs.Program.{section_count}
 use Rattle.zk_model.specs.Check.{WirePairs, all_sums, opened_pairs}
 use Rattle.zk_model.specs.Transcript.{wanted_hello}
 use Rattle.zk_model.specs.ServedVerifier.{challenge_coin}
-use Rattle.wire_auth.specs.Held.{held_in}
+use Rattle.wire_auth.specs.Held.{items_in}
 use Rattle.session_core.specs.Ends.{IsFixed}
 use Rattle.session_core.specs.Fixing.{HoldsKeys}
 use Rattle.session_core.specs.Jobs.{ProverJob, VerifierJob, granted_from}
 use Rattle.session_rehearsal.specs.Exchanges.{AreShort, round_log}
 use Rattle.session_rehearsal.specs.Holding.{HoldsRounds}
-use Rattle.session_rehearsal.specs.declared.exchange.Answered.{Answered}
+use Rattle.session_rehearsal.specs.declared.exchange.OpenedSession.{OpenedSession}
 
 -- an honest prover has answered, over rounds that the verifier serves, the grant from the first unit on and its challenge
-pub record IsAnswered (prover : ProverJob) (job : VerifierJob) (a : Answered) : Type 0 where
+pub record IsAnswered (prover : ProverJob) (job : VerifierJob) (a : OpenedSession) : Type 0 where
   pub hello : a.hello ≡ wanted_hello prover.file.id prover.statement
   pub grant : a.grant ≡ granted_from job 0
   pub seen : List Pair
@@ -27,9 +27,9 @@ pub record IsAnswered (prover : ProverJob) (job : VerifierJob) (a : Answered) : 
   pub openings : a.opened.openings.items ≡ macs_of (opened_pairs prover.statement.program wires)
 
 -- there is as much of each as the verifier's job wants
-pub record IsCounted (job : VerifierJob) (a : Answered) : Type 0 where
+pub record IsCounted (job : VerifierJob) (a : OpenedSession) : Type 0 where
   pub rounds : AreShort a.asked.items a.replied.items
-  pub keys : HoldsKeys job 0 (held_in a.keys)
+  pub keys : HoldsKeys job 0 (items_in a.keys)
   pub corrections : length a.corrections.items ≡ job.task.statement.program.givens
   pub sums : length a.opened.sums.items ≡ section_count job.task.statement.program job.section_length
   pub openings : length a.opened.openings.items ≡ length job.task.statement.program.opened

@@ -14,14 +14,14 @@ use Rattle.zk_model.specs.declared.Side.{Side}
 use Rattle.zk_model.specs.declared.Verdict.{Verdict}
 
 -- what both ends have: a statement, the prover's given values, and files that are dealt together
-pub record Ends : Type 0 where
+pub record BothEnds : Type 0 where
   pub statement : Statement
   pub given : List ℕ
   pub prover : ProverFile
   pub verifier : VerifierFile
 
 -- what a prover and a verifier with these jobs have
-abbrev pub ends_of : ProverJob → VerifierJob → Ends
+abbrev pub ends_of : ProverJob → VerifierJob → BothEnds
 ends_of prover verifier = record {
   statement = prover.statement;
   given = prover.given;
@@ -30,7 +30,7 @@ ends_of prover verifier = record {
 }
 
 -- what they have with this statement, these bits of all wires and these files
-abbrev pub ends_from : Statement → List Bool → ProverFile → VerifierFile → Ends
+abbrev pub ends_from : Statement → List Bool → ProverFile → VerifierFile → BothEnds
 ends_from statement bits prover verifier = record {
   statement = statement;
   given = bits_of_products statement.program.products bits;
@@ -52,13 +52,13 @@ pub record HoldsRounds (prover : ProverFile) (verifier : VerifierFile) (grant : 
   pub noted : new ≡ old ++ turn_bytes (round_turns rounds)
 
 -- the prover is honest with these values of the wires
-pub record IsHonestWith (ends : Ends) (inputs wires : List ℕ) (t : Transcript) : Type 0 where
+pub record IsHonestWith (ends : BothEnds) (inputs wires : List ℕ) (t : Transcript) : Type 0 where
   pub honest : IsHonest (record { file = ends.prover; statement = ends.statement; inputs = inputs }) t
   pub wires_are : honest.wires ≡ wires
 
 -- The log of a session under this grant: the verifier serves it and gives this verdict, and the prover is honest, whatever
 -- values of wires its given values are of.
-pub record IsSessionOf (ends : Ends) (grant : Grant) (verdict : Verdict) (log : List (Side × ℕ)) : Type 0 where
+pub record IsSessionOf (ends : BothEnds) (grant : Grant) (verdict : Verdict) (log : List (Side × ℕ)) : Type 0 where
   pub t : Transcript
   pub granted : t.commitment.setup.grant ≡ grant
   pub served : IsServed (record { file = ends.verifier; statement = ends.statement }) t verdict log

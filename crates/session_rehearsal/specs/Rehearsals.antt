@@ -25,8 +25,9 @@ use Rattle.session_core.specs.Ends.{whole_grant}
 use Rattle.session_rehearsal.specs.declared.rehearsal.Rehearsal.{Rehearsal}
 use Rattle.session_rehearsal.specs.declared.rehearsal.RehearseFault.{RehearseFault}
 use Rattle.session_rehearsal.specs.declared.rehearsal.RehearseFault.TheVariants.{WrongLength, TooLarge, NoMemory}
+use Rattle.zk_model.specs.declared.limits.TheConstants.{MAX_UNITS}
 
--- what the files of a rehearsal are dealt for: this many units of kind direct, or of kind extended with 8 trees of height 10 and
+-- what the files of a rehearsal are dealt for: this many direct units, or of kind extended with 8 trees of height 10 and
 -- 64 base correlations for the code
 abbrev pub rehearsed_params : Kind → ℕ → Params
 rehearsed_params Direct total = record { kind = Direct; height = 0; trees = 0; base = 0; total = total }
@@ -70,7 +71,7 @@ pub record IsRehearsalOf (circuit : Circuit) (bits : List Bool) (kind : Kind) (s
   pub sections : r.sections ≡ section_count (circuit_program 0 circuit) section
   pub need : r.need ≡ rehearsal_need circuit section
   pub units : r.units ≡ rehearsal_units circuit kind section
-  pub units_most : r.units ≤ 4096
+  pub units_most : r.units ≤ MAX_UNITS
   pub transcript : Transcript
   pub session : IsHonestSession
       (rehearsed_prover circuit bits r.outputs kind r.units seed)
@@ -91,7 +92,7 @@ pub record IsTooLarge (circuit : Circuit) (bits : List Bool) (kind : Kind) (sect
   pub inputs : length bits ≡ circuit.inputs
   pub needed : need ≡ rehearsal_need circuit section
   pub counted : units ≡ rehearsal_units circuit kind section
-  pub many : 4096 < units
+  pub many : MAX_UNITS < units
 
 -- why there is no rehearsal
 abbrev pub RehearseCause : Circuit → List Bool → Kind → ℕ → RehearseFault → Type 0

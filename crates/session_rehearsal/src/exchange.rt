@@ -6,7 +6,7 @@ ghost use Rattle.zk_model.specs.Transcript.{Round, IsGrant};
 ghost use Rattle.zk_model.specs.View.{span_of};
 ghost use Rattle.zk_model.specs.declared.Kind.TheVariants.{Extended};
 ghost use Rattle.zk_model.specs.declared.Side.{Side};
-ghost use Rattle.wire_auth.specs.Held.{held_in};
+ghost use Rattle.wire_auth.specs.Held.{items_in};
 ghost use Rattle.session_core.specs.Ends.{whole_grant};
 ghost use Rattle.session_core.specs.Jobs as jobs;
 ghost use Rattle.session_core.specs.Jobs.{AreValues, units_of_job, granted_from, prover_of};
@@ -29,10 +29,10 @@ use zk_model::{Kind, Verdict};
 
 /// All that both ends of a session say, in order.
 #[derive(Debug, Drop)]
-pub(crate) struct Exchange {
+pub(crate) struct SessionValues {
     pub(crate) hello: Hello,
     pub(crate) grant: Grant,
-    /// The frames of the rounds behind the grant, none in kind direct.
+    /// The frames of the rounds after the grant, none in kind direct.
     pub(crate) asked: Vec<Frame>,
     pub(crate) replied: Vec<Frame>,
     pub(crate) corrections: Vec<Fe>,
@@ -41,9 +41,9 @@ pub(crate) struct Exchange {
     pub(crate) verdict: Verdict,
 }
 
-/// What the rounds behind a grant leave both ends with, and the frames of these rounds.
+/// What the rounds after a grant leave both ends with, and the frames of these rounds.
 #[derive(Debug, Drop)]
-struct Established<'p, 'v> {
+struct Correlated<'p, 'v> {
     asked: Vec<Frame>,
     replied: Vec<Frame>,
     pairs: Correlations<'p, Pair>,
@@ -52,7 +52,7 @@ struct Established<'p, 'v> {
 
 /// What both ends have said once the prover has answered the challenge, and the keys of the verifier.
 #[derive(Debug, Drop)]
-pub(crate) struct Answered<'v> {
+pub(crate) struct OpenedSession<'v> {
     pub(crate) hello: Hello,
     pub(crate) grant: Grant,
     pub(crate) asked: Vec<Frame>,
@@ -64,14 +64,14 @@ pub(crate) struct Answered<'v> {
 }
 
 /// A session of both ends over all units of their files. The prover's file is given up once it has answered the challenge.
-pub(crate) fn hold(
+pub(crate) fn run_session(
     alloc: Global,
     statement: &Statement<'_>,
     bits: &[bool],
     prover_file: ProverFile,
     verifier_file: &VerifierFile,
     section: u32,
-) -> Result<Exchange, AllocError>
+) -> Result<SessionValues, AllocError>
     requires values { AreValues statement.now bits.now }
     requires dealt { AreDealt prover_file verifier_file.now }
     requires granted { IsGrant prover_file.params statement.now.program
@@ -95,12 +95,13 @@ fn answer<'v>(
     bits: &[bool],
     prover_file: &ProverFile,
     verifier: &VerifierJob<'v>,
-) -> Result<Answered<'v>, AllocError>
+) -> Result<OpenedSession<'v>, AllocError>
     requires values { AreValues statement.now bits.now }
     requires stated { statement.now ≡ verifier.now.task.statement }
     requires dealt { AreDealt prover_file.now verifier.now.task.file }
     requires within { units_of_job verifier.now ≤ verifier.now.task.file.params.total }
-    ensures answered { IfOk result (IsAnswered (prover_of statement.now bits.now prover_file.now) verifier.now) }
+    ensures answered { IfOk result
+        (IsAnswered (prover_of statement.now bits.now prover_file.now) verifier.now) }
     ensures counted { IfOk result (IsCounted verifier.now) }
 {
     let prover = ProverJob::new(statement, prover_file, bits);
@@ -110,27 +111,27 @@ fn answer<'v>(
     Ok(answered)
 }
 
-/// The rounds behind the grant: none in kind direct, and one in kind extended.
+/// The rounds after the grant: none in kind direct, and one in kind extended.
 fn establish<'p, 'v>(
     alloc: Global,
     prover: &ProverJob<'p>,
     verifier: &VerifierJob<'v>,
     grant: Grant,
-) -> Result<Established<'p, 'v>, AllocError>
+) -> Result<Correlated<'p, 'v>, AllocError>
     requires stated { prover.now.statement ≡ verifier.now.task.statement }
     requires params { prover.now.file.params ≡ verifier.now.task.file.params }
     requires code { prover.now.file.code_seed ≡ verifier.now.task.file.code_seed }
     requires grant { grant ≡ granted_from verifier.now 0 }
     requires within { units_of_job verifier.now ≤ verifier.now.task.file.params.total }
     ensures held { IfOk result (λ e. HoldsRounds prover.now.file verifier.now.task.file grant
-        (held_in e.pairs) [] (round_log e.asked.items e.replied.items)) }
+        (items_in e.pairs) [] (round_log e.asked.items e.replied.items)) }
     ensures short { IfOk result (λ e. AreShort e.asked.items e.replied.items) }
-    ensures pairs { IfOk result (λ e. length (held_in e.pairs)
+    ensures pairs { IfOk result (λ e. length (items_in e.pairs)
         ≡ grant.count * correlations_per_unit prover.now.file.params) }
-    ensures keys { IfOk result (λ e. HoldsKeys verifier.now 0 (held_in e.keys)) }
+    ensures keys { IfOk result (λ e. HoldsKeys verifier.now 0 (items_in e.keys)) }
 {
     match verifier.file().params().kind {
-        Kind::Direct => Ok(Established {
+        Kind::Direct => Ok(Correlated {
             asked: Vec::new(alloc),
             replied: Vec::new(alloc),
             pairs: Correlations::Dealt(prover.dealt_pairs(grant)),
@@ -149,18 +150,18 @@ fn extend<'p, 'v>(
     prover: &'p ProverFile,
     verifier: &'v VerifierFile,
     grant: Grant,
-) -> Result<Established<'p, 'v>, AllocError>
+) -> Result<Correlated<'p, 'v>, AllocError>
     requires params { prover.now.params ≡ verifier.now.params }
     requires code { prover.now.code_seed ≡ verifier.now.code_seed }
     requires extended { verifier.now.params.kind ≡ Extended }
     requires within { grant.start + grant.count ≤ verifier.now.params.total }
     ensures held { IfOk result (λ e. HoldsRounds prover.now verifier.now grant
-        (held_in e.pairs) [] (round_log e.asked.items e.replied.items)) }
+        (items_in e.pairs) [] (round_log e.asked.items e.replied.items)) }
     ensures short { IfOk result (λ e. AreShort e.asked.items e.replied.items) }
-    ensures pairs { IfOk result (λ e. length (held_in e.pairs)
+    ensures pairs { IfOk result (λ e. length (items_in e.pairs)
         ≡ grant.count * correlations_per_unit prover.now.params) }
-    ensures keys { IfOk result (λ e. held_in e.keys ≡ span_keys verifier.now (span_of grant)) }
-    ensures key_count { IfOk result (λ e. length (held_in e.keys)
+    ensures keys { IfOk result (λ e. items_in e.keys ≡ span_keys verifier.now (span_of grant)) }
+    ensures key_count { IfOk result (λ e. length (items_in e.keys)
         ≡ grant.count * correlations_per_unit verifier.now.params) }
 {
     asks_are_in_range();
@@ -171,7 +172,7 @@ fn extend<'p, 'v>(
     let columns = columns_of(alloc, &verifier.params(), &verifier.code_seed())?;
     let given = reply_units(alloc, verifier, &columns, grant, &asked)?;
     let pairs = finish_units(alloc, prover, &columns, grant, &given.replies)?;
-    Ok(Established {
+    Ok(Correlated {
         asked,
         replied: given.replies,
         pairs: Correlations::Made(pairs),
@@ -179,28 +180,29 @@ fn extend<'p, 'v>(
     })
 }
 
-/// The turns behind the rounds, up to the prover's answer to the challenge.
+/// The turns after the rounds, up to the prover's answer to the challenge.
 fn open<'p, 'v>(
     alloc: Global,
     prover: &ProverJob<'p>,
     verifier: &VerifierJob<'v>,
     grant: Grant,
-    established: Established<'p, 'v>,
-) -> Result<Answered<'v>, AllocError>
+    established: Correlated<'p, 'v>,
+) -> Result<OpenedSession<'v>, AllocError>
     requires stated { prover.now.statement ≡ verifier.now.task.statement }
     requires dealt { AreDealt prover.now.file verifier.now.task.file }
     requires grant { grant ≡ granted_from verifier.now 0 }
     requires held { HoldsRounds prover.now.file verifier.now.task.file grant
-        (held_in established.pairs) [] (round_log established.asked.items established.replied.items) }
+        (items_in established.pairs) [] (round_log established.asked.items established.replied.items) }
     requires short { AreShort established.asked.items established.replied.items }
-    requires pairs { length (held_in established.pairs) ≡ grant.count * correlations_per_unit prover.now.file.params }
-    requires keys { HoldsKeys verifier.now 0 (held_in established.keys) }
+    requires pairs { length (items_in established.pairs)
+        ≡ grant.count * correlations_per_unit prover.now.file.params }
+    requires keys { HoldsKeys verifier.now 0 (items_in established.keys) }
     ensures answered { IfOk result (IsAnswered prover.now verifier.now) }
     ensures counted { IfOk result (IsCounted verifier.now) }
 {
     let _total = verifier.file().total();
     let hello = prover.greet();
-    let Established {
+    let Correlated {
         asked,
         replied,
         pairs,
@@ -209,7 +211,7 @@ fn open<'p, 'v>(
     let Committed { wires, corrections } = prover.commit(alloc, grant, pairs)?;
     let challenge = verifier.challenge(0);
     let opened = prover.open(alloc, grant, &wires, challenge)?;
-    Ok(Answered {
+    Ok(OpenedSession {
         hello,
         grant,
         asked,
@@ -225,8 +227,8 @@ fn open<'p, 'v>(
 fn judge<'v>(
     alloc: Global,
     verifier: &VerifierJob<'v>,
-    answered: Answered<'v>,
-) -> Result<Exchange, AllocError>
+    answered: OpenedSession<'v>,
+) -> Result<SessionValues, AllocError>
     requires within { units_of_job verifier.now ≤ verifier.now.task.file.params.total }
     requires counted { IsCounted verifier.now answered }
     ensures session { IfOk result (λ e. (prover : jobs.ProverJob) (log : List (Side × ℕ))
@@ -238,7 +240,7 @@ fn judge<'v>(
     let program = verifier.statement().program();
     let _products = program.products();
     let _total = verifier.file().total();
-    let Answered {
+    let OpenedSession {
         hello,
         grant,
         asked,
@@ -256,7 +258,7 @@ fn judge<'v>(
         &opened.sums,
         &opened.openings,
     )?;
-    Ok(Exchange {
+    Ok(SessionValues {
         hello,
         grant,
         asked,

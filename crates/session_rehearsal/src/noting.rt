@@ -3,13 +3,14 @@ ghost use Rattle.std.specs.Prelude.{◌≡◌, ◌*◌, ◌^◌, ◌<◌, ◌≤
 ghost use Rattle.zk_model.specs.Field.{IsElement};
 ghost use Rattle.zk_model.specs.Bytes.{element_bytes};
 ghost use Rattle.zk_model.specs.Transcript.{frame_bytes, bytes_from, hello_frame, grant_frame, sums_frame, verdict_frame};
-ghost use Rattle.proof_frames.specs.Frames.{said, IsShort};
+ghost use Rattle.proof_frames.specs.Frames.{frame_value, IsShort};
 ghost use Rattle.zk_model.specs.Frames.{frame_spelling};
 ghost use Rattle.zk_model.specs.View.{verdict_code, verdict_number};
 ghost use Rattle.session_rehearsal.specs.Exchanges.{IsNoted, IsShortExchange};
 ghost use Rattle.zk_model.specs.declared.Side.TheVariants.{Prover, Verifier};
+ghost use Rattle.zk_model.specs.declared.limits.TheConstants.{MAX_PAYLOAD};
 
-use crate::exchange::Exchange;
+use crate::exchange::SessionValues;
 use frame_link::Log;
 use mersenne_field::Fe;
 use proof_frames::{
@@ -39,9 +40,9 @@ fn note_grant(alloc: Global, log: &mut Log, grant: Grant) -> Result<(), AllocErr
 
 /// Frames of one side, as they are spelled.
 fn note_frames(alloc: Global, log: &mut Log, side: Side, frames: &[Frame]) -> Result<(), AllocError>
-    requires { All IsShort (map said frames.now) }
+    requires { All IsShort (map frame_value frames.now) }
     ensures { OnOk result (log.new ≡ log.old ++ bytes_from side
-        (flat_map frame_spelling (map said frames.now))) }
+        (flat_map frame_spelling (map frame_value frames.now))) }
 {
     for frame in frames {
         let bytes = encode(alloc, frame)?;
@@ -58,7 +59,7 @@ fn note_elements(
     kind: FrameKind,
     elements: &[Fe],
 ) -> Result<(), AllocError>
-    requires { 8 * length elements.now ≤ 2 ^ 24 }
+    requires { 8 * length elements.now ≤ MAX_PAYLOAD }
     ensures logged { OnOk result (log.new ≡ log.old ++ bytes_from side
         (frame_bytes kind (flat_map element_bytes elements.now))) }
     ensures ranged { OnOk result (All IsElement elements.now) }
@@ -70,7 +71,7 @@ fn note_elements(
 
 /// The prover's sums of all sections.
 fn note_sums(alloc: Global, log: &mut Log, sums: &[(Fe, Fe)]) -> Result<(), AllocError>
-    requires { 16 * length sums.now ≤ 2 ^ 24 }
+    requires { 16 * length sums.now ≤ MAX_PAYLOAD }
     ensures logged { OnOk result (log.new ≡ log.old ++ bytes_from Prover (sums_frame sums.now)) }
     ensures ranged { OnOk result (All (λ both. IsElement both.0 × IsElement both.1) sums.now) }
 {
@@ -104,11 +105,11 @@ fn note_verdict(alloc: Global, log: &mut Log, verdict: Verdict) -> Result<(), Al
 }
 
 /// The log of all that both ends say.
-pub(crate) fn note(alloc: Global, exchange: &Exchange) -> Result<Log, AllocError>
+pub(crate) fn note(alloc: Global, exchange: &SessionValues) -> Result<Log, AllocError>
     requires { IsShortExchange exchange.now }
     ensures { IfOk result (λ log. IsNoted exchange.now log) }
 {
-    let Exchange {
+    let SessionValues {
         corrections,
         challenge,
         opened,

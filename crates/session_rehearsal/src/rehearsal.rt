@@ -37,7 +37,7 @@ pub enum RehearseFault {
     /// The session takes so many correlations, and so many units, which are more than 4,096.
     #[error("the session takes {need} correlations in {units} units")]
     TooLarge { need: u64, units: u64 },
-    /// Memory was wanting.
+    /// Memory was missing.
     #[error("memory is missing")]
     NoMemory,
 }

@@ -10,18 +10,20 @@ ghost use Rattle.session_core.specs.Jobs.{AreValues};
 ghost use Rattle.session_rehearsal.specs.Exchanges.{IsNoted, IsShortExchange};
 ghost use Rattle.session_rehearsal.specs.Holding.{IsSessionOf, ends_from};
 ghost use Rattle.session_rehearsal.specs.Rehearsals.{IsClaimed, IsRehearsalOf, RehearseCause, AreRehearsedFiles, rehearsed_params};
+ghost use Rattle.zk_model.specs.declared.limits.TheConstants.{MAX_SECTION_LENGTH, MAX_UNITS};
 
 use crate::bits::Bits;
-use crate::exchange::{Exchange, hold};
+use crate::exchange::{SessionValues, run_session};
 use crate::noting::note;
 use crate::rehearsal::{Rehearsal, RehearseFault};
 use bool_eval::eval_wires;
 use bristol_reader::Circuit;
+use circuit_laws::{bits_solve, one_outcome};
 use dealer_files::deal;
-use session_core::{CircuitClaim, MAX_UNITS, Statement, units_for, wire_bits_are_values};
+use session_core::{CircuitClaim, Statement, units_for, wire_bits_are_values};
 use std::alloc::{AllocError, Global};
-use zk_laws::{bits_solve, honest_session_is_accepted, one_outcome};
-use zk_model::{Kind, Params};
+use zk_laws::honest_session_is_accepted;
+use zk_model::{Kind, MAX_UNITS, Params};
 
 /// The bits of a circuit's output wires, from those of all wires.
 fn output_bits<'a>(circuit: &Circuit, bits: &'a [bool]) -> &'a [bool]
@@ -60,13 +62,14 @@ fn exchange_dealt(
     section: u32,
     units: u64,
     seed: &[u8; 32],
-) -> Result<Exchange, AllocError>
-    requires some { 1 ≤ section }
-    requires most { section ≤ 2 ^ 20 }
+) -> Result<SessionValues, AllocError>
+    requires at_least_one { 1 ≤ section }
+    requires at_most { section ≤ MAX_SECTION_LENGTH }
     requires values { AreValues statement.now bits.now }
-    requires units { units ≡ units_for (rehearsed_params kind 0) (correlations_needed statement.now.program section) }
+    requires units { units
+        ≡ units_for (rehearsed_params kind 0) (correlations_needed statement.now.program section) }
     requires units_some { 1 ≤ units }
-    requires units_most { units ≤ 4096 }
+    requires units_most { units ≤ MAX_UNITS }
     ensures held { IfOk result (λ e. (log : List (Side × ℕ)) → IsNoted e log
         → IsSessionOf (ends_from statement.now bits.now
         (dealt_prover (rehearsed_params kind units) seed.now) (dealt_verifier (rehearsed_params kind units) seed.now))
@@ -76,7 +79,7 @@ fn exchange_dealt(
 {
     let params = rehearsed_params(kind, units);
     let (prover, verifier) = deal(alloc, &params, seed)?;
-    let exchange = hold(alloc, statement, bits, prover, &verifier, section)?;
+    let exchange = run_session(alloc, statement, bits, prover, &verifier, section)?;
     Ok(exchange)
 }
 
@@ -90,8 +93,8 @@ fn rehearse_claim(
     section: u32,
     seed: &[u8; 32],
 ) -> Result<Rehearsal, RehearseFault>
-    requires some { 1 ≤ section }
-    requires most { section ≤ 2 ^ 20 }
+    requires at_least_one { 1 ≤ section }
+    requires at_most { section ≤ MAX_SECTION_LENGTH }
     requires values { AreValues claim.now bits.now }
     ensures done { IfOk result (λ r. (circuit : Circuit) (inputs : List Bool)
         → IsClaimed circuit inputs bits.now outputs claim.now → IsRehearsalOf circuit inputs kind section seed.now r) }
@@ -134,8 +137,8 @@ pub fn rehearse(
     section: u32,
     seed: &[u8; 32],
 ) -> Result<Rehearsal, RehearseFault>
-    requires some { 1 ≤ section }
-    requires most { section ≤ 2 ^ 20 }
+    requires at_least_one { 1 ≤ section }
+    requires at_most { section ≤ MAX_SECTION_LENGTH }
     ensures done { IfOk result (IsRehearsalOf circuit bits.now kind section seed.now) }
     ensures cause { IfErr result (RehearseCause circuit bits.now kind section) }
 {

@@ -8,7 +8,7 @@ use Rattle.zk_model.specs.Transcript.{Grant, Transcript, IsGrant, IsHello, Begin
 use Rattle.zk_model.specs.Frames.{hello}
 use Rattle.zk_model.specs.declared.Expect.{Expect}
 use Rattle.zk_model.specs.declared.Expect.TheVariants as expect
-use Rattle.zk_laws.proofs.SentBytes.{none_of_prover}
+use Rattle.frame_laws.proofs.SentBytes.{none_of_prover}
 use Rattle.proof_frames.proofs.Lengths.{whole_length}
 use Rattle.frame_link.proofs.LineLemmas.{none_is_some}
 use Rattle.zk_model.specs.View.{ChecksHold, verdict_number}
@@ -23,7 +23,7 @@ use Rattle.lease_store.specs.declared.LeaseFault.TheVariants as lease
 use Rattle.session_core.specs.Jobs.{VerifierJob, IsVerifierJob, units_of_job, granted_from}
 use Rattle.session_core.specs.Rounds.{round_turns}
 use Rattle.session_core.specs.Judgements.{IsJudgement, session_transcript, verdict_in}
-use Rattle.session_core.specs.Cores.{VerifierPlace, awaits_hello, owes_grant, awaits_asks, awaits_corrections, awaits_sums, awaits_openings, has_judged, has_refused}
+use Rattle.session_core.specs.Cores.{VerifierStage, awaits_hello, owes_grant, awaits_asks, awaits_corrections, awaits_sums, awaits_openings, has_judged, has_refused}
 use Rattle.session_core.specs.declared.judgement.Judgement.{Judgement}
 use Rattle.session_core.specs.declared.judgement.Judgement.TheVariants as judged
 use Rattle.session_core.proofs.Enough.{parts_within}
@@ -31,7 +31,7 @@ use Rattle.session_core.proofs.Served.{AreRanged, served_is}
 use Rattle.frame_link.specs.Lines.{LinkSnapshot, IsCutShort}
 use Rattle.session_verifier.proofs.StageLemmas.{sent_answered}
 use Rattle.session_verifier.specs.Outcomes.{lease_outcome, lease_code, judgement_outcome}
-use Rattle.session_verifier.specs.Stages.{StopCause, StartsAt, IsStopped, StopsBehind, IsSent, IsFault, SendsUpTo, IsNoLink, CountsOutcome, IsLogAt, IsWholeHello, IsRefused, IsRefusalSent, IsRefusalUnsent, IsRefusedGrant, IsGrantUnsent, LacksTheGrant, RefusesHello, IsWaiting, IsJudgedLog, IsCourse, first_turn, second_turn}
+use Rattle.session_verifier.specs.Stages.{StopCause, StartsAt, IsStopped, StopsBehind, IsSent, IsFault, SendsUpTo, IsNoLink, CountsOutcome, IsLogAt, IsWholeHello, IsRefusalTried, IsRefusalSent, IsRefusalUnsent, IsRefusedGrant, IsGrantUnsent, LacksTheGrant, RefusesHello, IsWaiting, IsJudgedLog, IsCourse, first_turn, second_turn}
 use Rattle.session_verifier.specs.Notes.{granted_by, IsJudgedSession, JudgesRightly, IsShown, HasJudged, LacksMemory, RefusesNoLease, EndsBecause, LeasesBehindHello, Refuses, CountsFaults, ReceivesFew}
 use Rattle.session_verifier.specs.declared.note.VerifierOutcome.{VerifierOutcome}
 use Rattle.session_verifier.specs.declared.note.VerifierOutcome.TheVariants.{Accepted, RejectedSum, RejectedOpening, PeerEnded, BadFrame, BadHello, Exhausted, Device, Broken, Link, NoMemory}
@@ -84,19 +84,19 @@ not_both same = subst (λ b. if_true b) same tt
     if_true true = Unit {0}
     if_true false = ⊥
 
-stop_false : (job : VerifierJob) (place : VerifierPlace) (rest : List ℕ) (first now : LinkSnapshot) (outcome : VerifierOutcome) → StopCause job place rest first now outcome
+stop_false : (job : VerifierJob) (stage : VerifierStage) (rest : List ℕ) (first now : LinkSnapshot) (outcome : VerifierOutcome) → StopCause job stage rest first now outcome
     → is_judged outcome ≡ false
-stop_false job place rest first now Accepted cause = absurd cause
-stop_false job place rest first now (RejectedSum section left right) cause = absurd cause
-stop_false job place rest first now (RejectedOpening output left right) cause = absurd cause
-stop_false job place rest first now (PeerEnded at) cause = refl
-stop_false job place rest first now (BadFrame at) cause = refl
-stop_false job place rest first now (BadHello differs) cause = refl
-stop_false job place rest first now (Exhausted at count total) cause = absurd cause
-stop_false job place rest first now Device cause = absurd cause
-stop_false job place rest first now (Broken at) cause = absurd cause
-stop_false job place rest first now Link cause = refl
-stop_false job place rest first now NoMemory cause = refl
+stop_false job stage rest first now Accepted cause = absurd cause
+stop_false job stage rest first now (RejectedSum section left right) cause = absurd cause
+stop_false job stage rest first now (RejectedOpening output left right) cause = absurd cause
+stop_false job stage rest first now (PeerEnded at) cause = refl
+stop_false job stage rest first now (BadFrame at) cause = refl
+stop_false job stage rest first now (BadHello differs) cause = refl
+stop_false job stage rest first now (Exhausted at count total) cause = absurd cause
+stop_false job stage rest first now Device cause = absurd cause
+stop_false job stage rest first now (Broken at) cause = absurd cause
+stop_false job stage rest first now Link cause = refl
+stop_false job stage rest first now NoMemory cause = refl
 
 clash : {P : Type 0} (outcome : VerifierOutcome) (judgement : Judgement) → outcome ≡ judgement_outcome judgement → is_judged outcome ≡ false → P
 clash outcome judgement is other = absurd (not_both (sym (judged_true judgement) ∙ ap is_judged (sym is) ∙ other))
@@ -196,14 +196,14 @@ judges_rightly job (Some (Ok span)) granted outcome first now known course judge
         ⊎ ((other : Judgement) × (outcome ≡ judgement_outcome other) × IsWaiting job (has_judged span.start other) first now))
         → IsJudgedSession job granted judgement now.log
     by_course (inl lacks) = clash outcome judgement is (lacks_false job span.start outcome first now lacks)
-    by_course (inr (inl stops)) = clash outcome judgement is (stop_false job stops.place stops.stopped.rest first now outcome stops.stopped.cause)
+    by_course (inr (inl stops)) = clash outcome judgement is (stop_false job stops.stage stops.stopped.rest first now outcome stops.stopped.cause)
     by_course (inr (inr found)) =
         judged_session job span granted judgement now.log known course.0
         (subst (λ j. IsJudgedLog job span.start j now.log) (one_judgement found.0 judgement (sym found.1 ∙ is)) found.2.log)
 
 -- ---- receives
 
--- behind what passed, the verifier sent something, or nothing
+-- after what passed, the verifier sent something, or nothing
 record IsAfter (old now : LinkSnapshot) : Type 0 where
   answer : List ℕ
   log : now.log ≡ old.log ++ bytes_from Verifier answer
@@ -216,7 +216,7 @@ same_after old now same = record {
   receives = ap (λ (m : LinkSnapshot). m.receives) same;
 }
 
-refused_after : (code : ℕ) (old now : LinkSnapshot) → IsRefused code old now → IsAfter old now
+refused_after : (code : ℕ) (old now : LinkSnapshot) → IsRefusalTried code old now → IsAfter old now
 refused_after code old now refused = either refused.sent
   where
     either : (IsRefusalSent code old now ⊎ IsRefusalUnsent code old now) → IsAfter old now
@@ -266,10 +266,10 @@ receives_few job (Some (Ok span)) granted outcome first now course = by_course c
 -- ---- where the hello came
 
 -- there is no answer to it but a refusal
-pub hello_sent : (job : VerifierJob) (place : Expect) (rest : List ℕ) (outcome : VerifierOutcome) (first mid : LinkSnapshot)
-    → SendsUpTo job awaits_hello place rest outcome first mid → IsSent 0 first mid
-hello_sent job place rest outcome first mid (inl sent) = sent.0
-hello_sent job place rest outcome first mid (inr unsent) =
+pub hello_sent : (job : VerifierJob) (stage : Expect) (rest : List ℕ) (outcome : VerifierOutcome) (first mid : LinkSnapshot)
+    → SendsUpTo job awaits_hello stage rest outcome first mid → IsSent 0 first mid
+hello_sent job stage rest outcome first mid (inl sent) = sent.0
+hello_sent job stage rest outcome first mid (inr unsent) =
     let answer = unsent.1.1 in
     absurd (omega (arith, answer.at_least_one, ap length answer.answers.1))
 
@@ -310,13 +310,13 @@ counts_of outcome first now count rose = record { later = count.later; failed = 
     by Link same = inr (inl refl)
     by NoMemory same = inl (same tt)
 
-counts_stop : (job : VerifierJob) (place : VerifierPlace) (outcome : VerifierOutcome) (first now : LinkSnapshot) → IsStopped job place outcome first now
+counts_stop : (job : VerifierJob) (stage : VerifierStage) (outcome : VerifierOutcome) (first now : LinkSnapshot) → IsStopped job stage outcome first now
     → CountsFaults outcome first now
-counts_stop job place outcome first now stopped =
-    counts_of outcome first now stopped.count (λ is. subst (StopCause job place stopped.rest first now) is stopped.cause)
+counts_stop job stage outcome first now stopped =
+    counts_of outcome first now stopped.count (λ is. subst (StopCause job stage stopped.rest first now) is stopped.cause)
 
 counts_refusal : (code : ℕ) (outcome : VerifierOutcome) (first mid now : LinkSnapshot) → Refuses outcome → mid.faults ≡ first.faults → mid.sends ≡ first.sends
-    → sent_by Verifier mid.log ≡ [] → IsRefused code mid now → CountsFaults outcome first now
+    → sent_by Verifier mid.log ≡ [] → IsRefusalTried code mid now → CountsFaults outcome first now
 counts_refusal code outcome first mid now refuses faults sends none refused = record {
   later = omega (arith, faults, refused.later);
   failed = λ is. absurd (not_link outcome refuses is);
@@ -385,7 +385,7 @@ counts_faults job (Some (Ok span)) granted outcome first now course = by_course 
         ⊎ ((other : Judgement) × (outcome ≡ judgement_outcome other) × IsWaiting job (has_judged span.start other) first now))
         → CountsFaults outcome first now
     by_course (inl lacks) = counts_lacking job span.start outcome first now lacks
-    by_course (inr (inl stops)) = counts_stop job stops.place outcome first now stops.stopped
+    by_course (inr (inl stops)) = counts_stop job stops.stage outcome first now stops.stopped
     by_course (inr (inr found)) = subst (λ o. CountsFaults o first now) (sym found.1) (counts_same found.0 first now found.2.faults)
 
 -- ---- causes
@@ -425,31 +425,31 @@ unmet_cause job NoMemory first mid now stopped (inl refused) =
     )
 unmet_cause job NoMemory first mid now stopped (inr missing) =
     let lacks : LacksMemory job first mid =
-    record { place = awaits_hello; stopped = stopped; unmet = λ is whole. whole_is_not_cut stopped.rest whole missing.0 } in
+    record { stage = awaits_hello; stopped = stopped; unmet = λ is whole. whole_is_not_cut stopped.rest whole missing.0 } in
     (unasked, inl (subst (LacksMemory job first) (sym missing.1) lacks))
-unmet_cause job Accepted first mid now stopped by = absurd stopped.cause
 unmet_cause job (RejectedSum section left right) first mid now stopped by = absurd stopped.cause
 unmet_cause job (RejectedOpening output left right) first mid now stopped by = absurd stopped.cause
 unmet_cause job (Exhausted at count total) first mid now stopped by = absurd stopped.cause
-unmet_cause job Device first mid now stopped by = absurd stopped.cause
 unmet_cause job (Broken at) first mid now stopped by = absurd stopped.cause
+unmet_cause job Accepted first mid now stopped by = absurd stopped.cause
+unmet_cause job Device first mid now stopped by = absurd stopped.cause
 
-stop_cause : (job : VerifierJob) (answer : Option (Result Span LeaseFault)) (place : VerifierPlace) (outcome : VerifierOutcome) (first now : LinkSnapshot)
-    → RefusesNoLease answer → ¬ (place ≡ awaits_hello) → IsStopped job place outcome first now → EndsBecause job answer outcome first now
-stop_cause job answer place (PeerEnded at) first now leased met stopped = (place, stopped)
-stop_cause job answer place (BadFrame at) first now leased met stopped = (place, stopped)
-stop_cause job answer place (BadHello differs) first now leased met stopped = absurd (met stopped.cause.0)
-stop_cause job answer place Link first now leased met stopped = (leased, inl (place, stopped))
-stop_cause job answer place NoMemory first now leased met stopped = (leased, inl (record { place = place; stopped = stopped; unmet = λ is. absurd (met is) }))
-stop_cause job answer place Accepted first now leased met stopped = absurd stopped.cause
-stop_cause job answer place (RejectedSum section left right) first now leased met stopped = absurd stopped.cause
-stop_cause job answer place (RejectedOpening output left right) first now leased met stopped = absurd stopped.cause
-stop_cause job answer place (Exhausted at count total) first now leased met stopped = absurd stopped.cause
-stop_cause job answer place Device first now leased met stopped = absurd stopped.cause
-stop_cause job answer place (Broken at) first now leased met stopped = absurd stopped.cause
+stop_cause : (job : VerifierJob) (answer : Option (Result Span LeaseFault)) (stage : VerifierStage) (outcome : VerifierOutcome) (first now : LinkSnapshot)
+    → RefusesNoLease answer → ¬ (stage ≡ awaits_hello) → IsStopped job stage outcome first now → EndsBecause job answer outcome first now
+stop_cause job answer stage (PeerEnded at) first now leased met stopped = (stage, stopped)
+stop_cause job answer stage (BadFrame at) first now leased met stopped = (stage, stopped)
+stop_cause job answer stage (BadHello differs) first now leased met stopped = absurd (met stopped.cause.0)
+stop_cause job answer stage Link first now leased met stopped = (leased, inl (stage, stopped))
+stop_cause job answer stage NoMemory first now leased met stopped = (leased, inl (record { stage = stage; stopped = stopped; unmet = λ is. absurd (met is) }))
+stop_cause job answer stage Accepted first now leased met stopped = absurd stopped.cause
+stop_cause job answer stage (RejectedSum section left right) first now leased met stopped = absurd stopped.cause
+stop_cause job answer stage (RejectedOpening output left right) first now leased met stopped = absurd stopped.cause
+stop_cause job answer stage (Exhausted at count total) first now leased met stopped = absurd stopped.cause
+stop_cause job answer stage Device first now leased met stopped = absurd stopped.cause
+stop_cause job answer stage (Broken at) first now leased met stopped = absurd stopped.cause
 
-behind_hello : (start : ℕ) (place : VerifierPlace) → StartsAt start place → ¬ (place ≡ awaits_hello)
-behind_hello start place starts same = subst (StartsAt start) same starts
+behind_hello : (start : ℕ) (stage : VerifierStage) → StartsAt start stage → ¬ (stage ≡ awaits_hello)
+behind_hello start stage starts same = subst (StartsAt start) same starts
 
 lease_cause : (job : VerifierJob) (fault : LeaseFault) (first now : LinkSnapshot) → IsRefusedGrant job (lease_code fault) first now
     → EndsBecause job (Some (Err fault)) (lease_outcome fault) first now
@@ -513,11 +513,11 @@ ends_because job (Some (Ok span)) granted outcome first now known course = by_co
         ⊎ ((other : Judgement) × (outcome ≡ judgement_outcome other) × IsWaiting job (has_judged span.start other) first now))
         → EndsBecause job (Some (Ok span)) outcome first now
     by_course (inl lacks) = lacking_cause job span outcome first now known lacks
-    by_course (inr (inl stops)) = stop_cause job (Some (Ok span)) stops.place outcome first now (leased_is_not_refused span) (behind_hello span.start stops.place stops.behind) stops.stopped
+    by_course (inr (inl stops)) = stop_cause job (Some (Ok span)) stops.stage outcome first now (leased_is_not_refused span) (behind_hello span.start stops.stage stops.behind) stops.stopped
     by_course (inr (inr found)) = subst (λ o. EndsBecause job (Some (Ok span)) o first now) (sym found.1)
         (judged_cause job (Some (Ok span)) found.0 first now (record { span = span; leased = refl; judged = found.2 }))
 
--- ---- units are leased behind the hello
+-- ---- units are leased after the hello
 
 -- the log of turns begins with what the prover says in the first
 begins_first : (turn : List ℕ × List ℕ) (turns : List (List ℕ × List ℕ)) (more log : List (Side × ℕ)) → log ≡ turn_bytes (turn ∷ turns) ++ more
@@ -528,11 +528,11 @@ begins_first turn turns more log is =
     let c = turn_bytes turns in
     (b ++ (c ++ more), is ∙ append_assoc (a ++ b) c more ∙ append_assoc a b (c ++ more))
 
--- behind other bytes a log begins with what it began with
+-- after other bytes a log begins with what it began with
 begins_before : (log more now front : List (Side × ℕ)) → now ≡ log ++ more → BeginsWith log front → BeginsWith now front
 begins_before log more now front is begun = (begun.0 ++ more, is ∙ ap (λ l. l ++ more) begun.1 ∙ append_assoc front begun.0 more)
 
-begins_at : (job : VerifierJob) (start : ℕ) (place : VerifierPlace) (log : List (Side × ℕ)) → StartsAt start place → IsLogAt job place log
+begins_at : (job : VerifierJob) (start : ℕ) (stage : VerifierStage) (log : List (Side × ℕ)) → StartsAt start stage → IsLogAt job stage log
     → BeginsWith log (bytes_from Prover (hello_frame (wanted_hello job.task.file.id job.task.statement)))
 begins_at job start awaits_hello log starts at = absurd starts
 begins_at job start owes_grant log starts at = absurd starts
@@ -571,7 +571,7 @@ leases_behind job (Some (Ok span)) granted outcome first now course = by_course 
     by_course (inr (inl stops)) =
         let stopped = stops.stopped in
         begins_before stopped.before (bytes_from Prover stopped.rest) now.log (bytes_from Prover (hello_frame (wanted_hello job.task.file.id job.task.statement))) stopped.log
-        (begins_at job span.start stops.place stopped.before stops.behind stopped.waited)
+        (begins_at job span.start stops.stage stopped.before stops.behind stopped.waited)
     by_course (inr (inr found)) =
         let is = found.2.log in
         let t = session_transcript job span.start is.rounds is.corrections is.sums is.openings (verdict_in found.0) in

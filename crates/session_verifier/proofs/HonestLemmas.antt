@@ -1,4 +1,4 @@
--- A session with an honest peer does not stop: what came from it begins the frame that is expected, and it ends behind it only.
+-- A session with an honest peer does not stop: what came from it begins the frame that is expected, and it ends after it only.
 use Rattle.std.proofs.Common.{◌≡◌, ◌⊎◌, inl, inr, ℕ, zero, suc, ◌+◌, ◌-◌, ◌*◌, ◌≤◌, ◌<◌, List, [], ◌∷◌, ◌++◌, flat_map, length, take, drop, get_or, slice_index_or, Option, Some, None, Result, Ok, Err, refl, ap, sym, ◌∙◌, subst, arith, append-nil, append_assoc, length-append, length-take-le}
 use Rattle.std.specs.Prelude.{All}
 use Rattle.std.proofs.Math.Nat.{mul-le-mul_right}
@@ -17,9 +17,9 @@ use Rattle.zk_model.specs.declared.Expect.TheVariants as expect
 use Rattle.zk_model.specs.declared.Side.{Side}
 use Rattle.zk_model.specs.declared.Side.TheVariants.{Prover, Verifier}
 use Rattle.zk_model.specs.declared.Span.{Span}
-use Rattle.zk_laws.specs.Rehearsing.{AreCounterparts}
-use Rattle.zk_laws.proofs.Codes.{same_front}
-use Rattle.zk_laws.proofs.SentBytes.{sent_by-append, own_bytes, none_of_prover, none_of_verifier}
+use Rattle.zk_laws.specs.Completeness.{AreCounterparts}
+use Rattle.frame_laws.proofs.Codes.{same_front}
+use Rattle.frame_laws.proofs.SentBytes.{sent_by-append, own_bytes, none_of_prover, none_of_verifier}
 use Rattle.session_laws.specs.Peers.{IsServedTurns, IsHonestUpTo, HonestTurn, HonestTurnEnds, HonestWholeIsAccepted, said_in}
 use Rattle.session_laws.specs.Rounds.{RepliesAreInRange}
 use Rattle.session_laws.specs.Serving.{ServedSessionExists}
@@ -30,13 +30,13 @@ use Rattle.lease_store.specs.declared.LeaseFault.{LeaseFault}
 use Rattle.session_core.specs.Jobs.{VerifierJob, granted_from, units_of_job}
 use Rattle.session_core.specs.Rounds.{round_turns}
 use Rattle.session_core.specs.Judgements.{verdict_in}
-use Rattle.session_core.specs.Cores.{VerifierPlace, AreAsksSoFar, awaits_hello, owes_grant, awaits_asks, awaits_corrections, awaits_sums, awaits_openings, has_judged, has_refused, verifier_expects, DiffersFirst}
+use Rattle.session_core.specs.Cores.{VerifierStage, AreAsksSoFar, awaits_hello, owes_grant, awaits_asks, awaits_corrections, awaits_sums, awaits_openings, has_judged, has_refused, verifier_expects, DiffersFirst}
 use Rattle.session_core.specs.declared.judgement.Judgement.{Judgement}
 use Rattle.session_core.specs.declared.fault.HelloDiffers.{HelloDiffers}
 use Rattle.session_core.specs.declared.fault.HelloDiffers.TheVariants.{Id, Circuit, Outputs, Version}
 use Rattle.session_verifier.specs.Outcomes.{judgement_outcome}
 use Rattle.frame_link.specs.Lines.{LinkSnapshot}
-use Rattle.session_verifier.specs.Stages.{StopCause, StartsAt, IsStopped, StopsBehind, IsFault, IsRefused, IsRefusalSent, IsRefusalUnsent, LacksTheGrant, RefusesHello, IsWaiting, IsUnmet, IsCourse}
+use Rattle.session_verifier.specs.Stages.{StopCause, StartsAt, IsStopped, StopsBehind, IsFault, IsRefusalTried, IsRefusalSent, IsRefusalUnsent, LacksTheGrant, RefusesHello, IsWaiting, IsUnmet, IsCourse}
 use Rattle.session_verifier.specs.Notes.{IsPeerEnd, HasHonestPeer, Completes}
 use Rattle.session_verifier.proofs.StageLemmas.{one_expected, few_of, hello_in}
 use Rattle.session_verifier.proofs.CourseLemmas.{IsKnown, judged_session}
@@ -47,19 +47,19 @@ use Rattle.session_verifier.specs.declared.note.VerifierOutcome.TheVariants.{Acc
 
 -- ---- bytes of an honest frame
 
--- the bytes that came begin a frame that is expected, with others behind it, and are no less than it where the peer ended
-record IsBegun (place : Expect) (outcome : VerifierOutcome) (rest : List ℕ) : Type 0 where
+-- the bytes that came begin a frame that is expected, with others after it, and are no less than it where the peer ended
+record IsBegun (stage : Expect) (outcome : VerifierOutcome) (rest : List ℕ) : Type 0 where
   frame : Frame
-  allowed : Allows place frame
+  allowed : Allows stage frame
   more : List ℕ
   begun : BeginsWith (frame_spelling frame ++ more) rest
   whole : IsPeerEnd outcome → length (frame_spelling frame) ≤ length rest
   most : length rest ≤ length (frame_spelling frame)
-  sized : frame_length place rest ≡ length (frame_spelling frame)
+  sized : frame_length stage rest ≡ length (frame_spelling frame)
 
--- so the frame can go on behind any of them
-goes : (place : Expect) (outcome : VerifierOutcome) (rest : List ℕ) → IsBegun place outcome rest → (n : ℕ) → n ≤ length rest → CanGoOn place (take n rest)
-goes place outcome rest is n within =
+-- so the frame can go on after any of them
+goes : (stage : Expect) (outcome : VerifierOutcome) (rest : List ℕ) → IsBegun stage outcome rest → (n : ℕ) → n ≤ length rest → CanGoOn stage (take n rest)
+goes stage outcome rest is n within =
     let frame = frame_spelling is.frame in
     let most = is.most in
     let front : take n frame ≡ take n rest =
@@ -75,31 +75,31 @@ abbrev IsComplete : VerifierOutcome → Type 0
 IsComplete outcome = (outcome ≡ Accepted) ⊎ (outcome ≡ NoMemory)
 
 -- with such bytes a session stops only for want of memory
-goes_on : (job : VerifierJob) (place : VerifierPlace) (rest : List ℕ) (first now : LinkSnapshot) (outcome : VerifierOutcome) (expect : Expect)
-    → verifier_expects job place ≡ Some expect → IsBegun expect outcome rest
-    → ((differs : HelloDiffers) → outcome ≡ BadHello differs → StopCause job place rest first now (BadHello differs) → ⊥)
-    → ¬ Rose first.faults now.faults → StopCause job place rest first now outcome → IsComplete outcome
-goes_on job place rest first now (PeerEnded at) expect expects is met rose cause =
+goes_on : (job : VerifierJob) (stage : VerifierStage) (rest : List ℕ) (first now : LinkSnapshot) (outcome : VerifierOutcome) (expect : Expect)
+    → verifier_expects job stage ≡ Some expect → IsBegun expect outcome rest
+    → ((differs : HelloDiffers) → outcome ≡ BadHello differs → StopCause job stage rest first now (BadHello differs) → ⊥)
+    → ¬ Rose first.faults now.faults → StopCause job stage rest first now outcome → IsComplete outcome
+goes_on job stage rest first now (PeerEnded at) expect expects is met rose cause =
     let there = cause.0 in
-    let short = subst (λ p. length rest < frame_length p rest) (one_expected expect there.0 (verifier_expects job place) expects there.1) there.2.1 in
+    let short = subst (λ p. length rest < frame_length p rest) (one_expected expect there.0 (verifier_expects job stage) expects there.1) there.2.1 in
     let whole = is.whole tt in
     let sized = is.sized in
     absurd (omega arith)
-goes_on job place rest first now (BadFrame at) expect expects is met rose cause =
+goes_on job stage rest first now (BadFrame at) expect expects is met rose cause =
     let there = cause.1 in
     let bad = there.2 in
     let within = bad.within in
-    absurd (bad.ends (subst (λ p. CanGoOn p (take (cause.0 + 1) rest)) (sym (one_expected expect there.0 (verifier_expects job place) expects there.1))
+    absurd (bad.ends (subst (λ p. CanGoOn p (take (cause.0 + 1) rest)) (sym (one_expected expect there.0 (verifier_expects job stage) expects there.1))
     (goes expect (BadFrame at) rest is (cause.0 + 1) (omega arith))))
-goes_on job place rest first now (BadHello differs) expect expects is met rose cause = absurd (met differs refl cause)
-goes_on job place rest first now Link expect expects is met rose cause = absurd (rose cause)
-goes_on job place rest first now NoMemory expect expects is met rose cause = inr refl
-goes_on job place rest first now Accepted expect expects is met rose cause = absurd cause
-goes_on job place rest first now (RejectedSum section left right) expect expects is met rose cause = absurd cause
-goes_on job place rest first now (RejectedOpening output left right) expect expects is met rose cause = absurd cause
-goes_on job place rest first now (Exhausted at count total) expect expects is met rose cause = absurd cause
-goes_on job place rest first now Device expect expects is met rose cause = absurd cause
-goes_on job place rest first now (Broken at) expect expects is met rose cause = absurd cause
+goes_on job stage rest first now (BadHello differs) expect expects is met rose cause = absurd (met differs refl cause)
+goes_on job stage rest first now Link expect expects is met rose cause = absurd (rose cause)
+goes_on job stage rest first now NoMemory expect expects is met rose cause = inr refl
+goes_on job stage rest first now Accepted expect expects is met rose cause = absurd cause
+goes_on job stage rest first now (RejectedSum section left right) expect expects is met rose cause = absurd cause
+goes_on job stage rest first now (RejectedOpening output left right) expect expects is met rose cause = absurd cause
+goes_on job stage rest first now (Exhausted at count total) expect expects is met rose cause = absurd cause
+goes_on job stage rest first now Device expect expects is met rose cause = absurd cause
+goes_on job stage rest first now (Broken at) expect expects is met rose cause = absurd cause
 
 -- ---- the hello
 
@@ -116,7 +116,7 @@ never_differs wanted other (Circuit want got) same first = first.3 (first.1 ∙ 
 never_differs wanted other (Outputs want got) same first = first.4 (first.2 ∙ sym (ap (λ (h : Hello). h.outputs) same) ∙ sym first.3)
 never_differs wanted other (Version want got) same first = first.5 (first.3 ∙ sym (ap (λ (h : Hello). h.version) same) ∙ sym first.4)
 
--- what a refusal, or nothing, stands behind the hello's bytes
+-- what a refusal, or nothing, stands after the hello's bytes
 record IsBehindHello (rest : List ℕ) (log : List (Side × ℕ)) : Type 0 where
   answer : List ℕ
   other : ¬ (get_or answer 0 0 ≡ 2)
@@ -212,7 +212,7 @@ unmet_completes job outcome prover first now law known unmet peer rose = by outc
         (hello_begun job prover other stopped.rest now.log known peer behind (few_of job awaits_hello other first mid stopped expect.Hello refl))
         (λ differs is cause. absurd (unlike differs is)) (λ more. rose (subst (λ (m : LinkSnapshot). Rose first.faults m.faults) (sym same) more)) stopped.cause
 
-    differing : (differs : HelloDiffers) → IsStopped job awaits_hello (BadHello differs) first mid → IsRefused 1 mid now
+    differing : (differs : HelloDiffers) → IsStopped job awaits_hello (BadHello differs) first mid → IsRefusalTried 1 mid now
         → HasHonestPeer job prover (BadHello differs) now.log → ⊥
     differing differs stopped refused peer = either refused.sent
       where
@@ -245,7 +245,7 @@ unmet_completes job outcome prover first now law known unmet peer rose = by outc
     by Link stopped refused peer = alone Link stopped refused peer (λ differs is. tells_hello Link differs is)
     by NoMemory stopped refused peer = inr refl
 
--- ---- behind the grant
+-- ---- after the grant
 
 -- a session of an honest prover with a job's grant: as many rounds, elements, sums and MACs as its kind and the statement want
 record IsTurn (job : VerifierJob) (start : ℕ) (u : Transcript) : Type 0 where
@@ -278,7 +278,7 @@ setup_long job start u is =
     let mapped : length (round_turns u.commitment.setup.rounds) ≡ length u.commitment.setup.rounds = length-map u.commitment.setup.rounds _ in
     omega (arith, mapped, is.count)
 
--- what it says in the turn behind them, and in the last one
+-- what it says in the turn after them, and in the last one
 second_said : (job : VerifierJob) (start : ℕ) (u : Transcript) → IsTurn job start u
     → said_in u (1 + rounds_of job.task.file.params.kind) ≡ corrections_frame u.commitment.corrections
 second_said job start u is =
@@ -355,7 +355,7 @@ asks_said : (job : VerifierJob) (start : ℕ) (u : Transcript) → job.task.file
 asks_said job start u extended is =
     asks_of_rounds job start u u.commitment.setup.rounds refl (is.count ∙ ap rounds_of extended) is.rounds
 
--- items before one, the one, and those behind it
+-- items before one, the one, and those after it
 split_at : {A : Type 0} (f : A → List ℕ) (items : List A) (n : ℕ) (d : A) → n < length items
     → flat_map f items ≡ flat_map f (take n items) ++ (f (slice_index_or items n d) ++ flat_map f (drop (suc n) items))
 split_at f [] n d below = absurd (omega (arith, below))
@@ -364,7 +364,7 @@ split_at f (item ∷ items) (suc n) d below =
     ap (λ l. f item ++ l) (split_at f items n d (omega (arith, below)))
     ∙ sym (append_assoc (f item) (flat_map f (take n items)) (f (slice_index_or items n d) ++ flat_map f (drop (suc n) items)))
 
--- what is left of all items behind some holds one at least
+-- what is left of all items after some holds one at least
 one_left : (a u per r : ℕ) → a < u → a * per + r ≡ u * per → per ≤ r
 one_left a u per r less same =
     let most : (a + 1) * per ≤ u * per = mul-le-mul_right {m = a + 1} {n = u} per (omega (arith, less)) in
@@ -434,7 +434,7 @@ asks_begun job start asked outcome rest left so said few = record {
         (ask_frame (slice_index_or says.all (length asked) []) ++ flat_map ask_frame (drop (suc (length asked)) says.all)) (rest ++ said.begun.0) front
         (sym (split_at ask_frame says.all (length asked) [] below) ∙ sym says.spoken ∙ said.begun.1 ∙ append_assoc (flat_map ask_frame asked) rest said.begun.0)
 
--- ---- behind them
+-- ---- after them
 
 length_third : (job : VerifierJob) (start : ℕ) (u : Transcript) → IsTurn job start u
     → (length (sums_frame u.sums) ≡ 5 + 16 * section_count job.task.statement.program job.section_length)
@@ -516,21 +516,21 @@ openings_begun job start outcome both rest pairs said few =
       sized = omega (arith, sized);
     }
 
--- behind the grant no hello is expected
-late : (job : VerifierJob) (start : ℕ) (place : VerifierPlace) (rest : List ℕ) (first now : LinkSnapshot) (differs : HelloDiffers) → StartsAt start place
-    → StopCause job place rest first now (BadHello differs) → ⊥
-late job start place rest first now differs starts cause = subst (StartsAt start) cause.0 starts
+-- after the grant no hello is expected
+late : (job : VerifierJob) (start : ℕ) (stage : VerifierStage) (rest : List ℕ) (first now : LinkSnapshot) (differs : HelloDiffers) → StartsAt start stage
+    → StopCause job stage rest first now (BadHello differs) → ⊥
+late job start stage rest first now differs starts cause = subst (StartsAt start) cause.0 starts
 
-behind_completes : (job : VerifierJob) (start : ℕ) (place : VerifierPlace) (prover : ProverTask) (outcome : VerifierOutcome) (first now : LinkSnapshot)
-    → RepliesAreInRange → ServedSessionExists → HonestTurn → HonestTurnEnds → IsKnown job → StartsAt start place → IsStopped job place outcome first now
+behind_completes : (job : VerifierJob) (start : ℕ) (stage : VerifierStage) (prover : ProverTask) (outcome : VerifierOutcome) (first now : LinkSnapshot)
+    → RepliesAreInRange → ServedSessionExists → HonestTurn → HonestTurnEnds → IsKnown job → StartsAt start stage → IsStopped job stage outcome first now
     → HasHonestPeer job prover outcome now.log → ¬ Rose first.faults now.faults → IsComplete outcome
 behind_completes job start (awaits_asks begun asked) prover outcome first now ranges law turn ends known starts stopped peer rose =
-    let place = expect.Ask job.task.file.params.height job.task.file.params.trees (units_of_job job - length asked) in
-    goes_on job (awaits_asks begun asked) stopped.rest first now outcome place refl
+    let stage = expect.Ask job.task.file.params.height job.task.file.params.trees (units_of_job job - length asked) in
+    goes_on job (awaits_asks begun asked) stopped.rest first now outcome stage refl
     (asks_begun job begun asked outcome stopped.rest (units_of_job job - length asked) stopped.waited.1
     (honest_said job begun 1 (flat_map ask_frame asked ++ stopped.rest) prover outcome now.log turn ends known peer
     (cut_asks job begun asked stopped.rest now.log ranges law known (cut_of_stop job (awaits_asks begun asked) outcome first now stopped)))
-    (few_of job (awaits_asks begun asked) outcome first now stopped place refl))
+    (few_of job (awaits_asks begun asked) outcome first now stopped stage refl))
     (λ differs is. late job start (awaits_asks begun asked) stopped.rest first now differs starts) rose stopped.cause
 behind_completes job start (awaits_corrections begun) prover outcome first now ranges law turn ends known starts stopped peer rose =
     goes_on job (awaits_corrections begun) stopped.rest first now outcome (expect.Corrections job.task.statement.program.givens) refl
@@ -601,7 +601,7 @@ completes job (Some (Ok span)) granted outcome first now laws known course prove
         → IsComplete outcome
     by_course (inl lacks) = lacking_completes job span.start outcome first now rose lacks
     by_course (inr (inl stops)) =
-        behind_completes job span.start stops.place prover outcome first now laws.ranges laws.exists laws.turn laws.ends known stops.behind stops.stopped peer rose
+        behind_completes job span.start stops.stage prover outcome first now laws.ranges laws.exists laws.turn laws.ends known stops.behind stops.stopped peer rose
     by_course (inr (inr found)) =
         let session = judged_session job span (Some span) found.0 now.log known refl found.2.log in
         let accepted = laws.accepted prover job.task session.t (verdict_in found.0) now.log peer.counterparts peer.witness peer.claims session.served peer.honest in

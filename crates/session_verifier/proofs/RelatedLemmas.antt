@@ -15,9 +15,9 @@ use Rattle.zk_model.specs.declared.Side.TheVariants.{Prover, Verifier}
 use Rattle.zk_model.specs.declared.Span.{Span}
 use Rattle.zk_laws.specs.Keys.{KeysFit}
 use Rattle.zk_laws.specs.SeenPairs.{AreRounds}
-use Rattle.zk_laws.proofs.Codes.{many_code}
-use Rattle.zk_laws.proofs.FrameCodes.{hello_code, grant_code, replies_code}
-use Rattle.zk_laws.proofs.SentBytes.{sent_by-append, own_bytes, none_of_prover, sent_by-prover, sent_by-verifier}
+use Rattle.frame_laws.proofs.Codes.{many_code}
+use Rattle.frame_laws.proofs.FrameCodes.{hello_code, grant_code, replies_code}
+use Rattle.frame_laws.proofs.SentBytes.{sent_by-append, own_bytes, none_of_prover, sent_by-prover, sent_by-verifier}
 use Rattle.session_laws.proofs.Turns.{said, answered, cut_said, cut_answered}
 use Rattle.session_laws.proofs.Followed.{same_asks}
 use Rattle.session_core.specs.Jobs.{VerifierJob, granted_from}

@@ -14,7 +14,7 @@ use Rattle.zk_model.specs.declared.Expect.TheVariants as expect
 use Rattle.zk_model.specs.declared.Side.{Side}
 use Rattle.zk_model.specs.declared.Side.TheVariants.{Prover, Verifier}
 use Rattle.zk_model.specs.declared.Span.{Span}
-use Rattle.zk_laws.proofs.SentBytes.{sent_by-append, own_bytes, none_of_prover, sent_by-verifier}
+use Rattle.frame_laws.proofs.SentBytes.{sent_by-append, own_bytes, none_of_prover, sent_by-verifier}
 use Rattle.session_laws.specs.Serving.{ServedSessionExists, HasServedSession}
 use Rattle.session_laws.specs.Cuts.{CutIsNotAccepted, VerdictIsSaid}
 use Rattle.session_laws.specs.Rounds.{RepliesAreInRange}
@@ -25,13 +25,13 @@ use Rattle.lease_store.specs.declared.LeaseFault.TheVariants as lease
 use Rattle.session_core.specs.Jobs.{VerifierJob, units_of_job, granted_from}
 use Rattle.session_core.specs.Judgements.{verdict_in}
 use Rattle.session_core.specs.Rounds.{AreServedRounds, round_turns}
-use Rattle.session_core.specs.Cores.{VerifierPlace, AreAsksSoFar, awaits_hello, owes_grant, awaits_asks, awaits_corrections, awaits_sums, awaits_openings, has_judged, has_refused, verifier_expects}
+use Rattle.session_core.specs.Cores.{VerifierStage, AreAsksSoFar, awaits_hello, owes_grant, awaits_asks, awaits_corrections, awaits_sums, awaits_openings, has_judged, has_refused, verifier_expects}
 use Rattle.session_core.specs.declared.judgement.Judgement.{Judgement}
 use Rattle.session_core.specs.declared.judgement.Judgement.TheVariants as judged
 use Rattle.session_verifier.specs.Outcomes.{judgement_outcome, lease_outcome, lease_code}
 use Rattle.session_verifier.proofs.RoundLemmas.{turns_append, some_rounds, asks_length}
 use Rattle.frame_link.specs.Lines.{LinkSnapshot, longest}
-use Rattle.session_verifier.specs.Stages.{first_turn, second_turn, StartsAt, IsLogAt, IsStopped, StopsBehind, IsRefused, IsRefusalSent, IsRefusalUnsent, IsRefusedGrant, LacksTheGrant, RefusesHello, IsWaiting, IsCourse}
+use Rattle.session_verifier.specs.Stages.{first_turn, second_turn, StartsAt, IsLogAt, IsStopped, StopsBehind, IsRefusalTried, IsRefusalSent, IsRefusalUnsent, IsRefusedGrant, LacksTheGrant, RefusesHello, IsWaiting, IsCourse}
 use Rattle.session_verifier.specs.Notes.{IsUngranted, SendsRightly, AcceptsExactly, refusal_of, IsJudgedSession}
 use Rattle.session_verifier.proofs.StageLemmas.{few_of}
 use Rattle.session_verifier.proofs.CourseLemmas.{IsKnown, grant_is, judged_session, hello_bytes}
@@ -91,7 +91,7 @@ serves_with job start rounds d log s bytes = record {
 
 -- ---- where a session is cut
 
--- in the turn behind some turns, and in the last one
+-- in the turn after some turns, and in the last one
 pub in_next : (front : List (List ℕ × List ℕ)) (second last : List ℕ × List ℕ) (n : ℕ) → length front ≡ n
     → (n < length (front ++ second ∷ last ∷ [])) × (take n (front ++ second ∷ last ∷ []) ≡ front)
     × (slice_index_or (front ++ second ∷ last ∷ []) n ([], []) ≡ second)
@@ -112,7 +112,7 @@ in_last front second last n counted =
       ap (λ l. slice_index_or l n ([], [])) (sym apart) ∙ get_or_at (front ++ second ∷ []) last [] ([], []) n long,
     )
 
--- a stop behind the grant is a cut of a session that goes on: so many turns are whole, and then these bytes came
+-- a stop after the grant is a cut of a session that goes on: so many turns are whole, and then these bytes came
 pub record IsCutOf (job : VerifierJob) (start whole : ℕ) (rest : List ℕ) (log : List (Side × ℕ)) : Type 0 where
   pub rounds : List Round
   pub served : AreServedRounds job.task.file (granted_from job start) rounds
@@ -168,23 +168,23 @@ front_count job start rounds served =
 
 -- ---- where the verifier waited, and bytes of the frame that it expected
 
-pub record IsCutAt (job : VerifierJob) (place : VerifierPlace) (rest : List ℕ) (log : List (Side × ℕ)) : Type 0 where
+pub record IsCutAt (job : VerifierJob) (stage : VerifierStage) (rest : List ℕ) (log : List (Side × ℕ)) : Type 0 where
   pub before : List (Side × ℕ)
-  pub waited : IsLogAt job place before
-  pub few : (other : Expect) → verifier_expects job place ≡ Some other → length rest ≤ longest other
+  pub waited : IsLogAt job stage before
+  pub few : (other : Expect) → verifier_expects job stage ≡ Some other → length rest ≤ longest other
   pub logged : log ≡ before ++ bytes_from Prover rest
 
-pub cut_of_stop : (job : VerifierJob) (place : VerifierPlace) (outcome : VerifierOutcome) (first now : LinkSnapshot) → (stopped : IsStopped job place outcome first now)
-    → IsCutAt job place stopped.rest now.log
-cut_of_stop job place outcome first now stopped = record {
+pub cut_of_stop : (job : VerifierJob) (stage : VerifierStage) (outcome : VerifierOutcome) (first now : LinkSnapshot) → (stopped : IsStopped job stage outcome first now)
+    → IsCutAt job stage stopped.rest now.log
+cut_of_stop job stage outcome first now stopped = record {
   before = stopped.before;
   waited = stopped.waited;
-  few = few_of job place outcome first now stopped;
+  few = few_of job stage outcome first now stopped;
   logged = stopped.log;
 }
 
-pub cut_of_log : (job : VerifierJob) (place : VerifierPlace) (log : List (Side × ℕ)) → IsLogAt job place log → IsCutAt job place [] log
-cut_of_log job place log at = record { before = log; waited = at; few = λ other is. omega arith; logged = sym (append-nil log) }
+pub cut_of_log : (job : VerifierJob) (stage : VerifierStage) (log : List (Side × ℕ)) → IsLogAt job stage log → IsCutAt job stage [] log
+cut_of_log job stage log at = record { before = log; waited = at; few = λ other is. omega arith; logged = sym (append-nil log) }
 
 -- ---- among the asks
 
@@ -238,7 +238,7 @@ cut_asks job start asked rest log ranges law known stopped =
     (stopped.few (expect.Ask job.task.file.params.height job.task.file.params.trees (units_of_job job - length asked)) refl)
     (stopped.logged ∙ ap (λ l. l ++ bytes_from Prover rest) at.2) some.1
 
--- ---- behind them
+-- ---- after them
 
 pub cut_corrections : (job : VerifierJob) (start : ℕ) (rest : List ℕ) (log : List (Side × ℕ)) → ServedSessionExists → IsKnown job
     → IsCutAt job (awaits_corrections start) rest log → IsCutOf job start (1 + rounds_of job.task.file.params.kind) rest log
@@ -258,28 +258,34 @@ cut_corrections job start rest log law known stopped =
     (stopped.logged ∙ ap (λ l. l ++ bytes_from Prover rest) (at.spelled ∙ append-nil (turn_bytes front))
     ∙ ap (λ l. turn_bytes l ++ bytes_from Prover rest) (sym next.1))
 
+-- a log that ends in the last turn of the prover
+cut_last : (job : VerifierJob) (start : ℕ) (rounds : List Round) (d rest : List ℕ) (log : List (Side × ℕ)) → ServedSessionExists → IsKnown job
+    → start + units_of_job job ≤ job.task.file.params.total → AreServedRounds job.task.file (granted_from job start) rounds
+    → AreElements job.task.statement.program.givens d
+    → length rest ≤ 5 + 16 * section_count job.task.statement.program job.section_length + (5 + 8 * length job.task.statement.program.opened)
+    → log ≡ turn_bytes (front_of job start rounds ++ second_turn job start d ∷ []) ++ bytes_from Prover rest
+    → IsCutOf job start (2 + rounds_of job.task.file.params.kind) rest log
+cut_last job start rounds d rest log law known within served elements most is =
+    let s = goes_further job start rounds d law known within served elements in
+    let front = front_of job start rounds in
+    let second = second_turn job start d in
+    let whole = 2 + rounds_of job.task.file.params.kind in
+    let next = in_last front second (last_turn s.t) whole (omega (arith, front_count job start rounds served)) in
+    let long = last_length job start rounds d s in
+    let few : length rest ≤ length (last_turn s.t).0 =
+    omega (arith, most, long.0, long.1, length-append (sums_frame s.t.sums) (openings_frame s.t.openings)) in
+    cut_at job start rounds d log whole rest (front ++ second ∷ last_turn s.t ∷ []) served s
+    (sym (turns_are job start rounds d s)) next.0
+    (subst (λ (turn : List ℕ × List ℕ). length rest ≤ length turn.0) (sym next.2) few)
+    (is ∙ ap (λ l. turn_bytes l ++ bytes_from Prover rest) (sym next.1))
+
 pub cut_sums : (job : VerifierJob) (start : ℕ) (d rest : List ℕ) (log : List (Side × ℕ)) → ServedSessionExists → IsKnown job
     → IsCutAt job (awaits_sums start d) rest log → IsCutOf job start (2 + rounds_of job.task.file.params.kind) rest log
 cut_sums job start d rest log law known stopped =
     let at = stopped.waited.1 in
-    let s = goes_further job start at.rounds d law known at.within at.served stopped.waited.0 in
-    let front = front_of job start at.rounds in
-    let second = second_turn job start d in
-    let whole = 2 + rounds_of job.task.file.params.kind in
-    let next = in_last front second (last_turn s.t) whole (omega (arith, front_count job start at.rounds at.served)) in
-    let long = last_length job start at.rounds d s in
-    let few : length rest ≤ length (last_turn s.t).0 =
-    omega (
-      arith,
-      stopped.few (expect.Sums (section_count job.task.statement.program job.section_length)) refl,
-      long.0,
-      length-append (sums_frame s.t.sums) (openings_frame s.t.openings),
-    ) in
-    cut_at job start at.rounds d log whole rest (front ++ second ∷ last_turn s.t ∷ []) at.served s
-    (sym (turns_are job start at.rounds d s)) next.0
-    (subst (λ (turn : List ℕ × List ℕ). length rest ≤ length turn.0) (sym next.2) few)
-    (stopped.logged ∙ ap (λ l. l ++ bytes_from Prover rest) (at.spelled ∙ sym (turns_append front (second ∷ [])))
-    ∙ ap (λ l. turn_bytes l ++ bytes_from Prover rest) (sym next.1))
+    cut_last job start at.rounds d rest log law known at.within at.served stopped.waited.0
+    (omega (arith, stopped.few (expect.Sums (section_count job.task.statement.program job.section_length)) refl))
+    (stopped.logged ∙ ap (λ l. l ++ bytes_from Prover rest) (at.spelled ∙ sym (turns_append (front_of job start at.rounds) (second_turn job start d ∷ []))))
 
 -- four lists, put otherwise
 apart : {X : Type 0} (a b s r : List X) → (a ++ (b ++ s)) ++ r ≡ (a ++ b) ++ (s ++ r)
@@ -290,30 +296,19 @@ pub cut_openings : (job : VerifierJob) (start : ℕ) (d : List ℕ) (both : List
     → IsCutOf job start (2 + rounds_of job.task.file.params.kind) (sums_frame both ++ rest) log
 cut_openings job start d both rest log law known stopped =
     let at = stopped.waited.2 in
-    let s = goes_further job start at.rounds d law known at.within at.served stopped.waited.0 in
     let front = front_of job start at.rounds in
     let second = second_turn job start d in
-    let whole = 2 + rounds_of job.task.file.params.kind in
-    let next = in_last front second (last_turn s.t) whole (omega (arith, front_count job start at.rounds at.served)) in
-    let long = last_length job start at.rounds d s in
-    let few : length (sums_frame both ++ rest) ≤ length (last_turn s.t).0 =
-    omega (
+    cut_last job start at.rounds d (sums_frame both ++ rest) log law known at.within at.served stopped.waited.0
+    (omega (
       arith,
       stopped.few (expect.Openings (length job.task.statement.program.opened)) refl,
-      long.0,
-      long.1,
       length_sums both,
       stopped.waited.1.counted,
-      length-append (sums_frame s.t.sums) (openings_frame s.t.openings),
       length-append (sums_frame both) rest,
-    ) in
-    cut_at job start at.rounds d log whole (sums_frame both ++ rest) (front ++ second ∷ last_turn s.t ∷ []) at.served s
-    (sym (turns_are job start at.rounds d s)) next.0
-    (subst (λ (turn : List ℕ × List ℕ). length (sums_frame both ++ rest) ≤ length turn.0) (sym next.2) few)
+    ))
     (stopped.logged ∙ ap (λ l. l ++ bytes_from Prover rest) at.spelled
     ∙ apart (turn_bytes front) (turn_bytes (second ∷ [])) (bytes_from Prover (sums_frame both)) (bytes_from Prover rest)
-    ∙ (λ i. sym (turns_append front (second ∷ [])) i ++ sym (map-append (λ (byte : ℕ). (Prover, byte)) (sums_frame both) rest) i)
-    ∙ ap (λ l. turn_bytes l ++ bytes_from Prover (sums_frame both ++ rest)) (sym next.1))
+    ∙ (λ i. sym (turns_append front (second ∷ [])) i ++ sym (map-append (λ (byte : ℕ). (Prover, byte)) (sums_frame both) rest) i))
 
 -- some turns are whole, and these bytes came of the next
 pub record IsSomeCut (job : VerifierJob) (start : ℕ) (log : List (Side × ℕ)) : Type 0 where
@@ -321,8 +316,8 @@ pub record IsSomeCut (job : VerifierJob) (start : ℕ) (log : List (Side × ℕ)
   pub rest : List ℕ
   pub cut : IsCutOf job start whole rest log
 
-pub cut_behind : (job : VerifierJob) (start : ℕ) (place : VerifierPlace) (rest : List ℕ) (log : List (Side × ℕ)) → RepliesAreInRange → ServedSessionExists → IsKnown job
-    → StartsAt start place → IsCutAt job place rest log → IsSomeCut job start log
+pub cut_behind : (job : VerifierJob) (start : ℕ) (stage : VerifierStage) (rest : List ℕ) (log : List (Side × ℕ)) → RepliesAreInRange → ServedSessionExists → IsKnown job
+    → StartsAt start stage → IsCutAt job stage rest log → IsSomeCut job start log
 cut_behind job start awaits_hello rest log ranges law known starts stopped = absurd starts
 cut_behind job start owes_grant rest log ranges law known starts stopped = absurd starts
 cut_behind job start (awaits_asks begun asked) rest log ranges law known starts stopped = subst (λ b. IsSomeCut job b log) starts
@@ -355,13 +350,13 @@ hello_length job known =
       known.stated.outputs.0,
     )
 
--- a refusal, or nothing, behind the hello
+-- a refusal, or nothing, after the hello
 ungranted_alone : (outcome : VerifierOutcome) (rest : List ℕ) (log : List (Side × ℕ)) → length rest ≤ 102 → log ≡ bytes_from Prover rest → IsUngranted outcome log
 ungranted_alone outcome rest log most is =
     record { rest = rest; most = most; answer = []; refused = inl refl; bytes = is ∙ sym (append-nil (bytes_from Prover rest)) }
 
 ungranted_refused : (outcome : VerifierOutcome) (code : ℕ) (rest : List ℕ) (mid now : LinkSnapshot) → length rest ≤ 102 → refusal_of outcome ≡ Some code
-    → mid.log ≡ bytes_from Prover rest → IsRefused code mid now → IsUngranted outcome now.log
+    → mid.log ≡ bytes_from Prover rest → IsRefusalTried code mid now → IsUngranted outcome now.log
 ungranted_refused outcome code rest mid now most of log refused = either refused.sent
   where
     either : (IsRefusalSent code mid now ⊎ IsRefusalUnsent code mid now) → IsUngranted outcome now.log
@@ -430,7 +425,7 @@ serves_judged job span judgement log session =
     or_span None = span
     or_span (Some other) = other
 
--- behind the hello, a refusal of the grant is logged, or nothing
+-- after the hello, a refusal of the grant is logged, or nothing
 sends_refusal : (job : VerifierJob) (span : Span) (first now : LinkSnapshot) → RepliesAreInRange → ServedSessionExists → IsKnown job
     → span.start + units_of_job job ≤ job.task.file.params.total → IsRefusedGrant job 4 first now → SendsRightly job (Some span) NoMemory now.log
 sends_refusal job span first now ranges law known within is = either is.refused.sent
@@ -468,7 +463,7 @@ sends_rightly job (Some (Ok span)) granted outcome first now ranges law known co
         → SendsRightly job (Some span) outcome now.log
     by_course (inl lacks) = sends_lacking job span outcome first now ranges law known within lacks
     by_course (inr (inl stops)) =
-        let some = cut_behind job span.start stops.place stops.stopped.rest now.log ranges law known stops.behind (cut_of_stop job stops.place outcome first now stops.stopped) in
+        let some = cut_behind job span.start stops.stage stops.stopped.rest now.log ranges law known stops.behind (cut_of_stop job stops.stage outcome first now stops.stopped) in
         let cut = some.cut in
         inl (serves_with job span.start cut.rounds cut.d now.log cut.session (inr (cut_in_turn job span.start some.whole some.rest now.log cut)))
     by_course (inr (inr found)) = inl (serves_judged job span found.0 now.log (judged_session job span (Some span) found.0 now.log known refl found.2.log))
@@ -540,7 +535,7 @@ accepts_exactly job (Some (Ok span)) granted outcome first now ranges law cut sa
         → outcome ≡ Accepted
     by_course (inl lacks) = absurd (lacking_is_cut lacks accepted)
     by_course (inr (inl stops)) =
-        let some = cut_behind job span.start stops.place stops.stopped.rest now.log ranges law known stops.behind (cut_of_stop job stops.place outcome first now stops.stopped) in
+        let some = cut_behind job span.start stops.stage stops.stopped.rest now.log ranges law known stops.behind (cut_of_stop job stops.stage outcome first now stops.stopped) in
         let is = some.cut in
         absurd (cut job.task is.session.t now.log known.file.params is.session.served.in_order.transcript
         (cut_in_turn job span.start some.whole some.rest now.log is) accepted)

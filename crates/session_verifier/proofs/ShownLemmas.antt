@@ -1,16 +1,9 @@
 -- What follows from the record of an accepted session.
-use Rattle.std.proofs.Common.{◌≡◌, ◌<◌, length, slice_index, subst, sym, ◌∙◌, ap, arith}
-use Rattle.std.proofs.lemmas.List.{length-map, get_or-map, ext_get_or}
-use Rattle.zk_model.specs.Program.{opened_values}
-use Rattle.zk_model.specs.Statement.{Statement, IsStatement}
-use Rattle.zk_model.specs.Mac.{values_of}
+use Rattle.std.proofs.Common.{subst, sym}
 use Rattle.zk_model.specs.Transcript.{IsCommitment}
-use Rattle.zk_model.specs.View.{View}
-use Rattle.zk_model.specs.Finding.{AllAsClaimed}
 use Rattle.zk_model.specs.declared.Params.{Params}
 use Rattle.zk_laws.specs.Extraction.{NoErrorSolves}
-use Rattle.zk_laws.proofs.Views.{value_at_place}
-use Rattle.zk_laws.proofs.SessionKeys.{opened_pair}
+use Rattle.zk_laws.proofs.FindingShows.{claims_are}
 use Rattle.session_verifier.specs.Laws.{ShownIsFound, ShownSolves}
 
 pub shown_is_found : ShownIsFound
@@ -23,21 +16,6 @@ shown_is_found job granted log prover shown is dealt =
       found = extracted.found;
       shows = extracted.shows extracted.finding extracted.found;
     }
-
--- opened wires that are as claimed have the claims as their values
-claims_are : (statement : Statement) (view : View) → IsStatement statement → AllAsClaimed statement view
-    → opened_values statement.program (values_of view.carried.wires) ≡ statement.claims
-claims_are statement view stated claimed =
-    ext_get_or 0 (opened_values statement.program (values_of view.carried.wires)) statement.claims (count ∙ sym stated.claim_count)
-    (λ o below.
-    let inside : o < length statement.program.opened = omega (arith, below, count) in
-    get_or-map (slice_index (values_of view.carried.wires)) statement.program.opened o 0 0 inside
-    ∙ value_at_place view.carried.wires (slice_index statement.program.opened o)
-    ∙ sym (ap (λ pair. pair.x) (opened_pair statement.program view o inside))
-    ∙ claimed o inside)
-  where
-    count : length (opened_values statement.program (values_of view.carried.wires)) ≡ length statement.program.opened
-    count = length-map statement.program.opened (slice_index (values_of view.carried.wires))
 
 pub shown_solves : NoErrorSolves → ShownSolves
 shown_solves law job granted log prover view shown is dealt seen right claimed = record {

@@ -5,7 +5,6 @@ use Rattle.std.specs.List.{AllByRecursion}
 use Rattle.std.proofs.lemmas.List.{map-append, length-map, take-map}
 use Rattle.std.proofs.lemmas.List.FromFn.{length-enumerate_from}
 use Rattle.std.specs.List.{enumerate_from}
-use Rattle.std.proofs.Math.Numerals.{add-one}
 use Rattle.std.proofs.lemmas.List.Elements.{All-nil, All-push, All-from_recursion}
 use Rattle.zk_model.specs.Program.{section_count}
 use Rattle.zk_model.specs.Transcript.{Hello, TreeAsk, IsHello, wanted_hello, hello_frame, grant_frame, ask_frame, reply_frame, corrections_frame, challenge_frame, sums_frame, openings_frame, verdict_frame, refuse_frame, bytes_from, turn_bytes, sent_by}
@@ -19,7 +18,7 @@ use Rattle.zk_model.specs.declared.Expect.TheVariants as places
 use Rattle.zk_model.specs.declared.Kind.TheVariants.{Direct, Extended}
 use Rattle.zk_model.specs.declared.Side.{Side}
 use Rattle.zk_model.specs.declared.Side.TheVariants.{Prover, Verifier}
-use Rattle.zk_laws.proofs.SentBytes.{sent_by-append, own_bytes, none_of_verifier}
+use Rattle.frame_laws.proofs.SentBytes.{sent_by-append, own_bytes, none_of_verifier}
 use Rattle.zk_port.specs.Logs.{appended, AppendsPart}
 use Rattle.zk_port.specs.Links.{LinkState}
 use Rattle.zk_port.specs.Counts.{Rose, counted}
@@ -34,52 +33,38 @@ use Rattle.proof_frames.specs.Readings.{Reading, IsShortPlace}
 use Rattle.proof_frames.proofs.Begun.{held_goes_on}
 use Rattle.proof_frames.proofs.Lengths.{whole_length}
 use Rattle.proof_frames.proofs.Steps.{nothing_held}
-use Rattle.frame_link.specs.Lines.{LineState, LinkSnapshot, Came, Arrives, Fails, Breaks, Sends, SendFails, IsSendRefused, IsSendCause, CountsFault, IsNoBadByte, IsCutShort, OnlySends, counted_times, snapshot, snapshot_of, longest}
+use Rattle.frame_link.specs.Lines.{LineState, LinkSnapshot, Came, Arrives, Fails, Breaks, Sends, SendFails, IsSendRefused, IsSendCause, CountsFault, IsNoBadByte, IsCutShort, counted_times, snapshot, snapshot_of, longest}
 use Rattle.frame_link.proofs.LineLemmas.{frame_most, appended_more, appended_none}
+use Rattle.frame_link.proofs.AnswerLemmas.{is_answered, one_send_more}
 use Rattle.session_core.specs.Jobs.{VerifierJob, units_of_job, granted_from}
 use Rattle.session_core.specs.Judgements.{verdict_in}
 use Rattle.session_core.specs.Extending.{asks_in}
 use Rattle.session_core.specs.Rounds.{round_turns}
-use Rattle.session_core.specs.Cores.{VerifierPlace, AnswersAsks, awaits_hello, owes_grant, behind_grant, awaits_asks, awaits_corrections, awaits_sums, awaits_openings, has_judged, has_refused, verifier_expects, VerifierAnswers, VerifierRefuses}
+use Rattle.session_core.specs.Cores.{VerifierStage, AnswersAsks, awaits_hello, owes_grant, behind_grant, awaits_asks, awaits_corrections, awaits_sums, awaits_openings, has_judged, has_refused, verifier_expects, VerifierAnswers, VerifierRefuses}
 use Rattle.session_laws.specs.Rounds.{RepliesAreInRange}
 use Rattle.session_verifier.proofs.RoundLemmas.{either_kind, behind_direct, behind_extended, turns_append, one_ask_more, replies_spelled, served_round, served_none, short_replies}
-use Rattle.session_verifier.specs.Stages.{IsHeldJob, IsLogAt, IsLineAt, IsStopped, IsRefused, LacksTheGrant, IsUnmet, RefusesHello, StopCause, LeavesFrame, IsUnsent, IsFault, CountsOutcome, SendsAnswer, AnswerFails, IsUsable, IsWaiting, first_turn, second_turn, frames_before, answers_before}
+use Rattle.session_verifier.specs.Stages.{IsHeldJob, IsLogAt, IsLineAt, IsStopped, IsRefusalTried, LacksTheGrant, IsUnmet, RefusesHello, StopCause, LeavesFrame, IsUnsent, IsFault, CountsOutcome, SendsAnswer, AnswerFails, IsUsable, IsWaiting, first_turn, second_turn, frames_before, answers_before}
 use Rattle.session_verifier.specs.declared.note.VerifierOutcome.{VerifierOutcome}
 use Rattle.session_verifier.specs.declared.note.VerifierOutcome.TheVariants.{Link, NoMemory}
 
 -- ---- what a frame holds
 
 abbrev corrections_in : Frame → List ℕ
-corrections_in (hello x) = []
-corrections_in (grant x) = []
-corrections_in (asks x) = []
-corrections_in (replies x) = []
 corrections_in (corrections d) = d
-corrections_in (challenge x) = []
-corrections_in (sums x) = []
 corrections_in (openings macs) = macs
-corrections_in (verdict x y) = []
-corrections_in (refuse x) = []
+corrections_in frame = []
 
 abbrev sums_in : Frame → List (ℕ × ℕ)
-sums_in (hello x) = []
-sums_in (grant x) = []
-sums_in (asks x) = []
-sums_in (replies x) = []
-sums_in (corrections d) = []
-sums_in (challenge x) = []
 sums_in (sums both) = both
-sums_in (openings macs) = []
-sums_in (verdict x y) = []
-sums_in (refuse x) = []
+sums_in frame = []
 
-abbrev place_in : Option Expect → Expect
-place_in None = places.Verdict
-place_in (Some place) = place
+abbrev stage_in : Option Expect → Expect
+stage_in None = places.Verdict
+stage_in (Some stage) = stage
 
 -- what comes at a place that is expected is what the place allows
 allowed_at : (wanted expect : Expect) (frame : Frame) → Some wanted ≡ Some expect → Allows expect frame → Allows wanted frame
-allowed_at wanted expect frame same allowed = subst (λ p. Allows p frame) (sym (ap place_in same)) allowed
+allowed_at wanted expect frame same allowed = subst (λ p. Allows p frame) (sym (ap stage_in same)) allowed
 
 -- ---- logs as lists of turns
 
@@ -94,7 +79,7 @@ behind_second a b s m v =
     ∙ append_assoc a ((b ++ s) ++ m) v
     ∙ ap (λ l. a ++ l) (ap (λ l. l ++ v) (append_assoc b s m) ∙ append_assoc b (s ++ m) v ∙ ap (λ l. b ++ l) (sym (append-nil ((s ++ m) ++ v))))
 
--- the log behind a frame of the prover's and an answer
+-- the log after a frame of the prover's and an answer
 abbrev pub log_behind : List (Side × ℕ) → Frame → List Frame → List (Side × ℕ)
 log_behind log frame answer = (log ++ bytes_from Prover (frame_spelling frame)) ++ bytes_from Verifier (flat_map frame_spelling answer)
 
@@ -103,7 +88,7 @@ one_answer : (frame : Frame) → bytes_from Verifier (flat_map frame_spelling (f
 one_answer frame = ap (bytes_from Verifier) (append-nil (frame_spelling frame))
 
 -- asks of one unit more, with their answer
-asks_on : (job : VerifierJob) (start : ℕ) (asked : List (List TreeAsk)) (trees : List TreeAsk) (now : VerifierPlace) (log : List (Side × ℕ)) (frame : Frame)
+asks_on : (job : VerifierJob) (start : ℕ) (asked : List (List TreeAsk)) (trees : List TreeAsk) (now : VerifierStage) (log : List (Side × ℕ)) (frame : Frame)
     (answer : List Frame) → RepliesAreInRange → IsHeldJob job → IsLogAt job (awaits_asks start asked) log
     → AreAsks job.task.file.params.height job.task.file.params.trees trees → frame ≡ asks trees
     → AnswersAsks job start (asked ++ trees ∷ []) answer now → IsLogAt job now (log_behind log frame answer)
@@ -136,9 +121,9 @@ asks_on job start asked trees now log frame answer law held at are is (inr all) 
           ∙ sym (append-nil (turn_bytes (first_turn job start ∷ (flat_map ask_frame all_asked, flat_map reply_frame replied) ∷ [])));
     })
 
-pub logs_on : (job : VerifierJob) (place now : VerifierPlace) (log : List (Side × ℕ)) (expect : Expect) (frame : Frame) (answer : List Frame)
+pub logs_on : (job : VerifierJob) (stage now : VerifierStage) (log : List (Side × ℕ)) (expect : Expect) (frame : Frame) (answer : List Frame)
     → RepliesAreInRange → IsHeldJob job
-    → verifier_expects job place ≡ Some expect → Allows expect frame → IsLogAt job place log → VerifierAnswers job place frame answer now
+    → verifier_expects job stage ≡ Some expect → Allows expect frame → IsLogAt job stage log → VerifierAnswers job stage frame answer now
     → IsLogAt job now (log_behind log frame answer)
 logs_on job awaits_hello now log expect frame answer law held expects allowed at answers =
     subst (λ n. IsLogAt job n (log_behind log frame answer)) (sym answers.2)
@@ -234,13 +219,13 @@ sent_more log bytes =
     ∙ length-append (sent_by Prover log) bytes
 
 -- one frame more is logged
-asks_counted : (job : VerifierJob) (start : ℕ) (asked : List (List TreeAsk)) (trees : List TreeAsk) (answer : List Frame) (now : VerifierPlace)
+asks_counted : (job : VerifierJob) (start : ℕ) (asked : List (List TreeAsk)) (trees : List TreeAsk) (answer : List Frame) (now : VerifierStage)
     → AnswersAsks job start (asked ++ trees ∷ []) answer now → frames_before job (awaits_asks start asked) + 1 ≤ frames_before job now
 asks_counted job start asked trees answer now (inl more) = omega (arith, ap (frames_before job) more.2, length-append asked (trees ∷ []))
 asks_counted job start asked trees answer now (inr all) = omega (arith, ap (frames_before job) all.2, all.0, length-append asked (trees ∷ []))
 
-one_frame_more : (job : VerifierJob) (place now : VerifierPlace) (frame : Frame) (answer : List Frame) → VerifierAnswers job place frame answer now
-    → frames_before job place + 1 ≤ frames_before job now
+one_frame_more : (job : VerifierJob) (stage now : VerifierStage) (frame : Frame) (answer : List Frame) → VerifierAnswers job stage frame answer now
+    → frames_before job stage + 1 ≤ frames_before job now
 one_frame_more job awaits_hello now frame answer answers = omega (arith, ap (frames_before job) answers.2)
 one_frame_more job owes_grant now frame answer answers = absurd answers
 one_frame_more job (awaits_asks start asked) now frame answer answers = asks_counted job start asked answers.0 answer now answers.2
@@ -251,25 +236,25 @@ one_frame_more job (has_judged start judgement) now frame answer answers = absur
 one_frame_more job has_refused now frame answer answers = absurd answers
 
 -- a place that is short has no longer frames
-longest_short : (place : Expect) → IsShortPlace place → longest place ≤ 2 ^ 24 + 5
+longest_short : (stage : Expect) → IsShortPlace stage → longest stage ≤ 2 ^ 24 + 5
 longest_short places.Hello short = omega arith
 longest_short places.Grant short = omega arith
+longest_short places.Challenge short = omega arith
+longest_short places.Verdict short = omega arith
 longest_short (places.Ask height trees left) short = short
 longest_short (places.Reply height trees left) short = short
 longest_short (places.Corrections count) short = short
-longest_short places.Challenge short = short
 longest_short (places.Sums sections) short = short
 longest_short (places.Openings count) short = short
-longest_short places.Verdict short = omega arith
 
-pub frame_short : (place : Expect) (bytes : List ℕ) (frame : Frame) → IsShortPlace place → IsWhole place bytes frame → length bytes ≤ 2 ^ 24 + 5
-frame_short place bytes frame short whole =
-    omega (arith, whole_length place bytes frame whole, frame_most place bytes, longest_short place short)
+pub frame_short : (stage : Expect) (bytes : List ℕ) (frame : Frame) → IsShortPlace stage → IsWhole stage bytes frame → length bytes ≤ 2 ^ 24 + 5
+frame_short stage bytes frame short whole =
+    omega (arith, whole_length stage bytes frame whole, frame_most stage bytes, longest_short stage short)
 
 -- ---- how many answers there were
 
 -- asks of one unit more, with their answer
-asks_answered : (job : VerifierJob) (start : ℕ) (asked : List (List TreeAsk)) (trees : List TreeAsk) (answer : List Frame) (now : VerifierPlace)
+asks_answered : (job : VerifierJob) (start : ℕ) (asked : List (List TreeAsk)) (trees : List TreeAsk) (answer : List Frame) (now : VerifierStage)
     → job.task.file.params.kind ≡ Extended → AnswersAsks job start (asked ++ trees ∷ []) answer now
     → ((answer ≡ []) × (answers_before job now ≡ 1)) ⊎ ((1 ≤ length answer) × (answers_before job now ≡ 1 + 1))
 asks_answered job start asked trees answer now extended (inl more) = inl (more.1, ap (answers_before job) more.2)
@@ -289,9 +274,9 @@ asks_answered job start asked trees answer now extended (inr all) =
     )
 
 -- an answer with frames is one answer more
-answers_counted : (job : VerifierJob) (place now : VerifierPlace) (log : List (Side × ℕ)) (frame : Frame) (answer : List Frame) → IsLogAt job place log
-    → VerifierAnswers job place frame answer now
-    → ((answer ≡ []) × (answers_before job now ≡ answers_before job place)) ⊎ ((1 ≤ length answer) × (answers_before job now ≡ answers_before job place + 1))
+answers_counted : (job : VerifierJob) (stage now : VerifierStage) (log : List (Side × ℕ)) (frame : Frame) (answer : List Frame) → IsLogAt job stage log
+    → VerifierAnswers job stage frame answer now
+    → ((answer ≡ []) × (answers_before job now ≡ answers_before job stage)) ⊎ ((1 ≤ length answer) × (answers_before job now ≡ answers_before job stage + 1))
 answers_counted job awaits_hello now log frame answer at answers = inl (answers.1, ap (answers_before job) answers.2)
 answers_counted job owes_grant now log frame answer at answers = absurd answers
 answers_counted job (awaits_asks start asked) now log frame answer at answers = asks_answered job start asked answers.0 answer now at.1.extended answers.2
@@ -302,10 +287,6 @@ answers_counted job (awaits_openings start d both) now log frame answer at answe
     inr (omega (arith, ap length answers.4), omega (arith, ap (answers_before job) answers.5))
 answers_counted job (has_judged start judgement) now log frame answer at answers = absurd answers
 answers_counted job has_refused now log frame answer at answers = absurd answers
-
--- one send more
-one_send_more : (n before now : ℕ) → now ≡ counted true (counted_times n before) → now ≡ counted_times (n + 1) before
-one_send_more n before now is = is ∙ ap (λ (k : ℕ). counted_times k before) (sym (add-one n))
 
 first_sent : (before old new : ℕ) → old ≡ before → new ≡ counted true old → new ≡ counted_times 1 before
 first_sent before old new none one = one_send_more 0 before new (one ∙ ap (counted true) none)
@@ -322,48 +303,14 @@ sends_on was now first old new answer (inr some) counts (inr sent) =
 
 -- ---- the next place
 
--- what an answer makes of a line, whether it has frames or none
-record IsAnswered (answer : List Frame) (old new : LineState) : Type 0 where
-  logged : new.log ≡ old.log ++ bytes_from old.side (flat_map frame_spelling answer)
-  told : new.told ≡ appended (bytes_from old.side (flat_map frame_spelling answer)) old.told
-  sends : ((answer ≡ []) × (new.sends ≡ old.sends)) ⊎ ((1 ≤ length answer) × (new.sends ≡ counted true old.sends))
-  others : OnlySends old new
-  unfailed : new.faults ≡ old.faults
-
-nothing_sent : (old new : LineState) → new ≡ old → IsAnswered [] old new
-nothing_sent old new same = record {
-  logged = ap (λ (l : LineState). l.log) same ∙ sym (append-nil old.log);
-  told = ap (λ (l : LineState). l.told) same ∙ appended_none old.told;
-  sends = inl (refl, ap (λ (l : LineState). l.sends) same);
-  others = record {
-    side = ap (λ (l : LineState). l.side) same;
-    reading = ap (λ (l : LineState). l.reading) same;
-    to_come = ap (λ (l : LineState). l.to_come) same;
-    ended = ap (λ (l : LineState). l.ended) same;
-    is_open = ap (λ (l : LineState). l.is_open) same;
-    receives = ap (λ (l : LineState). l.receives) same;
-  };
-  unfailed = ap (λ (l : LineState). l.faults) same;
-}
-
-answered : (answer : List Frame) (old new : LineState) → SendsAnswer answer old new → IsAnswered answer old new
-answered answer old new (inl none) = subst (λ a. IsAnswered a old new) (sym none.0) (nothing_sent old new none.1)
-answered answer old new (inr some) = record {
-  logged = some.1.logged;
-  told = some.1.told;
-  sends = inr (some.0, some.1.sends);
-  others = some.1.others;
-  unfailed = some.1.unfailed;
-}
-
 -- a line on which a frame came and was answered
-pub goes_on : (job : VerifierJob) (place now : VerifierPlace) (expect : Expect) (frame : Frame) (answer : List Frame) (first old mid new : LineState)
-    → RepliesAreInRange → IsHeldJob job → verifier_expects job place ≡ Some expect → IsShortPlace expect
-    → IsLineAt job place first old → Arrives expect frame old mid → VerifierAnswers job place frame answer now
+pub goes_on : (job : VerifierJob) (stage now : VerifierStage) (expect : Expect) (frame : Frame) (answer : List Frame) (first old mid new : LineState)
+    → RepliesAreInRange → IsHeldJob job → verifier_expects job stage ≡ Some expect → IsShortPlace expect
+    → IsLineAt job stage first old → Arrives expect frame old mid → VerifierAnswers job stage frame answer now
     → SendsAnswer answer mid new
     → IsLineAt job now first new
-goes_on job place now expect frame answer first old mid new law held expects short at came answers by =
-    let sent = answered answer mid new by in
+goes_on job stage now expect frame answer first old mid new law held expects short at came answers by =
+    let sent = is_answered answer mid new by in
     let bytes : came.bytes ≡ frame_spelling frame = came.whole.spelled in
     let mid_log : mid.log ≡ old.log ++ bytes_from Prover came.bytes = came.came.logged ∙ ap (λ s. old.log ++ bytes_from (peer_of s) came.bytes) at.side in
     let new_side : mid.side ≡ Verifier = came.came.side ∙ at.side in
@@ -375,17 +322,17 @@ goes_on job place now expect frame answer first old mid new law held expects sho
     let log : new.log ≡ more came.bytes = sent.logged ∙ (λ i. mid_log i ++ bytes_from (new_side i) (flat_map frame_spelling answer)) in
     let counted = ap (λ l. length (sent_by Prover l)) log ∙ sent_behind old.log came.bytes (flat_map frame_spelling answer) in
     let few = frame_short expect came.bytes frame short came.whole in
-    let one = one_frame_more job place now frame answer answers in
+    let one = one_frame_more job stage now frame answer answers in
     let before = ap (λ (r : Reading). r.received) at.received in
     record {
-      log = subst (IsLogAt job now) (sym (log ∙ ap more bytes)) (logs_on job place now old.log expect frame answer law held expects came.whole.allowed at.log answers);
+      log = subst (IsLogAt job now) (sym (log ∙ ap more bytes)) (logs_on job stage now old.log expect frame answer law held expects came.whole.allowed at.log answers);
       received = sent.others.reading ∙ came.read ∙ (λ i. record { received = (ap (λ n. n + length came.bytes) before ∙ sym counted) i; expected = None; taken = []; bad = None });
       few = omega (arith, counted, few, one, at.few);
       told = sent.told ∙ (λ i. appended (bytes_from (new_side i) (flat_map frame_spelling answer)) (came_told i))
           ∙ appended_more (old.log ++ bytes_from Prover came.bytes) (bytes_from Verifier (flat_map frame_spelling answer)) first.told
           ∙ ap (λ l. appended l first.told) (sym log);
-      sends = sends_on (answers_before job place) (answers_before job now) first.sends mid.sends new.sends answer
-          (answers_counted job place now old.log frame answer at.log answers) (came.came.sends ∙ at.sends) sent.sends;
+      sends = sends_on (answers_before job stage) (answers_before job now) first.sends mid.sends new.sends answer
+          (answers_counted job stage now old.log frame answer at.log answers) (came.came.sends ∙ at.sends) sent.sends;
       side = sent.others.side ∙ new_side;
       usable = sent.others.is_open ∙ came.came.is_open ∙ at.usable;
       receives = omega (arith, counted, sent.others.receives, came.receives, at.receives);
@@ -395,32 +342,32 @@ goes_on job place now expect frame answer first old mid new law held expects sho
 -- ---- where it stops
 
 -- what is expected is one place
-pub one_expected : (some other : Expect) (place : Option Expect) → place ≡ Some some → place ≡ Some other → other ≡ some
-one_expected some other place is also = ap place_in (sym also ∙ is)
+pub one_expected : (some other : Expect) (stage : Option Expect) → stage ≡ Some some → stage ≡ Some other → other ≡ some
+one_expected some other stage is also = ap stage_in (sym also ∙ is)
 
 -- no more came than a frame of it has
-pub few_of : (job : VerifierJob) (place : VerifierPlace) (outcome : VerifierOutcome) (first now : LinkSnapshot) → (stopped : IsStopped job place outcome first now)
-    → (other : Expect) → verifier_expects job place ≡ Some other → length stopped.rest ≤ longest other
-few_of job place outcome first now stopped other also =
-    subst (λ p. length stopped.rest ≤ longest p) (sym (one_expected stopped.expect other (verifier_expects job place) stopped.expected also)) stopped.few
+pub few_of : (job : VerifierJob) (stage : VerifierStage) (outcome : VerifierOutcome) (first now : LinkSnapshot) → (stopped : IsStopped job stage outcome first now)
+    → (other : Expect) → verifier_expects job stage ≡ Some other → length stopped.rest ≤ longest other
+few_of job stage outcome first now stopped other also =
+    subst (λ p. length stopped.rest ≤ longest p) (sym (one_expected stopped.expect other (verifier_expects job stage) stopped.expected also)) stopped.few
 
-came_logged : (job : VerifierJob) (place : VerifierPlace) (bytes : List ℕ) (first old mid : LineState) → IsLineAt job place first old → Came bytes old mid
+came_logged : (job : VerifierJob) (stage : VerifierStage) (bytes : List ℕ) (first old mid : LineState) → IsLineAt job stage first old → Came bytes old mid
     → mid.log ≡ old.log ++ bytes_from Prover bytes
-came_logged job place bytes first old mid at came = came.logged ∙ ap (λ s. old.log ++ bytes_from (peer_of s) bytes) at.side
+came_logged job stage bytes first old mid at came = came.logged ∙ ap (λ s. old.log ++ bytes_from (peer_of s) bytes) at.side
 
-came_told : (job : VerifierJob) (place : VerifierPlace) (bytes : List ℕ) (first old mid : LineState) → IsLineAt job place first old → Came bytes old mid
+came_told : (job : VerifierJob) (stage : VerifierStage) (bytes : List ℕ) (first old mid : LineState) → IsLineAt job stage first old → Came bytes old mid
     → mid.told ≡ appended mid.log first.told
-came_told job place bytes first old mid at came =
+came_told job stage bytes first old mid at came =
     let peer : peer_of old.side ≡ Prover = ap peer_of at.side in
     came.told ∙ (λ i. appended (bytes_from (peer i) bytes) (at.told i))
     ∙ appended_more old.log (bytes_from Prover bytes) first.told
-    ∙ ap (λ l. appended l first.told) (sym (came_logged job place bytes first old mid at came))
+    ∙ ap (λ l. appended l first.told) (sym (came_logged job stage bytes first old mid at came))
 
 -- all that came is counted
-came_counted : (job : VerifierJob) (place : VerifierPlace) (bytes : List ℕ) (first old mid : LineState) → IsLineAt job place first old → Came bytes old mid
+came_counted : (job : VerifierJob) (stage : VerifierStage) (bytes : List ℕ) (first old mid : LineState) → IsLineAt job stage first old → Came bytes old mid
     → length (sent_by Prover mid.log) ≡ old.reading.received + length bytes
-came_counted job place bytes first old mid at came =
-    ap (λ l. length (sent_by Prover l)) (came_logged job place bytes first old mid at came) ∙ sent_more old.log bytes
+came_counted job stage bytes first old mid at came =
+    ap (λ l. length (sent_by Prover l)) (came_logged job stage bytes first old mid at came) ∙ sent_more old.log bytes
     ∙ ap (λ n. n + length bytes) (sym (ap (λ (r : Reading). r.received) at.received))
 
 -- how often calls failed
@@ -431,16 +378,16 @@ count_of (fault.BadFrame at) first old now faults count = record { later = omega
 count_of fault.Link first old now faults count = record { later = omega (arith, faults, count.later); unfailed = λ no. absurd no }
 count_of fault.NoMemory first old now faults count = record { later = omega (arith, faults, count.later); unfailed = λ no. count.unfailed no ∙ faults }
 
-line_cause : (job : VerifierJob) (place : VerifierPlace) (expect : Expect) (bytes : List ℕ) (broke : LineFault) (first old now : LineState)
-    → verifier_expects job place ≡ Some expect
+line_cause : (job : VerifierJob) (stage : VerifierStage) (expect : Expect) (bytes : List ℕ) (broke : LineFault) (first old now : LineState)
+    → verifier_expects job stage ≡ Some expect
     → length (sent_by Prover now.log) ≡ old.reading.received + length bytes → old.faults ≡ first.faults
-    → Breaks expect bytes old now broke → StopCause job place bytes (snapshot_of first) (snapshot_of now) (line_outcome broke)
-line_cause job place expect bytes (fault.PeerEnded at) first old now expects counted faults broken =
+    → Breaks expect bytes old now broke → StopCause job stage bytes (snapshot_of first) (snapshot_of now) (line_outcome broke)
+line_cause job stage expect bytes (fault.PeerEnded at) first old now expects counted faults broken =
     ((expect, expects, (broken.1, broken.2)), broken.0 ∙ sym counted, broken.3, broken.4)
-line_cause job place expect bytes (fault.BadFrame at) first old now expects counted faults broken =
+line_cause job stage expect bytes (fault.BadFrame at) first old now expects counted faults broken =
     (broken.0, (expect, expects, broken.1), omega (arith, counted, broken.2))
-line_cause job place expect bytes fault.Link first old now expects counted faults broken = subst (λ n. Rose n now.faults) faults broken
-line_cause job place expect bytes fault.NoMemory first old now expects counted faults broken = tt
+line_cause job stage expect bytes fault.Link first old now expects counted faults broken = subst (λ n. Rose n now.faults) faults broken
+line_cause job stage expect bytes fault.NoMemory first old now expects counted faults broken = tt
 
 -- what is left of the frame where it did not come
 frame_left : (expect : Expect) (bytes : List ℕ) (broke : LineFault) → (IsNoBadByte broke → IsCutShort expect bytes)
@@ -450,55 +397,58 @@ frame_left expect bytes (fault.BadFrame at) cut = tt
 frame_left expect bytes fault.Link cut = cut tt
 frame_left expect bytes fault.NoMemory cut = inl (cut tt)
 
--- no frame came
-pub stops_without : (job : VerifierJob) (place : VerifierPlace) (expect : Expect) (broke : LineFault) (first old now : LineState)
-    → verifier_expects job place ≡ Some expect → IsLineAt job place first old → Fails expect broke old now
-    → IsStopped job place (line_outcome broke) (snapshot_of first) (snapshot_of now)
-stops_without job place expect broke first old now expects at fails =
-    let counted = came_counted job place fails.bytes first old now at fails.came in
+-- where a session stops after bytes that came, and nothing was to be sent
+stopped_behind : (job : VerifierJob) (stage : VerifierStage) (expect : Expect) (bytes : List ℕ) (outcome : VerifierOutcome) (first old now : LineState)
+    → verifier_expects job stage ≡ Some expect → IsLineAt job stage first old → Came bytes old now → length bytes ≤ longest expect
+    → (length (sent_by Prover now.log) ≡ old.reading.received + length bytes → StopCause job stage bytes (snapshot_of first) (snapshot_of now) outcome)
+    → LeavesFrame expect bytes outcome → now.receives ≤ old.receives + length bytes + 1 → CountsOutcome outcome (snapshot_of first) (snapshot_of now)
+    → IsStopped job stage outcome (snapshot_of first) (snapshot_of now)
+stopped_behind job stage expect bytes outcome first old now expects at came few cause left receives count =
+    let counted = came_counted job stage bytes first old now at came in
     let received = ap (λ (r : Reading). r.received) at.received in
     record {
-      before = old.log;
-      waited = at.log;
       expect = expect;
       expected = expects;
-      rest = fails.bytes;
-      few = fails.few;
-      log = came_logged job place fails.bytes first old now at fails.came;
-      cause = line_cause job place expect fails.bytes broke first old now expects counted at.faults fails.broken;
-      sends = inl (record { told = came_told job place fails.bytes first old now at fails.came; sends = fails.came.sends ∙ at.sends }, frame_left expect fails.bytes broke fails.cut);
-      receives = omega (arith, counted, received, fails.receives, at.receives);
-      count = count_of broke first old now at.faults fails.count;
+      rest = bytes;
+      few = few;
+      count = count;
+      before = old.log;
+      waited = at.log;
+      log = came_logged job stage bytes first old now at came;
+      cause = cause counted;
+      sends = inl (record { told = came_told job stage bytes first old now at came; sends = came.sends ∙ at.sends }, left);
+      receives = omega (arith, counted, received, receives, at.receives);
     }
+
+-- no frame came
+pub stops_without : (job : VerifierJob) (stage : VerifierStage) (expect : Expect) (broke : LineFault) (first old now : LineState)
+    → verifier_expects job stage ≡ Some expect → IsLineAt job stage first old → Fails expect broke old now
+    → IsStopped job stage (line_outcome broke) (snapshot_of first) (snapshot_of now)
+stops_without job stage expect broke first old now expects at fails =
+    stopped_behind job stage expect fails.bytes (line_outcome broke) first old now expects at fails.came fails.few
+    (λ counted. line_cause job stage expect fails.bytes broke first old now expects counted at.faults fails.broken)
+    (frame_left expect fails.bytes broke fails.cut) fails.receives (count_of broke first old now at.faults fails.count)
 
 frame_few : (expect : Expect) (frame : Frame) (old mid : LineState) → (came : Arrives expect frame old mid) → length came.bytes ≤ longest expect
 frame_few expect frame old mid came = omega (arith, whole_length expect came.bytes frame came.whole, frame_most expect came.bytes)
 
 abbrev pub hello_in : Hello → Frame → Hello
 hello_in other (hello x) = x
-hello_in other (grant x) = other
-hello_in other (asks x) = other
-hello_in other (replies x) = other
-hello_in other (corrections d) = other
-hello_in other (challenge x) = other
-hello_in other (sums x) = other
-hello_in other (openings macs) = other
-hello_in other (verdict x y) = other
-hello_in other (refuse x) = other
+hello_in other frame = other
 
 -- a hello that is taken is in range
-hello_ranged : (job : VerifierJob) (place : VerifierPlace) (expect : Expect) (frame : Frame) (other : Hello) → verifier_expects job place ≡ Some expect
-    → Allows expect frame → place ≡ awaits_hello → frame ≡ hello other → IsHello other
-hello_ranged job place expect frame other expects allowed at is =
+hello_ranged : (job : VerifierJob) (stage : VerifierStage) (expect : Expect) (frame : Frame) (other : Hello) → verifier_expects job stage ≡ Some expect
+    → Allows expect frame → stage ≡ awaits_hello → frame ≡ hello other → IsHello other
+hello_ranged job stage expect frame other expects allowed at is =
     let given = allowed_at places.Hello expect frame (sym (ap (verifier_expects job) at) ∙ expects) allowed in
     subst IsHello (ap (hello_in other) (sym given.1 ∙ is)) given.2
 
-refusal_cause : (job : VerifierJob) (place : VerifierPlace) (expect : Expect) (frame : Frame) (bytes : List ℕ) (fault : VerifierFault) (first now : LineState)
-    → verifier_expects job place ≡ Some expect → Allows expect frame
-    → bytes ≡ frame_spelling frame → VerifierRefuses job place frame fault → StopCause job place bytes (snapshot_of first) (snapshot_of now) (session_outcome fault)
-refusal_cause job place expect frame bytes (session.BadHello differs) first now expects allowed spelled refuses =
-    (refuses.1, (refuses.0, hello_ranged job place expect frame refuses.0 expects allowed refuses.1 refuses.2, spelled ∙ ap frame_spelling refuses.2, refuses.3))
-refusal_cause job place expect frame bytes session.NoMemory first now expects allowed spelled refuses = tt
+refusal_cause : (job : VerifierJob) (stage : VerifierStage) (expect : Expect) (frame : Frame) (bytes : List ℕ) (fault : VerifierFault) (first now : LineState)
+    → verifier_expects job stage ≡ Some expect → Allows expect frame
+    → bytes ≡ frame_spelling frame → VerifierRefuses job stage frame fault → StopCause job stage bytes (snapshot_of first) (snapshot_of now) (session_outcome fault)
+refusal_cause job stage expect frame bytes (session.BadHello differs) first now expects allowed spelled refuses =
+    (refuses.1, (refuses.0, hello_ranged job stage expect frame refuses.0 expects allowed refuses.1 refuses.2, spelled ∙ ap frame_spelling refuses.2, refuses.3))
+refusal_cause job stage expect frame bytes session.NoMemory first now expects allowed spelled refuses = tt
 
 -- and where it came, and was refused
 frame_whole : (expect : Expect) (bytes : List ℕ) (frame : Frame) (fault : VerifierFault) → IsWhole expect bytes frame
@@ -510,32 +460,20 @@ refused_count : (fault : VerifierFault) (first now : LineState) → now.faults �
 refused_count fault first now same = record { later = omega (arith, same); unfailed = λ _. same }
 
 -- a frame was refused
-pub stops_refused : (job : VerifierJob) (place : VerifierPlace) (expect : Expect) (frame : Frame) (fault : VerifierFault) (first old now : LineState)
-    → verifier_expects job place ≡ Some expect → IsLineAt job place first old → Arrives expect frame old now → VerifierRefuses job place frame fault
-    → IsStopped job place (session_outcome fault) (snapshot_of first) (snapshot_of now)
-stops_refused job place expect frame fault first old now expects at came refuses =
-    let counted = came_counted job place came.bytes first old now at came.came in
-    let received = ap (λ (r : Reading). r.received) at.received in
-    record {
-      before = old.log;
-      waited = at.log;
-      expect = expect;
-      expected = expects;
-      rest = came.bytes;
-      few = frame_few expect frame old now came;
-      log = came_logged job place came.bytes first old now at came.came;
-      cause = refusal_cause job place expect frame came.bytes fault first now expects came.whole.allowed came.whole.spelled refuses;
-      sends = inl (record { told = came_told job place came.bytes first old now at came.came; sends = came.came.sends ∙ at.sends }, frame_whole expect came.bytes frame fault came.whole);
-      receives = omega (arith, counted, received, came.receives, at.receives);
-      count = refused_count fault first now (came.unfailed ∙ at.faults);
-    }
+pub stops_refused : (job : VerifierJob) (stage : VerifierStage) (expect : Expect) (frame : Frame) (fault : VerifierFault) (first old now : LineState)
+    → verifier_expects job stage ≡ Some expect → IsLineAt job stage first old → Arrives expect frame old now → VerifierRefuses job stage frame fault
+    → IsStopped job stage (session_outcome fault) (snapshot_of first) (snapshot_of now)
+stops_refused job stage expect frame fault first old now expects at came refuses =
+    stopped_behind job stage expect came.bytes (session_outcome fault) first old now expects at came.came (frame_few expect frame old now came)
+    (λ counted. refusal_cause job stage expect frame came.bytes fault first now expects came.whole.allowed came.whole.spelled refuses)
+    (frame_whole expect came.bytes frame fault came.whole) (omega (arith, came.receives)) (refused_count fault first now (came.unfailed ∙ at.faults))
 
-send_cause : (job : VerifierJob) (place : VerifierPlace) (bytes : List ℕ) (broke : LineFault) (first mid now : LineState) → mid.faults ≡ first.faults
-    → IsSendCause mid now broke → StopCause job place bytes (snapshot_of first) (snapshot_of now) (line_outcome broke)
-send_cause job place bytes (fault.PeerEnded at) first mid now faults cause = absurd cause
-send_cause job place bytes (fault.BadFrame at) first mid now faults cause = absurd cause
-send_cause job place bytes fault.Link first mid now faults cause = subst (λ n. Rose n now.faults) faults cause
-send_cause job place bytes fault.NoMemory first mid now faults cause = tt
+send_cause : (job : VerifierJob) (stage : VerifierStage) (bytes : List ℕ) (broke : LineFault) (first mid now : LineState) → mid.faults ≡ first.faults
+    → IsSendCause mid now broke → StopCause job stage bytes (snapshot_of first) (snapshot_of now) (line_outcome broke)
+send_cause job stage bytes (fault.PeerEnded at) first mid now faults cause = absurd cause
+send_cause job stage bytes (fault.BadFrame at) first mid now faults cause = absurd cause
+send_cause job stage bytes fault.Link first mid now faults cause = subst (λ n. Rose n now.faults) faults cause
+send_cause job stage bytes fault.NoMemory first mid now faults cause = tt
 
 unsent_fault : (broke : LineFault) (old new : LineState) → IsSendCause old new broke → IsFault (line_outcome broke)
 unsent_fault (fault.PeerEnded at) old new cause = absurd cause
@@ -560,18 +498,18 @@ unsent_of answers bytes broke first mid now side told sends refused =
     }
 
 -- memory was missing for an answer, and nothing was sent
-stops_unprepared : (job : VerifierJob) (place : VerifierPlace) (expect : Expect) (frame : Frame) (first old mid : LineState)
-    → verifier_expects job place ≡ Some expect → IsLineAt job place first old → Arrives expect frame old mid
-    → IsStopped job place NoMemory (snapshot_of first) (snapshot_of mid)
-stops_unprepared job place expect frame first old mid expects at came = stops_refused job place expect frame session.NoMemory first old mid expects at came tt
+stops_unprepared : (job : VerifierJob) (stage : VerifierStage) (expect : Expect) (frame : Frame) (first old mid : LineState)
+    → verifier_expects job stage ≡ Some expect → IsLineAt job stage first old → Arrives expect frame old mid
+    → IsStopped job stage NoMemory (snapshot_of first) (snapshot_of mid)
+stops_unprepared job stage expect frame first old mid expects at came = stops_refused job stage expect frame session.NoMemory first old mid expects at came tt
 
 -- the send of an answer was refused
-stops_with : (job : VerifierJob) (place next : VerifierPlace) (expect : Expect) (frame : Frame) (answer : List Frame) (broke : LineFault) (first old mid now : LineState)
-    → verifier_expects job place ≡ Some expect → IsLineAt job place first old → Arrives expect frame old mid → VerifierAnswers job place frame answer next
+stops_with : (job : VerifierJob) (stage next : VerifierStage) (expect : Expect) (frame : Frame) (answer : List Frame) (broke : LineFault) (first old mid now : LineState)
+    → verifier_expects job stage ≡ Some expect → IsLineAt job stage first old → Arrives expect frame old mid → VerifierAnswers job stage frame answer next
     → 1 ≤ length answer → IsSendRefused (flat_map frame_spelling answer) broke mid now
-    → IsStopped job place (line_outcome broke) (snapshot_of first) (snapshot_of now)
-stops_with job place next expect frame answer broke first old mid now expects at came answers some refused =
-    let counted = ap (λ l. length (sent_by Prover l)) refused.logged ∙ came_counted job place came.bytes first old mid at came.came in
+    → IsStopped job stage (line_outcome broke) (snapshot_of first) (snapshot_of now)
+stops_with job stage next expect frame answer broke first old mid now expects at came answers some refused =
+    let counted = ap (λ l. length (sent_by Prover l)) refused.logged ∙ came_counted job stage came.bytes first old mid at came.came in
     let received = ap (λ (r : Reading). r.received) at.received in
     record {
       before = old.log;
@@ -580,8 +518,8 @@ stops_with job place next expect frame answer broke first old mid now expects at
       expected = expects;
       rest = came.bytes;
       few = frame_few expect frame old mid came;
-      log = refused.logged ∙ came_logged job place came.bytes first old mid at came.came;
-      cause = send_cause job place came.bytes broke first mid now (came.unfailed ∙ at.faults) refused.cause;
+      log = refused.logged ∙ came_logged job stage came.bytes first old mid at came.came;
+      cause = send_cause job stage came.bytes broke first mid now (came.unfailed ∙ at.faults) refused.cause;
       sends = inr (
         unsent_fault broke mid now refused.cause,
         (
@@ -596,8 +534,8 @@ stops_with job place next expect frame answer broke first old mid now expects at
             answers = answers;
             answer_is = refl;
           },
-          unsent_of (answers_before job place) (flat_map frame_spelling answer) broke first mid now (came.came.side ∙ at.side)
-              (came_told job place came.bytes first old mid at came.came) (came.came.sends ∙ at.sends) refused,
+          unsent_of (answers_before job stage) (flat_map frame_spelling answer) broke first mid now (came.came.side ∙ at.side)
+              (came_told job stage came.bytes first old mid at came.came) (came.came.sends ∙ at.sends) refused,
         ),
       );
       receives = omega (arith, counted, received, refused.others.receives, came.receives, at.receives);
@@ -605,25 +543,25 @@ stops_with job place next expect frame answer broke first old mid now expects at
     }
 
 -- an answer was not sent
-pub stops_unsent : (job : VerifierJob) (place next : VerifierPlace) (expect : Expect) (frame : Frame) (answer : List Frame) (broke : LineFault) (first old mid now : LineState)
-    → verifier_expects job place ≡ Some expect → IsLineAt job place first old → Arrives expect frame old mid → VerifierAnswers job place frame answer next
+pub stops_unsent : (job : VerifierJob) (stage next : VerifierStage) (expect : Expect) (frame : Frame) (answer : List Frame) (broke : LineFault) (first old mid now : LineState)
+    → verifier_expects job stage ≡ Some expect → IsLineAt job stage first old → Arrives expect frame old mid → VerifierAnswers job stage frame answer next
     → AnswerFails answer broke mid now
-    → IsStopped job place (line_outcome broke) (snapshot_of first) (snapshot_of now)
-stops_unsent job place next expect frame answer broke first old mid now expects at came answers fails = either fails.1
+    → IsStopped job stage (line_outcome broke) (snapshot_of first) (snapshot_of now)
+stops_unsent job stage next expect frame answer broke first old mid now expects at came answers fails = either fails.1
   where
-    either : SendFails (flat_map frame_spelling answer) broke mid now → IsStopped job place (line_outcome broke) (snapshot_of first) (snapshot_of now)
-    either (inl none) = subst (λ (q : LineFault × LineState). IsStopped job place (line_outcome q.0) (snapshot_of first) (snapshot_of q.1))
-        (λ i. (sym none.0 i, sym none.1 i)) (stops_unprepared job place expect frame first old mid expects at came)
-    either (inr refused) = stops_with job place next expect frame answer broke first old mid now expects at came answers fails.0 refused
+    either : SendFails (flat_map frame_spelling answer) broke mid now → IsStopped job stage (line_outcome broke) (snapshot_of first) (snapshot_of now)
+    either (inl none) = subst (λ (q : LineFault × LineState). IsStopped job stage (line_outcome q.0) (snapshot_of first) (snapshot_of q.1))
+        (λ i. (sym none.0 i, sym none.1 i)) (stops_unprepared job stage expect frame first old mid expects at came)
+    either (inr refused) = stops_with job stage next expect frame answer broke first old mid now expects at came answers fails.0 refused
 
 -- one frame that is short
 one_short : (frame : Frame) → IsShort frame → All IsShort (frame ∷ [])
 one_short frame short = let each : AllByRecursion IsShort (frame ∷ []) = (short, tt) in All-from_recursion IsShort (frame ∷ []) each
 
 -- an answer has short frames
-pub short_answers : (job : VerifierJob) (place now : VerifierPlace) (log : List (Side × ℕ)) (expect : Expect) (frame : Frame) (answer : List Frame)
-    → RepliesAreInRange → IsHeldJob job → verifier_expects job place ≡ Some expect → Allows expect frame → IsLogAt job place log
-    → VerifierAnswers job place frame answer now → All IsShort answer
+pub short_answers : (job : VerifierJob) (stage now : VerifierStage) (log : List (Side × ℕ)) (expect : Expect) (frame : Frame) (answer : List Frame)
+    → RepliesAreInRange → IsHeldJob job → verifier_expects job stage ≡ Some expect → Allows expect frame → IsLogAt job stage log
+    → VerifierAnswers job stage frame answer now → All IsShort answer
 short_answers job awaits_hello now log expect frame answer law held expects allowed at answers = subst (All IsShort) (sym answers.1) (All-nil IsShort)
 short_answers job owes_grant now log expect frame answer law held expects allowed at answers = absurd answers
 short_answers job (awaits_asks start asked) now log expect frame answer law held expects allowed at answers = either answers.2
@@ -668,10 +606,10 @@ pub usable_sent : (answer : List ℕ) (old now : LineState) → IsUsable old →
 usable_sent answer old now usable sent =
     record { side = sent.others.side ∙ usable.side; open_still = sent.others.is_open ∙ usable.open_still }
 
-pub usable_at : (job : VerifierJob) (place : VerifierPlace) (first line : LineState) → IsLineAt job place first line → IsUsable line
-usable_at job place first line at = record { side = at.side; open_still = at.usable }
+pub usable_at : (job : VerifierJob) (stage : VerifierStage) (first line : LineState) → IsLineAt job stage first line → IsUsable line
+usable_at job stage first line at = record { side = at.side; open_still = at.usable }
 
--- the grant is behind the hello
+-- the grant is after the hello
 behind_hello : {X : Type 0} (a : List X) → a ≡ (a ++ []) ++ []
 behind_hello a = sym (append-nil a) ∙ sym (append-nil (a ++ []))
 
@@ -737,9 +675,9 @@ granted_on job start first old new within at sent =
     }
 
 -- a line is the same with room in its log
-pub at_with_room : (job : VerifierJob) (place : VerifierPlace) (first old new : LineState) (room : ℕ) → new ≡ record old { room = room }
-    → IsLineAt job place first old → IsLineAt job place first new
-at_with_room job place first old new room is at = subst (IsLineAt job place first) (sym is) (record {
+pub at_with_room : (job : VerifierJob) (stage : VerifierStage) (first old new : LineState) (room : ℕ) → new ≡ record old { room = room }
+    → IsLineAt job stage first old → IsLineAt job stage first new
+at_with_room job stage first old new room is at = subst (IsLineAt job stage first) (sym is) (record {
   log = at.log;
   received = at.received;
   few = at.few;
@@ -751,9 +689,9 @@ at_with_room job place first old new room is at = subst (IsLineAt job place firs
   faults = at.faults;
 })
 
-pub waiting_of : (job : VerifierJob) (place : VerifierPlace) (first line : LineState) → IsLineAt job place first line
-    → IsWaiting job place (snapshot_of first) (snapshot_of line)
-waiting_of job place first line at =
+pub waiting_of : (job : VerifierJob) (stage : VerifierStage) (first line : LineState) → IsLineAt job stage first line
+    → IsWaiting job stage (snapshot_of first) (snapshot_of line)
+waiting_of job stage first line at =
     record { log = at.log; sent = record { told = at.told; sends = at.sends }; receives = at.receives; faults = at.faults }
 
 -- ---- the grant is not sent
@@ -789,12 +727,12 @@ grant_unsent job start bytes broke first old new is at refused =
 
 -- there was no memory for it, and a refusal was sent
 pub grant_refused : (job : VerifierJob) (start : ℕ) (first old new : LineState) → IsLineAt job owes_grant first old
-    → IsRefused 4 (snapshot_of old) (snapshot_of new) → LacksTheGrant job start NoMemory (snapshot_of first) (snapshot_of new)
+    → IsRefusalTried 4 (snapshot_of old) (snapshot_of new) → LacksTheGrant job start NoMemory (snapshot_of first) (snapshot_of new)
 grant_refused job start first old new at refused = inl (refl, record { mid = snapshot_of old; waiting = waiting_of job owes_grant first old at; refused = refused })
 
 -- ---- refusals
 
-refusal_sent : (code : ℕ) (old new : LineState) → IsUsable old → Sends (refuse_frame code) old new → IsRefused code (snapshot_of old) (snapshot_of new)
+refusal_sent : (code : ℕ) (old new : LineState) → IsUsable old → Sends (refuse_frame code) old new → IsRefusalTried code (snapshot_of old) (snapshot_of new)
 refusal_sent code old new usable sent = record {
   sent = inl (record {
     log = sent.logged ∙ ap (λ s. old.log ++ bytes_from s (refuse_frame code)) usable.side;
@@ -809,7 +747,7 @@ refusal_sent code old new usable sent = record {
 }
 
 refusal_failed : (code : ℕ) (broke : LineFault) (old new : LineState) → IsUsable old → IsSendRefused (refuse_frame code) broke old new
-    → IsRefused code (snapshot_of old) (snapshot_of new)
+    → IsRefusalTried code (snapshot_of old) (snapshot_of new)
 refusal_failed code broke old new usable fails = record {
   sent = inr (record {
     log = fails.logged;
@@ -824,7 +762,7 @@ refusal_failed code broke old new usable fails = record {
 
 pub refusal_of : {T : Type 0} (code : ℕ) (bytes : List ℕ) (old new : LineState) (result : Result T LineFault) → bytes ≡ refuse_frame code → IsUsable old
     → OnOk result (Sends bytes old new) → IfErr result (λ broke. IsSendRefused bytes broke old new)
-    → IsRefused code (snapshot_of old) (snapshot_of new)
+    → IsRefusalTried code (snapshot_of old) (snapshot_of new)
 refusal_of code bytes old new (Ok value) is usable sent fails = refusal_sent code old new usable (subst (λ b. Sends b old new) is sent)
 refusal_of code bytes old new (Err broke) is usable sent fails = refusal_failed code broke old new usable (subst (λ b. IsSendRefused b broke old new) is fails)
 
@@ -873,7 +811,7 @@ hello_missing fault.NoMemory bytes now cut = inr (cut tt, refl)
 
 pub unmet_without : (job : VerifierJob) (broke : LineFault) (first old now : LineState) → IsLineAt job awaits_hello first old → Fails places.Hello broke old now
     → IsUnmet job (line_outcome broke) (snapshot_of first) (snapshot_of now)
-unfolding stops_without
+unfolding stops_without stopped_behind
 unmet_without job broke first old now at fails = record {
   mid = snapshot_of now;
   stopped = stops_without job awaits_hello places.Hello broke first old now refl at fails;
@@ -882,15 +820,15 @@ unmet_without job broke first old now at fails = record {
 
 -- it came, and was refused
 hello_refused : (fault : VerifierFault) (bytes : List ℕ) (mid now : LinkSnapshot) → (hello : Hello) × IsHello hello × (bytes ≡ hello_frame hello)
-    → IsRefused (hello_code fault) mid now → RefusesHello bytes (session_outcome fault) mid now
+    → IsRefusalTried (hello_code fault) mid now → RefusesHello bytes (session_outcome fault) mid now
 hello_refused (session.BadHello differs) bytes mid now whole refused = refused
 hello_refused session.NoMemory bytes mid now whole refused = inl (whole, refused)
 
 pub unmet_refused : (job : VerifierJob) (frame : Frame) (fault : VerifierFault) (first old mid now : LineState) → IsLineAt job awaits_hello first old
     → Arrives places.Hello frame old mid → VerifierRefuses job awaits_hello frame fault
-    → IsRefused (hello_code fault) (snapshot_of mid) (snapshot_of now)
+    → IsRefusalTried (hello_code fault) (snapshot_of mid) (snapshot_of now)
     → IsUnmet job (session_outcome fault) (snapshot_of first) (snapshot_of now)
-unfolding stops_refused
+unfolding stops_refused stopped_behind
 unmet_refused job frame fault first old mid now at came refuses refused =
     let whole = came.whole.allowed in record {
       mid = snapshot_of mid;

@@ -1,4 +1,4 @@
--- What the link tells behind the log: a part of the one answer whose send was refused.
+-- What the link tells after the log: a part of the one answer whose send was refused.
 use Rattle.std.proofs.Common.{◌≡◌, ◌⊎◌, inl, inr, ℕ, ◌+◌, ◌≤◌, List, [], ◌∷◌, ◌++◌, flat_map, take, drop, length, Option, Some, None, Result, Ok, Err, refl, ap, sym, ◌∙◌, subst, arith, append-nil, append_assoc}
 use Rattle.std.proofs.lemmas.List.{map-append, take-append-drop, take-map}
 use Rattle.zk_model.specs.Files.{rounds_of}
@@ -18,10 +18,10 @@ use Rattle.lease_store.specs.declared.LeaseFault.{LeaseFault}
 use Rattle.lease_store.specs.declared.LeaseFault.TheVariants as lease
 use Rattle.session_core.specs.Jobs.{VerifierJob, units_of_job, granted_from}
 use Rattle.session_core.specs.Judgements.{verdict_in}
-use Rattle.session_core.specs.Cores.{VerifierPlace, VerifierAnswers, AnswersAsks, awaits_hello, owes_grant, behind_grant, awaits_asks, awaits_corrections, awaits_sums, awaits_openings, has_judged, has_refused}
+use Rattle.session_core.specs.Cores.{VerifierStage, VerifierAnswers, AnswersAsks, awaits_hello, owes_grant, behind_grant, awaits_asks, awaits_corrections, awaits_sums, awaits_openings, has_judged, has_refused}
 use Rattle.session_core.specs.declared.judgement.Judgement.{Judgement}
 use Rattle.session_verifier.specs.Outcomes.{judgement_outcome, lease_outcome, lease_code}
-use Rattle.session_verifier.specs.Stages.{IsHeldJob, IsLogAt, IsUnsent, IsAnswer, IsFault, SendsUpTo, StartsAt, IsStopped, StopsBehind, IsWholeHello, IsRefused, IsRefusalSent, IsRefusalUnsent, IsRefusedGrant, LacksTheGrant, RefusesHello, IsWaiting, IsCourse}
+use Rattle.session_verifier.specs.Stages.{IsHeldJob, IsLogAt, IsUnsent, IsAnswer, IsFault, SendsUpTo, StartsAt, IsStopped, StopsBehind, IsWholeHello, IsRefusalTried, IsRefusalSent, IsRefusalUnsent, IsRefusedGrant, LacksTheGrant, RefusesHello, IsWaiting, IsCourse}
 use Rattle.session_verifier.specs.Notes.{refusal_of, BeginsRefusal, SendsRightly, TellsRightly, IsAllSent, IsTold}
 use Rattle.session_verifier.proofs.StageLemmas.{logs_on, grant_behind}
 use Rattle.session_verifier.proofs.RoundLemmas.{either_kind, behind_direct, behind_extended, turns_append}
@@ -83,8 +83,8 @@ serves_judged_part job start judgement log answer count known at =
 
 -- ---- the answer that is due
 
-answered_part : (job : VerifierJob) (start : ℕ) (place next : VerifierPlace) (frame : Frame) (frames : List Frame) (log : List (Side × ℕ)) (answer : List ℕ) (count : ℕ)
-    → RepliesAreInRange → ServedSessionExists → IsKnown job → StartsAt start place → VerifierAnswers job place frame frames next → 1 ≤ length frames
+answered_part : (job : VerifierJob) (start : ℕ) (stage next : VerifierStage) (frame : Frame) (frames : List Frame) (log : List (Side × ℕ)) (answer : List ℕ) (count : ℕ)
+    → RepliesAreInRange → ServedSessionExists → IsKnown job → StartsAt start stage → VerifierAnswers job stage frame frames next → 1 ≤ length frames
     → IsLogAt job next (log ++ bytes_from Verifier answer)
     → ServesWith job.task (granted_from job start) (log ++ bytes_from Verifier (take count answer))
 answered_part job start awaits_hello next frame frames log answer count ranges law known starts answers some at = absurd starts
@@ -134,17 +134,17 @@ granted_part job start log count ranges law known within at = by_kind (either_ki
         serves_part job start 1 log (grant_frame (granted_from job start)) count
         (cut_asks job start [] [] all ranges law known (cut_of_log job (awaits_asks start []) all (subst (λ p. IsLogAt job p all) (behind_extended job start extended) behind)))
 
--- behind the log where a session stopped
-due_part : (job : VerifierJob) (start : ℕ) (place : VerifierPlace) (before log : List (Side × ℕ)) (rest answer : List ℕ) (count : ℕ)
-    → RepliesAreInRange → ServedSessionExists → IsKnown job → StartsAt start place → IsLogAt job place before → log ≡ before ++ bytes_from Prover rest
-    → IsAnswer job place rest answer
+-- after the log where a session stopped
+due_part : (job : VerifierJob) (start : ℕ) (stage : VerifierStage) (before log : List (Side × ℕ)) (rest answer : List ℕ) (count : ℕ)
+    → RepliesAreInRange → ServedSessionExists → IsKnown job → StartsAt start stage → IsLogAt job stage before → log ≡ before ++ bytes_from Prover rest
+    → IsAnswer job stage rest answer
     → ServesWith job.task (granted_from job start) (log ++ bytes_from Verifier (take count answer))
-due_part job start place before log rest answer count ranges law known starts waited logged is =
+due_part job start stage before log rest answer count ranges law known starts waited logged is =
     let held : IsHeldJob job = record { file = known.file; is = known.is } in
-    let next = logs_on job place is.next before is.allowed.0 is.frame is.frames ranges held is.allowed.1 is.allowed.2 waited is.answers in
+    let next = logs_on job stage is.next before is.allowed.0 is.frame is.frames ranges held is.allowed.1 is.allowed.2 waited is.answers in
     let whole : (before ++ bytes_from Prover (frame_spelling is.frame)) ++ bytes_from Verifier (flat_map frame_spelling is.frames) ≡ log ++ bytes_from Verifier answer =
     (λ i. (before ++ bytes_from Prover (sym is.came i)) ++ bytes_from Verifier (sym is.answer_is i)) ∙ ap (λ l. l ++ bytes_from Verifier answer) (sym logged) in
-    answered_part job start place is.next is.frame is.frames log answer count ranges law known starts is.answers is.at_least_one
+    answered_part job start stage is.next is.frame is.frames log answer count ranges law known starts is.answers is.at_least_one
     (subst (IsLogAt job is.next) whole next)
 
 -- ---- a refusal
@@ -156,7 +156,7 @@ record TellsRefusal (outcome : VerifierOutcome) (first now : LinkSnapshot) : Typ
   begins : BeginsRefusal outcome (now.log ++ bytes_from Verifier part)
 
 tells_refusal : (outcome : VerifierOutcome) (code : ℕ) (rest : List ℕ) (first mid now : LinkSnapshot) → IsWholeHello rest → refusal_of outcome ≡ Some code
-    → mid.log ≡ bytes_from Prover rest → mid.told ≡ appended mid.log first.told → IsRefused code mid now → TellsRefusal outcome first now
+    → mid.log ≡ bytes_from Prover rest → mid.told ≡ appended mid.log first.told → IsRefusalTried code mid now → TellsRefusal outcome first now
 tells_refusal outcome code rest first mid now whole of log told refused = either refused.sent
   where
     frame : List ℕ
@@ -261,7 +261,7 @@ fault_never (Exhausted at count total) is all = is
 fault_never Device is all = is
 fault_never (Broken at) is all = is
 
--- behind the wanted hello
+-- after the wanted hello
 tells_refused_grant : (job : VerifierJob) (outcome : VerifierOutcome) (code : ℕ) (first now : LinkSnapshot) → IsKnown job → refusal_of outcome ≡ Some code
     → IsRefusedGrant job code first now → TellsRefusal outcome first now
 tells_refused_grant job outcome code first now known of is =
@@ -320,17 +320,17 @@ is_told job (Some (Ok span)) granted outcome first now ranges law known course =
     sends : SendsRightly job (Some span) outcome now.log
     sends = subst (λ g. SendsRightly job g outcome now.log) course.0 (sends_rightly job (Some (Ok span)) granted outcome first now ranges law known course)
 
-    stops_told : (place : VerifierPlace) → StartsAt span.start place → (stopped : IsStopped job place outcome first now)
-        → SendsUpTo job place stopped.expect stopped.rest outcome first now → IsTold job (Some span) outcome first now
-    stops_told place starts stopped (inl sent) = told_whole job (Some span) outcome first now sent.0.told (serves_of job span outcome now.log known sends)
-    stops_told place starts stopped (inr unsent) =
+    stops_told : (stage : VerifierStage) → StartsAt span.start stage → (stopped : IsStopped job stage outcome first now)
+        → SendsUpTo job stage stopped.expect stopped.rest outcome first now → IsTold job (Some span) outcome first now
+    stops_told stage starts stopped (inl sent) = told_whole job (Some span) outcome first now sent.0.told (serves_of job span outcome now.log known sends)
+    stops_told stage starts stopped (inr unsent) =
         let is = unsent.1 in
         told_part job span outcome _ is.0 first now unsent.0 is.2
-        (due_part job span.start place stopped.before now.log stopped.rest is.0 is.2.count ranges law known starts stopped.waited stopped.log is.1)
+        (due_part job span.start stage stopped.before now.log stopped.rest is.0 is.2.count ranges law known starts stopped.waited stopped.log is.1)
 
     by_course : (LacksTheGrant job span.start outcome first now ⊎ StopsBehind job span.start outcome first now
         ⊎ ((other : Judgement) × (outcome ≡ judgement_outcome other) × IsWaiting job (has_judged span.start other) first now))
         → IsTold job (Some span) outcome first now
     by_course (inl lacks) = told_lacking job span outcome first now ranges law known within lacks
-    by_course (inr (inl stops)) = stops_told stops.place stops.behind stops.stopped stops.stopped.sends
+    by_course (inr (inl stops)) = stops_told stops.stage stops.behind stops.stopped stops.stopped.sends
     by_course (inr (inr found)) = told_whole job (Some span) outcome first now found.2.sent.told (serves_of job span outcome now.log known sends)

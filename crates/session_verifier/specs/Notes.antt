@@ -13,7 +13,7 @@ use Rattle.zk_model.specs.declared.Verdict.TheVariants as verdict
 use Rattle.zk_model.specs.HonestProver.{ProverTask}
 use Rattle.zk_model.specs.Peers.{IsFromHonestProver, HasEndedHonestly}
 use Rattle.zk_laws.specs.Extraction.{IsExtracted}
-use Rattle.zk_laws.specs.Rehearsing.{AreCounterparts}
+use Rattle.zk_laws.specs.Completeness.{AreCounterparts}
 use Rattle.session_laws.specs.Peers.{HasWitness, GivesClaims}
 use Rattle.zk_port.specs.Counts.{Rose, counted}
 use Rattle.zk_port.specs.Logs.{appended}
@@ -22,13 +22,14 @@ use Rattle.lease_store.specs.declared.LeaseFault.{LeaseFault}
 use Rattle.lease_store.specs.declared.LeaseFault.TheVariants as lease
 use Rattle.session_core.specs.Jobs.{VerifierJob, units_of_job, granted_from}
 use Rattle.session_core.specs.Judgements.{IsJudgement, verdict_in}
-use Rattle.session_core.specs.Cores.{VerifierPlace, awaits_hello, has_judged}
+use Rattle.session_core.specs.Cores.{VerifierStage, awaits_hello, has_judged}
 use Rattle.session_core.specs.declared.judgement.Judgement.{Judgement}
 use Rattle.session_core.specs.declared.judgement.Judgement.TheVariants as judged
 use Rattle.session_verifier.specs.Outcomes.{judgement_outcome}
-use Rattle.session_verifier.specs.Stages.{IsStopped, IsRefused, IsRefusedGrant, IsGrantUnsent, IsWaiting, IsWholeHello}
+use Rattle.session_verifier.specs.Stages.{IsStopped, IsRefusalTried, IsRefusedGrant, IsGrantUnsent, IsWaiting, IsWholeHello}
 use Rattle.session_verifier.specs.declared.note.VerifierOutcome.{VerifierOutcome}
 use Rattle.session_verifier.specs.declared.note.VerifierOutcome.TheVariants.{Accepted, RejectedSum, RejectedOpening, PeerEnded, BadFrame, BadHello, Exhausted, Device, Broken, Link, NoMemory}
+use Rattle.zk_model.specs.declared.limits.TheConstants.{HELLO_LENGTH}
 
 -- the units that were leased, if any were
 abbrev pub granted_by : Option (Result Span LeaseFault) → Option Span
@@ -85,7 +86,7 @@ refusal_of outcome = None
 -- refusal of its outcome.
 pub record IsUngranted (outcome : VerifierOutcome) (log : List (Side × ℕ)) : Type 0 where
   pub rest : List ℕ
-  pub most : length rest ≤ 102
+  pub most : length rest ≤ HELLO_LENGTH
   pub answer : List ℕ
   pub refused : (answer ≡ []) ⊎ ((code : ℕ) × (refusal_of outcome ≡ Some code) × (answer ≡ refuse_frame code))
   pub bytes : log ≡ bytes_from Prover rest ++ bytes_from Verifier answer
@@ -102,7 +103,7 @@ SendsRightly job None outcome log = IsUngranted outcome log
 SendsRightly job (Some span) outcome log =
     ServesWith job.task (granted_from job span.start) log ⊎ ((outcome ≡ NoMemory) × EndsByRefusal job 4 log)
 
--- a first part of the refusal of an outcome, behind a whole hello
+-- a first part of the refusal of an outcome, after a whole hello
 pub record BeginsRefusal (outcome : VerifierOutcome) (log : List (Side × ℕ)) : Type 0 where
   pub rest : List ℕ
   pub hello : IsWholeHello rest
@@ -140,7 +141,7 @@ pub record HasJudged
 
 -- the session stopped where the verifier waited for a frame
 abbrev pub StopsSomewhere : VerifierJob → VerifierOutcome → LinkSnapshot → LinkSnapshot → Type 0
-StopsSomewhere job outcome first now = (place : VerifierPlace) × IsStopped job place outcome first now
+StopsSomewhere job outcome first now = (stage : VerifierStage) × IsStopped job stage outcome first now
 
 -- units were leased, and the one send of their grant was refused
 abbrev pub FailsToGrant :
@@ -148,7 +149,7 @@ abbrev pub FailsToGrant :
 FailsToGrant job answer outcome first now =
     (span : Span) × (answer ≡ Some (Ok span)) × IsGrantUnsent job span.start outcome first now
 
--- memory was missing in the grant's place, behind a whole hello: refusal 4 was sent; units were leased only behind the wanted one
+-- memory was missing in the grant's place, after a whole hello: refusal 4 was sent; units were leased only after the wanted one
 pub record LacksGrant
     (job : VerifierJob)
     (answer : Option (Result Span LeaseFault))
@@ -161,13 +162,13 @@ pub record LacksGrant
   pub told : mid.told ≡ appended mid.log first.told
   pub unsent : mid.sends ≡ first.sends
   pub unfailed : mid.faults ≡ first.faults
-  pub refused : IsRefused 4 mid now
+  pub refused : IsRefusalTried 4 mid now
 
 -- memory was missing elsewhere: while a frame came or was answered, but not in the grant's place
 pub record LacksMemory (job : VerifierJob) (first now : LinkSnapshot) : Type 0 where
-  pub place : VerifierPlace
-  pub stopped : IsStopped job place NoMemory first now
-  pub unmet : place ≡ awaits_hello → ¬ IsWholeHello stopped.rest
+  pub stage : VerifierStage
+  pub stopped : IsStopped job stage NoMemory first now
+  pub unmet : stage ≡ awaits_hello → ¬ IsWholeHello stopped.rest
 
 -- no lease was refused
 abbrev pub RefusesNoLease : Option (Result Span LeaseFault) → Type 0
@@ -186,7 +187,7 @@ EndsBecause job answer (RejectedOpening output left right) first now =
 EndsBecause job answer (PeerEnded at) first now = StopsSomewhere job (PeerEnded at) first now
 EndsBecause job answer (BadFrame at) first now = StopsSomewhere job (BadFrame at) first now
 EndsBecause job answer (BadHello differs) first now =
-    (mid : LinkSnapshot) × IsStopped job awaits_hello (BadHello differs) first mid × IsRefused 1 mid now
+    (mid : LinkSnapshot) × IsStopped job awaits_hello (BadHello differs) first mid × IsRefusalTried 1 mid now
 EndsBecause job answer (Exhausted at count total) first now =
     (answer ≡ Some (Err (lease.Exhausted at count total))) × IsRefusedGrant job 2 first now
 EndsBecause job answer Device first now = (answer ≡ Some (Err lease.Device)) × IsRefusedGrant job 3 first now
@@ -255,7 +256,7 @@ IsPeerEnd Link = ⊥
 IsPeerEnd NoMemory = ⊥
 
 -- The peer is an honest prover with the same statement, a file that is dealt with the verifier's, and values that give the
--- claims: what came from it is a beginning of what such a prover sends for what the verifier sent, and it ended only behind all
+-- claims: what came from it is a beginning of what such a prover sends for what the verifier sent, and it ended only after all
 -- of that.
 pub record HasHonestPeer (job : VerifierJob) (prover : ProverTask) (outcome : VerifierOutcome) (log : List (Side × ℕ)) : Type 0 where
   pub counterparts : AreCounterparts prover job.task

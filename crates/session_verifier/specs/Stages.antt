@@ -16,13 +16,14 @@ use Rattle.frame_link.specs.declared.fault.LineFault.{LineFault}
 use Rattle.session_core.specs.Jobs.{VerifierJob, IsVerifierJob, granted_from, units_of_job}
 use Rattle.session_core.specs.Judgements.{IsJudgement, session_transcript, verdict_in}
 use Rattle.session_core.specs.Rounds.{AreServedRounds, round_turns}
-use Rattle.session_core.specs.Cores.{VerifierPlace, VerifierState, AreAsksSoFar, VerifierAnswers, awaits_hello, owes_grant, awaits_asks, awaits_corrections, awaits_sums, awaits_openings, has_judged, has_refused, verifier_expects, DiffersFirst}
+use Rattle.session_core.specs.Cores.{VerifierStage, VerifierState, AreAsksSoFar, VerifierAnswers, awaits_hello, owes_grant, awaits_asks, awaits_corrections, awaits_sums, awaits_openings, has_judged, has_refused, verifier_expects, DiffersFirst}
 use Rattle.session_core.specs.declared.judgement.Judgement.{Judgement}
 use Rattle.zk_model.specs.declared.Span.{Span}
 use Rattle.lease_store.specs.declared.LeaseFault.{LeaseFault}
 use Rattle.session_verifier.specs.Outcomes.{lease_outcome, lease_code, judgement_outcome}
 use Rattle.session_verifier.specs.declared.note.VerifierOutcome.{VerifierOutcome}
 use Rattle.session_verifier.specs.declared.note.VerifierOutcome.TheVariants.{Accepted, RejectedSum, RejectedOpening, PeerEnded, BadFrame, BadHello, Exhausted, Device, Broken, Link, NoMemory}
+use Rattle.zk_model.specs.declared.limits.TheConstants.{MAX_PAYLOAD}
 
 -- ---- the frames that are logged
 
@@ -63,7 +64,7 @@ pub record IsJudgedLog (job : VerifierJob) (start : ℕ) (judgement : Judgement)
   pub spelled : log ≡ spelling (session_transcript job start rounds corrections sums openings (verdict_in judgement))
 
 -- What is logged where a verifier waits: the frames that came, each turn with its answer; and how many came of the units' asks.
-abbrev pub IsLogAt : VerifierJob → VerifierPlace → List (Side × ℕ) → Type 0
+abbrev pub IsLogAt : VerifierJob → VerifierStage → List (Side × ℕ) → Type 0
 IsLogAt job awaits_hello log = log ≡ []
 IsLogAt job owes_grant log = log ≡ bytes_from Prover (hello_frame (wanted_hello job.task.file.id job.task.statement))
 IsLogAt job (awaits_asks start asked) log =
@@ -81,8 +82,8 @@ IsLogAt job (awaits_openings start d both) log =
 IsLogAt job (has_judged start judgement) log = IsJudgedLog job start judgement log
 IsLogAt job has_refused log = ⊥
 
--- how many frames of the prover are logged where a verifier waits, at most: behind the grant one for each unit whose asks came
-abbrev pub frames_before : VerifierJob → VerifierPlace → ℕ
+-- how many frames of the prover are logged where a verifier waits, at most: after the grant one for each unit whose asks came
+abbrev pub frames_before : VerifierJob → VerifierStage → ℕ
 frames_before job awaits_hello = 0
 frames_before job owes_grant = 1
 frames_before job (awaits_asks start asked) = 1 + length asked
@@ -93,7 +94,7 @@ frames_before job (has_judged start judgement) = 4 + units_of_job job
 frames_before job has_refused = 4 + units_of_job job
 
 -- how many answers of the verifier are sent where it waits: the grant, in kind extended the replies, the challenge, and the verdict
-abbrev pub answers_before : VerifierJob → VerifierPlace → ℕ
+abbrev pub answers_before : VerifierJob → VerifierStage → ℕ
 answers_before job awaits_hello = 0
 answers_before job owes_grant = 0
 answers_before job (awaits_asks start asked) = 1
@@ -108,7 +109,7 @@ pub record IsSent (answers : ℕ) (first now : LinkSnapshot) : Type 0 where
   pub told : now.told ≡ appended now.log first.told
   pub sends : now.sends ≡ counted_times answers first.sends
 
--- behind so many answers, the one send of another was refused: behind the log the link tells a first part of it, maybe none or all
+-- after so many answers, the one send of another was refused: after the log the link tells a first part of it, maybe none or all
 pub record IsUnsent (answers : ℕ) (answer : List ℕ) (first now : LinkSnapshot) : Type 0 where
   pub count : ℕ
   pub told : now.told ≡ appended (now.log ++ bytes_from Verifier (take count answer)) first.told
@@ -116,12 +117,12 @@ pub record IsUnsent (answers : ℕ) (answer : List ℕ) (first now : LinkSnapsho
 
 -- A line where a verifier waits, since a first moment: all that passed is logged, each answer was sent by one send, no frame is
 -- under way, and there were at most as many receives as bytes came; nothing failed.
-pub record IsLineAt (job : VerifierJob) (place : VerifierPlace) (first now : LineState) : Type 0 where
-  pub log : IsLogAt job place now.log
+pub record IsLineAt (job : VerifierJob) (stage : VerifierStage) (first now : LineState) : Type 0 where
+  pub log : IsLogAt job stage now.log
   pub received : now.reading ≡ record { received = length (sent_by Prover now.log); expected = None; taken = []; bad = None }
-  pub few : length (sent_by Prover now.log) ≤ frames_before job place * (2 ^ 24 + 5)
+  pub few : length (sent_by Prover now.log) ≤ frames_before job stage * (MAX_PAYLOAD + 5)
   pub told : now.told ≡ appended now.log first.told
-  pub sends : now.sends ≡ counted_times (answers_before job place) first.sends
+  pub sends : now.sends ≡ counted_times (answers_before job stage) first.sends
   pub side : now.side ≡ Verifier
   pub usable : now.is_open ≡ true
   pub receives : now.receives ≤ first.receives + length (sent_by Prover now.log)
@@ -129,31 +130,31 @@ pub record IsLineAt (job : VerifierJob) (place : VerifierPlace) (first now : Lin
 
 -- a frame is expected
 abbrev pub Expects : VerifierState → Type 0
-Expects state = (expect : Expect) × (verifier_expects state.job state.place ≡ Some expect)
+Expects state = (expect : Expect) × (verifier_expects state.job state.stage ≡ Some expect)
 
 -- where a verifier waits once the asks of so many units have come
-abbrev pub BehindAsks : VerifierJob → ℕ → List (List TreeAsk) → VerifierPlace → Type 0
+abbrev pub BehindAsks : VerifierJob → ℕ → List (List TreeAsk) → VerifierStage → Type 0
 BehindAsks job start asked now =
     ((length asked < units_of_job job) × (now ≡ awaits_asks start asked))
     ⊎ ((length asked ≡ units_of_job job) × (now ≡ awaits_corrections start))
 
 -- where a verifier waits next, once a frame has come and is answered
-abbrev pub Follows : VerifierJob → VerifierPlace → VerifierPlace → Type 0
-Follows job awaits_hello now = now ≡ owes_grant
-Follows job owes_grant now = ⊥
-Follows job (awaits_asks start asked) now = (trees : List TreeAsk) × BehindAsks job start (asked ++ trees ∷ []) now
-Follows job (awaits_corrections start) now = (d : List ℕ) × (now ≡ awaits_sums start d)
-Follows job (awaits_sums start d) now = (both : List (ℕ × ℕ)) × (now ≡ awaits_openings start d both)
-Follows job (awaits_openings start d both) now = (judgement : Judgement) × (now ≡ has_judged start judgement)
-Follows job (has_judged start judgement) now = ⊥
-Follows job has_refused now = ⊥
+abbrev pub FollowsStage : VerifierJob → VerifierStage → VerifierStage → Type 0
+FollowsStage job awaits_hello now = now ≡ owes_grant
+FollowsStage job owes_grant now = ⊥
+FollowsStage job (awaits_asks start asked) now = (trees : List TreeAsk) × BehindAsks job start (asked ++ trees ∷ []) now
+FollowsStage job (awaits_corrections start) now = (d : List ℕ) × (now ≡ awaits_sums start d)
+FollowsStage job (awaits_sums start d) now = (both : List (ℕ × ℕ)) × (now ≡ awaits_openings start d both)
+FollowsStage job (awaits_openings start d both) now = (judgement : Judgement) × (now ≡ has_judged start judgement)
+FollowsStage job (has_judged start judgement) now = ⊥
+FollowsStage job has_refused now = ⊥
 
--- how many frames of asks come behind the grant: in kind extended one for each unit
+-- how many frames of asks come after the grant: in kind extended one for each unit
 abbrev pub asks_due : VerifierJob → ℕ
 asks_due job = rounds_of job.task.file.params.kind * units_of_job job
 
 -- where a verifier waits once so many of these frames have come
-abbrev pub AwaitsBehind : VerifierJob → ℕ → ℕ → VerifierPlace → Type 0
+abbrev pub AwaitsBehind : VerifierJob → ℕ → ℕ → VerifierStage → Type 0
 AwaitsBehind job start came now =
     ((asked : List (List TreeAsk)) × (length asked ≡ came) × (came < asks_due job) × (now ≡ awaits_asks start asked))
     ⊎ ((came ≡ asks_due job) × (now ≡ awaits_corrections start))
@@ -170,32 +171,32 @@ AnswerFails answer fault old new = (1 ≤ length answer) × SendFails (flat_map 
 -- ---- why it stops
 
 -- the place of the frame that is expected, and bytes that came of it
-abbrev pub ExpectsThere : VerifierJob → VerifierPlace → (Expect → Type 0) → Type 0
-ExpectsThere job place P = (expect : Expect) × (verifier_expects job place ≡ Some expect) × P expect
+abbrev pub ExpectsThere : VerifierJob → VerifierStage → (Expect → Type 0) → Type 0
+ExpectsThere job stage P = (expect : Expect) × (verifier_expects job stage ≡ Some expect) × P expect
 
--- Why a session stops behind these bytes of the frame that is expected: the peer has ended and more is wanted; a byte is bad;
+-- Why a session stops after these bytes of the frame that is expected: the peer has ended and more is wanted; a byte is bad;
 -- they are a hello that is not the wanted one; the link failed; memory was missing.
-abbrev pub StopCause : VerifierJob → VerifierPlace → List ℕ → LinkSnapshot → LinkSnapshot → VerifierOutcome → Type 0
-StopCause job place rest first now (PeerEnded at) =
-    ExpectsThere job place (λ expect. CanGoOn expect rest × (length rest < frame_length expect rest))
+abbrev pub StopCause : VerifierJob → VerifierStage → List ℕ → LinkSnapshot → LinkSnapshot → VerifierOutcome → Type 0
+StopCause job stage rest first now (PeerEnded at) =
+    ExpectsThere job stage (λ expect. CanGoOn expect rest × (length rest < frame_length expect rest))
     × (at ≡ length (sent_by Prover now.log))
     × IfSome now.ended (λ ended. ended ≡ true)
     × IfSome now.to_come (λ bytes. bytes ≡ [])
-StopCause job place rest first now (BadFrame at) =
-    (n : ℕ) × ExpectsThere job place (λ expect. IsFirstBad expect rest n)
+StopCause job stage rest first now (BadFrame at) =
+    (n : ℕ) × ExpectsThere job stage (λ expect. IsFirstBad expect rest n)
     × (at + length rest ≡ length (sent_by Prover now.log) + n)
-StopCause job place rest first now (BadHello differs) =
-    (place ≡ awaits_hello)
+StopCause job stage rest first now (BadHello differs) =
+    (stage ≡ awaits_hello)
     × ((other : Hello) × IsHello other × (rest ≡ hello_frame other)
     × DiffersFirst (wanted_hello job.task.file.id job.task.statement) other differs)
-StopCause job place rest first now Link = Rose first.faults now.faults
-StopCause job place rest first now NoMemory = Unit {0}
-StopCause job place rest first now Accepted = ⊥
-StopCause job place rest first now (RejectedSum section left right) = ⊥
-StopCause job place rest first now (RejectedOpening output left right) = ⊥
-StopCause job place rest first now (Exhausted at count total) = ⊥
-StopCause job place rest first now Device = ⊥
-StopCause job place rest first now (Broken at) = ⊥
+StopCause job stage rest first now Link = Rose first.faults now.faults
+StopCause job stage rest first now NoMemory = Unit {0}
+StopCause job stage rest first now Accepted = ⊥
+StopCause job stage rest first now (RejectedSum section left right) = ⊥
+StopCause job stage rest first now (RejectedOpening output left right) = ⊥
+StopCause job stage rest first now (Exhausted at count total) = ⊥
+StopCause job stage rest first now Device = ⊥
+StopCause job stage rest first now (Broken at) = ⊥
 
 -- the link failed, or memory was missing
 abbrev pub IsFault : VerifierOutcome → Type 0
@@ -214,14 +215,14 @@ pub record CountsOutcome (outcome : VerifierOutcome) (first now : LinkSnapshot) 
   pub unfailed : IsNoLink outcome → now.faults ≡ first.faults
 
 -- these bytes are a frame that came where the verifier waits, and those are what it answers
-pub record IsAnswer (job : VerifierJob) (place : VerifierPlace) (rest answer : List ℕ) : Type 0 where
+pub record IsAnswer (job : VerifierJob) (stage : VerifierStage) (rest answer : List ℕ) : Type 0 where
   pub frame : Frame
-  pub allowed : ExpectsThere job place (λ expect. Allows expect frame)
+  pub allowed : ExpectsThere job stage (λ expect. Allows expect frame)
   pub came : rest ≡ frame_spelling frame
   pub frames : List Frame
   pub at_least_one : 1 ≤ length frames
-  pub next : VerifierPlace
-  pub answers : VerifierAnswers job place frame frames next
+  pub next : VerifierStage
+  pub answers : VerifierAnswers job stage frame frames next
   pub answer_is : answer ≡ flat_map frame_spelling frames
 
 -- What these bytes are of the frame that is expected, where all answers so far were sent: where the link failed, they begin one
@@ -231,16 +232,16 @@ LeavesFrame expect rest Link = IsCutShort expect rest
 LeavesFrame expect rest NoMemory = IsCutShort expect rest ⊎ ((frame : Frame) × IsWhole expect rest frame)
 LeavesFrame expect rest outcome = Unit {0}
 
--- What was sent where a session stopped behind these bytes of a frame: all answers so far, and neither the link's failure nor
+-- What was sent where a session stopped after these bytes of a frame: all answers so far, and neither the link's failure nor
 -- missing memory is the cause beside a bad byte; or, where the link failed or memory was missing, the send of the answer to the
 -- frame was refused.
-abbrev pub SendsUpTo : VerifierJob → VerifierPlace → Expect → List ℕ → VerifierOutcome → LinkSnapshot → LinkSnapshot → Type 0
-SendsUpTo job place expect rest outcome first now =
-    (IsSent (answers_before job place) first now × LeavesFrame expect rest outcome)
-    ⊎ (IsFault outcome × ((answer : List ℕ) × IsAnswer job place rest answer × IsUnsent (answers_before job place) answer first now))
+abbrev pub SendsUpTo : VerifierJob → VerifierStage → Expect → List ℕ → VerifierOutcome → LinkSnapshot → LinkSnapshot → Type 0
+SendsUpTo job stage expect rest outcome first now =
+    (IsSent (answers_before job stage) first now × LeavesFrame expect rest outcome)
+    ⊎ (IsFault outcome × ((answer : List ℕ) × IsAnswer job stage rest answer × IsUnsent (answers_before job stage) answer first now))
 
 -- the verifier waits for a frame of a session whose grant begins here
-abbrev pub StartsAt : ℕ → VerifierPlace → Type 0
+abbrev pub StartsAt : ℕ → VerifierStage → Type 0
 StartsAt start awaits_hello = ⊥
 StartsAt start owes_grant = ⊥
 StartsAt start (awaits_asks begun asked) = begun ≡ start
@@ -251,24 +252,24 @@ StartsAt start (has_judged begun judgement) = ⊥
 StartsAt start has_refused = ⊥
 
 -- A session that stopped: what is logged where the verifier waited, and then bytes of the frame that was expected.
-pub record IsStopped (job : VerifierJob) (place : VerifierPlace) (outcome : VerifierOutcome) (first now : LinkSnapshot) : Type 0 where
+pub record IsStopped (job : VerifierJob) (stage : VerifierStage) (outcome : VerifierOutcome) (first now : LinkSnapshot) : Type 0 where
   pub before : List (Side × ℕ)
-  pub waited : IsLogAt job place before
+  pub waited : IsLogAt job stage before
   pub expect : Expect
-  pub expected : verifier_expects job place ≡ Some expect
+  pub expected : verifier_expects job stage ≡ Some expect
   pub rest : List ℕ
   pub few : length rest ≤ longest expect
   pub log : now.log ≡ before ++ bytes_from Prover rest
-  pub cause : StopCause job place rest first now outcome
-  pub sends : SendsUpTo job place expect rest outcome first now
+  pub cause : StopCause job stage rest first now outcome
+  pub sends : SendsUpTo job stage expect rest outcome first now
   pub receives : now.receives ≤ first.receives + length (sent_by Prover now.log) + 1
   pub count : CountsOutcome outcome first now
 
--- a session stopped behind the grant that begins here
+-- a session stopped after the grant that begins here
 pub record StopsBehind (job : VerifierJob) (start : ℕ) (outcome : VerifierOutcome) (first now : LinkSnapshot) : Type 0 where
-  pub place : VerifierPlace
-  pub behind : StartsAt start place
-  pub stopped : IsStopped job place outcome first now
+  pub stage : VerifierStage
+  pub behind : StartsAt start stage
+  pub stopped : IsStopped job stage outcome first now
 
 -- a line that is still open for the verifier
 pub record IsUsable (line : LineState) : Type 0 where
@@ -290,7 +291,7 @@ pub record IsRefusalUnsent (code : ℕ) (old now : LinkSnapshot) : Type 0 where
 
 -- A refusal of this code was sent once, in a grant's place: it is logged, unless that send was refused. Whether it was changes
 -- nothing but the count of failed calls.
-pub record IsRefused (code : ℕ) (old now : LinkSnapshot) : Type 0 where
+pub record IsRefusalTried (code : ℕ) (old now : LinkSnapshot) : Type 0 where
   pub sent : IsRefusalSent code old now ⊎ IsRefusalUnsent code old now
   pub sends : now.sends ≡ counted true old.sends
   pub ended : now.ended ≡ old.ended
@@ -302,18 +303,18 @@ pub record IsRefused (code : ℕ) (old now : LinkSnapshot) : Type 0 where
 abbrev pub IsWholeHello : List ℕ → Type 0
 IsWholeHello rest = (hello : Hello) × IsHello hello × (rest ≡ hello_frame hello)
 
--- What the verifier sends where a session stopped at the hello, behind these bytes of it: refusal 1 where it differs; refusal 4
+-- What the verifier sends where a session stopped at the hello, after these bytes of it: refusal 1 where it differs; refusal 4
 -- where it came whole and memory was missing then; else nothing.
 abbrev pub RefusesHello : List ℕ → VerifierOutcome → LinkSnapshot → LinkSnapshot → Type 0
-RefusesHello rest (BadHello differs) old now = IsRefused 1 old now
+RefusesHello rest (BadHello differs) old now = IsRefusalTried 1 old now
 RefusesHello rest NoMemory old now =
-    (IsWholeHello rest × IsRefused 4 old now) ⊎ (IsCutShort expect.Hello rest × (now ≡ old))
+    (IsWholeHello rest × IsRefusalTried 4 old now) ⊎ (IsCutShort expect.Hello rest × (now ≡ old))
 RefusesHello rest outcome old now = now ≡ old
 
 -- a session in which the verifier waits, or has judged: all that passed is logged, and nothing failed
-pub record IsWaiting (job : VerifierJob) (place : VerifierPlace) (first now : LinkSnapshot) : Type 0 where
-  pub log : IsLogAt job place now.log
-  pub sent : IsSent (answers_before job place) first now
+pub record IsWaiting (job : VerifierJob) (stage : VerifierStage) (first now : LinkSnapshot) : Type 0 where
+  pub log : IsLogAt job stage now.log
+  pub sent : IsSent (answers_before job stage) first now
   pub receives : now.receives ≤ first.receives + length (sent_by Prover now.log)
   pub faults : now.faults ≡ first.faults
 
@@ -325,18 +326,18 @@ pub record IsUnmet (job : VerifierJob) (outcome : VerifierOutcome) (first now : 
   pub stopped : IsStopped job awaits_hello outcome first mid
   pub refused : RefusesHello stopped.rest outcome mid now
 
--- behind the wanted hello a refusal of this code was sent, in the grant's place
+-- after the wanted hello a refusal of this code was sent, in the grant's place
 pub record IsRefusedGrant (job : VerifierJob) (code : ℕ) (first now : LinkSnapshot) : Type 0 where
   pub mid : LinkSnapshot
   pub waiting : IsWaiting job owes_grant first mid
-  pub refused : IsRefused code mid now
+  pub refused : IsRefusalTried code mid now
 
 -- the units that were asked for were refused
 pub record IsUnleased (job : VerifierJob) (fault : LeaseFault) (outcome : VerifierOutcome) (first now : LinkSnapshot) : Type 0 where
   pub named : outcome ≡ lease_outcome fault
   pub refused : IsRefusedGrant job (lease_code fault) first now
 
--- behind the wanted hello, the one send of the grant from this unit on was refused, and nothing followed
+-- after the wanted hello, the one send of the grant from this unit on was refused, and nothing followed
 pub record IsGrantUnsent (job : VerifierJob) (start : ℕ) (outcome : VerifierOutcome) (first now : LinkSnapshot) : Type 0 where
   pub fault : IsFault outcome
   pub log : IsLogAt job owes_grant now.log
@@ -350,7 +351,7 @@ abbrev pub LacksTheGrant : VerifierJob → ℕ → VerifierOutcome → LinkSnaps
 LacksTheGrant job start outcome first now =
     ((outcome ≡ NoMemory) × IsRefusedGrant job 4 first now) ⊎ IsGrantUnsent job start outcome first now
 
--- These units were leased: their grant was not sent; or the session stopped behind it; or it was judged.
+-- These units were leased: their grant was not sent; or the session stopped after it; or it was judged.
 pub record IsGranted (job : VerifierJob) (span : Span) (outcome : VerifierOutcome) (first now : LinkSnapshot) : Type 0 where
   pub units : span.end ≡ span.start + units_of_job job
   pub within : span.end ≤ job.task.file.params.total

@@ -2,11 +2,11 @@
 ghost use Rattle.std.specs.Prelude.{◌≡◌, ◌≤◌, ◌+◌, [], ◌∷◌, map, All, IfOk, IfErr, OnOk, IsTrue};
 ghost use Rattle.zk_model.specs.Transcript.{refuse_frame};
 ghost use Rattle.session_core.specs.Jobs.{units_of_job};
-ghost use Rattle.proof_frames.specs.Frames.{said, IsShort};
+ghost use Rattle.proof_frames.specs.Frames.{frame_value, IsShort};
 ghost use Rattle.frame_link.specs.Lines.{LineState, snapshot_of};
 ghost use Rattle.session_core.specs.Cores.{awaits_hello, owes_grant, behind_grant, awaits_corrections, has_judged};
 ghost use Rattle.session_verifier.specs.Outcomes.{hello_code};
-ghost use Rattle.session_verifier.specs.Stages.{IsHeldJob, IsLineAt, IsStopped, IsRefused, IsUnmet, IsUsable, LacksTheGrant, StopsBehind, SendsAnswer, AnswerFails, Follows, Expects, asks_due};
+ghost use Rattle.session_verifier.specs.Stages.{IsHeldJob, IsLineAt, IsStopped, IsRefusalTried, IsUnmet, IsUsable, LacksTheGrant, StopsBehind, SendsAnswer, AnswerFails, FollowsStage, Expects, asks_due};
 
 use crate::note::VerifierOutcome;
 use frame_link::{Line, LineFault};
@@ -27,9 +27,9 @@ fn send_answer<L: Link>(
     answer: &[Frame],
 ) -> Result<(), LineFault>
     requires open { IsTrue line.old.is_open }
-    requires short { All IsShort (map said answer.now) }
-    ensures sends { OnOk result (SendsAnswer (map said answer.now) line.old line.new) }
-    ensures fails { IfErr result (λ fault. AnswerFails (map said answer.now) fault line.old line.new) }
+    requires short { All IsShort (map frame_value answer.now) }
+    ensures sends { OnOk result (SendsAnswer (map frame_value answer.now) line.old line.new) }
+    ensures fails { IfErr result (λ fault. AnswerFails (map frame_value answer.now) fault line.old line.new) }
 {
     if answer.is_empty() {
         return Ok(());
@@ -48,7 +48,7 @@ fn refusal(code: u8) -> [u8; 6]
 pub(crate) fn refuse<L: Link>(alloc: Global, line: &mut Line<L>, code: u8)
     requires usable { IsUsable line.old }
     requires room { 6 ≤ line.old.room }
-    ensures refused { IsRefused code (snapshot_of line.old) (snapshot_of line.new) }
+    ensures refused { IsRefusalTried code (snapshot_of line.old) (snapshot_of line.new) }
     ensures usable { IsUsable line.new }
 {
     let _ = line.send_prepared(alloc, &refusal(code));
@@ -71,9 +71,9 @@ pub(crate) fn meet<L: Link>(
     line: &mut Line<L>,
 ) -> Result<(), VerifierOutcome>
     requires job { IsHeldJob core.old.job }
-    requires begins { core.old.place ≡ awaits_hello }
+    requires begins { core.old.stage ≡ awaits_hello }
     requires at { (first : LineState) × IsLineAt core.old.job awaits_hello first line.old }
-    ensures met { OnOk result (core.new.place ≡ owes_grant) }
+    ensures met { OnOk result (core.new.stage ≡ owes_grant) }
     ensures goes_on { OnOk result ((first : LineState) → IsLineAt core.old.job awaits_hello first line.old
         → IsLineAt core.old.job owes_grant first line.new) }
     ensures room { OnOk result (6 ≤ line.new.room) }
@@ -105,20 +105,20 @@ pub(crate) fn advance<L: Link>(
 ) -> Result<(), VerifierOutcome>
     requires job { IsHeldJob core.old.job }
     requires expecting { Expects core.old }
-    requires at { (first : LineState) × IsLineAt core.old.job core.old.place first line.old }
-    ensures follows { OnOk result (Follows core.old.job core.old.place core.new.place) }
-    ensures goes_on { OnOk result ((first : LineState) → IsLineAt core.old.job core.old.place first line.old
-        → IsLineAt core.old.job core.new.place first line.new) }
+    requires at { (first : LineState) × IsLineAt core.old.job core.old.stage first line.old }
+    ensures follows { OnOk result (FollowsStage core.old.job core.old.stage core.new.stage) }
+    ensures goes_on { OnOk result ((first : LineState) → IsLineAt core.old.job core.old.stage first line.old
+        → IsLineAt core.old.job core.new.stage first line.new) }
     ensures stops { IfErr result (λ outcome. (first : LineState)
-        → IsLineAt core.old.job core.old.place first line.old
-        → IsStopped core.old.job core.old.place outcome (snapshot_of first) (snapshot_of line.new)) }
+        → IsLineAt core.old.job core.old.stage first line.old
+        → IsStopped core.old.job core.old.stage outcome (snapshot_of first) (snapshot_of line.new)) }
     ensures usable { IsUsable line.new }
     ensures job { core.new.job ≡ core.old.job }
 {
-    let Some(place) = core.expects() else {
+    let Some(stage) = core.expects() else {
         unreachable!();
     };
-    let frame = line.take(alloc, place)?;
+    let frame = line.take(alloc, stage)?;
     replies_are_in_range();
     let answer = core.step(alloc, frame)?;
     send_answer(alloc, line, &answer)?;
@@ -132,12 +132,12 @@ pub(crate) fn give_grant<L: Link>(
     line: &mut Line<L>,
     span: Span,
 ) -> Result<(), VerifierOutcome>
-    requires due { core.old.place ≡ owes_grant }
+    requires due { core.old.stage ≡ owes_grant }
     requires units { span.end ≡ span.start + units_of_job core.old.job }
     requires within { span.end ≤ core.old.job.task.file.params.total }
     requires room { 6 ≤ line.old.room }
     requires at { (first : LineState) × IsLineAt core.old.job owes_grant first line.old }
-    ensures core { core.new ≡ record core.old { place = behind_grant core.old.job span.start } }
+    ensures core { core.new ≡ record core.old { stage = behind_grant core.old.job span.start } }
     ensures goes_on { OnOk result ((first : LineState) → IsLineAt core.old.job owes_grant first line.old
         → IsLineAt core.old.job (behind_grant core.old.job span.start) first line.new) }
     ensures fails { IfErr result (λ outcome. (first : LineState)
@@ -155,7 +155,7 @@ pub(crate) fn give_grant<L: Link>(
 }
 
 /// Takes the asks for all units of the grant, a frame for each, which are so many in kind extended and none in kind direct; the
-/// replies go out behind the last of them.
+/// replies go out after the last of them.
 pub(crate) fn take_asks<L: Link>(
     alloc: Global,
     core: &mut VerifierCore<'_>,
@@ -165,13 +165,13 @@ pub(crate) fn take_asks<L: Link>(
 ) -> Result<(), VerifierOutcome>
     requires job { IsHeldJob core.old.job }
     requires due { due ≡ asks_due core.old.job }
-    requires granted { core.old.place ≡ behind_grant core.old.job _start }
-    requires at { (first : LineState) × IsLineAt core.old.job core.old.place first line.old }
-    ensures place { OnOk result (core.new.place ≡ awaits_corrections _start) }
-    ensures goes_on { OnOk result ((first : LineState) → IsLineAt core.old.job core.old.place first line.old
+    requires granted { core.old.stage ≡ behind_grant core.old.job _start }
+    requires at { (first : LineState) × IsLineAt core.old.job core.old.stage first line.old }
+    ensures stage { OnOk result (core.new.stage ≡ awaits_corrections _start) }
+    ensures goes_on { OnOk result ((first : LineState) → IsLineAt core.old.job core.old.stage first line.old
         → IsLineAt core.old.job (awaits_corrections _start) first line.new) }
     ensures stops { IfErr result (λ outcome. (first : LineState)
-        → IsLineAt core.old.job core.old.place first line.old
+        → IsLineAt core.old.job core.old.stage first line.old
         → StopsBehind core.old.job _start outcome (snapshot_of first) (snapshot_of line.new)) }
     ensures usable { IsUsable line.new }
     ensures job { core.new.job ≡ core.old.job }
@@ -182,7 +182,7 @@ pub(crate) fn take_asks<L: Link>(
     Ok(())
 }
 
-/// The turns behind the grant and the asks, up to the verdict.
+/// The turns after the grant and the asks, up to the verdict.
 pub(crate) fn judge<L: Link>(
     alloc: Global,
     core: &mut VerifierCore<'_>,
@@ -190,13 +190,13 @@ pub(crate) fn judge<L: Link>(
     _start: u64,
 ) -> Result<Judgement, VerifierOutcome>
     requires job { IsHeldJob core.old.job }
-    requires granted { core.old.place ≡ awaits_corrections _start }
-    requires at { (first : LineState) × IsLineAt core.old.job core.old.place first line.old }
+    requires granted { core.old.stage ≡ awaits_corrections _start }
+    requires at { (first : LineState) × IsLineAt core.old.job core.old.stage first line.old }
     ensures judged { IfOk result (λ judgement. (first : LineState)
-        → IsLineAt core.old.job core.old.place first line.old
+        → IsLineAt core.old.job core.old.stage first line.old
         → IsLineAt core.old.job (has_judged _start judgement) first line.new) }
     ensures stops { IfErr result (λ outcome. (first : LineState)
-        → IsLineAt core.old.job core.old.place first line.old
+        → IsLineAt core.old.job core.old.stage first line.old
         → StopsBehind core.old.job _start outcome (snapshot_of first) (snapshot_of line.new)) }
     ensures usable { IsUsable line.new }
 {

@@ -33,7 +33,7 @@ fn code_for_lease(fault: &LeaseFault) -> u8
     }
 }
 
-/// How many frames of asks come behind the grant: in kind extended one for each unit.
+/// How many frames of asks come after the grant: in kind extended one for each unit.
 fn asks_due(job: &VerifierJob<'_>) -> u32
     ensures { result ≡ asks_due job.now }
 {
@@ -43,7 +43,7 @@ fn asks_due(job: &VerifierJob<'_>) -> u32
     }
 }
 
-/// The session behind the grant of units from this one on.
+/// The session after the grant of units from this one on.
 fn serve_turns<L: Link>(
     alloc: Global,
     core: &mut VerifierCore<'_>,
@@ -53,13 +53,13 @@ fn serve_turns<L: Link>(
 ) -> Result<Judgement, VerifierOutcome>
     requires job { IsHeldJob core.old.job }
     requires asks { asks ≡ asks_due core.old.job }
-    requires granted { core.old.place ≡ behind_grant core.old.job start }
-    requires at { (first : LineState) × IsLineAt core.old.job core.old.place first line.old }
+    requires granted { core.old.stage ≡ behind_grant core.old.job start }
+    requires at { (first : LineState) × IsLineAt core.old.job core.old.stage first line.old }
     ensures judged { IfOk result (λ judgement. (first : LineState)
-        → IsLineAt core.old.job core.old.place first line.old
+        → IsLineAt core.old.job core.old.stage first line.old
         → IsLineAt core.old.job (has_judged start judgement) first line.new) }
     ensures stops { IfErr result (λ outcome. (first : LineState)
-        → IsLineAt core.old.job core.old.place first line.old
+        → IsLineAt core.old.job core.old.stage first line.old
         → StopsBehind core.old.job start outcome (snapshot_of first) (snapshot_of line.new)) }
     ensures usable { IsUsable line.new }
 {
@@ -67,7 +67,7 @@ fn serve_turns<L: Link>(
     judge(alloc, core, line, start)
 }
 
-/// The session once these units are leased: the grant, and the turns behind it.
+/// The session once these units are leased: the grant, and the turns after it.
 fn serve_granted<L: Link>(
     alloc: Global,
     core: &mut VerifierCore<'_>,
@@ -77,7 +77,7 @@ fn serve_granted<L: Link>(
 ) -> VerifierOutcome
     requires job { IsHeldJob core.old.job }
     requires asks { asks ≡ asks_due core.old.job }
-    requires due { core.old.place ≡ owes_grant }
+    requires due { core.old.stage ≡ owes_grant }
     requires units { span.end ≡ span.start + units_of_job core.old.job }
     requires within { span.end ≤ core.old.job.task.file.params.total }
     requires room { 6 ≤ line.old.room }
@@ -106,7 +106,7 @@ pub(crate) fn serve<L: Link, R: Grantor, G: Gate>(
     requires once { R.answer grantor.old ≡ None }
     requires total { R.total grantor.old ≤ job.now.task.file.params.total }
     requires at { (first : LineState) × IsLineAt job.now awaits_hello first line.old }
-    ensures same { R.total grantor.new ≡ R.total grantor.old }
+    ensures total_kept { R.total grantor.new ≡ R.total grantor.old }
     ensures asked { IfSome (R.answer grantor.new) (λ _. R.asked grantor.new ≡ Some (units_of_job job.now)) }
     ensures course { (first : LineState) → IsLineAt job.now awaits_hello first line.old
         → IsCourse job.now (R.answer grantor.new) result.granted result.outcome

@@ -23,7 +23,7 @@ use zk_model::Side;
 use zk_port::{Gate, Link};
 
 /// The session over a line, from its first call of the link to its last.
-fn lead<L: Link, R: Grantor, G: Gate>(
+fn verify_over_link<L: Link, R: Grantor, G: Gate>(
     alloc: Global,
     job: &VerifierJob<'_>,
     grantor: &mut R,
@@ -33,7 +33,7 @@ fn lead<L: Link, R: Grantor, G: Gate>(
     requires open { IsTrue (L.state link).is_open }
     requires once { R.answer grantor.old ≡ None }
     requires total { R.total grantor.old ≤ job.now.task.file.params.total }
-    ensures same { R.total grantor.new ≡ R.total grantor.old }
+    ensures total_kept { R.total grantor.new ≡ R.total grantor.old }
     ensures asked { IfSome (R.answer grantor.new) (λ _. R.asked grantor.new ≡ Some (units_of_job job.now)) }
     ensures course { IsCourse job.now (R.answer grantor.new) result.granted result.outcome
         (snapshot Verifier [] (L.state link)) (snapshot Verifier result.log (L.state result.link)) }
@@ -66,7 +66,7 @@ pub fn verify_session<L: Link, R: Grantor, G: Gate>(
     requires open { IsTrue (L.state link).is_open }
     requires once { R.answer grantor.old ≡ None }
     requires total { R.total grantor.old ≤ job.now.task.file.params.total }
-    ensures same { R.total grantor.new ≡ R.total grantor.old }
+    ensures total_kept { R.total grantor.new ≡ R.total grantor.old }
     ensures asked { IfSome (R.answer grantor.new) (λ _. R.asked grantor.new ≡ Some (units_of_job job.now)) }
     ensures granted { result.granted ≡ granted_by (R.answer grantor.new) }
     ensures verdict { JudgesRightly job.now result.granted result.outcome result.log }
@@ -99,6 +99,6 @@ pub fn verify_session<L: Link, R: Grantor, G: Gate>(
     keys_fit();
     let _opened = job.statement().program().opened();
     let _total = job.file().total();
-    let note = lead(alloc, job, grantor, link, gate);
+    let note = verify_over_link(alloc, job, grantor, link, gate);
     note
 }

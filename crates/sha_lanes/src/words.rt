@@ -55,8 +55,8 @@ fn shift_right(x: u32x4, count: u32) -> u32x4
 /// Words rotated to the right by so many bits.
 #[inline(always)]
 fn rotate_right(x: u32x4, count: u32) -> u32x4
-    requires some { 0 < count }
-    requires few { count < 32 }
+    requires at_least_one { 0 < count }
+    requires bounded { count < 32 }
     ensures { (j : ℕ) → j < 4 → slice_index result j ≡ rotate_right w32 (slice_index x j) count }
 {
     (x >> u32x4::splat(count)) | (x << u32x4::splat(32 - count))

@@ -24,6 +24,12 @@ pub record IsOfTree (turn : ProverTurn) (tree place noise : ℕ) (transfers : Li
   pub count : length transfers ≡ turn.file.params.height
   pub based : base ≡ tree_base turn tree
 
+pub of_tree : {turn : ProverTurn} {tree place noise : ℕ} {transfers : List Transfer} {base : Pair} → place ≡ place_coin turn.file turn.unit tree
+    → place < 2 ^ turn.file.params.height → noise ≡ noise_coin turn.file turn.unit tree → transfers ≡ tree_transfers turn tree
+    → length transfers ≡ turn.file.params.height → base ≡ tree_base turn tree → IsOfTree turn tree place noise transfers base
+of_tree placed inside chosen dealt count based =
+    record { placed = placed; inside = inside; chosen = chosen; dealt = dealt; count = count; based = based }
+
 -- the flip of a level, from the side of the path and the transfer there
 abbrev flip_of : Bool × Transfer → Bool
 flip_of q = flip_for q.1.bit (not q.0)

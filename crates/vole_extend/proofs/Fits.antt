@@ -1,24 +1,21 @@
 -- What both ends say of a unit has the right counts and ranges.
-use Rattle.std.proofs.Common.{◌≡◌, ℕ, ◌^◌, ◌<◌, Bool, true, false, not, List, [], map, length, get_or, refl, sym, ◌∙◌, ap, subst, arith}
+use Rattle.std.proofs.Common.{◌≡◌, ℕ, ◌<◌, true, false, List, [], map, length, get_or, refl, sym, ◌∙◌, ap, subst, arith}
 use Rattle.std.specs.Prelude.{All}
 use Rattle.std.specs.List.{range_with_len}
 use Rattle.std.proofs.lemmas.List.{length-map}
-use Rattle.std.proofs.lemmas.List.Elements.{All-replicate}
 use Rattle.std.proofs.lemmas.List.FromFn.{length-map-range_with_len, get_or-map-range_with_len}
 use Rattle.std.proofs.lemmas.Slice.Zip.{length-zip}
 use Rattle.mersenne_field.proofs.FieldLaws.{reduced}
-use Rattle.zk_laws.proofs.Octets.{child_bytes}
-use Rattle.zk_laws.proofs.Xors.{xor_are_bytes, sum_are_bytes, range_all}
-use Rattle.zk_model.specs.Bytes.{LeftRight, AreBytes, AreBothBytes}
-use Rattle.zk_model.specs.Tree.{child_of, path_to, node_at, level_sum}
-use Rattle.zk_model.specs.Extension.{choice_of, masked_messages}
+use Rattle.tree_laws.proofs.Messages.{path_length, level_bytes, masked_bytes}
+use Rattle.zk_model.specs.Bytes.{LeftRight, AreBothBytes}
+use Rattle.zk_model.specs.Tree.{path_to}
+use Rattle.zk_model.specs.Extension.{masked_messages}
 use Rattle.zk_model.specs.Files.{IsProverFile, IsVerifierFile}
 use Rattle.zk_model.specs.Transcript.{TreeAsk, TreeReply, IsTreeAsk, IsTreeReply}
 use Rattle.zk_model.specs.Correlations.{tree_root}
 use Rattle.zk_model.specs.Replies.{level_pads, level_sums, tree_reply}
 use Rattle.zk_model.specs.HonestProver.{place_coin}
 use Rattle.vole_extend.specs.Rounds.{ProverTurn, VerifierTurn, tree_transfers, tree_ask, tree_pads, ask_at, first_replies}
-use Rattle.vole_extend.proofs.Sides.{path_length}
 
 -- what holds of whatever is made of each number holds of all
 all_made : {A : Type 0} (P : A → Type 0) (f : ℕ → A) (n : ℕ) (items : List A) → items ≡ map f (range_with_len 0 n)
@@ -48,25 +45,6 @@ asks_fit turn asks is within made = all_made (IsTreeAsk turn.file.params.height)
     ask_fits turn tree (dealt.trees.1 tree [] (omega (arith, dealt.trees.0, below))).0)
 
 -- ---- replies
-
-level_bytes : (root : List ℕ) (level : ℕ) (side : Bool) → AreBytes 16 (level_sum root level side)
-level_bytes root level side = sum_are_bytes 16 (map child (range_with_len 0 (2 ^ level))) _
-    (refl, All-replicate (λ byte. byte < 256) 16 0 (omega arith))
-    (range_all (AreBytes 16) child 0 (2 ^ level) (λ j low high. child_bytes side (node_at root (path_to level j))))
-  where
-    child : ℕ → List ℕ
-    child j = child_of side (node_at root (path_to level j))
-
-choice_bytes : (side : Bool) (both : LeftRight) → AreBothBytes 16 both → AreBytes 16 (choice_of side both)
-choice_bytes false both is = is.0
-choice_bytes true both is = is.1
-
-masked_bytes : (pads : LeftRight) (flip : Bool) (messages : LeftRight) → AreBothBytes 16 pads → AreBothBytes 16 messages
-    → AreBothBytes 16 (masked_messages pads flip messages)
-masked_bytes pads flip messages left right = (
-  xor_are_bytes 16 messages.left (choice_of flip pads) right.0 (choice_bytes flip pads left),
-  xor_are_bytes 16 messages.right (choice_of (not flip) pads) right.1 (choice_bytes (not flip) pads left),
-)
 
 -- two messages of 16 bytes for each level, and an element
 reply_fits : (turn : VerifierTurn) (tree : ℕ) (ask : TreeAsk) → length (tree_pads turn tree) ≡ turn.file.params.height

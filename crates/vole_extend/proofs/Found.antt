@@ -5,7 +5,7 @@ use Rattle.std.proofs.Math.ListN.{get_or-append}
 use Rattle.std.proofs.Math.Seq.{get_or-append_seam}
 use Rattle.std.proofs.lemmas.List.Concat.{flat_map-append}
 use Rattle.std.proofs.lemmas.List.FromFn.{get_or-map-range_with_len}
-use Rattle.zk_laws.proofs.Ancestors.{same_or_not}
+use Rattle.tree_laws.proofs.Ancestors.{same_or_not}
 use Rattle.zk_laws.proofs.WholePairs.{joined_parts}
 use Rattle.zk_model.specs.Mac.{Pair, values_of, macs_of}
 use Rattle.zk_model.specs.Extension.{code_outputs}

@@ -1,8 +1,9 @@
 -- The trees of a unit are pieces of one size of the flat list of their levels.
 use Rattle.std.proofs.Common.{◌≡◌, ℕ, zero, suc, ◌+◌, ◌-◌, ◌*◌, ◌<◌, List, [], ◌∷◌, ◌++◌, length, flat_map, take, drop, get_or, sym, ◌∙◌, ap, arith}
 use Rattle.std.proofs.Math.Seq.{take-append_seam, drop-append-add}
-use Rattle.zk_model.specs.Bytes.{LeftRight}
-use Rattle.zk_model.specs.Files.{Transfer, ProverFile, VerifierFile, IsProverFile, IsVerifierFile, prover_unit, verifier_unit, unit_transfers, unit_pads}
+use Rattle.zk_model.specs.Bytes.{LeftRight, AreBytes, AreBothBytes}
+use Rattle.zk_model.specs.Files.{Transfer, ProverFile, VerifierFile, AreTransfers, IsProverFile, IsVerifierFile, prover_unit, verifier_unit, unit_transfers, unit_pads}
+use Rattle.zk_model.specs.declared.Params.{Params}
 
 -- lists of one length, joined: each is the piece of its number
 piece_is : {A : Type 0} (size : ℕ) (lists : List (List A)) (t : ℕ) → ((i : ℕ) → i < length lists → length (get_or lists i []) ≡ size)
@@ -31,20 +32,23 @@ range_is size lists flat t sized below is =
     apart : (a b : ℕ) → a + b - a ≡ b
     apart a b = omega arith
 
--- the transfers of a tree
-pub tree_transfers_are : (file : ProverFile) (unit tree size : ℕ) (flat : List Transfer) → IsProverFile file → unit < file.params.total
-    → tree < file.params.trees → size ≡ file.params.height → flat ≡ unit_transfers (prover_unit file unit)
+-- the levels of one tree of a unit
+tree_levels_are : {A : Type 0} (params : Params) (P : A → Type 0) (trees : List (List A)) (tree size : ℕ) (flat : List A) → AreTransfers params P trees
+    → tree < params.trees → size ≡ params.height → flat ≡ flat_map (λ levels. levels) trees
+    → take (tree * size + size - tree * size) (drop (tree * size) flat) ≡ get_or trees tree []
+tree_levels_are params P trees tree size flat dealt below sized =
+    range_is size trees flat tree (λ i inside. (dealt.1 i [] inside).0 ∙ sym sized) (omega (arith, dealt.0, below))
+
+-- the transfers of a tree, where the file's numbers were read
+pub tree_transfers_are : (file : ProverFile) (read : Params) (unit tree size : ℕ) (flat : List Transfer) → IsProverFile file → read ≡ file.params
+    → unit < read.total → tree < file.params.trees → size ≡ read.height → flat ≡ unit_transfers (prover_unit file unit)
     → take (tree * size + size - tree * size) (drop (tree * size) flat) ≡ get_or (prover_unit file unit).trees tree []
-tree_transfers_are file unit tree size flat is within below sized flat_is =
-    let dealt = is.units unit (record { pairs = []; trees = [] }) (omega (arith, is.count, within)) in
-    range_is size (prover_unit file unit).trees flat tree (λ i inside. (dealt.trees.1 i [] inside).0 ∙ sym sized)
-    (omega (arith, dealt.trees.0, below)) flat_is
+tree_transfers_are file read unit tree size flat is same within below sized = tree_levels_are file.params (λ transfer. AreBytes 16 transfer.pad) (prover_unit file unit).trees tree size flat
+    (is.units unit (record { pairs = []; trees = [] }) (omega (arith, is.count, within, ap (λ (p : Params). p.total) same))).trees below (sized ∙ ap (λ (p : Params). p.height) same)
 
 -- both pads of a tree's transfers
-pub tree_pads_are : (file : VerifierFile) (unit tree size : ℕ) (flat : List LeftRight) → IsVerifierFile file → unit < file.params.total
-    → tree < file.params.trees → size ≡ file.params.height → flat ≡ unit_pads (verifier_unit file unit)
+pub tree_pads_are : (file : VerifierFile) (read : Params) (unit tree size : ℕ) (flat : List LeftRight) → IsVerifierFile file → read ≡ file.params
+    → unit < read.total → tree < file.params.trees → size ≡ read.height → flat ≡ unit_pads (verifier_unit file unit)
     → take (tree * size + size - tree * size) (drop (tree * size) flat) ≡ get_or (verifier_unit file unit).trees tree []
-tree_pads_are file unit tree size flat is within below sized flat_is =
-    let dealt = is.units unit (record { keys = []; trees = [] }) (omega (arith, is.count, within)) in
-    range_is size (verifier_unit file unit).trees flat tree (λ i inside. (dealt.trees.1 i [] inside).0 ∙ sym sized)
-    (omega (arith, dealt.trees.0, below)) flat_is
+tree_pads_are file read unit tree size flat is same within below sized = tree_levels_are file.params (AreBothBytes 16) (verifier_unit file unit).trees tree size flat
+    (is.units unit (record { keys = []; trees = [] }) (omega (arith, is.count, within, ap (λ (p : Params). p.total) same))).trees below (sized ∙ ap (λ (p : Params). p.height) same)

@@ -1,8 +1,10 @@
 -- Lists over numbers in a row, and what is read of lists.
-use Rattle.std.proofs.Common.{◌≡◌, ℕ, ◌+◌, ◌<◌, List, [], ◌∷◌, ◌++◌, length, map, get_or, sym, ◌∙◌, ap, arith, zero-add}
+use Rattle.std.proofs.Common.{◌≡◌, ℕ, ◌+◌, ◌<◌, false, List, [], ◌∷◌, ◌++◌, length, map, get_or, sym, ◌∙◌, ap, arith, zero-add}
 use Rattle.std.specs.List.{range_with_len, enumerate_from}
 use Rattle.std.proofs.lemmas.List.{get_or_default, get_or-map, length-map, ext_get_or}
 use Rattle.std.proofs.lemmas.List.FromFn.{map-range_with_len_more, length-map-range_with_len, get_or-map-range_with_len, length-enumerate_from, get_or-enumerate_from}
+use Rattle.zk_model.specs.Files.{Transfer}
+use Rattle.vole_extend.specs.Levels.{transfer_at}
 
 -- one item more
 pub map_more : {X : Type 0} (f : ℕ → X) (before now : List X) (item : X) (n : ℕ) → now ≡ before ++ item ∷ [] → item ≡ f n
@@ -14,6 +16,11 @@ map_more f before now item n added is far =
 pub read_at : {X : Type 0} (items : List X) (n : ℕ) (seen item default : X) → seen ≡ item → item ≡ get_or items n item → n < length items
     → seen ≡ get_or items n default
 read_at items n seen item default view is below = view ∙ is ∙ get_or_default items n item default below
+
+-- a transfer that is seen as a record
+pub transfer_read : (transfers : List Transfer) (level : ℕ) (seen item : Transfer) → seen ≡ item → item ≡ get_or transfers level item
+    → level < length transfers → seen ≡ transfer_at transfers level
+transfer_read transfers level seen item = read_at transfers level seen item (record { bit = false; pad = [] })
 
 -- what is made of each item and its number
 pub numbered : {A B : Type 0} (f : ℕ → A → B) (items : List A) (n : ℕ) (none : A) (default : B) → length items ≡ n

@@ -7,6 +7,7 @@ use Rattle.std.proofs.lemmas.List.FromFn.{length-map-range_with_len, get_or-map-
 use Rattle.std.proofs.lemmas.Nat.{mod-pow-add}
 use Rattle.std.proofs.lemmas.Slice.Zip.{length-zip, get_or-zip}
 use Rattle.dealer_files.proofs.Pieces.{map_range_same}
+use Rattle.tree_laws.proofs.Messages.{path_length}
 use Rattle.zk_model.specs.Bits.{from_bit, exclusive_or}
 use Rattle.zk_model.specs.Tree.{path_to}
 use Rattle.zk_model.specs.Extension.{flip_for, place_of, unmasked_message}
@@ -16,10 +17,6 @@ use Rattle.zk_model.specs.Correlations.{LevelView, chosen_side, chosen_sum, hidd
 use Rattle.vole_extend.specs.Levels.{choice_at, transfer_at, both_at, asked_flips, chosen_sums}
 
 -- ---- the way to a leaf
-
-pub path_length : (h j : ℕ) → length (path_to h j) ≡ h
-path_length zero j = refl
-path_length (suc h) j = ap suc (path_length h j)
 
 -- away from its side on a level
 path_side : (h j level : ℕ) → level < h → not (get_or (path_to h j) level false) ≡ choice_at h j level

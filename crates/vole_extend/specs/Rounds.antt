@@ -23,7 +23,7 @@ pub record VerifierTurn : Type 0 where
   pub file : VerifierFile
   pub unit : ℕ
 
--- the unit is one of a file of kind extended
+-- the unit is one of an extended file
 pub record IsExtendedUnit (params : Params) (unit : ℕ) : Type 0 where
   pub extended : params.kind ≡ Extended
   pub within : unit < params.total

@@ -8,7 +8,7 @@ use linear_code::Columns;
 use std::alloc::{AllocError, Global};
 use zk_model::Params;
 
-/// The columns of the code of a file of kind extended: for each leaf of all trees of a unit ten of the first base
+/// The columns of the code of an extended file: for each leaf of all trees of a unit ten of the first base
 /// correlations of that unit. They are the same for every unit, so make them once a session.
 ///
 /// # Errors

@@ -1,6 +1,7 @@
 // The levels of one tree, from the root's children down: what is asked, masked and unmasked on each of them.
 ghost use Rattle.std.specs.Prelude.{◌≡◌, ◌<◌, ◌≤◌, length, IfOk, vec_len};
 ghost use Rattle.vole_extend.specs.Levels.{choice_at, asked_flips, chosen_sums, masked_sums};
+ghost use Rattle.zk_model.specs.declared.limits.TheConstants.{MAX_HEIGHT};
 
 use dealer_files::{Pads, Transfer};
 use ggm_tree::LevelSums;
@@ -10,7 +11,7 @@ use std::alloc::{AllocError, Global};
 /// The side away from the way to a leaf, at a level of a tree: true where the way goes left.
 fn choice_at(height: u32, place: u32, level: u32) -> bool
     requires inside { level < height }
-    requires most { height ≤ 16 }
+    requires at_most { height ≤ MAX_HEIGHT }
     ensures { result ≡ choice_at height place level }
 {
     (place >> (height - 1 - level)) % 2 != 1
@@ -22,7 +23,7 @@ pub(crate) fn asked_flips(
     place: u32,
     transfers: &[Transfer],
 ) -> Result<Vec<bool>, AllocError>
-    requires { length transfers.now ≤ 16 }
+    requires { length transfers.now ≤ MAX_HEIGHT }
     ensures flips { IfOk result (λ flips. flips.items ≡ asked_flips place transfers.now) }
     ensures count { IfOk result (λ flips. vec_len flips ≡ length transfers.now) }
 {
@@ -42,7 +43,7 @@ pub(crate) fn chosen_sums(
     transfers: &[Transfer],
     messages: &[Masked],
 ) -> Result<Vec<[u8; 16]>, AllocError>
-    requires most { length transfers.now ≤ 16 }
+    requires at_most { length transfers.now ≤ MAX_HEIGHT }
     requires count { length messages.now ≡ length transfers.now }
     ensures sums { IfOk result (λ sums. sums.items ≡ chosen_sums place transfers.now messages.now) }
     ensures count { IfOk result (λ sums. vec_len sums ≡ length transfers.now) }

@@ -7,6 +7,7 @@ ghost use Rattle.zk_model.specs.Correlations.{IsNoiseOf, IsExtension};
 ghost use Rattle.zk_model.specs.HonestProver.{place_coin, noise_coin, honest_asks};
 ghost use Rattle.zk_model.specs.declared.Kind.TheVariants.{Extended};
 ghost use Rattle.vole_extend.specs.Rounds.{unit_code, tree_transfers, tree_base, tree_ask, asked_view, asked_round, IsNoiseOfTrees};
+ghost use Rattle.zk_model.specs.declared.limits.TheConstants.{MAX_DEALT_UNITS};
 
 use crate::levels::{asked_flips, chosen_sums};
 use dealer_files::{ProverFile, Transfer};
@@ -19,7 +20,7 @@ use std::marker::Model;
 use tree_messages::{TreeAsk, TreeReply};
 use zk_model::{Params, Span};
 
-/// A prover's round over a unit of a file of kind extended. What it asks hides in each tree a place and a value, which its
+/// A prover's round over a unit of an extended file. What it asks hides in each tree a place and a value, which its
 /// coins choose, so the same unit always asks the same.
 #[derive(Debug, Drop)]
 pub struct ProverRound<'a> {
@@ -103,7 +104,7 @@ impl<'a> ProverRound<'a> {
         ensures params { result ≡ self.now.file.params }
         ensures extended { AreWithinLimits Extended result }
         ensures within { self.now.unit < result.total }
-        ensures few { result.total ≤ 2 ^ 32 }
+        ensures bounded { result.total ≤ MAX_DEALT_UNITS }
         ensures file { IsProverFile self.now.file }
     {
         self.file.params()

@@ -8,6 +8,7 @@ ghost use Rattle.zk_model.specs.Replies.{tree_base_key, tree_reply, unit_reply};
 ghost use Rattle.zk_model.specs.declared.Kind.TheVariants.{Extended};
 ghost use Rattle.ggm_tree.specs.Sums.{tree_sums};
 ghost use Rattle.vole_extend.specs.Rounds.{unit_code, tree_pads, first_replies, first_leaves};
+ghost use Rattle.zk_model.specs.declared.limits.TheConstants.{MAX_DEALT_UNITS};
 
 use crate::levels::masked_sums;
 use dealer_files::{Pads, VerifierFile};
@@ -20,7 +21,7 @@ use std::marker::Model;
 use tree_messages::{TreeAsk, TreeReply};
 use zk_model::{Params, Span};
 
-/// A verifier's round over a unit of a file of kind extended.
+/// A verifier's round over a unit of an extended file.
 #[derive(Debug, Drop)]
 pub struct VerifierRound<'a> {
     file: &'a VerifierFile,
@@ -96,7 +97,7 @@ impl<'a> VerifierRound<'a> {
         ensures params { result ≡ self.now.file.params }
         ensures extended { AreWithinLimits Extended result }
         ensures within { self.now.unit < result.total }
-        ensures few { result.total ≤ 2 ^ 32 }
+        ensures bounded { result.total ≤ MAX_DEALT_UNITS }
         ensures file { IsVerifierFile self.now.file }
     {
         self.file.params()

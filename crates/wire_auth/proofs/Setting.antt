@@ -6,10 +6,10 @@ use Rattle.std.proofs.lemmas.List.{length-map, drop-take, drop_at, take_all}
 use Rattle.std.proofs.lemmas.Option.{slice_get-get_or}
 use Rattle.zk_model.specs.Program.{Program, IsProgram, IsStep, MeetsStep, step_value, Carries}
 use Rattle.zk_model.specs.Boolean.{once, less_once, less_twice}
-use Rattle.zk_laws.proofs.Programs.{set_below, AreMet, met_more, first_kept}
-use Rattle.gate_translate.specs.declared.step.Step.{Step}
-use Rattle.gate_translate.specs.declared.step.Step.TheVariants.{Const, Copy, Not, Mul, XorFrom}
-use Rattle.gate_translate.specs.Steps.{step_equation}
+use Rattle.circuit_laws.proofs.Programs.{set_below, AreMet, met_more, first_kept}
+use Rattle.field_program.specs.declared.step.Step.{Step}
+use Rattle.field_program.specs.declared.step.Step.TheVariants.{Const, Copy, Not, Mul, XorFrom}
+use Rattle.field_program.specs.Steps.{step_equation}
 use Rattle.wire_auth.specs.Sides.{ReadsWithin, TakesWithin, IsBegun}
 use Rattle.zk_model.specs.Field.{◌*ₚ◌}
 

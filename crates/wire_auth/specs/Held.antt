@@ -4,6 +4,6 @@ use Rattle.wire_auth.specs.declared.correlations.Correlations.{Correlations}
 use Rattle.wire_auth.specs.declared.correlations.Correlations.TheVariants.{Dealt, Made}
 
 -- the correlations, in order
-abbrev pub held_in : {A : Type 0} → Correlations A → List A
-held_in (Dealt items) = items.now
-held_in (Made items) = items.items
+abbrev pub items_in : {A : Type 0} → Correlations A → List A
+items_in (Dealt items) = items.now
+items_in (Made items) = items.items

@@ -6,8 +6,8 @@ use Rattle.zk_model.specs.Field.{◌*ₚ◌}
 use Rattle.zk_model.specs.Mac.{Pair, macs_of}
 use Rattle.zk_model.specs.Program.{Program}
 use Rattle.zk_model.specs.Check.{WirePairs, WireKeys}
-use Rattle.gate_translate.specs.declared.step.Step.{Step}
-use Rattle.gate_translate.specs.declared.step.Step.TheVariants.{Const, Copy, Not, Mul, XorFrom}
+use Rattle.field_program.specs.declared.step.Step.{Step}
+use Rattle.field_program.specs.declared.step.Step.TheVariants.{Const, Copy, Not, Mul, XorFrom}
 
 -- a program with the pairs that were dealt, and those of its given values and of all its wires
 pub record ProverSide : Type 0 where

@@ -2,16 +2,16 @@
 ghost use Rattle.std.specs.Prelude.{◌≡◌, ◌<◌, ◌≤◌, ℕ, List, length, map, take, IfOk};
 ghost use Rattle.zk_model.specs.Field.{IsElement, ◌*ₚ◌};
 ghost use Rattle.zk_model.specs.Program.{step_value};
-ghost use Rattle.gate_translate.specs.Steps.{step_equation};
+ghost use Rattle.field_program.specs.Steps.{step_equation};
 ghost use Rattle.wire_auth.specs.Sides.{ReadsWithin, IsBegun, IsTaken};
 
-use gate_translate::{FieldProgram, Step};
+use field_program::{FieldProgram, Step};
 use mersenne_field::Fe;
 use std::alloc::{AllocError, Global};
 
 /// The number, which is an element.
 pub(crate) fn known(number: Fe) -> Fe
-    ensures same { result ≡ number }
+    ensures unchanged { result ≡ number }
     ensures element { IsElement number }
 {
     let _number = number.value();

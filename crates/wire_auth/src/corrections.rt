@@ -5,7 +5,7 @@ ghost use Rattle.zk_model.specs.Boolean.{bits_of_products};
 ghost use Rattle.zk_model.specs.Circuit.{bit_of};
 ghost use Rattle.zk_model.specs.HonestProver.{honest_corrections};
 
-use gate_translate::{FieldProgram, Product};
+use field_program::{FieldProgram, Product};
 use mersenne_field::{Fe, Pair};
 use std::alloc::{AllocError, Global};
 

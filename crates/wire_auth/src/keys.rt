@@ -8,7 +8,7 @@ ghost use Rattle.zk_model.specs.declared.Product as zk;
 
 use crate::carrying::{begun, known, step_number};
 use crate::triples::KeyTriple;
-use gate_translate::{FieldProgram, Step};
+use field_program::{FieldProgram, Step};
 use mersenne_field::Fe;
 use std::alloc::{AllocError, Global};
 use std::marker::Model;

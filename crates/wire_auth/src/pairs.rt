@@ -6,7 +6,7 @@ ghost use Rattle.zk_model.specs.Program.{Carries};
 ghost use Rattle.zk_model.specs.Mac.{pair_at, macs_of, corrected_pairs};
 ghost use Rattle.zk_model.specs.Check.{ArePairsOf, product_triple, opened_pairs};
 ghost use Rattle.zk_model.specs.HonestProver.{honest_corrections};
-ghost use Rattle.wire_auth.specs.Held.{held_in};
+ghost use Rattle.wire_auth.specs.Held.{items_in};
 ghost use Rattle.wire_auth.specs.Sides.{TakesWithin, IsBegun, IsTaken};
 ghost use Rattle.zk_model.specs.declared.Product as zk;
 
@@ -14,7 +14,7 @@ use crate::carrying::{begun, known, step_number};
 use crate::corrections::{bit_product, corrections};
 use crate::correlations::Correlations;
 use crate::triples::Triple;
-use gate_translate::{FieldProgram, Step};
+use field_program::{FieldProgram, Step};
 use mersenne_field::{Fe, Pair};
 use std::alloc::{AllocError, Global};
 use std::marker::Model;
@@ -32,7 +32,7 @@ pub struct ProverWires<'a> {
 
 impl<'a> Model for ProverWires<'a> {
     ghost use Rattle.std.specs.Prelude.{◌≡◌, ◌≤◌, length};
-    ghost use Rattle.wire_auth.specs.Held.{held_in};
+    ghost use Rattle.wire_auth.specs.Held.{items_in};
     ghost use Rattle.wire_auth.specs.Sides.{pairs_from};
     ghost use Rattle.wire_auth.specs.Sides as sides;
 
@@ -40,13 +40,13 @@ impl<'a> Model for ProverWires<'a> {
 
     ghost view = { λ w. record {
       program = w.program.now;
-      dealt = held_in w.dealt;
-      pairs = pairs_from w.program.now w.bits.now (held_in w.dealt) w.macs.items;
+      dealt = items_in w.dealt;
+      pairs = pairs_from w.program.now w.bits.now (items_in w.dealt) w.macs.items;
     } };
 
     ghost invariant = { λ w. (length w.bits.now ≡ w.program.now.wires)
         × (length w.macs.items ≡ w.program.now.wires)
-        × (w.program.now.givens ≤ length (held_in w.dealt)) };
+        × (w.program.now.givens ≤ length (items_in w.dealt)) };
 }
 
 /// The MAC of the given value that a step takes, and 0 where it takes none.
@@ -120,16 +120,16 @@ impl<'a> ProverWires<'a> {
         dealt: Correlations<'a, Pair>,
     ) -> Result<(ProverWires<'a>, Vec<Fe>), AllocError>
         requires public { length public.now ≡ program.now.public }
-        requires dealt { program.now.givens ≤ length (held_in dealt) }
+        requires dealt { program.now.givens ≤ length (items_in dealt) }
         requires values { Carries 1 program.now public.now (bits_of_products program.now.products bits.now)
             (map from_bit bits.now) }
         ensures program { IfOk result (λ r. r.0.program ≡ program.now) }
-        ensures dealt { IfOk result (λ r. r.0.dealt ≡ held_in dealt.entry) }
+        ensures dealt { IfOk result (λ r. r.0.dealt ≡ items_in dealt.entry) }
         ensures corrections { IfOk result (λ r. r.1.items
-            ≡ honest_corrections (bits_of_products program.now.products bits.now) (held_in dealt.entry)) }
+            ≡ honest_corrections (bits_of_products program.now.products bits.now) (items_in dealt.entry)) }
         ensures one_each { IfOk result (λ r. length r.1.items ≡ program.now.givens) }
-        ensures given { IfOk result (λ r. r.0.pairs.given ≡ corrected_pairs (held_in dealt.entry)
-            (honest_corrections (bits_of_products program.now.products bits.now) (held_in dealt.entry))) }
+        ensures given { IfOk result (λ r. r.0.pairs.given ≡ corrected_pairs (items_in dealt.entry)
+            (honest_corrections (bits_of_products program.now.products bits.now) (items_in dealt.entry))) }
         ensures carried { IfOk result (λ r. ArePairsOf program.now public.now r.0.pairs) }
     {
         let corrections = corrections(alloc, program, bits, dealt.as_slice())?;

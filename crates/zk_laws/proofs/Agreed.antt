@@ -7,8 +7,8 @@ use Rattle.zk_model.specs.Check.{product_triple, section_of, section_triples, op
 use Rattle.zk_model.specs.View.{View, IsView, view_masks}
 use Rattle.zk_model.specs.Finding.{section_errors}
 use Rattle.zk_model.specs.declared.Product.{Product}
-use Rattle.zk_laws.specs.Determined.{Agree, FixedBeforeChallenge}
-use Rattle.zk_laws.proofs.OneTranscript.{one_commitment}
+use Rattle.zk_laws.specs.Uniqueness.{Agree, FixedBeforeChallenge}
+use Rattle.frame_laws.proofs.OneTranscript.{one_commitment}
 use Rattle.zk_laws.proofs.Parts.{map_same, in_section}
 use Rattle.zk_laws.proofs.Views.{one_view}
 

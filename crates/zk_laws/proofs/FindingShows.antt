@@ -15,7 +15,7 @@ use Rattle.zk_model.specs.View.{View, IsView, ChecksHold}
 use Rattle.zk_model.specs.Finding.{found_inputs, found_challenge_root, found_key_root, section_errors, IsSectionRoot, IsOpeningRoot, AllAsClaimed}
 use Rattle.zk_laws.specs.Extraction.{FindingShows}
 use Rattle.zk_laws.proofs.FirstFailures.{some_not_zero}
-use Rattle.zk_laws.proofs.Unique.{set_element, element_at}
+use Rattle.circuit_laws.proofs.Unique.{set_element, element_at}
 use Rattle.zk_laws.proofs.Views.{value_at_place}
 use Rattle.zk_laws.proofs.NoErrors.{no_error_solves, given_elements}
 use Rattle.zk_laws.proofs.SessionKeys.{AreBothEnds, opened_pair, held_section_has_root, held_opening_has_root}

@@ -8,7 +8,7 @@ use Rattle.std.proofs.lemmas.Option.{slice_get-get_or}
 use Rattle.zk_model.specs.Field.{◌*ₚ◌}
 use Rattle.zk_model.specs.Program.{Step, Program, IsProgram, step_value}
 use Rattle.zk_laws.specs.Sessions.{WiresFollow}
-use Rattle.zk_laws.proofs.Programs.{AreMet, met_more, first_kept}
+use Rattle.circuit_laws.proofs.Programs.{AreMet, met_more, first_kept}
 
 -- ---- the first wires
 

@@ -5,10 +5,10 @@ use Rattle.std.specs.List.{AllByRecursion, range_with_len}
 use Rattle.std.proofs.lemmas.List.{length-map, get_or-map}
 use Rattle.std.proofs.lemmas.List.Elements.{recursion_from_All}
 use Rattle.std.proofs.lemmas.List.FromFn.{length-enumerate_from, length-map-range_with_len, get_or-map-range_with_len}
-use Rattle.zk_laws.proofs.FoundTrees.{punctured_exists}
+use Rattle.tree_laws.proofs.FoundTrees.{punctured_exists}
 use Rattle.zk_laws.proofs.OnePairs.{hidden_below}
 use Rattle.zk_laws.proofs.WholePairs.{joined_parts, granted_unit}
-use Rattle.zk_laws.proofs.Xors.{xor_are_bytes}
+use Rattle.tree_laws.proofs.Xors.{xor_are_bytes}
 use Rattle.zk_laws.specs.SeenPairs.{PairsExist}
 use Rattle.zk_model.specs.Bytes.{LeftRight, AreBytes, AreBothBytes}
 use Rattle.zk_model.specs.Mac.{Pair, values_of, macs_of}

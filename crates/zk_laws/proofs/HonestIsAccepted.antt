@@ -11,11 +11,11 @@ use Rattle.zk_model.specs.View.{IsVerdictOf, session_keys, session_products, ses
 use Rattle.zk_model.specs.HonestProver.{ProverTask, IsHonest, SentAfter, AreHonestBytes}
 use Rattle.zk_model.specs.ServedVerifier.{IsServed}
 use Rattle.zk_model.specs.BothEnds.{IsHonestSession}
-use Rattle.zk_laws.specs.Rehearsing.{HonestSessionIsAccepted}
+use Rattle.zk_laws.specs.Completeness.{HonestSessionIsAccepted}
 use Rattle.zk_laws.proofs.KeysFit.{keys_fit}
 use Rattle.zk_laws.proofs.HonestSession.{honest_session_holds}
 use Rattle.zk_laws.proofs.Views.{rounds_are}
-use Rattle.zk_laws.proofs.SentBytes.{sent_by-prover, sent_by-verifier, verifier_answers}
+use Rattle.frame_laws.proofs.SentBytes.{sent_by-prover, sent_by-verifier, verifier_answers}
 use Rattle.zk_model.specs.declared.Params.{Params}
 use Rattle.zk_model.specs.declared.Side.{Side}
 use Rattle.zk_model.specs.declared.Side.TheVariants.{Prover, Verifier}

@@ -20,7 +20,7 @@ use Rattle.zk_model.specs.declared.Product.{Product}
 use Rattle.zk_laws.specs.Sessions.{HonestSessionHolds}
 use Rattle.zk_laws.proofs.Parts.{in_section}
 use Rattle.zk_laws.proofs.Sections.{honest_section_holds}
-use Rattle.zk_laws.proofs.Unique.{one_on_set_wires}
+use Rattle.circuit_laws.proofs.Unique.{one_on_set_wires}
 use Rattle.zk_laws.proofs.Views.{value_at_place, mac_at_place}
 use Rattle.zk_laws.proofs.SessionKeys.{AreBothEnds, wire_fits, left_side, opened_pair}
 

@@ -16,7 +16,7 @@ use Rattle.zk_model.specs.Finding.{AllWithoutError}
 use Rattle.zk_model.specs.declared.Product.{Product}
 use Rattle.zk_laws.specs.Extraction.{NoErrorSolves}
 use Rattle.zk_laws.proofs.Parts.{section_of-map, all_zero}
-use Rattle.zk_laws.proofs.Unique.{element_at}
+use Rattle.circuit_laws.proofs.Unique.{element_at}
 use Rattle.zk_laws.proofs.Views.{value_at_place, given_count}
 
 -- ---- the given values

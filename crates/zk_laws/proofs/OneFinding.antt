@@ -8,7 +8,7 @@ use Rattle.zk_model.specs.Transcript.{Commitment, Transcript, sections_of}
 use Rattle.zk_model.specs.Check.{key_polynomial, opening_polynomial}
 use Rattle.zk_model.specs.View.{View}
 use Rattle.zk_model.specs.Finding.{Finding, found_inputs, found_challenge_root, found_key_root, section_errors, HasNoError, AllWithoutError, IsFirstError, IsAsClaimed, section_polynomial, wire_polynomial, IsSectionRoot, IsChallengeRoot, AreInputs, Gives}
-use Rattle.zk_laws.specs.Determined.{Agree, OneFinding}
+use Rattle.zk_laws.specs.Uniqueness.{Agree, OneFinding}
 use Rattle.zk_laws.proofs.FirstFailures.{one_first, not_all, first_of_same}
 use Rattle.zk_laws.proofs.Agreed.{same_triples, same_opened, same_masks, same_errors, agree_back}
 use Rattle.zk_laws.proofs.Views.{one_view}

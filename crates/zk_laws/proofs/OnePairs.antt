@@ -3,7 +3,7 @@ use Rattle.std.proofs.Common.{◌≡◌, ℕ, suc, ◌+◌, ◌*◌, ◌^◌, �
 use Rattle.std.specs.Prelude.{flat_map, fold}
 use Rattle.std.proofs.lemmas.List.{length-map, ext_get_or}
 use Rattle.std.proofs.lemmas.Nat.{mul-le}
-use Rattle.zk_laws.proofs.Punctured.{one_punctured}
+use Rattle.tree_laws.proofs.Punctured.{one_punctured}
 use Rattle.zk_laws.specs.SeenPairs.{OnePairs}
 use Rattle.zk_model.specs.Bits.{from_bit}
 use Rattle.zk_model.specs.Mac.{Pair, values_of, macs_of}

@@ -18,7 +18,7 @@ use Rattle.zk_model.specs.Finding.{section_polynomial, wire_polynomial}
 use Rattle.zk_model.specs.declared.Product.{Product}
 use Rattle.zk_laws.proofs.Sections.{fitting_triple, key_is_root, key_is_opening_root}
 use Rattle.zk_laws.proofs.WireKeys.{wire_keys_fit}
-use Rattle.zk_laws.proofs.Unique.{one_on_set_wires}
+use Rattle.circuit_laws.proofs.Unique.{one_on_set_wires}
 use Rattle.zk_laws.proofs.Parts.{map_same, map_twice, in_section}
 
 -- ---- keys of pairs

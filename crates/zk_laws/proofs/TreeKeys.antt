@@ -4,12 +4,12 @@ use Rattle.std.specs.List.{AllByRecursion, AllZip, range_with_len}
 use Rattle.std.proofs.lemmas.List.{length-map, get_or-map}
 use Rattle.std.proofs.lemmas.Simd.{map-map}
 use Rattle.std.proofs.lemmas.List.FromFn.{length-map-range_with_len, get_or-map-range_with_len}
-use Rattle.zk_laws.proofs.Grown.{grown_punctured, leaves_without}
-use Rattle.zk_laws.proofs.Octets.{child_bytes, seed_bytes}
+use Rattle.tree_laws.proofs.Grown.{grown_punctured, leaves_without}
+use Rattle.frame_laws.proofs.Octets.{child_bytes, seed_bytes}
 use Rattle.zk_laws.proofs.OnePairs.{hidden_below}
-use Rattle.zk_laws.proofs.Punctured.{one_punctured}
+use Rattle.tree_laws.proofs.Punctured.{one_punctured}
 use Rattle.zk_laws.proofs.TreeNoise.{noise_keys_fit}
-use Rattle.zk_laws.proofs.Xors.{twice, xor_length, long_range}
+use Rattle.tree_laws.proofs.Xors.{twice, xor_length, long_range}
 use Rattle.zk_model.specs.Bits.{exclusive_or}
 use Rattle.zk_model.specs.Bytes.{LeftRight, AreBothBytes, xor_bytes}
 use Rattle.zk_model.specs.Mac.{Pair, fitting_key}

@@ -5,8 +5,8 @@ use Rattle.std.specs.Int.{w64, from_le_bytes}
 use Rattle.std.proofs.lemmas.List.Sums.{sum_by-cons}
 use Rattle.mersenne_field.proofs.Flatten.{flatten}
 use Rattle.mersenne_field.proofs.FieldLaws.{reduced}
-use Rattle.zk_laws.proofs.Ancestors.{same_or_not}
-use Rattle.zk_laws.proofs.Grown.{leaves_without}
+use Rattle.tree_laws.proofs.Ancestors.{same_or_not}
+use Rattle.tree_laws.proofs.Grown.{leaves_without}
 use Rattle.zk_model.specs.Field.{prime, IsElement, ◌+ₚ◌, ◌-ₚ◌, ◌*ₚ◌}
 use Rattle.zk_model.specs.Mac.{Pair, fitting_key}
 use Rattle.zk_model.specs.Tree.{leaf_at, tree_leaves, node_at, path_to}

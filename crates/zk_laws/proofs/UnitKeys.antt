@@ -61,7 +61,7 @@ no_ask = record { flips = []; base_correction = 0 }
 no_reply : TreeReply
 no_reply = record { messages = []; leaf_offset = 0 }
 
--- what is given of a unit of kind extended
+-- what is given of an extended unit
 record IsExtended (verifier : VerifierFile) (unit : ℕ) (dealt : ProverUnit) (round : UnitRound) : Type 0 where
   matched : UnitsMatch verifier.key dealt (verifier_unit verifier unit)
   left : IsProverUnit verifier.params dealt

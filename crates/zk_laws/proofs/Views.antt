@@ -13,13 +13,13 @@ use Rattle.zk_model.specs.declared.Kind.{Kind}
 use Rattle.zk_model.specs.declared.Kind.TheVariants.{Direct, Extended}
 use Rattle.zk_model.specs.declared.Params.{Params}
 use Rattle.zk_laws.specs.SeenPairs.{AreRounds}
-use Rattle.zk_laws.specs.Determined.{OneView}
+use Rattle.zk_laws.specs.Uniqueness.{OneView}
 use Rattle.zk_laws.specs.Sessions.{ViewExists}
 use Rattle.zk_laws.proofs.FoundPairs.{pairs_exist}
 use Rattle.zk_laws.proofs.OnePairs.{one_pairs}
 use Rattle.zk_laws.proofs.WholePairs.{pairs_are_whole}
 use Rattle.zk_laws.proofs.Follow.{wires_follow}
-use Rattle.zk_laws.proofs.Unique.{one_on_set_wires}
+use Rattle.circuit_laws.proofs.Unique.{one_on_set_wires}
 
 -- ---- enough pairs
 
@@ -124,18 +124,20 @@ one_view file statement commitment some others is stated committed left right = 
     given : some.carried.given ≡ others.carried.given
     given = left.given ∙ ap (λ l. corrected_pairs l commitment.corrections) pairs ∙ sym right.given
 
-    value : (wire : ℕ) → IsSetInAll statement.program wire → (pair_at some.carried.wires wire).x ≡ (pair_at others.carried.wires wire).x
-    value wire set = sym (value_at_place some.carried.wires wire)
-        ∙ one_on_set_wires 1 statement.program statement.public (values_of some.carried.given) (values_of some.carried.wires)
-        (values_of others.carried.wires) wire stated.program left.carried.values
-        (subst (λ (l : List Pair). Carries 1 statement.program statement.public (values_of l) (values_of others.carried.wires)) (sym given) right.carried.values)
+    -- of the values, or of the MACs
+    part_of : (one : ℕ) (part : Pair → ℕ) → ((pairs : List Pair) (i : ℕ) → slice_index (map part pairs) i ≡ part (pair_at pairs i))
+        → Carries one statement.program statement.public (map part some.carried.given) (map part some.carried.wires)
+        → Carries one statement.program statement.public (map part others.carried.given) (map part others.carried.wires)
+        → (wire : ℕ) → IsSetInAll statement.program wire → part (pair_at some.carried.wires wire) ≡ part (pair_at others.carried.wires wire)
+    part_of one part at mine theirs wire set = sym (at some.carried.wires wire)
+        ∙ one_on_set_wires one statement.program statement.public (map part some.carried.given) (map part some.carried.wires)
+        (map part others.carried.wires) wire stated.program mine
+        (subst (λ (l : List Pair). Carries one statement.program statement.public (map part l) (map part others.carried.wires)) (sym given) theirs)
         set
-        ∙ value_at_place others.carried.wires wire
+        ∙ at others.carried.wires wire
+
+    value : (wire : ℕ) → IsSetInAll statement.program wire → (pair_at some.carried.wires wire).x ≡ (pair_at others.carried.wires wire).x
+    value = part_of 1 (λ pair. pair.x) value_at_place left.carried.values right.carried.values
 
     mac : (wire : ℕ) → IsSetInAll statement.program wire → (pair_at some.carried.wires wire).m ≡ (pair_at others.carried.wires wire).m
-    mac wire set = sym (mac_at_place some.carried.wires wire)
-        ∙ one_on_set_wires 0 statement.program statement.public (macs_of some.carried.given) (macs_of some.carried.wires)
-        (macs_of others.carried.wires) wire stated.program left.carried.macs
-        (subst (λ (l : List Pair). Carries 0 statement.program statement.public (macs_of l) (macs_of others.carried.wires)) (sym given) right.carried.macs)
-        set
-        ∙ mac_at_place others.carried.wires wire
+    mac = part_of 0 (λ pair. pair.m) mac_at_place left.carried.macs right.carried.macs

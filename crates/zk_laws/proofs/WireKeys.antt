@@ -118,7 +118,7 @@ first_keys key n pairs =
     ∙ keys_apart key (take n pairs)
     ∙ sym (λ i. joined_keys key (take-map value_of n pairs i) (take-map mac_of n pairs i))
 
--- and of those behind them
+-- and of those after them
 next_keys : (key m n : ℕ) (pairs : List Pair) → take n (drop m (map (fitting_key key) pairs))
     ≡ joined_keys key (take n (drop m (map value_of pairs))) (take n (drop m (map mac_of pairs)))
 next_keys key m n pairs =

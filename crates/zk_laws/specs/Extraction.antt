@@ -13,7 +13,7 @@ use Rattle.zk_model.specs.Transcript.{Commitment, Transcript, IsCommitment, IsTr
 use Rattle.zk_model.specs.View.{View, IsView, ChecksHold, session_keys}
 use Rattle.zk_model.specs.Finding.{Finding, found_inputs, found_challenge_root, found_key_root, AllWithoutError, Gives, IsFinding}
 use Rattle.zk_model.specs.ServedVerifier.{RepliesAre}
-use Rattle.zk_laws.specs.Booleans.{AreSatisfying}
+use Rattle.circuit_laws.specs.Circuits.{AreSatisfying}
 
 -- without errors the prover's values solve the program
 abbrev pub NoErrorSolves : Type 0

@@ -1,8 +1,6 @@
-pub mod Trees
 pub mod SeenPairs
 pub mod Keys
-pub mod Determined
-pub mod Booleans
+pub mod Uniqueness
 pub mod Sessions
 pub mod Extraction
-pub mod Rehearsing
+pub mod Completeness

@@ -2,8 +2,9 @@
 use Rattle.std.proofs.Common.{◌≡◌, ℕ, zero, suc, ◌≤◌, List, [], ◌∷◌, ◌++◌, take, drop, inl, inr, refl, sym, ap, subst, ◌∙◌, arith, lit<, lit≤}
 use Rattle.sha2.specs.Sha256.{sha256, digest_bytes, hash_after, compress, rounds, schedule, first_words}
 use Rattle.zk_model.proofs.ExampleTools.{same_count}
+use Rattle.zk_model.proofs.ExampleFiles.{direct}
 use Rattle.zk_model.proofs.ExamplePrograms.{and_program, and_solved}
-use Rattle.zk_model.proofs.ExampleSession.{direct, prover, verifier, statement, commitment, session, the_challenge, transcript, in_order, view, viewed, keys, carried, sections_hold, openings_hold, checked}
+use Rattle.zk_model.proofs.ExampleSession.{prover, verifier, statement, commitment, session, the_challenge, transcript, in_order, view, viewed, keys, carried, sections_hold, openings_hold, checked}
 use Rattle.zk_model.specs.Transcript.{spelling, sent_by, bytes_from, turn_bytes, session_turns, hello_frame, grant_frame, corrections_frame, challenge_frame, sums_frame, openings_frame, verdict_frame}
 use Rattle.zk_model.specs.HonestProver.{ProverTask, IsHonest, AreHonestBytes, SentAfter}
 use Rattle.zk_model.specs.ServedVerifier.{VerifierTask, IsServed, IsAccepted, ServesWith}

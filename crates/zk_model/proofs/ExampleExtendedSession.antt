@@ -8,7 +8,7 @@ use Rattle.rand_chacha.specs.Block.{block_word, double_rounds, column_round, dia
 use Rattle.rand_core.specs.Steps.{u32_at}
 use Rattle.zk_model.proofs.ExampleTools.{one_only, bytes_of, bytes_by_test, same_count}
 use Rattle.zk_model.proofs.ExamplePrograms.{and_program, and_solved}
-use Rattle.zk_model.proofs.ExampleSession.{statement, stated, digest_bytes_fit}
+use Rattle.zk_model.proofs.ExampleSession.{statement, stated, session_of, hello_fits, transcript_of}
 use Rattle.zk_model.proofs.ExampleRound.{params, prover, verifier, grant, first_ask, second_ask, first_messages, first_reply, second_messages, second_reply, round, asked, replied}
 use Rattle.zk_model.proofs.ExampleFound.{pairs, seen}
 use Rattle.zk_model.specs.Field.{IsElement}
@@ -32,18 +32,11 @@ abbrev setup : Setup
 setup = record { hello = wanted_hello (replicate 32 1) statement; grant = grant; rounds = round ∷ [] }
 
 -- 1 less each of the first three values
-abbrev commitment : Commitment
-commitment = record { setup = setup; corrections = 2305843009213693884 ∷ 2266386089951480102 ∷ 1502920062593609024 ∷ [] }
-
 abbrev session : Transcript
-session = record {
-  commitment = commitment;
-  challenge = 2260894008942260198;
-  sums = (2250538639952329407, 276242780300017579) ∷ [];
-  openings = 674248719802933514 ∷ [];
-  code = 0;
-  number = 0;
-}
+session = session_of setup (2305843009213693884 ∷ 2266386089951480102 ∷ 1502920062593609024 ∷ []) (2250538639952329407, 276242780300017579) 674248719802933514
+
+abbrev commitment : Commitment
+commitment = session.commitment
 
 the_challenge : challenge_coin verifier 0 ≡ session.challenge
 unfolding coin_word block_word double_rounds column_round diagonal_round quarter_round u32_at
@@ -76,25 +69,14 @@ round_fits = record {
 }
 
 transcript : IsTranscript params and_program session
-transcript = record {
-  commitment = record {
-    setup = record {
-      hello = record { id = bytes_of 32 1 (lit< tt); circuit = bytes_of 32 2 (lit< tt); outputs = digest_bytes_fit; version = lit< tt };
+transcript = transcript_of params setup _ _ _ _ _
+    (record {
+      hello = hello_fits;
       grant = record { section_some = lit≤ tt; section_most = lit≤ tt; count = refl; count_most = lit≤ tt; within = lit≤ tt };
       round_count = refl;
       rounds = All-from_recursion (IsRound params grant) setup.rounds (round_fits, tt);
-    };
-    count = refl;
-    elements = All-from_recursion IsElement commitment.corrections (lit< tt, (lit< tt, (lit< tt, tt)));
-  };
-  challenge = lit< tt;
-  sum_count = refl;
-  sums = All-from_recursion (λ both. IsElement both.0 × IsElement both.1) session.sums ((lit< tt, lit< tt), tt);
-  opening_count = refl;
-  openings = All-from_recursion IsElement session.openings (lit< tt, tt);
-  code = lit≤ tt;
-  number = lit< tt;
-}
+    })
+    refl (lit< tt, lit< tt, lit< tt) (lit< tt, lit< tt) (lit< tt)
 
 -- ---- an honest prover
 

@@ -77,7 +77,7 @@ wide_value = inl (record {
   fault_is = refl;
 })
 
--- ---- behind a header
+-- ---- after a header
 
 -- a circuit of these wires and values, and no gates yet
 abbrev bare : ℕ → Values → Circuit
@@ -117,7 +117,7 @@ one_value = record { inputs = 1 ∷ []; outputs = 1 ∷ [] }
 pair_begun : IsBegun 1 pair_values (bare 3 pair_values)
 pair_begun = bare_begun 1 3 pair_values (lit≤ tt) (lit≤ tt) (lit≤ tt) (lit≤ tt) (lit≤ tt) (lit≤ tt)
 
--- text behind the last gate, of which there is none
+-- text after the last gate, of which there is none
 extra_text : IsFirstFault (codes "0 1 1 1 1 1 7") (ExtraText 6)
 extra_text = inl (record {
   before = number 0 ∷ number 1 ∷ number 1 ∷ number 1 ∷ number 1 ∷ number 1 ∷ [];

@@ -1,6 +1,6 @@
 -- What the prover finds of both units of the round: the leaf that it may know of each tree, and its pairs, which the
 -- verifier's keys fit.
-use Rattle.std.proofs.Common.{◌≡◌, ◌≢◌, ℕ, zero, suc, ◌+◌, ◌*◌, ◌^◌, ◌<◌, true, false, List, [], ◌∷◌, refl, slice_index, map, arith}
+use Rattle.std.proofs.Common.{◌≡◌, ◌≢◌, ℕ, zero, suc, ◌+◌, ◌*◌, ◌^◌, ◌<◌, true, false, List, [], ◌∷◌, refl, sym, slice_index, map, flat_map, take, length, arith}
 use Rattle.std.specs.Prelude.{slice_index_or}
 use Rattle.std.specs.List.{range_with_len}
 use Rattle.rand_chacha.specs.Block.{block_word, double_rounds, column_round, diagonal_round, quarter_round}
@@ -9,7 +9,8 @@ use Rattle.zk_model.proofs.ExampleTools.{one_only, two_only, bytes_by_test}
 use Rattle.zk_model.proofs.ExampleRound.{params, prover_unit_of, prover, grant, first_ask, second_ask, first_reply, second_reply, round}
 use Rattle.zk_model.specs.Bytes.{AreBytes, xor_all}
 use Rattle.zk_model.specs.Coins.{coin_word}
-use Rattle.zk_model.specs.Mac.{Pair}
+use Rattle.zk_model.specs.Mac.{Pair, values_of, macs_of}
+use Rattle.zk_model.specs.Extension.{code_outputs}
 use Rattle.zk_model.specs.Tree.{ancestor, side_away, leaf_value, IsPunctured}
 use Rattle.zk_model.specs.Files.{ProverUnit}
 use Rattle.zk_model.specs.Transcript.{Hello}
@@ -22,40 +23,47 @@ use Rattle.zk_model.specs.Files as files
 abbrev only : List ℕ → ℕ → ℕ → List ℕ
 only node level j = node
 
--- without the left leaf, the right node is the sum that was chosen
-without_left : (node : List ℕ) (leaf : ℕ) → AreBytes 16 node → xor_all (node ∷ []) ≡ node → leaf ≡ leaf_value node
-    → IsPunctured 1 0 (node ∷ []) (0 ∷ leaf ∷ [])
-without_left node leaf bytes same is = record {
+-- no node but the root is above both leaves
+root_alone : (place : ℕ) → ancestor 1 place 0 ≡ 0 → (level j : ℕ) → level < 1 → j < 2 ^ level → j ≢ ancestor 1 place level → ⊥
+root_alone place root zero zero low below away = away (sym root)
+root_alone place root zero (suc j) low below away = omega (arith, below)
+root_alone place root (suc level) j low below away = omega (arith, low)
+
+-- without one leaf, the other node is the sum that was chosen
+without : (place : ℕ) (node leaves : List ℕ) → ancestor 1 place 0 ≡ 0 → AreBytes 16 node → xor_all (node ∷ []) ≡ node → length leaves ≡ 2
+    → ((j : ℕ) → j < 2 → j ≢ place → slice_index leaves j ≡ leaf_value node) → slice_index leaves place ≡ 0 → IsPunctured 1 place (node ∷ []) leaves
+without place node leaves root bytes same whole others missing = record {
   node = only node;
   bytes = λ level j low below away. bytes;
-  halves = λ level j side low below away. absurd (root_alone level j low below away);
-  summed = one_only (λ level. xor_all (map (λ j. only node (level + 1) (2 * j + side_away 1 0 level)) (range_with_len 0 (2 ^ level))) ≡ slice_index_or (node ∷ []) level []) same;
-  whole = refl;
-  others = two_only (λ j. j ≢ 0 → slice_index (0 ∷ leaf ∷ []) j ≡ leaf_value (only node 1 j)) (λ away. absurd (away refl)) (λ away. is);
-  missing = refl;
+  halves = λ level j side low below away. absurd (root_alone place root level j low below away);
+  summed = one_only (λ level. xor_all (map (λ j. only node (level + 1) (2 * j + side_away 1 place level)) (range_with_len 0 (2 ^ level))) ≡ slice_index_or (node ∷ []) level []) same;
+  whole = whole;
+  others = others;
+  missing = missing;
 }
-  where
-    root_alone : (level j : ℕ) → level < 1 → j < 2 ^ level → j ≢ ancestor 1 0 level → ⊥
-    root_alone zero zero low below away = away refl
-    root_alone zero (suc j) low below away = omega (arith, below)
-    root_alone (suc level) j low below away = omega (arith, low)
+
+without_left : (node : List ℕ) (leaf : ℕ) → AreBytes 16 node → xor_all (node ∷ []) ≡ node → leaf ≡ leaf_value node
+    → IsPunctured 1 0 (node ∷ []) (0 ∷ leaf ∷ [])
+without_left node leaf bytes same is = without 0 node (0 ∷ leaf ∷ []) refl bytes same refl
+    (two_only (λ j. j ≢ 0 → slice_index (0 ∷ leaf ∷ []) j ≡ leaf_value node) (λ away. absurd (away refl)) (λ away. is)) refl
 
 without_right : (node : List ℕ) (leaf : ℕ) → AreBytes 16 node → xor_all (node ∷ []) ≡ node → leaf ≡ leaf_value node
     → IsPunctured 1 1 (node ∷ []) (leaf ∷ 0 ∷ [])
-without_right node leaf bytes same is = record {
-  node = only node;
-  bytes = λ level j low below away. bytes;
-  halves = λ level j side low below away. absurd (root_alone level j low below away);
-  summed = one_only (λ level. xor_all (map (λ j. only node (level + 1) (2 * j + side_away 1 1 level)) (range_with_len 0 (2 ^ level))) ≡ slice_index_or (node ∷ []) level []) same;
-  whole = refl;
-  others = two_only (λ j. j ≢ 1 → slice_index (leaf ∷ 0 ∷ []) j ≡ leaf_value (only node 1 j)) (λ away. is) (λ away. absurd (away refl));
-  missing = refl;
+without_right node leaf bytes same is = without 1 node (leaf ∷ 0 ∷ []) refl bytes same refl
+    (two_only (λ j. j ≢ 1 → slice_index (leaf ∷ 0 ∷ []) j ≡ leaf_value node) (λ away. is) (λ away. absurd (away refl))) refl
+
+-- the pairs of a unit with one tree, by the noise of that tree
+extended : (unit : ProverUnit) (by : UnitRound) (noise pairs : List Pair) → IsNoiseOf (tree_view params unit by 0) noise
+    → values_of pairs ≡ code_outputs prover.code_seed (values_of (take params.base unit.pairs)) (flat_map values_of (noise ∷ []))
+    → macs_of pairs ≡ code_outputs prover.code_seed (macs_of (take params.base unit.pairs)) (flat_map macs_of (noise ∷ []))
+    → IsExtension params prover.code_seed unit by pairs
+extended unit by noise pairs noisy values macs = record {
+  noise = noise ∷ [];
+  count = refl;
+  each = one_only (λ t. IsNoiseOf (tree_view params unit by t) (slice_index_or (noise ∷ []) t [])) noisy;
+  values = values;
+  macs = macs;
 }
-  where
-    root_alone : (level j : ℕ) → level < 1 → j < 2 ^ level → j ≢ ancestor 1 1 level → ⊥
-    root_alone zero zero low below away = away refl
-    root_alone zero (suc j) low below away = omega (arith, below)
-    root_alone (suc level) j low below away = omega (arith, low)
 
 -- ---- the first unit: place 1 is hidden
 
@@ -76,13 +84,7 @@ first_noisy = (40599947921909128 ∷ 0 ∷ [], without_right first_node 40599947
 
 first_extended : IsExtension params (prover.code_seed) (prover_unit_of true 21) first_unit_round first_pairs
 unfolding coin_word block_word double_rounds column_round diagonal_round quarter_round u32_at
-first_extended = record {
-  noise = first_noise ∷ [];
-  count = refl;
-  each = one_only (λ t. IsNoiseOf (tree_view params (prover_unit_of true 21) first_unit_round t) (slice_index_or (first_noise ∷ []) t [])) first_noisy;
-  values = refl;
-  macs = refl;
-}
+first_extended = extended (prover_unit_of true 21) first_unit_round first_noise first_pairs first_noisy refl refl
 
 -- ---- the second unit: place 0 is hidden
 
@@ -103,13 +105,7 @@ second_noisy = (0 ∷ 2205882858090764711 ∷ [], without_left second_node 22058
 
 second_extended : IsExtension params (prover.code_seed) (prover_unit_of false 31) second_unit_round second_pairs
 unfolding coin_word block_word double_rounds column_round diagonal_round quarter_round u32_at
-second_extended = record {
-  noise = second_noise ∷ [];
-  count = refl;
-  each = one_only (λ t. IsNoiseOf (tree_view params (prover_unit_of false 31) second_unit_round t) (slice_index_or (second_noise ∷ []) t [])) second_noisy;
-  values = refl;
-  macs = refl;
-}
+second_extended = extended (prover_unit_of false 31) second_unit_round second_noise second_pairs second_noisy refl refl
 
 -- ---- both units
 

@@ -1,5 +1,5 @@
 -- Circuits and programs at worked examples, by computation.
-use Rattle.std.proofs.Common.{◌≡◌, ℕ, ◌+◌, true, List, [], ◌∷◌, refl, sym, subst, inl, inr, ◌<◌, ◌≤◌, lit<, lit≤, arith}
+use Rattle.std.proofs.Common.{◌≡◌, ℕ, ◌+◌, true, List, [], ◌∷◌, length, take, drop, refl, sym, subst, inl, inr, ◌<◌, ◌≤◌, lit<, lit≤, arith}
 use Rattle.std.specs.Prelude.{All}
 use Rattle.std.specs.List.{AllByRecursion}
 use Rattle.std.proofs.lemmas.List.Elements.{All-from_recursion, All-nil}
@@ -15,7 +15,7 @@ all : {A : Type 0} (P : A → Type 0) (items : List A) → AllByRecursion P item
 all P items holds = All-from_recursion P items holds
 
 -- a step that sets a wire to a given value
-abbrev takes_given : ℕ → ℕ → Step
+abbrev pub takes_given : ℕ → ℕ → Step
 takes_given j out = record { out = out; wires = []; given = record { factor = 1; place = j } ∷ []; constant = 0 }
 
 -- it may be the first one
@@ -28,6 +28,18 @@ takes_given_is program j out given within past = record {
   constant = lit< tt;
   within = within;
   once = unset program out past;
+}
+
+-- wires and given values that solve a program without public values
+solves : (program : Program) (wires given : List ℕ) → length wires ≡ program.wires → take program.public wires ≡ []
+    → take program.inputs (drop program.public wires) ≡ take program.inputs given → AllByRecursion (MeetsStep 1 wires given) program.steps
+    → length given ≡ program.givens → AllByRecursion IsElement given → AllByRecursion (Multiplies wires given) program.products
+    → Solves program [] wires given
+solves program wires given whole constants inputs steps count elements multiplied = record {
+  carried = record { whole = whole; constants = constants; inputs = inputs; steps = all (MeetsStep 1 wires given) program.steps steps };
+  count = count;
+  elements = all IsElement given elements;
+  multiplied = all (Multiplies wires given) program.products multiplied;
 }
 
 -- ---- the circuit of one AND
@@ -67,24 +79,14 @@ and_is_program = record {
 
 -- the wires 1, 1, 1 solve it with the products 1, 1, 1
 pub and_solved : Solves and_program [] (1 ∷ 1 ∷ 1 ∷ []) (1 ∷ 1 ∷ 1 ∷ [])
-and_solved = record {
-  carried = record { whole = refl; constants = refl; inputs = refl; steps = all (MeetsStep 1 (1 ∷ 1 ∷ 1 ∷ []) (1 ∷ 1 ∷ 1 ∷ [])) and_program.steps (refl, tt) };
-  count = refl;
-  elements = all IsElement (1 ∷ 1 ∷ 1 ∷ []) (lit< tt, (lit< tt, (lit< tt, tt)));
-  multiplied = all (Multiplies (1 ∷ 1 ∷ 1 ∷ []) (1 ∷ 1 ∷ 1 ∷ [])) and_program.products (refl, (refl, (refl, tt)));
-}
+and_solved = solves and_program (1 ∷ 1 ∷ 1 ∷ []) (1 ∷ 1 ∷ 1 ∷ []) refl refl refl (refl, tt) refl (lit< tt, (lit< tt, (lit< tt, tt))) (refl, (refl, (refl, tt)))
 
 abbrev xor_program : Program
 xor_program = circuit_program 0 (record { wires = 3; inputs = 2; outputs = 1; gates = Xor 0 1 2 ∷ [] })
 
 -- an XOR of 1 and 1 has the product 1 and the wire 0
 xor_solved : Solves xor_program [] (1 ∷ 1 ∷ 0 ∷ []) (1 ∷ 1 ∷ 1 ∷ [])
-xor_solved = record {
-  carried = record { whole = refl; constants = refl; inputs = refl; steps = all (MeetsStep 1 (1 ∷ 1 ∷ 0 ∷ []) (1 ∷ 1 ∷ 1 ∷ [])) xor_program.steps (refl, tt) };
-  count = refl;
-  elements = all IsElement (1 ∷ 1 ∷ 1 ∷ []) (lit< tt, (lit< tt, (lit< tt, tt)));
-  multiplied = all (Multiplies (1 ∷ 1 ∷ 0 ∷ []) (1 ∷ 1 ∷ 1 ∷ [])) xor_program.products (refl, (refl, (refl, tt)));
-}
+xor_solved = solves xor_program (1 ∷ 1 ∷ 0 ∷ []) (1 ∷ 1 ∷ 1 ∷ []) refl refl refl (refl, tt) refl (lit< tt, (lit< tt, (lit< tt, tt))) (refl, (refl, (refl, tt)))
 
 -- one gate of each kind; wire 2 is set by none and may have any value
 abbrev mixed : Circuit
@@ -98,17 +100,8 @@ mixed_given = 0 ∷ 1 ∷ 1 ∷ 1 ∷ []
 
 -- for the inputs 0 and 1: two bit checks, 1 and 1, and 1 xor 1
 mixed_solved : Solves (circuit_program 0 mixed) [] mixed_wires mixed_given
-mixed_solved = record {
-  carried = record {
-    whole = refl;
-    constants = refl;
-    inputs = refl;
-    steps = all (MeetsStep 1 mixed_wires mixed_given) (circuit_program 0 mixed).steps (refl, (refl, (refl, (refl, (refl, tt)))));
-  };
-  count = refl;
-  elements = all IsElement mixed_given (lit< tt, (lit< tt, (lit< tt, (lit< tt, tt))));
-  multiplied = all (Multiplies mixed_wires mixed_given) (circuit_program 0 mixed).products (refl, (refl, (refl, (refl, tt))));
-}
+mixed_solved = solves (circuit_program 0 mixed) mixed_wires mixed_given refl refl refl (refl, (refl, (refl, (refl, (refl, tt))))) refl
+    (lit< tt, (lit< tt, (lit< tt, (lit< tt, tt)))) (refl, (refl, (refl, (refl, tt))))
 
 -- ---- a product of field elements: two inputs that are no bits, and one product
 
@@ -143,12 +136,7 @@ pub multiply_solved : IsSolvedBy multiply [] (6 ∷ 7 ∷ []) (42 ∷ [])
 multiply_solved = record {
   wires = 6 ∷ 7 ∷ 42 ∷ [];
   given = 6 ∷ 7 ∷ 42 ∷ [];
-  solved = record {
-    carried = record { whole = refl; constants = refl; inputs = refl; steps = all (MeetsStep 1 (6 ∷ 7 ∷ 42 ∷ []) (6 ∷ 7 ∷ 42 ∷ [])) multiply.steps (refl, tt) };
-    count = refl;
-    elements = all IsElement (6 ∷ 7 ∷ 42 ∷ []) (lit< tt, (lit< tt, (lit< tt, tt)));
-    multiplied = all (Multiplies (6 ∷ 7 ∷ 42 ∷ []) (6 ∷ 7 ∷ 42 ∷ [])) multiply.products (refl, tt);
-  };
+  solved = solves multiply (6 ∷ 7 ∷ 42 ∷ []) (6 ∷ 7 ∷ 42 ∷ []) refl refl refl (refl, tt) refl (lit< tt, (lit< tt, (lit< tt, tt))) (refl, tt);
   first = refl;
   last = refl;
 }

@@ -1,4 +1,4 @@
--- Dealt files of kind extended with two units, over a base of 10 and with one tree of height 1: the honest asks and the
+-- Dealt extended files with two units, over a base of 10 and with one tree of height 1: the honest asks and the
 -- verifier's replies of a session, with all hashes and coins. The key is 5.
 use Rattle.std.proofs.Common.{◌≡◌, ℕ, ◌+◌, ◌*◌, ◌<◌, Bool, true, false, List, [], ◌∷◌, refl, replicate, map, length, lit<, lit≤}
 use Rattle.std.specs.Prelude.{All}
@@ -8,6 +8,7 @@ use Rattle.sha2.specs.Sha256.{sha256, digest_bytes, hash_after, compress, rounds
 use Rattle.rand_chacha.specs.Block.{block_word, double_rounds, column_round, diagonal_round, quarter_round}
 use Rattle.rand_core.specs.Steps.{u32_at}
 use Rattle.zk_model.proofs.ExampleTools.{bytes_of}
+use Rattle.zk_model.proofs.ExampleFiles.{prover_file_of, verifier_file_of, is_prover_file, is_verifier_file, are_dealt}
 use Rattle.zk_model.specs.Field.{IsElement}
 use Rattle.zk_model.specs.Bytes.{LeftRight, AreBytes, AreBothBytes}
 use Rattle.zk_model.specs.Coins.{coin_word}
@@ -33,13 +34,7 @@ abbrev pub prover_unit_of : Bool → ℕ → ProverUnit
 prover_unit_of bit byte = record { pairs = dealt; trees = (record { bit = bit; pad = replicate 16 byte } ∷ []) ∷ [] }
 
 abbrev pub prover : ProverFile
-prover = record {
-  id = replicate 32 1;
-  params = params;
-  coin_key = replicate 32 3;
-  code_seed = replicate 32 7;
-  units = prover_unit_of true 21 ∷ prover_unit_of false 31 ∷ [];
-}
+prover = prover_file_of params 3 7 (prover_unit_of true 21 ∷ prover_unit_of false 31 ∷ [])
 
 abbrev verifier_unit_of : VerifierUnit
 verifier_unit_of = record {
@@ -48,14 +43,7 @@ verifier_unit_of = record {
 }
 
 abbrev pub verifier : VerifierFile
-verifier = record {
-  id = replicate 32 1;
-  params = params;
-  coin_key = replicate 32 9;
-  code_seed = replicate 32 7;
-  key = 5;
-  units = verifier_unit_of ∷ verifier_unit_of ∷ [];
-}
+verifier = verifier_file_of params 7 (verifier_unit_of ∷ verifier_unit_of ∷ [])
 
 -- ---- they are files, dealt together
 
@@ -76,14 +64,8 @@ prover_unit_fits bit byte fits = record {
 }
 
 pub prover_file : IsProverFile prover
-prover_file = record {
-  params = numbers_fit;
-  id = bytes_of 32 1 (lit< tt);
-  coin_key = bytes_of 32 3 (lit< tt);
-  code_seed = bytes_of 32 7 (lit< tt);
-  count = refl;
-  units = All-from_recursion (IsProverUnit params) prover.units (prover_unit_fits true 21 (lit< tt), (prover_unit_fits false 31 (lit< tt), tt));
-}
+prover_file = is_prover_file params 3 7 prover.units numbers_fit (lit< tt) (bytes_of 32 7 (lit< tt)) refl
+    (prover_unit_fits true 21 (lit< tt), (prover_unit_fits false 31 (lit< tt), tt))
 
 verifier_unit_fits : IsVerifierUnit params verifier_unit_of
 verifier_unit_fits = record {
@@ -103,25 +85,11 @@ verifier_unit_fits = record {
 }
 
 pub verifier_file : IsVerifierFile verifier
-verifier_file = record {
-  params = numbers_fit;
-  id = bytes_of 32 1 (lit< tt);
-  coin_key = bytes_of 32 9 (lit< tt);
-  code_seed = bytes_of 32 7 (lit< tt);
-  key = lit< tt;
-  key_set = λ e. cc;
-  count = refl;
-  units = All-from_recursion (IsVerifierUnit params) verifier.units (verifier_unit_fits, (verifier_unit_fits, tt));
-}
+verifier_file = is_verifier_file params 7 verifier.units numbers_fit (bytes_of 32 7 (lit< tt)) refl (verifier_unit_fits, (verifier_unit_fits, tt))
 
 pub files_dealt : AreDealt prover verifier
-files_dealt = record {
-  id = refl;
-  params = refl;
-  code_seed = refl;
-  key = λ e. cc;
-  units = (record { keys = refl; pads = ((refl, tt), tt) }, (record { keys = refl; pads = ((refl, tt), tt) }, tt));
-}
+files_dealt = are_dealt params 3 7 prover.units verifier.units
+    (record { keys = refl; pads = ((refl, tt), tt) }, (record { keys = refl; pads = ((refl, tt), tt) }, tt))
 
 -- ---- the round
 

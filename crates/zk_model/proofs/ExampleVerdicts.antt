@@ -1,5 +1,5 @@
 -- Verdicts and findings of sessions about one product, by computation: accepted, rejected, and accepted by luck.
-use Rattle.std.proofs.Common.{◌≡◌, [], ◌∷◌, refl, inl, inr, lit<, arith}
+use Rattle.std.proofs.Common.{◌≡◌, ℕ, [], ◌∷◌, refl, inl, inr, lit<, arith}
 use Rattle.std.proofs.lemmas.List.Elements.{All-from_recursion}
 use Rattle.zk_model.proofs.ExampleTools.{one_only}
 use Rattle.zk_model.proofs.ExamplePrograms.{multiply}
@@ -7,9 +7,25 @@ use Rattle.zk_model.proofs.ExampleProducts.{prover, verifier, claiming, session,
 use Rattle.zk_model.specs.Polynomial.{IsRoot}
 use Rattle.zk_model.specs.Transcript.{Transcript}
 use Rattle.zk_model.specs.Check.{left_of_section, right_of_section, SectionHolds, left_of_opening, right_of_opening, OpeningHolds}
-use Rattle.zk_model.specs.View.{session_products, session_openings, IsVerdict}
+use Rattle.zk_model.specs.View.{AreSessionKeys, session_products, session_openings, IsVerdict}
 use Rattle.zk_model.specs.Finding.{found_key_root, section_errors, HasNoError, IsFirstError, IsFinding}
 use Rattle.zk_model.specs.declared.Verdict.TheVariants.{Accepted, RejectedSum, RejectedOpening}
+
+-- a session in which both checks hold is accepted
+accepted : (claim correction sum opening last : ℕ)
+    → AreSessionKeys verifier (claiming claim) (session claim correction sum opening 0).commitment (keys last)
+    → SectionHolds (session_products verifier (claiming claim) (session claim correction sum opening 0) (keys last)) 0
+    → OpeningHolds (session_openings verifier (claiming claim) (session claim correction sum opening 0) (keys last)) 0
+    → IsVerdict verifier (claiming claim) (session claim correction sum opening 0) Accepted
+accepted claim correction sum opening last carried section opened = record {
+  keys = keys last;
+  carried = carried;
+  judged = (
+    one_only (SectionHolds (session_products verifier (claiming claim) (session claim correction sum opening 0) (keys last))) section,
+    one_only (OpeningHolds (session_openings verifier (claiming claim) (session claim correction sum opening 0) (keys last))) opened,
+  );
+  said = record { code = refl; number = refl };
+}
 
 -- ---- one times one is 1
 
@@ -17,15 +33,7 @@ abbrev honest : Transcript
 honest = session 1 to_one 409 7 0
 
 honest_accepted : IsVerdict verifier (claiming 1) honest Accepted
-honest_accepted = record {
-  keys = keys 12;
-  carried = keys_of_one 1;
-  judged = (
-    one_only (SectionHolds (session_products verifier (claiming 1) honest (keys 12))) refl,
-    one_only (OpeningHolds (session_openings verifier (claiming 1) honest (keys 12))) refl,
-  );
-  said = record { code = refl; number = refl };
-}
+honest_accepted = accepted 1 to_one 409 7 12 (keys_of_one 1) refl refl
 
 -- ---- a product of 0, with the sums of one that is 1: the left side is 709, and the right one 659
 
@@ -70,15 +78,7 @@ abbrev lucky_product : Transcript
 lucky_product = session 0 to_zero 459 7 0
 
 lucky_product_accepted : IsVerdict verifier (claiming 0) lucky_product Accepted
-lucky_product_accepted = record {
-  keys = keys 7;
-  carried = keys_of_zero 0;
-  judged = (
-    one_only (SectionHolds (session_products verifier (claiming 0) lucky_product (keys 7))) refl,
-    one_only (OpeningHolds (session_openings verifier (claiming 0) lucky_product (keys 7))) refl,
-  );
-  said = record { code = refl; number = refl };
-}
+lucky_product_accepted = accepted 0 to_zero 459 7 7 (keys_of_zero 0) refl refl
 
 -- the only section has the error 1
 has_error : IsFirstError multiply lucky_product.commitment (view 0) 0
@@ -109,15 +109,7 @@ abbrev lucky_opening : Transcript
 lucky_opening = session 0 to_one 409 12 0
 
 lucky_opening_accepted : IsVerdict verifier (claiming 0) lucky_opening Accepted
-lucky_opening_accepted = record {
-  keys = keys 12;
-  carried = keys_of_one 0;
-  judged = (
-    one_only (SectionHolds (session_products verifier (claiming 0) lucky_opening (keys 12))) refl,
-    one_only (OpeningHolds (session_openings verifier (claiming 0) lucky_opening (keys 12))) refl,
-  );
-  said = record { code = refl; number = refl };
-}
+lucky_opening_accepted = accepted 0 to_one 409 12 12 (keys_of_one 0) refl refl
 
 lucky_opening_found : IsFinding prover (claiming 0) lucky_opening (found_key_root (2305843009213693946 ∷ 1 ∷ []))
 lucky_opening_found = record {

@@ -1,4 +1,5 @@
 pub mod ExampleTools
+pub mod ExampleFiles
 pub mod ExamplePrograms
 pub mod ExamplePublic
 pub mod ExampleChecks

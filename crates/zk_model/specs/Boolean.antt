@@ -54,7 +54,7 @@ products_in (Eq bit out) = 0
 abbrev pub private_inputs : ℕ → Circuit → ℕ
 private_inputs public circuit = circuit.inputs - public
 
--- the given value of gate n's product, if it has one: behind the private inputs and the products of the gates before it
+-- the given value of gate n's product, if it has one: after the private inputs and the products of the gates before it
 abbrev pub given_of_gate : ℕ → Circuit → ℕ → ℕ
 given_of_gate public circuit n = private_inputs public circuit + sum_by products_in (take n circuit.gates)
 

@@ -5,6 +5,7 @@ use Rattle.zk_model.specs.Bits.{from_bit}
 use Rattle.zk_model.specs.Circuit.{Circuit, IsWellFormed}
 use Rattle.zk_model.specs.declared.GateRow.{GateRow}
 use Rattle.zk_model.specs.declared.GateRow.TheVariants.{And, Xor, Inv, Eqw, Eq}
+use Rattle.zk_model.specs.declared.limits.TheConstants.{MAX_GATES, MAX_VALUES, MAX_WIRES}
 
 -- ---- tokens
 
@@ -70,10 +71,10 @@ circuit_lexemes circuit values =
 
 -- at most 2^20 gates and wires, and at most 1,024 values of inputs and of outputs
 pub record IsWithinLimits (circuit : Circuit) (values : Values) : Type 0 where
-  pub gates : length circuit.gates ≤ 2 ^ 20
-  pub wires : circuit.wires ≤ 2 ^ 20
-  pub inputs : length values.inputs ≤ 1024
-  pub outputs : length values.outputs ≤ 1024
+  pub gates : length circuit.gates ≤ MAX_GATES
+  pub wires : circuit.wires ≤ MAX_WIRES
+  pub inputs : length values.inputs ≤ MAX_VALUES
+  pub outputs : length values.outputs ≤ MAX_VALUES
 
 -- The text says this circuit, and the circuit is one that is read: its values cover its input wires and its
 -- output wires, it is well formed and within the limits.

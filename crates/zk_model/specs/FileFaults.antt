@@ -46,7 +46,7 @@ abbrev pub block_length : Side → Params → ℕ
 block_length Prover params = 16 * dealt_per_unit params + 17 * (params.trees * params.height)
 block_length Verifier params = 8 * dealt_per_unit params + 32 * (params.trees * params.height)
 
--- where the first block starts: behind the header, and at the verifier behind its key
+-- where the first block starts: after the header, and at the verifier after its key
 abbrev pub blocks_start : Side → ℕ
 blocks_start Prover = 128
 blocks_start Verifier = 136

@@ -6,6 +6,7 @@ use Rattle.zk_model.specs.declared.Expect.{Expect}
 use Rattle.zk_model.specs.declared.Expect.TheVariants as expect
 use Rattle.zk_model.specs.declared.FrameKind.{FrameKind}
 use Rattle.zk_model.specs.declared.FrameKind.TheVariants as kind
+use Rattle.zk_model.specs.declared.limits.TheConstants.{HELLO_LENGTH}
 
 -- ---- frames as values
 
@@ -116,7 +117,7 @@ elements_length count = 5 + 8 * count
 -- The length of the frame that begins with these bytes. Where the place allows two lengths, one byte decides between them,
 -- and without it the length is taken to be 1.
 abbrev pub frame_length : Expect → List ℕ → ℕ
-frame_length expect.Hello bytes = 102
+frame_length expect.Hello bytes = HELLO_LENGTH
 frame_length expect.Grant [] = 1
 frame_length expect.Grant (first ∷ bytes) = if nat_eq first 10 then 6 else 21
 frame_length (expect.Ask height trees left) bytes = 5 + trees * (height + 8)
@@ -127,11 +128,11 @@ frame_length (expect.Sums sections) bytes = elements_length (2 * sections)
 frame_length (expect.Openings count) bytes = elements_length count
 frame_length expect.Verdict bytes = 10
 
--- how many bytes are still wanted behind these
+-- how many bytes are still wanted after these
 abbrev pub bytes_wanted : Expect → List ℕ → ℕ
 bytes_wanted place bytes = frame_length place bytes - length bytes
 
--- the kind of frame that is expected behind these bytes: in a grant's place a refusal where they begin one
+-- the kind of frame that is expected after these bytes: in a grant's place a refusal where they begin one
 abbrev pub expected_kind : Expect → List ℕ → FrameKind
 expected_kind expect.Hello bytes = kind.Hello
 expected_kind expect.Grant [] = kind.Grant

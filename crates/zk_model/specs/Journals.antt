@@ -5,6 +5,7 @@ use Rattle.std.specs.List.{range_with_len}
 use Rattle.zk_model.specs.Program.{part_count}
 use Rattle.zk_model.specs.declared.JournalKind.{JournalKind}
 use Rattle.zk_model.specs.declared.JournalKind.TheVariants.{Claims, Ceilings}
+use Rattle.zk_model.specs.declared.limits.TheConstants.{MAX_CLAIM_SLOTS, MAX_SLOTS}
 
 -- the byte of a kind
 abbrev pub journal_code : JournalKind → ℕ
@@ -27,7 +28,7 @@ ceiling_slots total = part_count total 16
 
 -- how many slots the prover's journal has that is made with the dealt files: one for each unit, and at most 4,096
 abbrev pub claim_slots : ℕ → ℕ
-claim_slots total = min total 4096
+claim_slots total = min total MAX_CLAIM_SLOTS
 
 -- ---- An area of a journal: slots of 32 bytes from a place on. A journal has one, at 64. A byte past the end counts as 0, so that a
 -- slot is not open there.
@@ -55,7 +56,7 @@ pub record Recovers (at slots : ℕ) (bytes : List ℕ) (bodies : List (ℕ × �
   pub closed : length bodies < slots → ¬ (IsOpen at bytes (length bodies))
   pub read : bodies ≡ first_bodies at (length bodies) bytes
 
--- no slot behind one that is not open is open
+-- no slot after one that is not open is open
 abbrev pub IsTidy : ℕ → ℕ → List ℕ → Type 0
 IsTidy at slots bytes = (earlier later : ℕ) → earlier < later → later < slots → IsOpen at bytes later → IsOpen at bytes earlier
 
@@ -81,8 +82,8 @@ slots_at bytes = number_at bytes 24
 
 -- whether a journal may have so many slots: 1 to 2^28, and in the verifier's one for each 16 units
 abbrev pub are_slots : JournalKind → ℕ → ℕ → Bool
-are_slots Claims total slots = nat_le 1 slots && nat_le slots (2 ^ 28)
-are_slots Ceilings total slots = nat_le 1 slots && nat_le slots (2 ^ 28) && slots == ceiling_slots total
+are_slots Claims total slots = nat_le 1 slots && nat_le slots MAX_SLOTS
+are_slots Ceilings total slots = nat_le 1 slots && nat_le slots MAX_SLOTS && slots == ceiling_slots total
 
 -- whether the byte of a header at this place is not as kind, id and total ask for; of the number of slots, 24 is such a place
 -- where there may not be so many, and 25 to 31 are not judged
@@ -117,7 +118,7 @@ pub record Stands (kind : JournalKind) (id : List ℕ) (total slots : ℕ) (byte
 
 -- ---- bodies and their rules
 
--- whether a body is as its kind asks for, behind one whose first number is `before` (0 where there is none): a claim is a span up
+-- whether a body is as its kind asks for, after one whose first number is `before` (0 where there is none): a claim is a span up
 -- to the total; ceilings rise, up to the total, and are multiples of 16 or the total, and their second number is 0
 abbrev pub keeps_rule : JournalKind → ℕ → ℕ → ℕ × ℕ → Bool
 keeps_rule Claims total before body = nat_lt body.0 body.1 && nat_le body.1 total
@@ -129,7 +130,7 @@ abbrev pub body_before : List (ℕ × ℕ) → ℕ → ℕ × ℕ
 body_before bodies zero = (0, 0)
 body_before bodies (suc place) = get_or bodies place (0, 0)
 
--- each of these bodies keeps its rule behind the one before it
+-- each of these bodies keeps its rule after the one before it
 abbrev pub AreSound : JournalKind → ℕ → List (ℕ × ℕ) → Type 0
 AreSound kind total bodies =
     (place : ℕ) → place < length bodies → keeps_rule kind total (body_before bodies place).0 (get_or bodies place (0, 0)) ≡ true

@@ -6,6 +6,7 @@ use Rattle.zk_model.specs.Circuit.{Circuit, IsSet, IsWellFormed, output_wire}
 use Rattle.zk_model.specs.Bristol.{Lexeme, number, name, lexemes, gate_lexemes, counted_lexemes, header_lexemes, Values, IsWithinLimits}
 use Rattle.zk_model.specs.declared.ReadFault.{ReadFault}
 use Rattle.zk_model.specs.declared.ReadFault.TheVariants.{ShortText, BadNumber, TooLarge, BadGate, BadConstant, WireRange, ReadBeforeSet, SetTwice, OutputUnset, ExtraText}
+use Rattle.zk_model.specs.declared.limits.TheConstants.{MAX_GATES, MAX_VALUES, MAX_WIRES}
 
 -- ---- one token
 
@@ -79,15 +80,15 @@ first_lexeme_fault want (lexeme ∷ behind) token = lexeme_fault want lexeme tok
 
 -- the numbers of gates and of wires, and the sizes of whole lists of values, all within their limits
 pub record IsStart (gates wires : ℕ) (lists : List (List ℕ)) : Type 0 where
-  pub gates_most : gates ≤ 2 ^ 20
-  pub wires_most : wires ≤ 2 ^ 20
-  pub few : All (λ sizes. length sizes ≤ 1024) lists
+  pub gates_most : gates ≤ MAX_GATES
+  pub wires_most : wires ≤ MAX_WIRES
+  pub few : All (λ sizes. length sizes ≤ MAX_VALUES) lists
   pub within : All (λ sizes. sum sizes ≤ wires) lists
 
 abbrev pub start_lexemes : ℕ → ℕ → List (List ℕ) → List Lexeme
 start_lexemes gates wires lists = number gates ∷ number wires ∷ flat_map counted_lexemes lists
 
--- a list of values is wanted behind others, of which there are one or none
+-- a list of values is wanted after others, of which there are one or none
 pub record WantsList (before : List Lexeme) (want : Want) : Type 0 where
   pub gates : ℕ
   pub wires : ℕ
@@ -95,9 +96,9 @@ pub record WantsList (before : List Lexeme) (want : Want) : Type 0 where
   pub start : IsStart gates wires lists
   pub more : length lists ≤ 1
   pub before_is : before ≡ start_lexemes gates wires lists
-  pub want_is : want ≡ a_count 1024
+  pub want_is : want ≡ a_count MAX_VALUES
 
--- a size is wanted behind others of the same list
+-- a size is wanted after others of the same list
 pub record WantsSize (before : List Lexeme) (want : Want) : Type 0 where
   pub gates : ℕ
   pub wires : ℕ
@@ -106,16 +107,16 @@ pub record WantsSize (before : List Lexeme) (want : Want) : Type 0 where
   pub sizes : List ℕ
   pub start : IsStart gates wires lists
   pub more : length lists ≤ 1
-  pub few : values ≤ 1024
+  pub few : values ≤ MAX_VALUES
   pub within : sum sizes ≤ wires
   pub missing : length sizes < values
   pub before_is : before ≡ start_lexemes gates wires lists ++ number values ∷ map number sizes
   pub want_is : want ≡ a_size (wires - sum sizes)
 
--- what a header wants behind these tokens, which are all right: the number of gates, that of wires, a number of values, a
+-- what a header wants after these tokens, which are all right: the number of gates, that of wires, a number of values, a
 -- size
 pub data HeaderWants (before : List Lexeme) (want : Want) : Type 0 where
-  first_number : before ≡ [] → want ≡ a_count (2 ^ 20) → HeaderWants before want
+  first_number : before ≡ [] → want ≡ a_count MAX_GATES → HeaderWants before want
   second_number : (n : ℕ) → n ≤ 2 ^ 20 → before ≡ number n ∷ [] → want ≡ a_count (2 ^ 20)
       → HeaderWants before want
   a_list : WantsList before want → HeaderWants before want
@@ -132,10 +133,10 @@ without_outputs circuit = record {
   gates = circuit.gates;
 }
 
--- A header that says so many gates, and gates behind it, as many or fewer. All are right: within the limits, and each gate
+-- A header that says so many gates, and gates after it, as many or fewer. All are right: within the limits, and each gate
 -- reads wires that are set before it and sets one that is not.
 pub record IsBegun (gates : ℕ) (values : Values) (begun : Circuit) : Type 0 where
-  pub gates_most : gates ≤ 2 ^ 20
+  pub gates_most : gates ≤ MAX_GATES
   pub counted : length begun.gates ≤ gates
   pub limits : IsWithinLimits begun values
   pub inputs : sum values.inputs ≡ begun.inputs
@@ -151,7 +152,7 @@ begun_lexemes gates values begun =
 abbrev pub IsSetSoFar : Circuit → ℕ → Type 0
 IsSetSoFar begun wire = IsSet begun (length begun.gates) wire
 
--- what a gate wants behind these of its tokens, which are all right: its numbers of inputs and of outputs, as many wires as
+-- what a gate wants after these of its tokens, which are all right: its numbers of inputs and of outputs, as many wires as
 -- both together, and its name
 pub data GateWants (before : List Lexeme) (want : Want) : Type 0 where
   first : before ≡ [] → want ≡ input_number → GateWants before want
@@ -182,7 +183,7 @@ pub record WantsNothing (before : List Lexeme) (want : Want) : Type 0 where
   pub before_is : before ≡ begun_lexemes gates values begun
   pub want_is : want ≡ no_token
 
--- what is wanted behind these tokens, which are all right
+-- what is wanted after these tokens, which are all right
 abbrev pub IsWanted : List Lexeme → Want → Type 0
 IsWanted before want = HeaderWants before want ⊎ WantsGate before want ⊎ WantsNothing before want
 
@@ -229,7 +230,7 @@ pub data MayNotSet (begun : Circuit) (n token : ℕ) (fault : ReadFault) : Type 
   beyond : begun.wires ≤ n → fault ≡ WireRange token → MayNotSet begun n token fault
   again : n < begun.wires → IsSetSoFar begun n → fault ≡ SetTwice token → MayNotSet begun n token fault
 
--- of a gate that the tokens behind the first `token` say, an input is the first wrong one
+-- of a gate that the tokens after the first `token` say, an input is the first wrong one
 pub record IsInputFault (begun : Circuit) (said : Said) (token : ℕ) (fault : ReadFault) : Type 0 where
   pub number : ℕ
   pub read : ℕ

@@ -24,7 +24,7 @@ pub record IsView (file : ProverFile) (statement : Statement) (commitment : Comm
   pub given : view.carried.given ≡ corrected_pairs view.pairs commitment.corrections
   pub carried : ArePairsOf statement.program statement.public view.carried
 
--- the pairs of the masks: those behind the given values'
+-- the pairs of the masks: those after the given values'
 abbrev pub view_masks : Program → View → List Pair
 view_masks program view = drop program.givens view.pairs
 

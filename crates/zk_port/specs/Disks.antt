@@ -1,6 +1,6 @@
 -- What a disk tells of itself.
-use Rattle.std.specs.Prelude.{◌≡◌, ◌⊎◌, ◌≤◌, ℕ, List, Option}
-use Rattle.zk_port.specs.Images.{Follows}
+use Rattle.std.specs.Prelude.{◌≡◌, ◌⊎◌, ◌≤◌, ℕ, List, Option, None}
+use Rattle.zk_port.specs.Images.{ImagesFollow}
 
 -- the names of files that were chosen, in order, the content and the room for it, where the disk tells them; what a crash at this moment may leave; the moment, as a number that
 -- doesn't fall; what a crash at some moment from one on might have left, during a call or between two; how often a call has failed
@@ -12,6 +12,18 @@ pub record DiskState : Type 1 where
   pub moment : ℕ
   pub images_since : ℕ → List ℕ → Type 0
   pub faults : ℕ
+
+-- a disk that tells nothing but how often a call has failed
+abbrev pub untold : ℕ → DiskState
+untold faults = record {
+  chosen = None;
+  content = None;
+  room = None;
+  images = λ _. ⊥;
+  moment = 0;
+  images_since = λ _ _. ⊥;
+  faults = faults;
+}
 
 -- Time goes on: a crash since t might have left what it might have left before, or what it may leave now.
 pub record Elapses (old new : DiskState) : Type 0 where
@@ -31,7 +43,7 @@ pub record Stays (old new : DiskState) : Type 0 where
 pub record Steps (step : List ℕ → List ℕ → Type 0) (old new : DiskState) : Type 0 where
   pub chosen : new.chosen ≡ old.chosen
   pub room : new.room ≡ old.room
-  pub crash : Follows step old.images new.images
+  pub crash : ImagesFollow step old.images new.images
   pub time : Elapses old new
 
 -- A crash at any moment since old leaves an image that has P.

@@ -31,21 +31,21 @@ unasked_door = record {
   next_faults = 0;
 }
 
--- behind a listen at this address, for so many sessions
+-- after a listen at this address, for so many sessions
 abbrev pub after_listen : List ℕ → ℕ → DoorState → DoorState
 after_listen address sessions old =
     record old { left = old.offers sessions; listened = appended (address ∷ []) old.listened }
 
--- behind a connect to this address
+-- after a connect to this address
 abbrev pub after_connect : List ℕ → DoorState → DoorState
 after_connect address old = record old { connected = appended (address ∷ []) old.connected }
 
--- behind a listen that was refused
+-- after a listen that was refused
 pub record RefusesListen (address : List ℕ) (old new : DoorState) : Type 0 where
   pub noted : NotesOnce address old.listened new.listened
   pub rest : new ≡ record old { listened = new.listened; listen_faults = new.listen_faults }
 
--- behind a connect that was refused
+-- after a connect that was refused
 pub record RefusesConnect (address : List ℕ) (old new : DoorState) : Type 0 where
   pub noted : NotesOnce address old.connected new.connected
   pub rest : new ≡ record old { connected = new.connected; connect_faults = new.connect_faults }
@@ -55,16 +55,16 @@ abbrev pub TakesOne : {L : Type 0} → Option L → ℕ → ℕ → Type 0
 TakesOne None old new = (old ≡ 0) × (new ≡ 0)
 TakesOne (Some link) old new = old ≡ new + 1
 
--- behind a `next` that was not refused: nothing but how many links can still be given differs, and that it was called
+-- after a `next` that was not refused: nothing but how many links can still be given differs, and that it was called
 abbrev pub OnlyTakes : DoorState → DoorState → Type 0
 OnlyTakes old new = new ≡ record old { left = new.left; offers = new.offers; nexts = counted true old.nexts }
 
--- behind a `next` that was refused
+-- after a `next` that was refused
 abbrev pub after_refused_next : ℕ → DoorState → DoorState
 after_refused_next faults old = record old { nexts = counted true old.nexts; next_faults = faults }
 
 -- nothing has passed, nothing has ended and nothing has failed
-pub record IsFresh (link : LinkState) : Type 0 where
+pub record IsFreshLink (link : LinkState) : Type 0 where
   pub unlogged : IfSome link.log (λ l. l ≡ [])
   pub unended : IfSome link.ended (λ e. e ≡ false)
   pub opened : IsTrue link.is_open

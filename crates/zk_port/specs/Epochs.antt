@@ -36,7 +36,7 @@ abbrev pub HadLeft : List Epoch → List ℕ → Type 0
 HadLeft [] image = ⊥
 HadLeft (epoch ∷ epochs) image = Leaves epoch image ⊎ HadLeft epochs image
 
--- A crash in the epoch of this number, from 0, or behind it might have left this. Within an epoch what a crash may leave only
+-- A crash in the epoch of this number, from 0, or after it might have left this. Within an epoch what a crash may leave only
 -- grows.
 abbrev pub LeavesSince : List Epoch → Epoch → ℕ → List ℕ → Type 0
 LeavesSince past epoch t image = Leaves epoch image ⊎ HadLeft (drop t past) image
@@ -82,7 +82,7 @@ left_by Old range content image = image
 left_by New range content image = written_at range.at (take range.count (drop range.at content)) image
 left_by (Filled byte) range content image = written_at range.at (replicate range.count byte) image
 
--- what choices make of the ranges of writes, one after another; where choices are wanting all stays
+-- what choices make of the ranges of writes, one after another; where choices are missing all stays
 abbrev pub left_by_all : List Leftover → List Pending → List ℕ → List ℕ → List ℕ
 left_by_all [] ranges content image = image
 left_by_all (leftover ∷ leftovers) [] content image = image
@@ -98,14 +98,14 @@ turn_of fits stopped calls fails =
 abbrev pub half_of : List ℕ → List ℕ
 half_of bytes = take (length bytes / 2) bytes
 
--- the content behind a write of these bytes
+-- the content after a write of these bytes
 abbrev pub content_after : Turn → ℕ → List ℕ → List ℕ → List ℕ
 content_after Goes at bytes old = written_at at bytes old
 content_after Fails at bytes old = written_at at (half_of bytes) old
 content_after Stopped at bytes old = old
 content_after Lost at bytes old = old
 
--- the ranges of writes behind a write of so many bytes
+-- the ranges of writes after a write of so many bytes
 abbrev pub ranges_after : Turn → ℕ → ℕ → List Pending → List Pending
 ranges_after Goes at count old = old ++ record { at = at; count = count } ∷ []
 ranges_after Fails at count old = old ++ record { at = at; count = count } ∷ []

@@ -18,11 +18,11 @@ pub record LinkState : Type 0 where
   pub receives : ℕ
   pub faults : ℕ
 
--- behind a send of these bytes
+-- after a send of these bytes
 abbrev pub after_send : List ℕ → LinkState → LinkState
 after_send bytes old = record old { log = appended (bytes_of Sent bytes) old.log; sends = counted true old.sends }
 
--- behind a send that was refused: a first part of the bytes went out, maybe none or all
+-- after a send that was refused: a first part of the bytes went out, maybe none or all
 pub record SendsPart (bytes : List ℕ) (old new : LinkState) : Type 0 where
   pub count : ℕ
   pub part : new ≡ record old {
@@ -31,7 +31,7 @@ pub record SendsPart (bytes : List ℕ) (old new : LinkState) : Type 0 where
     faults = new.faults;
   }
 
--- behind a receive of a piece of n bytes into a buffer of so many bytes
+-- after a receive of a piece of n bytes into a buffer of so many bytes
 pub record Receives (size n : ℕ) (piece : List ℕ) (old new : LinkState) : Type 0 where
   pub taken : new ≡ record old {
     log = appended (bytes_of Received piece) old.log;
@@ -43,10 +43,10 @@ pub record Receives (size n : ℕ) (piece : List ℕ) (old new : LinkState) : Ty
   pub none : 0 < size → IfSome old.to_come (λ bytes. (n ≡ 0) ↔ (bytes ≡ []))
   pub stays_ended : IfSome old.ended (λ was. IsTrue was → n ≡ 0)
 
--- behind a receive that was refused
+-- after a receive that was refused
 abbrev pub after_refused_receive : ℕ → LinkState → LinkState
 after_refused_receive faults old = record old { receives = counted true old.receives; faults = faults }
 
--- behind the end of this side
+-- after the end of this side
 abbrev pub after_end : LinkState → LinkState
 after_end old = record old { is_open = false }

@@ -3,7 +3,7 @@ use Rattle.std.specs.Prelude.{◌≡◌, ◌⊎◌, ℕ, List, [], ◌∷◌, �
 use Rattle.std.specs.Option.{option_map}
 use Rattle.zk_port.specs.declared.way.Way.{Way}
 
--- where the object tells, these come behind what was there
+-- where the object tells, these come after what was there
 abbrev pub appended : {T : Type 0} → List T → Option (List T) → Option (List T)
 appended more told = option_map (λ before. before ++ more) told
 

@@ -16,7 +16,7 @@ pub record Schedule : Type 0 where
   pub calls : ℕ
   pub faults : ℕ
 
--- whether the call behind n further ones is to fail; a count at the end of its type stands still there
+-- whether the call after n further ones is to fail; a count at the end of its type stands still there
 abbrev pub is_to_fail : Schedule → ℕ → Bool
 is_to_fail plan n = list_any (λ number. number == min (plan.calls + n + 1) (2 ^ 64 - 1)) plan.numbers
 
@@ -43,7 +43,7 @@ LoadTells limit stands (Err load.NoMemory) = IsSomeAnd stands (λ bytes. length 
 LoadTells limit stands (Err (load.TooLong n)) = (n ≡ limit) × IsSomeAnd stands (λ bytes. limit < length bytes)
 
 -- what a store leaves: the bytes under the name; nothing there, where it failed; all as it was, where memory
--- was wanting
+-- was missing
 abbrev pub StoreLeaves : {T : Type 0} → List ℕ → List ℕ → Files → Files → Result T PortFault → Type 0
 StoreLeaves name bytes old new (Ok u) = (other : List ℕ) → new other ≡ stored name bytes old other
 StoreLeaves name bytes old new (Err port.Failed) = (other : List ℕ) → new other ≡ without name old other

@@ -7,6 +7,6 @@ pub record SinkState : Type 0 where
   pub written : Option (List ℕ)
   pub faults : ℕ
 
--- these bytes behind all that was written
+-- these bytes after all that was written
 abbrev pub written_behind : List ℕ → SinkState → SinkState
 written_behind bytes old = record old { written = appended bytes old.written }

@@ -6,6 +6,6 @@ use Rattle.zk_port.specs.declared.plan.StopAt.{StopAt}
 abbrev pub has_stopped : StopAt → Bool
 has_stopped plan = nat_le plan.number plan.calls
 
--- whether the call behind n further ones is that call or comes after it; a count at the end of its type stands still there
+-- whether the call after n further ones is that call or comes after it; a count at the end of its type stands still there
 abbrev pub is_behind : StopAt → ℕ → Bool
 is_behind plan n = nat_le plan.number (min (plan.calls + n + 1) (2 ^ 64 - 1))

@@ -1,7 +1,7 @@
 // A disk whose calls all fail.
 ghost use Rattle.std.specs.Prelude.{◌≡◌, ◌≤◌, true, length, is_err};
 ghost use Rattle.zk_port.specs.Counts.{counted};
-ghost use Rattle.zk_port.specs.Images.{Follows, IsTorn};
+ghost use Rattle.zk_port.specs.Images.{ImagesFollow, IsTorn};
 
 use crate::disk::Disk;
 use crate::fault::Failed;
@@ -22,7 +22,7 @@ impl ClosedDisk {
 
     fn fail(&mut self) -> Failed
         ensures count { self.new.faults ≡ counted true self.old.faults }
-        ensures later { self.old.faults ≤ self.new.faults }
+        ensures faults_grow { self.old.faults ≤ self.new.faults }
     {
         self.faults = self.faults.saturating_add(1);
         Failed
@@ -53,7 +53,7 @@ impl Disk for ClosedDisk {
     fn choose(&mut self, _name: &str) -> Result<(), Failed>
         ensures refused { is_err result ≡ true }
         ensures count { self.new.faults ≡ counted true self.old.faults }
-        ensures later { self.old.faults ≤ self.new.faults }
+        ensures faults_grow { self.old.faults ≤ self.new.faults }
     {
         Err(self.fail())
     }
@@ -61,7 +61,7 @@ impl Disk for ClosedDisk {
     fn read(&mut self, _at: u64, _buffer: &mut [u8]) -> Result<usize, Failed>
         ensures refused { is_err result ≡ true }
         ensures count { self.new.faults ≡ counted true self.old.faults }
-        ensures later { self.old.faults ≤ self.new.faults }
+        ensures faults_grow { self.old.faults ≤ self.new.faults }
     {
         Err(self.fail())
     }
@@ -69,8 +69,8 @@ impl Disk for ClosedDisk {
     fn write_at(&mut self, _at: u64, _bytes: &[u8]) -> Result<(), Failed>
         ensures refused { is_err result ≡ true }
         ensures count { self.new.faults ≡ counted true self.old.faults }
-        ensures later { self.old.faults ≤ self.new.faults }
-        ensures crash { Follows (IsTorn _at (length _bytes.now)) (λ _. Unit {0}) (λ _. Unit {0}) }
+        ensures faults_grow { self.old.faults ≤ self.new.faults }
+        ensures crash { ImagesFollow (IsTorn _at (length _bytes.now)) (λ _. Unit {0}) (λ _. Unit {0}) }
     {
         Err(self.fail())
     }
@@ -78,7 +78,7 @@ impl Disk for ClosedDisk {
     fn sync(&mut self) -> Result<(), Failed>
         ensures refused { is_err result ≡ true }
         ensures count { self.new.faults ≡ counted true self.old.faults }
-        ensures later { self.old.faults ≤ self.new.faults }
+        ensures faults_grow { self.old.faults ≤ self.new.faults }
     {
         Err(self.fail())
     }

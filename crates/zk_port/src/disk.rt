@@ -4,7 +4,7 @@ ghost use Rattle.std.specs.Option.{option_map};
 ghost use Rattle.zk_port.specs.Counts.{HasDiskCause};
 ghost use Rattle.zk_port.specs.Disks.{DiskState, Stays, Steps};
 ghost use Rattle.zk_port.specs.Logs.{appended, NotesOnce};
-ghost use Rattle.zk_port.specs.Images.{written_at, IsTorn, StepsBy, HasRoom, Only};
+ghost use Rattle.zk_port.specs.Images.{written_at, IsTorn, StepsBy, HasDiskRoom, Only};
 
 use crate::fault::Failed;
 
@@ -22,9 +22,11 @@ pub trait Disk {
 
     /// Takes the file of this name from now on, before the first read or write. No file is made.
     fn choose(&mut self, name: &str) -> Result<(), Failed>
-        ensures chosen { OnOk result ((state self.new).chosen ≡ appended (name.now ∷ []) (state self.old).chosen) }
+        ensures chosen { OnOk result ((state self.new).chosen
+            ≡ appended (name.now ∷ []) (state self.old).chosen) }
         ensures refused { OnErr result (NotesOnce name.now (state self.old).chosen (state self.new).chosen) }
-        ensures stays { Stays (record (state self.old) { chosen = (state self.new).chosen }) (state self.new) }
+        ensures stays { Stays (record (state self.old) { chosen = (state self.new).chosen })
+            (state self.new) }
         ensures cause { HasDiskCause (state self.old).faults (state self.new).faults result };
 
     /// Reads bytes from place `at` on into the front of the buffer, and says how many: fewer than the
@@ -40,10 +42,10 @@ pub trait Disk {
         ensures cause { HasDiskCause (state self.old).faults (state self.new).faults result };
 
     /// Writes these bytes over those from place `at` on, also past the end; zeros then stand between the old
-    /// end and a place behind it. No bytes change nothing. Until a sync, a crash may leave any bytes in that
+    /// end and a place after it. No bytes change nothing. Until a sync, a crash may leave any bytes in that
     /// range and past the old end, as the call's failure may.
     fn write_at(&mut self, at: u64, bytes: &[u8]) -> Result<(), Failed>
-        requires { HasRoom (at + length bytes.now) (state self.old).room }
+        requires { HasDiskRoom (at + length bytes.now) (state self.old).room }
         ensures written { OnOk result ((state self.new).content
             ≡ option_map (written_at at bytes.now) (state self.old).content) }
         ensures torn { OnErr result

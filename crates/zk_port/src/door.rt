@@ -8,7 +8,7 @@ use std::alloc::Global;
 
 /// Where links come from: those that it calls, and those that call it.
 pub trait Door {
-    ghost use Rattle.zk_port.specs.Doors.{DoorState, IsFresh, TakesOne, OnlyTakes, after_listen, after_connect, after_refused_next, RefusesListen, RefusesConnect};
+    ghost use Rattle.zk_port.specs.Doors.{DoorState, IsFreshLink, TakesOne, OnlyTakes, after_listen, after_connect, after_refused_next, RefusesListen, RefusesConnect};
 
     /// What a connection is made of.
     type Link: Link;
@@ -25,7 +25,7 @@ pub trait Door {
 
     /// A fresh link to who listens at the address.
     fn connect(&mut self, alloc: Global, address: &str) -> Result<Self::Link, PortFault>
-        ensures fresh { IfOk result (λ link. IsFresh (Self.Link.state link)) }
+        ensures fresh { IfOk result (λ link. IsFreshLink (Self.Link.state link)) }
         ensures connects { OnOk result (state self.new ≡ after_connect address.now (state self.old)) }
         ensures refused { OnErr result (RefusesConnect address.now (state self.old) (state self.new)) }
         ensures cause { HasCause (state self.old).connect_faults (state self.new).connect_faults result };
@@ -33,7 +33,7 @@ pub trait Door {
     /// The next of the links that were listened for, fresh; none exactly where none is left. A refused call
     /// uses none of them up.
     fn next(&mut self, alloc: Global) -> Result<Option<Self::Link>, PortFault>
-        ensures fresh { IfOk result (λ given. IfSome given (λ link. IsFresh (Self.Link.state link))) }
+        ensures fresh { IfOk result (λ given. IfSome given (λ link. IsFreshLink (Self.Link.state link))) }
         ensures given { IfOk result (λ given. TakesOne given (state self.old).left (state self.new).left) }
         ensures rest { OnOk result (OnlyTakes (state self.old) (state self.new)) }
         ensures refused { OnErr result

@@ -6,7 +6,7 @@ ghost use Rattle.zk_port.specs.Images.{written_at};
 use std::alloc::AllocError;
 
 /// No file in memory has room for more bytes.
-pub const MOST_ROOM: usize = 1 << 62;
+pub const MAX_ROOM: usize = 1 << 62;
 
 /// Puts these bytes in the place of those from `at` on.
 fn lay_over(file: &mut [u8], at: usize, bytes: &[u8])

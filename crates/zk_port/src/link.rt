@@ -16,7 +16,7 @@ pub trait Link {
     fn faults(&self) -> u64
         ensures { result ≡ (state self.now).faults };
 
-    /// Sends these bytes, in this order behind all that was sent. Where it is refused, a first part of
+    /// Sends these bytes, in this order after all that was sent. Where it is refused, a first part of
     /// them went out, maybe none or all: `Failed` for a fault of the stream, `NoMemory` for want of memory.
     fn send(&mut self, alloc: Global, bytes: &[u8]) -> Result<(), PortFault>
         requires { IsTrue (state self.old).is_open }

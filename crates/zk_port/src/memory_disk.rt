@@ -3,14 +3,14 @@ ghost use Rattle.std.specs.Prelude.{◌≡◌, ◌<◌, ◌≤◌, ◌+◌, ◌-
 ghost use Rattle.std.specs.Vec.{vec_capacity};
 ghost use Rattle.std.specs.List.{list_all};
 ghost use Rattle.zk_port.specs.Counts.{counted};
-ghost use Rattle.zk_port.specs.Images.{written_at, IsTorn, Follows, StepsBy, Only};
+ghost use Rattle.zk_port.specs.Images.{written_at, IsTorn, ImagesFollow, StepsBy, Only};
 ghost use Rattle.zk_port.specs.Disks.{Elapses};
 ghost use Rattle.zk_port.specs.Epochs.{left_by, left_by_all, is_prepared, reach, AreOutside, Leaves, chosen_names, may_choose, epoch_state, turn_of, is_refused, left_after, content_after, ranges_after};
 
 use crate::disk::Disk;
 use crate::epoch::{Epoch, Leftover, Pending, Turn, prepare};
 use crate::fault::Failed;
-use crate::file_bytes::{MOST_ROOM, read_from, write_into};
+use crate::file_bytes::{MAX_ROOM, read_from, write_into};
 use crate::plan::FaultPlan;
 use std::alloc::{AllocError, Global};
 use std::mem;
@@ -19,9 +19,9 @@ use std::mem;
 const NAME_ROOM: usize = 4096;
 
 /// A disk in memory, made for a number of bytes and a number of calls. It has one file, which any name chooses, once.
-/// Exactly these calls fail: those that the plan names, all behind those that it was made for or behind a stop, writes
-/// that would end past its room, and a choice behind the first or of a name of more than 4,096 bytes. A write that the
-/// plan fails writes its first half, one behind a stop nothing, and a crash may leave anything in the range of either;
+/// Exactly these calls fail: those that the plan names, all after those that it was made for or after a stop, writes
+/// that would end past its room, and a choice after the first or of a name of more than 4,096 bytes. A write that the
+/// plan fails writes its first half, one after a stop nothing, and a crash may leave anything in the range of either;
 /// the others of these calls leave all as it was.
 #[derive(Drop)]
 pub struct MemoryDisk<P: FaultPlan> {
@@ -58,7 +58,7 @@ fn begin<P: FaultPlan>(plan: &mut P, calls: &mut usize, fits: bool) -> Turn
     ensures calls { calls.new ≡ left_after result calls.old }
     ensures onward { (n : ℕ) → P.coming plan.new n ≡ P.coming plan.old (n + 1) }
     ensures count { P.count plan.new ≡ counted (is_refused result) (P.count plan.old) }
-    ensures later { P.count plan.old ≤ P.count plan.new }
+    ensures count_grows { P.count plan.old ≤ P.count plan.new }
 {
     let lost = !fits || *calls == 0;
     let stopped = plan.has_stopped();
@@ -132,7 +132,7 @@ fn write_noted(
     ensures inside { vec_len file.new ≤ room }
     ensures image { Leaves epoch.new file.new.items }
     ensures torn { IsTorn at (length bytes.now) file.old.items file.new.items }
-    ensures crash { Follows (IsTorn at (length bytes.now)) (Leaves epoch.old) (Leaves epoch.new) }
+    ensures crash { ImagesFollow (IsTorn at (length bytes.now)) (Leaves epoch.old) (Leaves epoch.new) }
     ensures grows { (c : List ℕ) → Leaves epoch.old c → Leaves epoch.new c }
 {
     note_range(&mut epoch.ranges, at, bytes.len());
@@ -235,7 +235,8 @@ impl<P: FaultPlan + Drop> MemoryDisk<P> {
         plan: P,
     ) -> Result<Self, AllocError>
         requires strict { P.forgiving ≡ false }
-        ensures content { IfOk result (λ disk. (⟦<MemoryDisk<P> as Disk>⟧.state disk).content ≡ Some bytes.items) }
+        ensures content { IfOk result (λ disk.
+            (⟦<MemoryDisk<P> as Disk>⟧.state disk).content ≡ Some bytes.items) }
         ensures images { IfOk result (λ disk. disk.epoch.ranges.items ≡ []) }
         ensures base { IfOk result (λ disk. disk.epoch.base.items ≡ bytes.items) }
         ensures room { IfOk result (λ disk. disk.room ≡ max room (length bytes.items)) }
@@ -244,7 +245,7 @@ impl<P: FaultPlan + Drop> MemoryDisk<P> {
         ensures faults { IfOk result (λ disk. (⟦<MemoryDisk<P> as Disk>⟧.state disk).faults ≡ P.count plan) }
     {
         let room = room.max(bytes.len());
-        if room > MOST_ROOM {
+        if room > MAX_ROOM {
             return Err(AllocError);
         }
         let mut epoch = prepare(alloc, room, calls)?;
@@ -280,7 +281,7 @@ impl<P: FaultPlan + Drop> MemoryDisk<P> {
     }
 
     /// A content that a crash now may leave, by a choice for each of the writes since the last sync that succeeded,
-    /// in their order; where choices are wanting all stays as it was.
+    /// in their order; where choices are missing all stays as it was.
     ///
     /// # Errors
     ///
@@ -326,7 +327,7 @@ impl<P: FaultPlan> Disk for MemoryDisk<P> {
             (P.stopped self.old.plan) self.old.calls (P.coming self.old.plan 0)) self.old.calls }
         ensures onward { (n : ℕ) → P.coming self.new.plan n ≡ P.coming self.old.plan (n + 1) }
         ensures count { P.count self.new.plan ≡ counted (is_err result) (P.count self.old.plan) }
-        ensures later { P.count self.old.plan ≤ P.count self.new.plan }
+        ensures count_grows { P.count self.old.plan ≤ P.count self.new.plan }
     {
         let fits = !self.is_chosen && name.len() <= NAME_ROOM;
         match begin(&mut self.plan, &mut self.calls, fits) {
@@ -355,7 +356,7 @@ impl<P: FaultPlan> Disk for MemoryDisk<P> {
             (P.stopped self.old.plan) self.old.calls (P.coming self.old.plan 0)) self.old.calls }
         ensures onward { (n : ℕ) → P.coming self.new.plan n ≡ P.coming self.old.plan (n + 1) }
         ensures count { P.count self.new.plan ≡ counted (is_err result) (P.count self.old.plan) }
-        ensures later { P.count self.old.plan ≤ P.count self.new.plan }
+        ensures count_grows { P.count self.old.plan ≤ P.count self.new.plan }
     {
         match begin(&mut self.plan, &mut self.calls, true) {
             Turn::Goes => Ok(read_from(&self.bytes, at, buffer)),
@@ -377,7 +378,8 @@ impl<P: FaultPlan> Disk for MemoryDisk<P> {
         ensures name { self.new.name ≡ self.old.name }
         ensures is_chosen { self.new.is_chosen ≡ self.old.is_chosen }
         ensures torn { OnErr result (IsTorn at (length bytes.now) self.old.bytes.items self.new.bytes.items) }
-        ensures crash { Follows (IsTorn at (length bytes.now)) (Leaves self.old.epoch) (Leaves self.new.epoch) }
+        ensures crash { ImagesFollow (IsTorn at (length bytes.now))
+            (Leaves self.old.epoch) (Leaves self.new.epoch) }
         ensures time { Elapses
             (epoch_state (chosen_names self.old.is_chosen self.old.name.items) self.old.bytes.items
             self.old.past.items self.old.epoch (P.count self.old.plan))
@@ -389,7 +391,7 @@ impl<P: FaultPlan> Disk for MemoryDisk<P> {
             (P.coming self.old.plan 0)) self.old.calls }
         ensures onward { (n : ℕ) → P.coming self.new.plan n ≡ P.coming self.old.plan (n + 1) }
         ensures count { P.count self.new.plan ≡ counted (is_err result) (P.count self.old.plan) }
-        ensures later { P.count self.old.plan ≤ P.count self.new.plan }
+        ensures count_grows { P.count self.old.plan ≤ P.count self.new.plan }
     {
         let fits = ends_within(self.room, at, bytes.len());
         match begin(&mut self.plan, &mut self.calls, fits) {
@@ -433,7 +435,7 @@ impl<P: FaultPlan> Disk for MemoryDisk<P> {
             (P.stopped self.old.plan) self.old.calls (P.coming self.old.plan 0)) self.old.calls }
         ensures onward { (n : ℕ) → P.coming self.new.plan n ≡ P.coming self.old.plan (n + 1) }
         ensures count { P.count self.new.plan ≡ counted (is_err result) (P.count self.old.plan) }
-        ensures later { P.count self.old.plan ≤ P.count self.new.plan }
+        ensures count_grows { P.count self.old.plan ≤ P.count self.new.plan }
     {
         match begin(&mut self.plan, &mut self.calls, true) {
             Turn::Goes => {

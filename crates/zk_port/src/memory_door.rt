@@ -3,7 +3,7 @@ ghost use Rattle.std.specs.Prelude.{◌≡◌, ◌≤◌, ◌+◌, ◌++◌, ◌
 ghost use Rattle.std.specs.List.{list_all};
 ghost use Rattle.std.specs.VecDeque.{deque_len};
 ghost use Rattle.zk_port.specs.Counts.{counted, is_failed};
-ghost use Rattle.zk_port.specs.Doors.{is_fresh, unasked_door, GivesFirst, IsFresh, NotesText};
+ghost use Rattle.zk_port.specs.Doors.{is_fresh, unasked_door, GivesFirst, IsFreshLink, NotesText};
 
 use crate::door::Door;
 use crate::fault::PortFault;
@@ -30,7 +30,7 @@ pub struct MemoryDoor<L: Link, P> {
     ghost fresh_called: { list_all (λ l. is_fresh (L.state l)) called.items ≡ true },
 }
 
-/// Adds the text behind the others; without memory for it nothing changes.
+/// Adds the text after the others; without memory for it nothing changes.
 fn note(alloc: Global, texts: &mut Vec<String>, text: &str) -> Result<(), AllocError>
     ensures noted { OnOk result (map string_bytes texts.new.items
         ≡ map string_bytes texts.old.items ++ text.now ∷ []) }
@@ -62,11 +62,11 @@ impl<L: Link, P: FaultPlan> MemoryDoor<L, P> {
         }
     }
 
-    /// Adds a link that `next` will give behind all others; without memory for it nothing changes.
+    /// Adds a link that `next` will give after all others; without memory for it nothing changes.
     pub fn wait(&mut self, link: L) -> Result<(), AllocError>
     where
         L: Drop,
-        requires { IsFresh (L.state link) }
+        requires { IsFreshLink (L.state link) }
         ensures added { OnOk result (self.new.waiting.items ≡ self.old.waiting.items ++ link ∷ []) }
         ensures refused { OnErr result (self.new.waiting.items ≡ self.old.waiting.items) }
         ensures called { self.new.called ≡ self.old.called }
@@ -76,11 +76,11 @@ impl<L: Link, P: FaultPlan> MemoryDoor<L, P> {
         Ok(())
     }
 
-    /// Adds a link that `connect` will give behind all others; without memory for it nothing changes.
+    /// Adds a link that `connect` will give after all others; without memory for it nothing changes.
     pub fn call(&mut self, link: L) -> Result<(), AllocError>
     where
         L: Drop,
-        requires { IsFresh (L.state link) }
+        requires { IsFreshLink (L.state link) }
         ensures added { OnOk result (self.new.called.items ≡ self.old.called.items ++ link ∷ []) }
         ensures refused { OnErr result (self.new.called.items ≡ self.old.called.items) }
         ensures waiting { self.new.waiting ≡ self.old.waiting }
@@ -116,7 +116,7 @@ impl<L: Link, P: FaultPlan> Door for MemoryDoor<L, P> {
         ensures waiting { self.new.waiting ≡ self.old.waiting }
         ensures called { self.new.called ≡ self.old.called }
         ensures connected { self.new.connected ≡ self.old.connected }
-        ensures later { self.old.listen_faults ≤ self.new.listen_faults }
+        ensures faults_grow { self.old.listen_faults ≤ self.new.listen_faults }
         ensures failed { self.new.listen_faults ≡ counted (is_failed result) self.old.listen_faults }
         ensures connects { self.new.connect_faults ≡ self.old.connect_faults }
         ensures nexts { self.new.next_faults ≡ self.old.next_faults }
@@ -135,7 +135,7 @@ impl<L: Link, P: FaultPlan> Door for MemoryDoor<L, P> {
 
     fn connect(&mut self, alloc: Global, address: &str) -> Result<L, PortFault>
         ensures given { IfOk result (λ link. self.old.called.items ≡ link ∷ self.new.called.items) }
-        ensures fresh { IfOk result (λ link. IsFresh (L.state link)) }
+        ensures fresh { IfOk result (λ link. IsFreshLink (L.state link)) }
         ensures connected { OnOk result (map string_bytes self.new.connected.items
             ≡ map string_bytes self.old.connected.items ++ address.now ∷ []) }
         ensures noted { OnErr result (NotesText address.now
@@ -143,7 +143,7 @@ impl<L: Link, P: FaultPlan> Door for MemoryDoor<L, P> {
         ensures refused { OnErr result (self.new.called.items ≡ self.old.called.items) }
         ensures waiting { self.new.waiting ≡ self.old.waiting }
         ensures listened { self.new.listened ≡ self.old.listened }
-        ensures later { self.old.connect_faults ≤ self.new.connect_faults }
+        ensures faults_grow { self.old.connect_faults ≤ self.new.connect_faults }
         ensures failed { self.new.connect_faults ≡ counted (is_failed result) self.old.connect_faults }
         ensures listens { self.new.listen_faults ≡ self.old.listen_faults }
         ensures nexts { self.new.next_faults ≡ self.old.next_faults }
@@ -173,14 +173,14 @@ impl<L: Link, P: FaultPlan> Door for MemoryDoor<L, P> {
     fn next(&mut self, _alloc: Global) -> Result<Option<L>, PortFault>
         ensures given { IfOk result
             (λ given. GivesFirst given self.old.waiting.items self.new.waiting.items) }
-        ensures fresh { IfOk result (λ given. IfSome given (λ link. IsFresh (L.state link))) }
+        ensures fresh { IfOk result (λ given. IfSome given (λ link. IsFreshLink (L.state link))) }
         ensures refused { OnErr result (self.new.waiting.items ≡ self.old.waiting.items) }
         ensures memory { OnErr result (IsTrue (is_failed result)) }
         ensures called { self.new.called ≡ self.old.called }
         ensures listened { self.new.listened ≡ self.old.listened }
         ensures connected { self.new.connected ≡ self.old.connected }
         ensures nexts { self.new.nexts ≡ counted true self.old.nexts }
-        ensures later { self.old.next_faults ≤ self.new.next_faults }
+        ensures faults_grow { self.old.next_faults ≤ self.new.next_faults }
         ensures failed { self.new.next_faults ≡ counted (is_failed result) self.old.next_faults }
         ensures listens { self.new.listen_faults ≡ self.old.listen_faults }
         ensures connects { self.new.connect_faults ≡ self.old.connect_faults }

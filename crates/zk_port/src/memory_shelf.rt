@@ -73,13 +73,13 @@ impl<P: FaultPlan> Shelf for MemoryShelf<P> {
     }
 
     fn load(&mut self, alloc: Global, name: &str, limit: u64) -> Result<Vec<u8>, LoadFault>
-        ensures same { self.new.files ≡ self.old.files }
+        ensures told_kept { self.new.files ≡ self.old.files }
         ensures tells { LoadTells limit (found P.forgiving (file_of self.old.files name.now)) result }
         ensures fails { is_load_failed result ≡ load_fails (P.coming self.old.plan 0)
             (found P.forgiving (file_of self.old.files name.now)) }
         ensures onward { (n : ℕ) → P.coming self.new.plan n ≡ P.coming self.old.plan (n + 1) }
         ensures count { P.count self.new.plan ≡ counted (is_load_failed result) (P.count self.old.plan) }
-        ensures later { P.count self.old.plan ≤ P.count self.new.plan }
+        ensures count_grows { P.count self.old.plan ≤ P.count self.new.plan }
     {
         if self.plan.fails() {
             return Err(LoadFault::Failed);
@@ -106,7 +106,7 @@ impl<P: FaultPlan> Shelf for MemoryShelf<P> {
         ensures fails { is_failed result ≡ P.coming self.old.plan 0 }
         ensures onward { (n : ℕ) → P.coming self.new.plan n ≡ P.coming self.old.plan (n + 1) }
         ensures count { P.count self.new.plan ≡ counted (is_failed result) (P.count self.old.plan) }
-        ensures later { P.count self.old.plan ≤ P.count self.new.plan }
+        ensures count_grows { P.count self.old.plan ≤ P.count self.new.plan }
     {
         if self.plan.fails() {
             take_file(&mut self.files, name);

@@ -18,7 +18,8 @@ pub struct MemorySink<P> {
 impl<P: FaultPlan> MemorySink<P> {
     /// A sink that nothing has been written to.
     pub fn new(alloc: Global, plan: P) -> Self
-        ensures state { ⟦<MemorySink<P> as Sink>⟧.state result ≡ record { written = Some []; faults = P.count plan } }
+        ensures state { ⟦<MemorySink<P> as Sink>⟧.state result
+            ≡ record { written = Some []; faults = P.count plan } }
         ensures plan { result.plan ≡ plan }
     {
         MemorySink {

@@ -9,7 +9,7 @@ pub trait FaultPlan {
     /// How many calls have failed; a count that has reached the end of a `u64` stands still there.
     ghost count: { Self → ℕ };
 
-    /// Whether the call behind so many further ones is to fail: at 0 the next.
+    /// Whether the call after so many further ones is to fail: at 0 the next.
     ghost coming: { Self → ℕ → Bool };
 
     /// Whether what isn't there is read as empty, since nothing may fail.
@@ -31,14 +31,26 @@ pub trait FaultPlan {
         ensures answer { result ≡ coming self.old 0 }
         ensures onward { (n : ℕ) → coming self.new n ≡ coming self.old (n + 1) }
         ensures count { count self.new ≡ counted result (count self.old) }
-        ensures later { count self.old ≤ count self.new };
+        ensures count_grows { count self.old ≤ count self.new };
 
     /// Whether the call under way fails because something isn't there; it uses up no number.
     fn fails_without(&mut self) -> bool
         ensures forgiving { result ≡ not forgiving }
         ensures onward { (n : ℕ) → coming self.new n ≡ coming self.old n }
         ensures count { count self.new ≡ counted result (count self.old) }
-        ensures later { count self.old ≤ count self.new };
+        ensures count_grows { count self.old ≤ count self.new };
+}
+
+/// Whether a call failed, which is counted.
+fn noted(faults: &mut u64, failed: bool) -> bool
+    ensures answer { result ≡ failed }
+    ensures count { faults.new ≡ counted failed faults.old }
+    ensures grows { faults.old ≤ faults.new }
+{
+    if failed {
+        *faults = faults.saturating_add(1);
+    }
+    failed
 }
 
 /// The calls of these numbers fail, counted from 1, and those that ask for what isn't there.
@@ -93,11 +105,7 @@ impl FaultPlan for FailAt {
 
     fn fails(&mut self) -> bool {
         self.calls = self.calls.saturating_add(1);
-        let fails = self.numbers.contains(&self.calls);
-        if fails {
-            self.faults = self.faults.saturating_add(1);
-        }
-        fails
+        noted(&mut self.faults, self.numbers.contains(&self.calls))
     }
 
     fn fails_without(&mut self) -> bool {
@@ -106,7 +114,7 @@ impl FaultPlan for FailAt {
     }
 }
 
-/// The run stops in the call of this number, counted from 1: that call fails, and all behind it.
+/// The run stops in the call of this number, counted from 1: that call fails, and all after it.
 #[derive(Clone, Copy)]
 pub struct StopAt {
     number: u64,
@@ -148,11 +156,7 @@ impl FaultPlan for StopAt {
 
     fn fails(&mut self) -> bool {
         self.calls = self.calls.saturating_add(1);
-        let fails = self.number <= self.calls;
-        if fails {
-            self.faults = self.faults.saturating_add(1);
-        }
-        fails
+        noted(&mut self.faults, self.number <= self.calls)
     }
 
     fn fails_without(&mut self) -> bool {

@@ -130,7 +130,7 @@ impl<P: FaultPlan> Link for ScriptedLink<P> {
         ensures fails { is_failed result ≡ P.coming self.old.plan 0 }
         ensures onward { (n : ℕ) → P.coming self.new.plan n ≡ P.coming self.old.plan (n + 1) }
         ensures count { P.count self.new.plan ≡ counted (is_failed result) (P.count self.old.plan) }
-        ensures later { P.count self.old.plan ≤ P.count self.new.plan }
+        ensures count_grows { P.count self.old.plan ≤ P.count self.new.plan }
     {
         self.sends = self.sends.saturating_add(1);
         if self.plan.fails() {
@@ -166,7 +166,7 @@ impl<P: FaultPlan> Link for ScriptedLink<P> {
         ensures fails { is_failed result ≡ P.coming self.old.plan 0 }
         ensures onward { (n : ℕ) → P.coming self.new.plan n ≡ P.coming self.old.plan (n + 1) }
         ensures count { P.count self.new.plan ≡ counted (is_failed result) (P.count self.old.plan) }
-        ensures later { P.count self.old.plan ≤ P.count self.new.plan }
+        ensures count_grows { P.count self.old.plan ≤ P.count self.new.plan }
     {
         self.receives = self.receives.saturating_add(1);
         if self.plan.fails() {

@@ -17,17 +17,17 @@ pub trait Shelf {
         ensures { result ≡ (state self.now).faults };
 
     /// The bytes of the file of this name, if they are at most `limit`. A missing file is `Failed`; one
-    /// of more bytes is `TooLong`, with this limit, unless the outside fails or memory is wanting first.
+    /// of more bytes is `TooLong`, with this limit, unless the outside fails or memory is missing first.
     fn load(&mut self, alloc: Global, name: &str, limit: u64) -> Result<Vec<u8>, LoadFault>
         ensures stays { IsFalse (is_load_failed result) → state self.new ≡ state self.old }
-        ensures same { (state self.new).told ≡ (state self.old).told }
+        ensures told_kept { (state self.new).told ≡ (state self.old).told }
         ensures bytes { IfOk result (λ v. StandsAs (state self.old).told name.now v.items) }
         ensures fits { IfOk result (λ v. length v.items ≤ limit) }
         ensures cause { IfErr result (LoadCause (state self.old).told name.now limit
             (state self.old).faults (state self.new).faults) }
         ensures cause_of_name { IfErr result (LoadCause (state self.old).told name.now limit
             ((state self.old).faults_of name.now) ((state self.new).faults_of name.now)) }
-        ensures later { (state self.old).faults ≤ (state self.new).faults }
+        ensures faults_grow { (state self.old).faults ≤ (state self.new).faults }
         ensures names { CountsNames (is_load_failed result) name.now
             (state self.old).faults_of (state self.new).faults_of };
 

@@ -16,7 +16,7 @@ pub trait Sink {
     fn faults(&self) -> u64
         ensures { result ≡ (state self.now).faults };
 
-    /// Writes these bytes behind all that was written. Where it is refused, a first part of them went
+    /// Writes these bytes after all that was written. Where it is refused, a first part of them went
     /// out, maybe none or all: `Failed` for a fault of the sink, `NoMemory` for want of memory.
     fn put(&mut self, alloc: Global, bytes: &[u8]) -> Result<(), PortFault>
         ensures written { OnOk result (state self.new ≡ written_behind bytes.now (state self.old)) }

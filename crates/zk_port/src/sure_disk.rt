@@ -5,7 +5,7 @@ ghost use Rattle.zk_port.specs.Images.{written_at};
 
 use crate::disk::Disk;
 use crate::fault::Failed;
-use crate::file_bytes::{MOST_ROOM, read_from, write_into};
+use crate::file_bytes::{MAX_ROOM, read_from, write_into};
 use std::alloc::{AllocError, Global};
 
 /// A disk in memory that never fails, with room for a stated number of bytes. It has one file, which every name
@@ -29,7 +29,7 @@ impl SureDisk {
         ensures room { IfOk result (λ disk. (⟦<SureDisk as Disk>⟧.state disk).room ≡ Some room) }
     {
         let mut bytes = bytes;
-        if room > MOST_ROOM {
+        if room > MAX_ROOM {
             return Err(AllocError);
         }
         if bytes.len() < room {
@@ -68,14 +68,14 @@ impl Disk for SureDisk {
     }
 
     fn choose(&mut self, _name: &str) -> Result<(), Failed>
-        ensures same { self.new ≡ self.old }
+        ensures unchanged { self.new ≡ self.old }
         ensures done { is_ok result ≡ true }
     {
         Ok(())
     }
 
     fn read(&mut self, at: u64, buffer: &mut [u8]) -> Result<usize, Failed>
-        ensures same { self.new ≡ self.old }
+        ensures unchanged { self.new ≡ self.old }
         ensures done { is_ok result ≡ true }
         ensures end { IfOk result (λ n. n ≡ min (length buffer.old) (length self.old.bytes.items - at)) }
         ensures bytes { IfOk result (λ n. take n buffer.new ≡ take n (drop at self.old.bytes.items)) }
@@ -95,7 +95,7 @@ impl Disk for SureDisk {
     }
 
     fn sync(&mut self) -> Result<(), Failed>
-        ensures same { self.new ≡ self.old }
+        ensures unchanged { self.new ≡ self.old }
         ensures done { is_ok result ≡ true }
     {
         Ok(())

@@ -26,7 +26,7 @@ pub returns-in-Some-clause-cause : goal.returns-in-Some-clause-cause
 returns-in-Some-clause-cause c =
     subst (BodyCause c.args.header c.args.tokens.now) (sym c.into.ensures)
     (output_fault c.args.header c.args.tokens.now c.gates.tokens c.gates.set c.gates.gates.items c.gates.counter c.in-Some.wire (omega arith) c.requires.outputs c.in_ok-end.ensures.none
-    c.gates.invariant (subst (λ (l : List Bool). IsUnsetOutput l c.args.header.outputs c.in-Some.wire) c.as_slice.ensures c.in-Some.ensures.some))
+    c.gates.invariant (subst (λ (l : List Bool). IsUnsetOutput l c.args.header.outputs c.in-Some.wire) c.as_slice.ensures c.in-Some.ensures.unset))
 
 pub returns-clause-found : goal.returns-clause-found
 returns-clause-found c =

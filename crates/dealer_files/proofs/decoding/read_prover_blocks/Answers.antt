@@ -2,29 +2,16 @@ use Rattle.std.proofs.Common.{◌≡◌, ◌+◌, ◌*◌, refl, rules, arith, a
 use Rattle.zk_model.specs.FileFaults.{block_start}
 use Rattle.zk_model.specs.declared.Side.TheVariants.{Prover}
 use Rattle.dealer_files.specs.Reading.{a_pair, a_transfer, AreBlocks}
-use Rattle.dealer_files.proofs.ReadBlocks.{block_within, one_block, prover_unit_read, prover_element_first, prover_bit_first}
+use Rattle.dealer_files.proofs.ReadBlocks.{parts_within, one_block, prover_unit_read, prover_element_first, prover_bit_first}
 use Rattle.dealer_files.proofs.decoding.read_prover_blocks.Goals as goal
 
 pub read_pairs-requires : goal.read_pairs-requires
-read_pairs-requires c =
-    omega (
-      arith,
-      block_within Prover c.args.bytes.now c.args.params.now c.loop-unit.unit c.requires.params c.requires.body c.loop-unit-test.true,
-      c.block_length-length.ensures.count,
-      c.dealt_per_unit-dealt.ensures.count,
-      ap (λ n. n * c.loop-unit.unit) c.block_length-length.ensures.count,
-    )
+read_pairs-requires c = (parts_within Prover c.args.bytes.now c.args.params.now c.loop-unit.unit _ _ _ c.requires.params c.requires.body c.loop-unit-test.true
+    (ap (λ n. 128 + n * c.loop-unit.unit) c.block_length-length.ensures.count) (λ i. 16 * c.dealt_per_unit-dealt.ensures.count i + 17 * c.transfers_per_unit-each.ensures.count i)).0
 
 pub read_transfers-requires : goal.read_transfers-requires
-read_transfers-requires c =
-    omega (
-      arith,
-      block_within Prover c.args.bytes.now c.args.params.now c.loop-unit.unit c.requires.params c.requires.body c.loop-unit-test.true,
-      c.block_length-length.ensures.count,
-      c.dealt_per_unit-dealt.ensures.count,
-      c.transfers_per_unit-each.ensures.count,
-      ap (λ n. n * c.loop-unit.unit) c.block_length-length.ensures.count,
-    )
+read_transfers-requires c = (parts_within Prover c.args.bytes.now c.args.params.now c.loop-unit.unit _ _ _ c.requires.params c.requires.body c.loop-unit-test.true
+    (ap (λ n. 128 + n * c.loop-unit.unit) c.block_length-length.ensures.count) (λ i. 16 * c.dealt_per_unit-dealt.ensures.count i + 17 * c.transfers_per_unit-each.ensures.count i)).1
 
 pub returns-in_err-read_pairs-clause-fault : goal.returns-in_err-read_pairs-clause-fault
 returns-in_err-read_pairs-clause-fault c =

@@ -2,29 +2,12 @@ use Rattle.std.proofs.Common.{◌≡◌, ◌+◌, ◌*◌, ℕ, refl, rules, ari
 use Rattle.zk_model.specs.FileFaults.{block_start}
 use Rattle.zk_model.specs.declared.Side.TheVariants.{Verifier}
 use Rattle.dealer_files.specs.Reading.{an_element, both_pads, AreBlocks}
-use Rattle.dealer_files.proofs.ReadBlocks.{block_within, one_block, verifier_unit_read, verifier_element_first}
+use Rattle.dealer_files.proofs.ReadBlocks.{parts_within, one_block, verifier_unit_read, verifier_element_first}
 use Rattle.dealer_files.proofs.decoding.read_verifier_blocks.Goals as goal
 
 pub read_elements-requires : goal.read_elements-requires
-read_elements-requires c =
-    omega (
-      arith,
-      block_within Verifier c.args.bytes.now c.args.params.now c.loop-unit.unit c.requires.params c.requires.body c.loop-unit-test.true,
-      c.block_length-length.ensures.count,
-      c.dealt_per_unit-dealt.ensures.count,
-      ap (λ n. n * c.loop-unit.unit) c.block_length-length.ensures.count,
-    )
-
-pub read_pads-requires : goal.read_pads-requires
-read_pads-requires c =
-    omega (
-      arith,
-      block_within Verifier c.args.bytes.now c.args.params.now c.loop-unit.unit c.requires.params c.requires.body c.loop-unit-test.true,
-      c.block_length-length.ensures.count,
-      c.dealt_per_unit-dealt.ensures.count,
-      c.transfers_per_unit-each.ensures.count,
-      ap (λ n. n * c.loop-unit.unit) c.block_length-length.ensures.count,
-    )
+read_elements-requires c = (parts_within Verifier c.args.bytes.now c.args.params.now c.loop-unit.unit _ _ _ c.requires.params c.requires.body c.loop-unit-test.true
+    (ap (λ n. 136 + n * c.loop-unit.unit) c.block_length-length.ensures.count) (λ i. 8 * c.dealt_per_unit-dealt.ensures.count i + 32 * c.transfers_per_unit-each.ensures.count i)).0
 
 pub returns-in_err-read_elements-clause-fault : goal.returns-in_err-read_elements-clause-fault
 returns-in_err-read_elements-clause-fault c =
@@ -49,3 +32,7 @@ pub returns-clause-blocks : goal.returns-clause-blocks
 returns-clause-blocks c =
     let end : c.loop-unit.unit ≡ c.args.params.now.total = omega arith in
     subst (λ (n : ℕ). AreBlocks an_element both_pads Verifier c.args.params.now c.args.bytes.now n c.loop-unit.keys.items c.loop-unit.pads.items) end c.loop-unit.invariant
+
+pub read_pads-requires : goal.read_pads-requires
+read_pads-requires c = (parts_within Verifier c.args.bytes.now c.args.params.now c.loop-unit.unit _ _ _ c.requires.params c.requires.body c.loop-unit-test.true
+    (ap (λ n. 136 + n * c.loop-unit.unit) c.block_length-length.ensures.count) (λ i. 8 * c.dealt_per_unit-dealt.ensures.count i + 32 * c.transfers_per_unit-each.ensures.count i)).1

@@ -2,7 +2,8 @@ use Rattle.std.proofs.Common.{◌≡◌, ◌-◌, ◌+◌, ◌∙◌, ℕ, arith
 use Rattle.std.specs.List.{range_with_len}
 use Rattle.zk_model.specs.declared.GateRow.TheVariants.{And}
 use Rattle.gate_translate.specs.Gates.{gate_rule}
-use Rattle.gate_translate.proofs.Translating.{AreTranslated, none_translated, few_translated, translated_more, numbers_are, is_translated, is_held}
+use Rattle.field_program.proofs.Numbered.{numbers_are}
+use Rattle.gate_translate.proofs.Translating.{AreTranslated, none_translated, few_translated, translated_more, is_translated, is_held}
 use Rattle.gate_translate.proofs.translation.translate.Goals as goal
 
 pub loop-gate-init : goal.loop-gate-init

@@ -1,13 +1,12 @@
 use Rattle.std.proofs.Common.{◌≡◌, ◌<◌, ◌+◌, ◌*◌, ◌^◌, ◌∷◌, [], length, Some, ap, ◌∙◌, subst, arith}
 use Rattle.std.specs.Option.{option_map}
-use Rattle.zk_port.specs.Images.{IsTorn, Only, StepsBy, written_at}
+use Rattle.zk_port.specs.Images.{IsTorn, StepsBy, written_at}
 use Rattle.zk_port.specs.Disks.{LeavesOnly}
-use Rattle.zk_model.specs.Journals.{IsOldOrNew, first_bodies}
 use Rattle.lease_journal.specs.Keeps.{ChangesAt}
 use Rattle.lease_journal.specs.Steps.{TornFrom, body_written}
 use Rattle.lease_journal.proofs.Keeping.{changes_then, changes_wider, spares_body, spares_both}
-use Rattle.lease_journal.proofs.Moments.{leaves_also, then_leaves}
-use Rattle.lease_journal.proofs.SlotSteps.{torn_first, torn_second, read_first, read_second, read_done}
+use Rattle.lease_journal.proofs.Moments.{leaves_also}
+use Rattle.lease_journal.proofs.SlotSteps.{torn_first, stored_moments, read_first, read_second, read_done}
 use Rattle.lease_journal.proofs.area.store_slot.Goals as goal
 
 pub returns-in_err-store_at-clause-any_moment : goal.returns-in_err-store_at-clause-any_moment
@@ -30,19 +29,9 @@ returns-in_err-store_at-clause-read g c = λ slots bytes is ready.
 
 pub returns-in_err-store_at-2-clause-any_moment : goal.returns-in_err-store_at-2-clause-any_moment
 returns-in_err-store_at-2-clause-any_moment g c = λ slots bytes is ready.
-    let low : c.args.a < 2 ^ 64 = omega (arith, c.ranges.a.fits) in
-    let high : c.args.b < 2 ^ 64 = omega (arith, c.ranges.b.fits) in
-    let size : length c.body_bytes.result ≡ 16 = ap length c.body_bytes.ensures in
-    let Q = IsOldOrNew c.args.at slots (first_bodies c.args.at c.args.slot bytes) (c.args.a, c.args.b) in
-    let first = subst (λ n. LeavesOnly (g.B.Disk.state c.args.disk.now) (g.B.Disk.state c.store_at.new.disk) (TornFrom (c.args.at + 32 * c.args.slot) n (g.B.Disk.state c.args.disk.now).images)) size c.store_at.ensures.changes.any_moment in
-    let begun = leaves_also {Q = Q} first
-    (torn_first c.args.at slots c.args.slot (c.args.a, c.args.b) low high bytes (g.B.Disk.state c.args.disk.now).images ready) in
-    let middle : (g.B.Disk.state c.store_at.new.disk).content ≡ Some (body_written c.args.at c.args.slot (c.args.a, c.args.b) bytes) =
-    c.in_ok-store_at.ensures.written ∙ ap (option_map (written_at (c.args.at + 32 * c.args.slot) c.body_bytes.result)) is ∙ ap (λ b. Some (written_at (c.args.at + 32 * c.args.slot) b bytes)) c.body_bytes.ensures in
-    let only = subst (λ o. Only o (g.B.Disk.state c.store_at.new.disk).images) middle c.in_ok-store_at.ensures.durable in
-    let second = leaves_also {Q = Q} c.store_at-2.ensures.changes.any_moment
-    (torn_second c.args.at slots c.args.slot (c.args.a, c.args.b) low high bytes (g.B.Disk.state c.args.disk.now).images ready (g.B.Disk.state c.store_at.new.disk).images only) in
-    then_leaves begun second
+    stored_moments c.args.at slots c.args.slot (c.args.a, c.args.b) (omega (arith, c.ranges.a.fits)) (omega (arith, c.ranges.b.fits)) bytes (g.B.Disk.state c.args.disk.now).images ready
+    c.body_bytes.result (g.B.Disk.state c.args.disk.now) (g.B.Disk.state c.store_at.new.disk) (g.B.Disk.state c.store_at-2.new.disk) is c.body_bytes.ensures
+    c.store_at.ensures.changes.any_moment c.in_ok-store_at.ensures.written c.in_ok-store_at.ensures.durable c.store_at-2.ensures.changes.any_moment
 
 pub returns-in_err-store_at-2-clause-read : goal.returns-in_err-store_at-2-clause-read
 returns-in_err-store_at-2-clause-read g c = λ slots bytes is ready.
@@ -55,19 +44,9 @@ returns-in_err-store_at-2-clause-read g c = λ slots bytes is ready.
 
 pub returns-clause-any_moment : goal.returns-clause-any_moment
 returns-clause-any_moment g c = λ slots bytes is ready.
-    let low : c.args.a < 2 ^ 64 = omega (arith, c.ranges.a.fits) in
-    let high : c.args.b < 2 ^ 64 = omega (arith, c.ranges.b.fits) in
-    let size : length c.body_bytes.result ≡ 16 = ap length c.body_bytes.ensures in
-    let Q = IsOldOrNew c.args.at slots (first_bodies c.args.at c.args.slot bytes) (c.args.a, c.args.b) in
-    let first = subst (λ n. LeavesOnly (g.B.Disk.state c.args.disk.now) (g.B.Disk.state c.store_at.new.disk) (TornFrom (c.args.at + 32 * c.args.slot) n (g.B.Disk.state c.args.disk.now).images)) size c.store_at.ensures.changes.any_moment in
-    let begun = leaves_also {Q = Q} first
-    (torn_first c.args.at slots c.args.slot (c.args.a, c.args.b) low high bytes (g.B.Disk.state c.args.disk.now).images ready) in
-    let middle : (g.B.Disk.state c.store_at.new.disk).content ≡ Some (body_written c.args.at c.args.slot (c.args.a, c.args.b) bytes) =
-    c.in_ok-store_at.ensures.written ∙ ap (option_map (written_at (c.args.at + 32 * c.args.slot) c.body_bytes.result)) is ∙ ap (λ b. Some (written_at (c.args.at + 32 * c.args.slot) b bytes)) c.body_bytes.ensures in
-    let only = subst (λ o. Only o (g.B.Disk.state c.store_at.new.disk).images) middle c.in_ok-store_at.ensures.durable in
-    let second = leaves_also {Q = Q} c.store_at-2.ensures.changes.any_moment
-    (torn_second c.args.at slots c.args.slot (c.args.a, c.args.b) low high bytes (g.B.Disk.state c.args.disk.now).images ready (g.B.Disk.state c.store_at.new.disk).images only) in
-    then_leaves begun second
+    stored_moments c.args.at slots c.args.slot (c.args.a, c.args.b) (omega (arith, c.ranges.a.fits)) (omega (arith, c.ranges.b.fits)) bytes (g.B.Disk.state c.args.disk.now).images ready
+    c.body_bytes.result (g.B.Disk.state c.args.disk.now) (g.B.Disk.state c.store_at.new.disk) (g.B.Disk.state c.store_at-2.new.disk) is c.body_bytes.ensures
+    c.store_at.ensures.changes.any_moment c.in_ok-store_at.ensures.written c.in_ok-store_at.ensures.durable c.store_at-2.ensures.changes.any_moment
 
 pub returns-clause-read : goal.returns-clause-read
 returns-clause-read g c = λ slots bytes is ready.

@@ -23,8 +23,8 @@ returns-clause-header g c = λ bytes is.
     (subst (λ o. IsFirstWrongOf c.args.kind c.args.id.now c.args.total c.read.new.buffer o) c.in_default.is c.first_wrong.ensures) in
     (c.word_at.ensures ∙ all.0, all.1)
 
-pub returns-clause-few : goal.returns-clause-few
-returns-clause-few g c =
+pub returns-clause-bounded : goal.returns-clause-bounded
+returns-clause-bounded g c =
     few_slots c.args.kind c.args.id.now c.args.total c.read.new.buffer c.word_at.result c.word_at.ensures
     (subst (λ o. IsFirstWrongOf c.args.kind c.args.id.now c.args.total c.read.new.buffer o) c.in_default.is c.first_wrong.ensures)
 

@@ -1,12 +1,9 @@
-use Rattle.std.proofs.Common.{◌≡◌, Some, sym, ◌∙◌, subst, refl, lit≤}
-use Rattle.zk_model.specs.Journals.{IsTidy, slots_at}
+use Rattle.std.proofs.Common.{refl, lit≤}
 use Rattle.zk_model.specs.declared.JournalKind.TheVariants.{Ceilings}
+use Rattle.lease_journal.proofs.Tidiness.{made_tidy}
 use Rattle.lease_store.specs.declared.tests.TheConstants.{ID}
 use Rattle.lease_store.proofs.tests.sure_disk.Goals as goal
 
 pub returns-clause-tidy : goal.returns-clause-tidy
-returns-clause-tidy c = λ bytes is.
-    let told : Some bytes ≡ Some c.in_ok-bytes.bytes.items = sym is ∙ c.in_ok-new.ensures.content in
-    let same : bytes ≡ c.in_ok-bytes.bytes.items = cc in
-    let blank = c.blank_says_nothing.ensures Ceilings ID 4000 250 refl (lit≤ tt) in
-    subst (λ b. IsTidy 64 (slots_at b) b) (sym (same ∙ c.in_ok-bytes.ensures)) blank.tidy
+returns-clause-tidy c = made_tidy c.in_ok-bytes.bytes.items _ c.in_ok-new.ensures.content c.in_ok-bytes.ensures
+    (c.blank_says_nothing.ensures Ceilings ID 4000 250 refl (lit≤ tt)).tidy

@@ -3,7 +3,7 @@ use Rattle.std.specs.List.{range_with_len}
 use Rattle.zk_model.specs.Frames as model
 use Rattle.zk_model.specs.Transcript.{Grant}
 use Rattle.zk_model.specs.HonestProver.{honest_asks}
-use Rattle.proof_frames.specs.Frames.{said}
+use Rattle.proof_frames.specs.Frames.{frame_value}
 use Rattle.vole_extend.specs.Rounds.{ProverTurn}
 use Rattle.session_core.proofs.Rounds.{one_more, map_twice}
 use Rattle.session_core.proofs.extending.ask_units.Goals as goal
@@ -15,7 +15,7 @@ loop-unit-init c =
     let none : c.grant.inside.start - c.args.grant.start ≡ 0 = omega (arith, start) in (
       omega (arith, start),
       omega (arith, start, count, c.from.ensures),
-      ap (map said) c.in_ok-frames.ensures.items
+      ap (map frame_value) c.in_ok-frames.ensures.items
           ∙ ap (λ n. map (λ unit. model.asks (honest_asks c.args.file.now unit)) (range_with_len c.args.grant.start n)) (sym none),
     )
 
@@ -25,7 +25,7 @@ loop-unit-preserved c =
     let next : c.loop-unit.unit + 1 - c.args.grant.start ≡ (c.loop-unit.unit - c.args.grant.start) + 1 = omega (arith, far.0) in (
       omega (arith, far.0),
       far.1,
-      one_more said (λ unit. model.asks (honest_asks c.args.file.now unit)) c.args.grant.start (c.loop-unit.unit - c.args.grant.start) c.loop-unit.unit
+      one_more frame_value (λ unit. model.asks (honest_asks c.args.file.now unit)) c.args.grant.start (c.loop-unit.unit - c.args.grant.start) c.loop-unit.unit
           c.loop-unit.frames.items c.push.new.self.items _ (omega (arith, far.0)) far.2 c.in_ok-push.ensures.items (ap model.asks (c.in_ok-asks.ensures.asks ∙ ap (λ (turn : ProverTurn). honest_asks turn.file turn.unit) c.new.ensures))
           ∙ ap (λ n. map (λ unit. model.asks (honest_asks c.args.file.now unit)) (range_with_len c.args.grant.start n)) (sym next),
     )

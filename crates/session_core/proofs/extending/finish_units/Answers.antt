@@ -1,6 +1,6 @@
 use Rattle.std.proofs.Common.{◌≡◌, ◌+◌, ◌++◌, [], ℕ, List, ap, subst, length, arith, rules}
 use Rattle.std.proofs.lemmas.List.{length-map}
-use Rattle.proof_frames.specs.Frames.{said}
+use Rattle.proof_frames.specs.Frames.{frame_value}
 use Rattle.proof_frames.specs.declared.frame.Frame.{Frame}
 use Rattle.zk_model.specs.Transcript.{Grant, TreeReply}
 use Rattle.zk_model.specs.Files.{correlations_per_unit}
@@ -11,15 +11,14 @@ use Rattle.session_core.proofs.Rounds.{replies_at, units_more}
 use Rattle.session_core.proofs.extending.finish_units.Goals as goal
 
 pub finish_unit-requires-clause-replies : goal.finish_unit-requires-clause-replies
-finish_unit-requires-clause-replies c =
-    (replies_at (AreReplies c.args.file.now.params.height c.args.file.now.params.trees) c.args.replies.now c.loop-i.i c.index-replies-i.result
-    c.replies_in.result.now c.requires.replies c.loop-i-test.true c.index-replies-i.is c.replies_in.ensures).1
+finish_unit-requires-clause-replies c = (replies_at (AreReplies c.args.file.now.params.height c.args.file.now.params.trees) c.args.replies.now c.loop-i.i
+    c.index-replies-i.result c.replies_in.result.now c.requires.replies c.loop-i-test.true c.index-replies-i.is c.replies_in.ensures).1
 
 pub loop-i-preserved : goal.loop-i-preserved
 loop-i-preserved c =
+    let more = c.in_ok-more.more.items in
     let far = c.loop-i.invariant in
     let file = c.args.file.now in
-    let more = c.in_ok-more.more.items in
     let start = ap (λ (g : Grant). g.start) c.grant.view_is in
     let there = (replies_at (AreReplies file.params.height file.params.trees) c.args.replies.now c.loop-i.i c.index-replies-i.result
     c.replies_in.result.now c.requires.replies c.loop-i-test.true c.index-replies-i.is c.replies_in.ensures).0 in
@@ -35,7 +34,7 @@ pub returns-clause-pairs : goal.returns-clause-pairs
 returns-clause-pairs c =
     let far = c.loop-i.invariant in
     let end : length c.args.replies.now ≡ c.loop-i.i = omega (arith, c.loop-i-test.false, c.loop-i.auto.i-end) in
-    let counted = length-map c.args.replies.now (λ (f : Frame). replies_in (said f)) in
+    let counted = length-map c.args.replies.now (λ (f : Frame). replies_in (frame_value f)) in
     record {
       units = far.0;
       one_each = omega (arith, far.1, end, counted);

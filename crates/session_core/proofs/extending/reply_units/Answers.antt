@@ -8,7 +8,7 @@ use Rattle.zk_model.specs.Correlations.{unit_keys}
 use Rattle.zk_model.specs.Replies.{unit_reply}
 use Rattle.zk_model.specs.Frames as model
 use Rattle.zk_model.specs.Frames.{AreAsks}
-use Rattle.proof_frames.specs.Frames.{said}
+use Rattle.proof_frames.specs.Frames.{frame_value}
 use Rattle.proof_frames.specs.declared.frame.Frame.{Frame}
 use Rattle.session_core.specs.Extending.{asks_in, asks_of}
 use Rattle.session_core.proofs.Rounds.{asks_at, one_more, one_part_more, map_twice, numbered}
@@ -28,7 +28,7 @@ loop-i-preserved c =
     c.asks_in.result.now c.requires.asks c.loop-i-test.true c.index-asked-i.is c.asks_in.ensures).0 in
     let more : c.extend_from_slice.new.self.items ≡ c.loop-i.keys.items ++ c.in_ok-reply.reply.keys.items = search rules in
     let keys = c.in_ok-reply.ensures.keys ∙ ap (λ n. unit_keys file (n + c.loop-i.i)) start in (
-      one_more said (λ k. model.replies (unit_reply file (c.args.grant.start + k) (slice_index_or (asks_of c.args.asked.now) k []))) 0 c.loop-i.i c.loop-i.i
+      one_more frame_value (λ k. model.replies (unit_reply file (c.args.grant.start + k) (slice_index_or (asks_of c.args.asked.now) k []))) 0 c.loop-i.i c.loop-i.i
           c.loop-i.replies.items c.push.new.self.items _ (zero-add c.loop-i.i) far.0 c.in_ok-push.ensures.items
           (ap model.replies (c.in_ok-reply.ensures.replies ∙ (λ i. unit_reply file (start i + c.loop-i.i) (there i)))),
       one_part_more (unit_keys file) c.args.grant.start c.loop-i.i (c.args.grant.start + c.loop-i.i)
@@ -41,7 +41,7 @@ returns-clause-replies c =
     let far = c.loop-i.invariant in
     let file = c.args.file.now in
     let asks : List (List TreeAsk) = asks_of c.args.asked.now in
-    let counted = length-map c.args.asked.now (λ (f : Frame). asks_in (said f)) in
+    let counted = length-map c.args.asked.now (λ (f : Frame). asks_in (frame_value f)) in
     let end : c.loop-i.i ≡ length asks = omega (arith, c.loop-i-test.false, c.loop-i.auto.i-end, counted) in
     far.0
     ∙ map_twice model.replies (λ k. unit_reply file (c.args.grant.start + k) (slice_index_or asks k [])) (range_with_len 0 c.loop-i.i)

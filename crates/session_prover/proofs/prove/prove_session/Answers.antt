@@ -5,7 +5,7 @@ use Rattle.zk_model.specs.declared.Side.TheVariants.{Prover, Verifier}
 use Rattle.zk_port.specs.Logs.{put_before}
 use Rattle.frame_link.specs.Lines.{LinkSnapshot, snapshot, snapshot_of}
 use Rattle.session_prover.specs.Stages.{Course}
-use Rattle.session_prover.specs.Notes.{IsOutcome, AnswersGrantPlace, AnswersVerdict, SendsHonestly, SendsOnceClaimed, SendsEach, IsRelated, IsLogged, CountsOutcome, Ends, told_by}
+use Rattle.session_prover.specs.Notes.{IsOutcome, AnswersGrantPlace, AnswersVerdict, SendsHonestly, SendsOnceClaimed, SendsEach, IsRelated, IsLogged, CountsOutcome, IsEnded, told_by}
 use Rattle.session_prover.specs.Turns.{IsSound}
 use Rattle.zk_model.specs.Files.{IsProverFile}
 use Rattle.zk_model.specs.Program.{Program}
@@ -17,22 +17,22 @@ use Rattle.session_prover.proofs.prove.prove_session.Goals as goal
 
 -- where the session began, and what became of its claim
 abbrev course_of : (g : Over) (c : goal.After-end-link g) → Course
-course_of g c = record { first = c.new-line.result; claim = record { asked = g.C.Claimant.asked c.hold-held.new.claimant; answer = g.C.Claimant.answer c.hold-held.new.claimant } }
+course_of g c = record { first = c.new-line.result; claim = record { asked = g.C.Claimant.asked c.run_session-held.new.claimant; answer = g.C.Claimant.answer c.run_session-held.new.claimant } }
 
 -- how it ended
-ends_of : (g : Over) (c : goal.After-end-link g) → Ends c.args.job.now (course_of g c) c.outcome_of-outcome.result c.hold-held.new.line
+ends_of : (g : Over) (c : goal.After-end-link g) → IsEnded c.args.job.now (course_of g c) c.outcome_of-outcome.result c.run_session-held.new.line
 ends_of g c =
-    ends_with c.args.job.now (course_of g c) c.hold-held.result c.outcome_of-outcome.result c.hold-held.new.line c.hold-held.ensures.accepted c.hold-held.ensures.ends
+    ends_with c.args.job.now (course_of g c) c.run_session-held.result c.outcome_of-outcome.result c.run_session-held.new.line c.run_session-held.ensures.accepted c.run_session-held.ensures.ends
     c.outcome_of-outcome.ensures.accepted c.outcome_of-outcome.ensures.other
 
 -- the moments before and after it
 first_is : (g : Over) (c : goal.After-end-link g) → snapshot_of c.new-line.result ≡ snapshot Prover [] (g.L.Link.state c.args.link)
 first_is g c = ap snapshot_of c.new-line.ensures
 
-now_is : (g : Over) (c : goal.After-end-link g) → snapshot_of c.hold-held.new.line ≡ snapshot Prover c.end-link.result.1 (g.L.Link.state c.end-link.result.0)
+now_is : (g : Over) (c : goal.After-end-link g) → snapshot_of c.run_session-held.new.line ≡ snapshot Prover c.end-link.result.1 (g.L.Link.state c.end-link.result.0)
 now_is g c = sym (ap (λ side. snapshot side c.end-link.result.1 (g.L.Link.state c.end-link.result.0)) (sym (ends_of g c).side) ∙ c.end-link.ensures.passed)
 
-log_is : (g : Over) (c : goal.After-end-link g) → c.hold-held.new.line.log ≡ c.end-link.result.1
+log_is : (g : Over) (c : goal.After-end-link g) → c.run_session-held.new.line.log ≡ c.end-link.result.1
 log_is g c = ap (λ (s : LinkSnapshot). s.log) (now_is g c)
 
 pub returns-clause-outcome : goal.returns-clause-outcome
@@ -95,6 +95,6 @@ returns-clause-complete g c =
       products = subst (λ (p : Program). length p.products ≤ 2 ^ 20) (c.program.ensures.program ∙ ap (λ (s : Statement). s.program) c.statement.ensures.statement) c.opened-opened.ensures.held.products;
       opened = subst (λ (p : Program). length p.opened ≤ 2 ^ 20) (c.program.ensures.program ∙ ap (λ (s : Statement). s.program) c.statement.ensures.statement) c.opened-opened.ensures.held.opened;
     } in
-    completes c.args.job.now (course_of g c).claim c.hold-held.new.granted c.end-link.result.1 _ result c.honest_verdict.ensures sound
-    c.hold-held.ensures.granted
+    completes c.args.job.now (course_of g c).claim c.run_session-held.new.granted c.end-link.result.1 _ result c.honest_verdict.ensures sound
+    c.run_session-held.ensures.granted
     (subst (λ (q : LinkSnapshot × LinkSnapshot). IsOutcome c.args.job.now (course_of g c).claim q.1.log (told_by q.0 q.1) result) (λ i. (first_is g c i, now_is g c i)) (ends_of g c).outcome_is)

@@ -9,7 +9,7 @@ use Rattle.zk_model.specs.declared.Verdict.{Verdict}
 use Rattle.zk_model.specs.Program.{Program}
 use Rattle.zk_model.specs.Check.{all_sums}
 use Rattle.zk_model.specs.Frames.{frame_spelling}
-use Rattle.proof_frames.specs.Frames.{said as frame_said}
+use Rattle.proof_frames.specs.Frames.{frame_value as frame_said}
 use Rattle.session_core.specs.Jobs.{VerifierJob, IsVerifierJob, granted_from}
 use Rattle.session_core.specs.Judgements.{verdict_in, session_transcript, IsJudgement}
 use Rattle.session_rehearsal.specs.Holding.{AreRoundsHeld, IsSessionOf, ends_of}
@@ -49,7 +49,7 @@ returns-clause-session c prover log stated dealt answered noted =
     let seen = answered.seen in
     let grant : a.grant ≡ granted_from job 0 = answered.grant in
     let coin = answered.challenge in
-    let said : c.verdict.result ≡ verdict_in judgement = c.verdict.ensures in
+    let frame_value : c.verdict.result ≡ verdict_in judgement = c.verdict.ensures in
     let is : IsVerifierJob job = c.file.ensures.job in
     let is_stated : IsStatement job.task.statement = subst IsStatement c.statement.ensures.statement c.program-program.ensures.stated in
     let granted : IsGrant job.task.file.params job.task.statement.program (granted_from job 0) =
@@ -59,7 +59,7 @@ returns-clause-session c prover log stated dealt answered noted =
       challenge = subst IsElement coin noted.challenge;
       sums = record { counted = c.requires.counted.sums; ranged = noted.sums };
       openings = record { counted = c.requires.counted.openings; ranged = noted.openings };
-      number = subst (λ (v : Verdict). verdict_number v < 2 ^ 32) said noted.number;
+      number = subst (λ (v : Verdict). verdict_number v < 2 ^ 32) frame_value noted.number;
     } in
     let found : IsJudgement job.task (session_transcript job 0 rounds d both macs (verdict_in judgement)) judgement =
     subst (λ (q : List ℕ × List (ℕ × ℕ) × List ℕ). IsJudgement job.task (session_transcript job 0 rounds q.0 q.1 q.2 (verdict_in judgement)) judgement)
@@ -73,10 +73,10 @@ returns-clause-session c prover log stated dealt answered noted =
     a.challenge (verdict_code c.verdict.result) (verdict_number c.verdict.result)
     answered.held.noted
     (λ i. turn_bytes ((hello_frame (hello i), grant_frame (grant i)) ∷ round_turns rounds))
-    coin (ap verdict_code said) (ap verdict_number said) in
+    coin (ap verdict_code frame_value) (ap verdict_number frame_value) in
     let at : AreRoundsHeld prover.file job.task.file (granted_from job 0) seen rounds =
     subst (λ (g : Grant). AreRoundsHeld prover.file job.task.file g seen rounds) grant answered.held.held in
-    subst (λ (v : Verdict). IsSessionOf (ends_of prover job) (granted_from job 0) v log) (sym said)
+    subst (λ (v : Verdict). IsSessionOf (ends_of prover job) (granted_from job 0) v log) (sym frame_value)
     (session_is prover job 0 seen rounds d both macs judgement pairs log stated dealt.id
     (served_is job 0 rounds d both macs judgement log is_stated (subst IsVerifierFile c.file.ensures.file c.total-total.ensures.file) is granted at.served ranged found spells)
     at

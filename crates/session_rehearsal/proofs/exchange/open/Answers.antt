@@ -5,7 +5,7 @@ use Rattle.zk_model.specs.Transcript.{Grant, units_for}
 use Rattle.zk_model.specs.Program.{section_count, correlations_needed}
 use Rattle.zk_model.specs.Check.{all_sums}
 use Rattle.session_core.specs.Jobs.{VerifierJob}
-use Rattle.wire_auth.specs.Held.{held_in}
+use Rattle.wire_auth.specs.Held.{items_in}
 use Rattle.session_core.proofs.Enough.{enough_units}
 use Rattle.session_rehearsal.proofs.exchange.open.Goals as goal
 
@@ -17,20 +17,20 @@ commit-requires-clause-enough c =
     ap (λ (g : Grant). g.count) c.requires.grant
     ∙ (λ i. units_for (sym c.requires.dealt.params i) (correlations_needed (sym c.requires.stated i).program (sym c.requires.grant i).section_length)) in
     enough_units c.args.prover.now.file.params c.args.prover.now.statement.program c.args.grant.section_length c.args.grant.count
-    (length (held_in c.args.established.pairs)) (subst AreParams (sym c.requires.dealt.params) file.params) counted c.requires.pairs
+    (length (items_in c.args.established.pairs)) (subst AreParams (sym c.requires.dealt.params) file.params) counted c.requires.pairs
 
 pub returns-clause-answered : goal.returns-clause-answered
 returns-clause-answered c = record {
   hello = c.greet-hello.ensures;
   grant = c.requires.grant;
-  seen = held_in c.args.established.pairs;
+  seen = items_in c.args.established.pairs;
   held = c.requires.held;
   wires = c.in_ok-wires.field-0.wires.pairs;
   fixed = c.in_ok-wires.ensures.fixed;
   challenge = c.challenge-challenge.ensures;
   sums = c.in_ok-opened.ensures.sums
       ∙ ap (λ l. all_sums c.args.prover.now.statement.program c.args.grant.section_length c.challenge-challenge.result c.in_ok-wires.field-0.wires.pairs
-      (drop c.args.prover.now.statement.program.givens l)) c.in_ok-wires.ensures.same;
+      (drop c.args.prover.now.statement.program.givens l)) c.in_ok-wires.ensures.dealt_kept;
   openings = c.in_ok-opened.ensures.openings;
 }
 

@@ -5,7 +5,7 @@ use Rattle.zk_model.specs.Frames.{frame_spelling}
 use Rattle.zk_model.specs.Transcript.{bytes_from, hello_frame, grant_frame, corrections_frame, challenge_frame, sums_frame, openings_frame, verdict_frame}
 use Rattle.zk_model.specs.View.{verdict_code, verdict_number}
 use Rattle.zk_model.specs.declared.Side.TheVariants.{Prover, Verifier}
-use Rattle.proof_frames.specs.Frames.{said}
+use Rattle.proof_frames.specs.Frames.{frame_value}
 use Rattle.session_rehearsal.proofs.noting.note.Goals as goal
 
 pub returns : goal.returns
@@ -18,8 +18,8 @@ returns c = record {
       ∙ (λ m. (c.in_ok-note_frames.ensures
       ∙ (λ n. (c.in_ok-note_grant.ensures ∙ ap (λ l. l ++ bytes_from Verifier (grant_frame c.args.exchange.now.grant))
       (c.in_ok-note_hello.ensures ∙ ap (λ l. l ++ bytes_from Prover (hello_frame c.args.exchange.now.hello)) c.new-log.ensures)) n
-      ++ bytes_from Prover (flat_map frame_spelling (map said (c.deref.ensures.value n))))) m
-      ++ bytes_from Verifier (flat_map frame_spelling (map said (c.deref-2.ensures.value m))))) k
+      ++ bytes_from Prover (flat_map frame_spelling (map frame_value (c.deref.ensures.value n))))) m
+      ++ bytes_from Verifier (flat_map frame_spelling (map frame_value (c.deref-2.ensures.value m))))) k
       ++ bytes_from Prover (corrections_frame (c.deref-3.ensures.value k))))) j
       ++ bytes_from Prover (sums_frame (c.deref-4.ensures.value j)))) i ++ bytes_from Prover (openings_frame (c.deref-5.ensures.value i))));
   corrections = subst (λ (l : List ℕ). All IsElement l) c.deref-3.ensures.value c.in_ok-note_elements.ensures.ranged;

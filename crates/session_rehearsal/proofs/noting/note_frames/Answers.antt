@@ -1,11 +1,11 @@
 use Rattle.std.proofs.Common.{ap, sym, ◌∙◌, arith, subst}
 use Rattle.std.proofs.lemmas.List.{length-map, get_or-map}
-use Rattle.proof_frames.specs.Frames.{said, IsShort}
+use Rattle.proof_frames.specs.Frames.{frame_value, IsShort}
 use Rattle.session_rehearsal.proofs.noting.note_frames.Goals as goal
 
 pub encode-requires : goal.encode-requires
 encode-requires c =
     let frames = c.args.frames.now in
     subst IsShort
-    (get_or-map said frames c.loop-frame.frame-index c.frame-item.result (said c.frame-item.result) c.loop-frame-test.true ∙ ap said (sym c.frame-item.is))
-    (c.requires c.loop-frame.frame-index (said c.frame-item.result) (omega (arith, c.loop-frame-test.true, length-map frames said)))
+    (get_or-map frame_value frames c.loop-frame.frame-index c.frame-item.result (frame_value c.frame-item.result) c.loop-frame-test.true ∙ ap frame_value (sym c.frame-item.is))
+    (c.requires c.loop-frame.frame-index (frame_value c.frame-item.result) (omega (arith, c.loop-frame-test.true, length-map frames frame_value)))

@@ -9,13 +9,13 @@ use Rattle.session_rehearsal.specs.Rehearsals.{rehearsed_params}
 use Rattle.session_rehearsal.proofs.Rehearsed.{granted_all, total_is}
 use Rattle.session_rehearsal.proofs.rehearsing.exchange_dealt.Goals as goal
 
-pub hold-requires-clause-granted : goal.hold-requires-clause-granted
-hold-requires-clause-granted c =
+pub run_session-requires-clause-granted : goal.run_session-requires-clause-granted
+run_session-requires-clause-granted c =
     let params = ap (λ (f : ProverFile). f.params) (c.in_ok-prover.ensures.prover ∙ ap (λ (p : Params). dealt_prover p c.args.seed.now) c.rehearsed_params-params.ensures) in
     let total = ap (λ (p : Params). p.total) params ∙ total_is c.args.kind c.args.units in
     subst (λ (q : Params × ℕ). IsGrant q.0 c.args.statement.now.program (whole_grant q.1 c.args.section))
     (λ i. (sym params i, sym total i))
-    (granted_all c.args.statement.now.program c.args.kind c.args.section c.args.units c.requires.some c.requires.most c.requires.units c.requires.units_most)
+    (granted_all c.args.statement.now.program c.args.kind c.args.section c.args.units c.requires.at_least_one c.requires.at_most c.requires.units c.requires.units_most)
 
 pub returns-clause-held : goal.returns-clause-held
 returns-clause-held c log noted =

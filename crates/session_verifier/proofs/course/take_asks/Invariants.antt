@@ -7,4 +7,4 @@ abbrev pub invariant-loop-asked : goal.invariant-loop-asked
 invariant-loop-asked g l =
     (l._asked ≤ l.due)
     × (l.core.job ≡ l.fn.core.job)
-    × AsksCome l.fn.core.job l._start l._asked l.fn.core.place l.core.place l.fn.line l.line
+    × AsksCome l.fn.core.job l._start l._asked l.fn.core.stage l.core.stage l.fn.line l.line

@@ -9,7 +9,7 @@ pub returns-in-Ok-clause-granted : goal.returns-in-Ok-clause-granted
 returns-in-Ok-clause-granted g c first at =
     let job = c.args.core.now.job in
     let line = c.serve_turns.new.line in
-    let there = subst (λ (s : VerifierState). IsLineAt s.job s.place first c.give_grant.new.line) (sym c.give_grant.ensures.core) (c.in_default.ensures.goes_on first at) in
+    let there = subst (λ (s : VerifierState). IsLineAt s.job s.stage first c.give_grant.new.line) (sym c.give_grant.ensures.core) (c.in_default.ensures.goes_on first at) in
     let judged = subst (λ (s : VerifierState). IsLineAt s.job (has_judged c.args.span.start c.in-Ok.judgement) first line) c.give_grant.ensures.core (c.in-Ok.ensures.judged first there) in
     record {
       units = c.requires.units;
@@ -20,7 +20,7 @@ returns-in-Ok-clause-granted g c first at =
 pub returns-in-Err-serve_turns-clause-granted : goal.returns-in-Err-serve_turns-clause-granted
 returns-in-Err-serve_turns-clause-granted g c first at =
     let line = c.serve_turns.new.line in
-    let there = subst (λ (s : VerifierState). IsLineAt s.job s.place first c.give_grant.new.line) (sym c.give_grant.ensures.core) (c.in_default.ensures.goes_on first at) in
+    let there = subst (λ (s : VerifierState). IsLineAt s.job s.stage first c.give_grant.new.line) (sym c.give_grant.ensures.core) (c.in_default.ensures.goes_on first at) in
     record {
       units = c.requires.units;
       within = c.requires.within;

@@ -13,7 +13,7 @@ use Rattle.session_verifier.proofs.verify.verify_session.Given.{Over}
 use Rattle.session_verifier.proofs.verify.verify_session.Goals as goal
 
 -- what is known of the job
-known_of : (g : Over) (c : goal.After-lead-note g) → IsKnown c.args.job.now
+known_of : (g : Over) (c : goal.After-verify_over_link-note g) → IsKnown c.args.job.now
 known_of g c = record {
   stated = subst IsStatement c.statement.ensures.statement c.program.ensures.stated;
   file = subst IsVerifierFile c.file.ensures.file c.total-total.ensures.file;
@@ -23,50 +23,50 @@ known_of g c = record {
 }
 
 -- the moments before and after it
-abbrev first_of : (g : Over) (c : goal.After-lead-note g) → LinkSnapshot
+abbrev first_of : (g : Over) (c : goal.After-verify_over_link-note g) → LinkSnapshot
 first_of g c = snapshot Verifier [] (g.L.Link.state c.args.link)
 
-abbrev now_of : (g : Over) (c : goal.After-lead-note g) → LinkSnapshot
-now_of g c = snapshot Verifier c.lead-note.result.log (g.L.Link.state c.lead-note.result.link)
+abbrev now_of : (g : Over) (c : goal.After-verify_over_link-note g) → LinkSnapshot
+now_of g c = snapshot Verifier c.verify_over_link-note.result.log (g.L.Link.state c.verify_over_link-note.result.link)
 
 pub returns-clause-granted : goal.returns-clause-granted
-returns-clause-granted g c = granted_is c.args.job.now (g.R.Grantor.answer c.lead-note.new.grantor) c.lead-note.result.granted c.lead-note.result.outcome (first_of g c) (now_of g c) c.lead-note.ensures.course
+returns-clause-granted g c = granted_is c.args.job.now (g.R.Grantor.answer c.verify_over_link-note.new.grantor) c.verify_over_link-note.result.granted c.verify_over_link-note.result.outcome (first_of g c) (now_of g c) c.verify_over_link-note.ensures.course
 
 pub returns-clause-verdict : goal.returns-clause-verdict
-returns-clause-verdict g c = judges_rightly c.args.job.now (g.R.Grantor.answer c.lead-note.new.grantor) c.lead-note.result.granted c.lead-note.result.outcome (first_of g c) (now_of g c) (known_of g c) c.lead-note.ensures.course
+returns-clause-verdict g c = judges_rightly c.args.job.now (g.R.Grantor.answer c.verify_over_link-note.new.grantor) c.verify_over_link-note.result.granted c.verify_over_link-note.result.outcome (first_of g c) (now_of g c) (known_of g c) c.verify_over_link-note.ensures.course
 
 pub returns-clause-accepted : goal.returns-clause-accepted
-returns-clause-accepted g c = accepts_exactly c.args.job.now (g.R.Grantor.answer c.lead-note.new.grantor) c.lead-note.result.granted c.lead-note.result.outcome (first_of g c) (now_of g c)
-    c.replies_are_in_range.ensures c.served_session_exists.ensures c.cut_is_not_accepted.ensures c.verdict_is_said.ensures (known_of g c) c.lead-note.ensures.course
+returns-clause-accepted g c = accepts_exactly c.args.job.now (g.R.Grantor.answer c.verify_over_link-note.new.grantor) c.verify_over_link-note.result.granted c.verify_over_link-note.result.outcome (first_of g c) (now_of g c)
+    c.replies_are_in_range.ensures c.served_session_exists.ensures c.cut_is_not_accepted.ensures c.verdict_is_said.ensures (known_of g c) c.verify_over_link-note.ensures.course
 
 pub returns-clause-shown : goal.returns-clause-shown
-returns-clause-shown g c = is_shown c.args.job.now (g.R.Grantor.answer c.lead-note.new.grantor) c.lead-note.result.granted c.lead-note.result.outcome (first_of g c) (now_of g c)
-    (known_of g c) c.extraction_holds.ensures c.lead-note.ensures.course
+returns-clause-shown g c = is_shown c.args.job.now (g.R.Grantor.answer c.verify_over_link-note.new.grantor) c.verify_over_link-note.result.granted c.verify_over_link-note.result.outcome (first_of g c) (now_of g c)
+    (known_of g c) c.extraction_holds.ensures c.verify_over_link-note.ensures.course
 
 pub returns-clause-sends : goal.returns-clause-sends
-returns-clause-sends g c = sends_rightly c.args.job.now (g.R.Grantor.answer c.lead-note.new.grantor) c.lead-note.result.granted c.lead-note.result.outcome (first_of g c) (now_of g c)
-    c.replies_are_in_range.ensures c.served_session_exists.ensures (known_of g c) c.lead-note.ensures.course
+returns-clause-sends g c = sends_rightly c.args.job.now (g.R.Grantor.answer c.verify_over_link-note.new.grantor) c.verify_over_link-note.result.granted c.verify_over_link-note.result.outcome (first_of g c) (now_of g c)
+    c.replies_are_in_range.ensures c.served_session_exists.ensures (known_of g c) c.verify_over_link-note.ensures.course
 
 pub returns-clause-related : goal.returns-clause-related
-returns-clause-related g c = keeps_keys c.args.job.now c.lead-note.result.granted c.lead-note.result.outcome c.lead-note.result.log c.keys_fit.ensures (known_of g c)
-    (sends_rightly c.args.job.now (g.R.Grantor.answer c.lead-note.new.grantor) c.lead-note.result.granted c.lead-note.result.outcome (first_of g c) (now_of g c)
-    c.replies_are_in_range.ensures c.served_session_exists.ensures (known_of g c) c.lead-note.ensures.course)
+returns-clause-related g c = keeps_keys c.args.job.now c.verify_over_link-note.result.granted c.verify_over_link-note.result.outcome c.verify_over_link-note.result.log c.keys_fit.ensures (known_of g c)
+    (sends_rightly c.args.job.now (g.R.Grantor.answer c.verify_over_link-note.new.grantor) c.verify_over_link-note.result.granted c.verify_over_link-note.result.outcome (first_of g c) (now_of g c)
+    c.replies_are_in_range.ensures c.served_session_exists.ensures (known_of g c) c.verify_over_link-note.ensures.course)
 
 pub returns-clause-cause : goal.returns-clause-cause
-returns-clause-cause g c = ends_because c.args.job.now (g.R.Grantor.answer c.lead-note.new.grantor) c.lead-note.result.granted c.lead-note.result.outcome (first_of g c) (now_of g c) (known_of g c) c.lead-note.ensures.course
+returns-clause-cause g c = ends_because c.args.job.now (g.R.Grantor.answer c.verify_over_link-note.new.grantor) c.verify_over_link-note.result.granted c.verify_over_link-note.result.outcome (first_of g c) (now_of g c) (known_of g c) c.verify_over_link-note.ensures.course
 
 pub returns-clause-leased : goal.returns-clause-leased
-returns-clause-leased g c = leases_behind c.args.job.now (g.R.Grantor.answer c.lead-note.new.grantor) c.lead-note.result.granted c.lead-note.result.outcome (first_of g c) (now_of g c) c.lead-note.ensures.course
+returns-clause-leased g c = leases_behind c.args.job.now (g.R.Grantor.answer c.verify_over_link-note.new.grantor) c.verify_over_link-note.result.granted c.verify_over_link-note.result.outcome (first_of g c) (now_of g c) c.verify_over_link-note.ensures.course
 
 pub returns-clause-told : goal.returns-clause-told
-returns-clause-told g c = is_told c.args.job.now (g.R.Grantor.answer c.lead-note.new.grantor) c.lead-note.result.granted c.lead-note.result.outcome (first_of g c) (now_of g c)
-    c.replies_are_in_range.ensures c.served_session_exists.ensures (known_of g c) c.lead-note.ensures.course
+returns-clause-told g c = is_told c.args.job.now (g.R.Grantor.answer c.verify_over_link-note.new.grantor) c.verify_over_link-note.result.granted c.verify_over_link-note.result.outcome (first_of g c) (now_of g c)
+    c.replies_are_in_range.ensures c.served_session_exists.ensures (known_of g c) c.verify_over_link-note.ensures.course
 
 pub returns-clause-receives : goal.returns-clause-receives
-returns-clause-receives g c = receives_few c.args.job.now (g.R.Grantor.answer c.lead-note.new.grantor) c.lead-note.result.granted c.lead-note.result.outcome (first_of g c) (now_of g c) c.lead-note.ensures.course
+returns-clause-receives g c = receives_few c.args.job.now (g.R.Grantor.answer c.verify_over_link-note.new.grantor) c.verify_over_link-note.result.granted c.verify_over_link-note.result.outcome (first_of g c) (now_of g c) c.verify_over_link-note.ensures.course
 
 pub returns-clause-faults : goal.returns-clause-faults
-returns-clause-faults g c = counts_faults c.args.job.now (g.R.Grantor.answer c.lead-note.new.grantor) c.lead-note.result.granted c.lead-note.result.outcome (first_of g c) (now_of g c) c.lead-note.ensures.course
+returns-clause-faults g c = counts_faults c.args.job.now (g.R.Grantor.answer c.verify_over_link-note.new.grantor) c.verify_over_link-note.result.granted c.verify_over_link-note.result.outcome (first_of g c) (now_of g c) c.verify_over_link-note.ensures.course
 
 pub returns-clause-complete : goal.returns-clause-complete
 returns-clause-complete g c =
@@ -78,4 +78,4 @@ returns-clause-complete g c =
       ends = c.honest_turn_ends.ensures;
       accepted = c.honest_whole_is_accepted.ensures;
     } in
-    completes c.args.job.now (g.R.Grantor.answer c.lead-note.new.grantor) c.lead-note.result.granted c.lead-note.result.outcome (first_of g c) (now_of g c) laws (known_of g c) c.lead-note.ensures.course
+    completes c.args.job.now (g.R.Grantor.answer c.verify_over_link-note.new.grantor) c.verify_over_link-note.result.granted c.verify_over_link-note.result.outcome (first_of g c) (now_of g c) laws (known_of g c) c.verify_over_link-note.ensures.course

@@ -1,7 +1,7 @@
 use Rattle.std.proofs.Common.{◌≡◌, [], ◌∙◌, false, length, arith, refl}
 use Rattle.zk_model.specs.Extension.{unmasked_message}
 use Rattle.vole_extend.specs.Levels.{choice_at, transfer_at, both_at}
-use Rattle.vole_extend.proofs.Ranges.{map_more, read_at}
+use Rattle.vole_extend.proofs.Ranges.{map_more, read_at, transfer_read}
 use Rattle.vole_extend.proofs.levels.chosen_sums.Goals as goal
 
 pub loop-level-preserved : goal.loop-level-preserved
@@ -16,8 +16,7 @@ loop-level-preserved c = record {
 }
   where
     transfer : record { bit = c.transfer.inside.bit; pad = c.transfer.inside.pad } ≡ transfer_at c.args.transfers.now c.loop-level.level
-    transfer = read_at c.args.transfers.now c.loop-level.level _ c.index-transfers-level.result (record { bit = false; pad = [] })
-        c.transfer.view_is c.index-transfers-level.is c.loop-level-test.true
+    transfer = transfer_read c.args.transfers.now c.loop-level.level _ c.index-transfers-level.result c.transfer.view_is c.index-transfers-level.is c.loop-level-test.true
 
     message : c.index-messages-level.result ≡ both_at c.args.messages.now c.loop-level.level
     message = read_at c.args.messages.now c.loop-level.level _ c.index-messages-level.result (record { left = []; right = [] })

@@ -1,18 +1,15 @@
 use Rattle.std.proofs.Common.{◌≡◌, ◌∙◌, ℕ, List, arith, length, ap, refl}
 use Rattle.zk_model.specs.Program.{step_value}
-use Rattle.gate_translate.specs.Steps.{step_equation}
+use Rattle.field_program.specs.Steps.{step_equation}
 use Rattle.wire_auth.proofs.Setting.{reads_within, takes_within, one_more, all_follow}
 use Rattle.wire_auth.proofs.keys.follow_keys.Goals as goal
 
-pub taken_key-requires : goal.taken_key-requires
-taken_key-requires c =
-    takes_within c.args.program.now c.loop-k.k (length c.args.given.now) c.step-step.result c.step-step.ensures.held.formed c.step-step.ensures.step
-    (omega (arith, c.requires.given))
-
-pub step_number-number-requires : goal.step_number-number-requires
-step_number-number-requires c =
-    reads_within c.args.program.now c.loop-k.k (length c.deref.result.now) c.step-step.result c.step-step.ensures.held.formed c.step-step.ensures.step
-    (ap length c.deref.ensures.value ∙ c.loop-k.invariant.whole)
+pub returns : goal.returns
+returns c public begun =
+    let end : c.loop-k.k ≡ length c.args.program.now.steps =
+    omega (arith, c.loop-k.auto.k-end, c.loop-k-test.false, c.steps-k-end.ensures.count) in
+    all_follow c.args.program.now c.args.key public c.args.given.now c.args.begun.items c.loop-k.wires.items
+    c.loop-k.k end c.loop-k.invariant begun
 
 pub loop-k-preserved : goal.loop-k-preserved
 loop-k-preserved c =
@@ -23,9 +20,12 @@ loop-k-preserved c =
     ∙ ap (λ (l : List ℕ). step_value c.args.key l c.args.given.now (step_equation c.step-step.result)) c.deref.ensures.value)
     refl c.loop-k.invariant
 
-pub returns : goal.returns
-returns c public begun =
-    let end : c.loop-k.k ≡ length c.args.program.now.steps =
-    omega (arith, c.loop-k.auto.k-end, c.loop-k-test.false, c.steps-k-end.ensures.count) in
-    all_follow c.args.program.now c.args.key public c.args.given.now c.args.begun.items c.loop-k.wires.items
-    c.loop-k.k end c.loop-k.invariant begun
+pub step_number-number-requires : goal.step_number-number-requires
+step_number-number-requires c =
+    reads_within c.args.program.now c.loop-k.k (length c.deref.result.now) c.step-step.result c.step-step.ensures.held.formed c.step-step.ensures.step
+    (ap length c.deref.ensures.value ∙ c.loop-k.invariant.whole)
+
+pub taken_key-requires : goal.taken_key-requires
+taken_key-requires c =
+    takes_within c.args.program.now c.loop-k.k (length c.args.given.now) c.step-step.result c.step-step.ensures.held.formed c.step-step.ensures.step
+    (omega (arith, c.requires.given))

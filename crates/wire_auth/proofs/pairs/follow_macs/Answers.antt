@@ -1,7 +1,7 @@
 use Rattle.std.proofs.Common.{◌≡◌, ◌∙◌, ℕ, List, arith, length, ap, refl}
 use Rattle.zk_model.specs.Program.{step_value}
 use Rattle.zk_model.specs.Mac.{macs_of}
-use Rattle.gate_translate.specs.Steps.{step_equation}
+use Rattle.field_program.specs.Steps.{step_equation}
 use Rattle.wire_auth.proofs.Setting.{reads_within, takes_within, one_more, all_follow}
 use Rattle.wire_auth.proofs.pairs.follow_macs.Goals as goal
 

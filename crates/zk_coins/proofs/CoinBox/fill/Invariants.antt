@@ -3,7 +3,7 @@ use Rattle.rand_chacha.specs.ChaCha.{ChaCha, key_of}
 use Rattle.zk_model.specs.Coins.{coin_word}
 use Rattle.zk_coins.proofs.CoinBox.fill.Given as goal
 
--- the generator stands behind the words that are written
+-- the generator stands after the words that are written
 pub record Stands (box_key : List ℕ) (stream first : ℕ) (words : List ℕ) (index : ℕ) (generator : ChaCha) : Type 0 where
   pub key : generator.key ≡ key_of box_key
   pub stream_is : generator.stream ≡ stream

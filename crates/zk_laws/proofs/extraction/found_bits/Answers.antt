@@ -1,4 +1,4 @@
-use Rattle.zk_laws.proofs.CircuitIsStatement as law
+use Rattle.zk_laws.proofs.FoundBits as law
 use Rattle.zk_laws.proofs.extraction.found_bits.Goals as goal
 
 pub returns : goal.returns

@@ -32,11 +32,8 @@ returns-in-Ok-put-clause-durable g c =
 
 pub returns-in-Ok-put-clause-any_moment : goal.returns-in-Ok-put-clause-any_moment
 returns-in-Ok-put-clause-any_moment g c = rw (← c.self.view_is, ← c.in-Ok.ensures.free.0) (λ whole bytes is.
-    let was = c.self.inside in
-    let j = was.journal in
-    let e = c.in-Ok-put.ensures in
-    leaves g.B.Disk.state j.used was.total j.slots j.fault was.claims.items c.in-Ok.span j.disk c.put.new.self.disk
-    c.self.invariant whole e.changes.content bytes is (e.any_moment bytes is whole e.served.1))
+    leaves g.B.Disk.state c.self.inside.journal.used c.self.inside.total c.self.inside.journal.slots c.self.inside.journal.fault c.self.inside.claims.items c.in-Ok.span c.self.inside.journal.disk c.put.new.self.disk
+    c.self.invariant whole c.in-Ok-put.ensures.changes.content bytes is (c.in-Ok-put.ensures.any_moment bytes is whole c.in-Ok-put.ensures.served.1))
 
 pub invariant_of-self-in-Err-put : goal.invariant_of-self-in-Err-put
 invariant_of-self-in-Err-put g c =
@@ -55,11 +52,8 @@ invariant_of-self-in-Err-put g c =
 
 pub returns-in-Err-put-clause-any_moment : goal.returns-in-Err-put-clause-any_moment
 returns-in-Err-put-clause-any_moment g c = rw (← c.self.view_is, ← c.in-Ok.ensures.free.0) (λ whole bytes is.
-    let was = c.self.inside in
-    let j = was.journal in
-    let free = subst (λ (state : ClaimState g.row.B.Denot). IsFree state c.args.start c.args.count) (sym c.self.view_is) c.in-Ok.ensures.free.1 in
-    let room = room_left was.claims.items j.used j.slots c.self.invariant.count free.room in
-    leaves g.B.Disk.state j.used was.total j.slots j.fault was.claims.items c.in-Ok.span j.disk c.put.new.self.disk
+    let room = room_left c.self.inside.claims.items c.self.inside.journal.used c.self.inside.journal.slots c.self.invariant.count (subst (λ (state : ClaimState g.row.B.Denot). IsFree state c.args.start c.args.count) (sym c.self.view_is) c.in-Ok.ensures.free.1).room in
+    leaves g.B.Disk.state c.self.inside.journal.used c.self.inside.total c.self.inside.journal.slots c.self.inside.journal.fault c.self.inside.claims.items c.in-Ok.span c.self.inside.journal.disk c.put.new.self.disk
     c.self.invariant whole c.in-Err-put.ensures.changes.content bytes is (c.in-Err-put.ensures.any_moment bytes is whole room))
 
 pub returns-then-is_err-clause-changes : goal.returns-then-is_err-clause-changes
@@ -68,19 +62,13 @@ returns-then-is_err-clause-changes g c = rw (← c.self.view_is)
 
 pub returns-in-Ok-put-clause-read : goal.returns-in-Ok-put-clause-read
 returns-in-Ok-put-clause-read g c = rw (← c.self.view_is, ← c.in-Ok.ensures.free.0) (λ whole bytes is.
-    let was = c.self.inside in
-    let j = was.journal in
-    let e = c.in-Ok-put.ensures in
-    reads g.B.Disk.state j.used was.total j.slots j.fault was.claims.items c.in-Ok.span j.disk c.put.new.self.disk
-    c.self.invariant whole e.changes.content bytes is (e.read bytes is whole e.served.1))
+    reads g.B.Disk.state c.self.inside.journal.used c.self.inside.total c.self.inside.journal.slots c.self.inside.journal.fault c.self.inside.claims.items c.in-Ok.span c.self.inside.journal.disk c.put.new.self.disk
+    c.self.invariant whole c.in-Ok-put.ensures.changes.content bytes is (c.in-Ok-put.ensures.read bytes is whole c.in-Ok-put.ensures.served.1))
 
 pub returns-in-Err-put-clause-read : goal.returns-in-Err-put-clause-read
 returns-in-Err-put-clause-read g c = rw (← c.self.view_is, ← c.in-Ok.ensures.free.0) (λ whole bytes is.
-    let was = c.self.inside in
-    let j = was.journal in
-    let free = subst (λ (state : ClaimState g.row.B.Denot). IsFree state c.args.start c.args.count) (sym c.self.view_is) c.in-Ok.ensures.free.1 in
-    let room = room_left was.claims.items j.used j.slots c.self.invariant.count free.room in
-    reads g.B.Disk.state j.used was.total j.slots j.fault was.claims.items c.in-Ok.span j.disk c.put.new.self.disk
+    let room = room_left c.self.inside.claims.items c.self.inside.journal.used c.self.inside.journal.slots c.self.invariant.count (subst (λ (state : ClaimState g.row.B.Denot). IsFree state c.args.start c.args.count) (sym c.self.view_is) c.in-Ok.ensures.free.1).room in
+    reads g.B.Disk.state c.self.inside.journal.used c.self.inside.total c.self.inside.journal.slots c.self.inside.journal.fault c.self.inside.claims.items c.in-Ok.span c.self.inside.journal.disk c.put.new.self.disk
     c.self.invariant whole c.in-Err-put.ensures.changes.content bytes is (c.in-Err-put.ensures.read bytes is whole room))
 
 pub returns-in-Err-clause-read : goal.returns-in-Err-clause-read

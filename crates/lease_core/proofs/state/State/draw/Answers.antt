@@ -9,7 +9,7 @@ overflow_add-end c =
     let total = c.self.invariant.1.total_low in
     let passes = c.self.invariant.1.passes_low in
     let n = c.from.ensures in
-    let low = c.if-n-gt4096.false in
+    let low = c.if-from-gt-MAX_UNITS.false in
     omega arith
 
 pub invariant_of-self-2 : goal.invariant_of-self-2
@@ -17,6 +17,6 @@ invariant_of-self-2 c =
     let s = c.self.inside in
     let items = c.in_ok-push.ensures.items in
     let n = c.from.ensures in
-    let high = c.if-n-gt4096.false in
+    let high = c.if-from-gt-MAX_UNITS.false in
     let free : is_passed s.total c.args.pass s.drawn.items ≡ false = ap (λ x. is_passed s.total c.args.pass x) (sym c.deref.ensures.value) ∙ sym c.is_passed.ensures ∙ c.if-is_passed.false in
     (rw items (draw_bounded _ _ _ _ _ _ _ c.self.invariant.0 (omega arith) (omega arith) free), c.self.invariant.1)

@@ -7,5 +7,5 @@ returns-clause-safe c r = let t = c.take.ensures in let now = answered_reached _
 pub returns-clause-consistent : goal.returns-clause-consistent
 returns-clause-consistent c r = let t = c.take.ensures in (reached_is_consistent _ (answered_reached _ _ c.args.event _ t.taken t.refused r)).0
 
-pub returns-clause-later : goal.returns-clause-later
-returns-clause-later c r = let t = c.take.ensures in answered_later _ _ c.args.event _ t.taken t.refused r
+pub returns-clause-stays_durable : goal.returns-clause-stays_durable
+returns-clause-stays_durable c r = let t = c.take.ensures in answered_later _ _ c.args.event _ t.taken t.refused r

@@ -1,6 +1,6 @@
 use Rattle.std.proofs.Common.{◌≡◌, ◌+◌, ◌^◌, ◌<◌, length, sym, ◌∙◌, arith, subst}
 use Rattle.std.specs.Prelude.{Option, None, vec_capacity}
-use Rattle.proof_frames.specs.Frames.{said}
+use Rattle.proof_frames.specs.Frames.{frame_value}
 use Rattle.proof_frames.specs.Readings.{Gives}
 use Rattle.proof_frames.specs.Holding.{bytes_of}
 use Rattle.proof_frames.specs.declared.decoder.BadFrame.{BadFrame}
@@ -11,8 +11,8 @@ pub returns-clause-gives : goal.returns-clause-gives
 returns-clause-gives c =
     let d = c.self.inside in
     let fine : d.bad ≡ None = none_is d.bad (sym c.is_some.ensures ∙ c.if-is_some.false) in
-    subst (λ (b : Option BadFrame). Gives c.args.self.now (said c.whole_frame-frame.result) (reading (d.received + d.taken) None b 0 c.whole_frame-frame.new.held)) (sym fine)
-    (gives_told d.expected d.bad c.in-Some.place d.received d.taken (vec_capacity d.pairs) d.held c.whole_frame-frame.new.held (said c.whole_frame-frame.result) c.args.self.now
+    subst (λ (b : Option BadFrame). Gives c.args.self.now (frame_value c.whole_frame-frame.result) (reading (d.received + d.taken) None b 0 c.whole_frame-frame.new.held)) (sym fine)
+    (gives_told d.expected d.bad c.in-Some.place d.received d.taken (vec_capacity d.pairs) d.held c.whole_frame-frame.new.held (frame_value c.whole_frame-frame.result) c.args.self.now
     c.in-Some.is fine c.self.invariant.0 c.self.view_is c.whole_frame-frame.ensures.frame)
 
 pub whole_frame-frame-requires-clause-whole : goal.whole_frame-frame-requires-clause-whole

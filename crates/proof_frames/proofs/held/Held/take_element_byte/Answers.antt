@@ -15,10 +15,10 @@ pub returns-in_default-from_le : goal.returns-in_default-from_le
 returns-in_default-from_le c =
     let old = c.args.self.now in
     let part_is : c.deref.result.now ≡ old.part.items = c.deref.ensures.value in
-    let word_is : c.in-Some.word ≡ old.part.items ++ c.args.byte ∷ [] = c.in-Some.ensures.some.0 ∙ ap (λ l. l ++ c.args.byte ∷ []) part_is in (
+    let word_is : c.in-Some.word ≡ old.part.items ++ c.args.byte ∷ [] = c.in-Some.ensures.word.0 ∙ ap (λ l. l ++ c.args.byte ∷ []) part_is in (
       refl,
       element_ends c.args.place old.start.items old.elements.items old.part.items c.args.byte c.args.count (omega (arith, old.start.ok.0)) c.requires.shape
-          (omega (arith, old.elements.ok.0)) (ap length (sym part_is) ∙ c.in-Some.ensures.some.1)
+          (omega (arith, old.elements.ok.0)) (ap length (sym part_is) ∙ c.in-Some.ensures.word.1)
           (λ is. false≢true (c.in_default-from_le.ensures.below.1 (subst (λ (l : List ℕ). IsElement (from_le_bytes w64 l)) (sym word_is) is))),
     )
 
@@ -28,8 +28,8 @@ returns c =
     let part_is : c.deref.result.now ≡ old.part.items = c.deref.ensures.value in
     let element = c.in-Some-from_le.element in
     let word_is : element_bytes element ≡ old.part.items ++ c.args.byte ∷ [] =
-    c.in-Some-from_le.ensures.spelling ∙ c.in-Some.ensures.some.0 ∙ ap (λ l. l ++ c.args.byte ∷ []) part_is in
-    let seven : length old.part.items ≡ 7 = ap length (sym part_is) ∙ c.in-Some.ensures.some.1 in
+    c.in-Some-from_le.ensures.spelling ∙ c.in-Some.ensures.word.0 ∙ ap (λ l. l ++ c.args.byte ∷ []) part_is in
+    let seven : length old.part.items ≡ 7 = ap length (sym part_is) ∙ c.in-Some.ensures.word.1 in
     let holds : HoldsElements c.args.count old.start.items old.elements.items old.part.items =
     elements_held c.args.place old.start.items old.elements.items old.part.items c.args.count c.requires.holds.begun c.requires.shape in
     let now : List ℕ = c.push_reserved-2.new.self.items in

@@ -28,11 +28,7 @@ returns c =
     let begun = header_step c.args.place start old.elements.items old.part.items c.args.byte c.requires.holds.begun short (omega arith) (sym at ∙ c.if-header-len.false) in
     let empty = early_empty (shape_of c.args.place (get_or start 0 0)).payload start old.elements.items old.part.items c.requires.holds.begun.payload short in
     let more : IsHeld c.args.place c.push_reserved.new.self.items old.elements.items old.part.items = rw c.push_reserved.ensures.items begun in (
-      record {
-        short = c.requires.holds.short;
-        begun = more;
-        room = record { start = omega arith; raw = omega arith; elements = c.requires.holds.room.elements; part = c.requires.holds.room.part };
-      },
+      record { short = c.requires.holds.short; begun = more; room = record { start = omega arith; raw = omega arith; elements = c.requires.holds.room.elements; part = c.requires.holds.room.part } },
       ap (λ (l : List ℕ). spelled l old.elements.items old.part.items) c.push_reserved.ensures.items
           ∙ start_more start old.elements.items old.part.items c.args.byte empty.0 empty.1,
     )

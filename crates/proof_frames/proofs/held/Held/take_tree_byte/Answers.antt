@@ -32,11 +32,7 @@ returns c =
     let begun = tree_step c.args.place start old.elements.items old.part.items c.args.byte c.args.trees c.args.height c.args.level c.requires.holds.begun
     (omega (arith, old.start.ok.0)) c.requires.shape (omega (arith, old.start.ok.0)) (omega arith) holds (same.0 (c.may_follow.ensures.0 c.if-not-may_follow.false)) in
     let more : IsHeld c.args.place c.push_reserved.new.self.items old.elements.items old.part.items = rw c.push_reserved.ensures.items begun in (
-      record {
-        short = c.requires.holds.short;
-        begun = more;
-        room = record { start = omega arith; raw = omega arith; elements = c.requires.holds.room.elements; part = c.requires.holds.room.part };
-      },
+      record { short = c.requires.holds.short; begun = more; room = record { start = omega arith; raw = omega arith; elements = c.requires.holds.room.elements; part = c.requires.holds.room.part } },
       ap (λ (l : List ℕ). spelled l old.elements.items old.part.items) c.push_reserved.ensures.items
           ∙ start_more start old.elements.items old.part.items c.args.byte holds.no_elements holds.no_part,
     )

@@ -3,7 +3,7 @@ use Rattle.zk_model.specs.Mac.{Pair}
 use Rattle.zk_model.specs.Transcript.{TreeReply}
 use Rattle.zk_model.specs.declared.Params.{Params}
 use Rattle.vole_extend.specs.Levels.{chosen_sums}
-use Rattle.vole_extend.proofs.Asked.{noise_is}
+use Rattle.vole_extend.proofs.Asked.{of_tree, noise_is}
 use Rattle.vole_extend.proofs.prover.ProverRound.tree_noise.Goals as goal
 
 pub returns-clause-noise : goal.returns-clause-noise
@@ -11,14 +11,8 @@ returns-clause-noise c =
     noise_is c.args.self.now c.args.tree c.hidden-place.result.place c.hidden-place.result.noise c.from-height.result c.base_mac.inside.m
     c.reply.inside.leaf_offset c.transfers.result.now c.base_pair.result c.args.reply.now c.deref-2.result.now c.deref-3.result.now
     c.in_ok-leaves.leaves.items c.in_ok-entries.entries.items
-    (record {
-      placed = c.hidden-place.ensures.place;
-      inside = c.hidden-place.ensures.inside;
-      chosen = c.hidden-place.ensures.noise;
-      dealt = c.transfers.ensures.transfers;
-      count = c.transfers.ensures.count;
-      based = c.base_pair.ensures;
-    })
+    (of_tree c.hidden-place.ensures.place c.hidden-place.ensures.inside c.hidden-place.ensures.noise
+    c.transfers.ensures.transfers c.transfers.ensures.count c.base_pair.ensures)
     (record {
       tall = c.from-height.ensures ∙ ap (λ (params : Params). params.height) c.params.ensures.params;
       unmasked = c.deref-2.ensures.value ∙ c.in_ok-sums.ensures.sums

@@ -5,7 +5,7 @@ use Rattle.zk_model.specs.Bits.{from_bit}
 use Rattle.zk_model.specs.Circuit.{bit_of}
 use Rattle.zk_model.specs.Mac.{pair_at}
 use Rattle.zk_model.specs.declared.Product as zk
-use Rattle.wire_auth.specs.Held.{held_in}
+use Rattle.wire_auth.specs.Held.{items_in}
 use Rattle.wire_auth.specs.Sides.{ProverSide}
 use Rattle.wire_auth.proofs.Joined.{given_at}
 use Rattle.wire_auth.proofs.pairs.ProverWires.triple.Goals as goal
@@ -30,7 +30,7 @@ returns c product at = λ j. record { a = a_is j; b = b_is j; c = c_is j }
     b_is : c.wire-2.result ≡ pair_at c.args.self.now.pairs.wires product.b
     b_is = c.wire-2.ensures ∙ ap (λ (p : zk.Product). pair_at c.args.self.now.pairs.wires p.b) same
 
-    within : c.args.i < length (held_in c.self.inside.dealt)
+    within : c.args.i < length (items_in c.self.inside.dealt)
     within = omega (
       arith,
       c.requires,
@@ -39,7 +39,7 @@ returns c product at = λ j. record { a = a_is j; b = b_is j; c = c_is j }
       c.self.invariant.2,
     )
 
-    dealt_is : c.index-dealt-product.result ≡ slice_index_or (held_in c.self.inside.dealt) c.args.i c.index-dealt-product.result
+    dealt_is : c.index-dealt-product.result ≡ slice_index_or (items_in c.self.inside.dealt) c.args.i c.index-dealt-product.result
     dealt_is =
         c.index-dealt-product.is
         ∙ (λ j. slice_index_or ((c.dealt.ensures.dealt ∙ ap (λ (side : ProverSide). side.dealt) (sym c.self.view_is)) j)
@@ -51,7 +51,7 @@ returns c product at = λ j. record { a = a_is j; b = b_is j; c = c_is j }
           x = (c.bit_product.ensures ∙ ap (λ (p : zk.Product). from_bit (bit_of c.self.inside.bits.now p.a && bit_of c.self.inside.bits.now p.b)) same) j;
           m = (c.dealt-2.view_is j).m;
         })
-        ∙ sym (given_at c.self.inside.program.now.products c.self.inside.bits.now (held_in c.self.inside.dealt) c.args.i product c.index-dealt-product.result inside_at within dealt_is)
+        ∙ sym (given_at c.self.inside.program.now.products c.self.inside.bits.now (items_in c.self.inside.dealt) c.args.i product c.index-dealt-product.result inside_at within dealt_is)
         ∙ (λ j. pair_at (c.self.view_is j).pairs.given (number_back j))
       where
         number_back : c.args.i ≡ product.c

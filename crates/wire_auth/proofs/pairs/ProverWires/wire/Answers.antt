@@ -24,5 +24,5 @@ returns c =
 
     mac_is : c.known.result ≡ slice_index c.self.inside.macs.items c.args.wire
     mac_is =
-        c.known.ensures.same ∙ c.index.ensures
+        c.known.ensures.unchanged ∙ c.index.ensures
         ∙ get_or_default c.self.inside.macs.items c.args.wire c.index.result.now 0 (omega (arith, below, c.self.invariant.1))

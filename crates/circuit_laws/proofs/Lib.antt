@@ -1,0 +1,12 @@
+pub mod Ranges
+pub mod Programs
+pub mod ByGate
+pub mod CircuitIsProgram
+pub mod Unique
+pub mod GateValues
+pub mod OneOutcome
+pub mod BitsSolve
+pub mod SolvedByBits
+pub mod Satisfied
+pub mod CircuitIsStatement
+pub mod GatesAreFew

@@ -1,0 +1,3 @@
+pub mod PackedSteps
+pub mod Programs
+pub mod Steps

@@ -1,0 +1,17 @@
+//! Programs over the field: linear equations of wires, in order, and the products that a proof checks (Yang, Sarkar, Weng and
+//! Wang, QuickSilver, ACM CCS 2021).
+//!
+//! `program` has `FieldProgram`, `step` one linear equation as contracts see it; `packed` keeps steps and products in 12 and in 8
+//! bytes.
+//!
+//!     let need = program.need(g); // correlations of a session in sections of g products
+#![tactic(auto)]
+
+mod packed;
+mod program;
+mod step;
+
+pub use packed::{Factors, PackedStep};
+pub use program::FieldProgram;
+pub use step::Step;
+pub use zk_model::Product;

@@ -1,0 +1,55 @@
+// The steps of a program.
+ghost use Rattle.std.specs.Prelude.{◌≡◌};
+ghost use Rattle.field_program.specs.Steps.{step_equation};
+
+use mersenne_field::Fe;
+
+/// How the number of a wire comes from those of earlier wires and of the given values. `product` is the number of the
+/// given value, and of the correlation that authenticates it; of the wires `a` and `b` it is the product.
+#[derive(Clone, Copy, Debug, PartialEq, Eq)]
+pub enum Step {
+    /// The constant.
+    Const {
+        out: u32,
+        value: Fe,
+    },
+    /// The number of `a`.
+    Copy {
+        out: u32,
+        a: u32,
+    },
+    /// 1 less that of `a`.
+    Not {
+        out: u32,
+        a: u32,
+    },
+    /// The given value.
+    Mul {
+        out: u32,
+        a: u32,
+        b: u32,
+        product: u32,
+    },
+    /// The sum of those of `a` and `b`, less twice the given value.
+    XorFrom {
+        out: u32,
+        a: u32,
+        b: u32,
+        product: u32,
+    },
+}
+
+impl Step {
+    /// The wire that it sets.
+    pub fn out(self) -> u32
+        ensures { result ≡ (step_equation self).out }
+    {
+        match self {
+            Step::Const { out, .. }
+            | Step::Copy { out, .. }
+            | Step::Not { out, .. }
+            | Step::Mul { out, .. }
+            | Step::XorFrom { out, .. } => out,
+        }
+    }
+}

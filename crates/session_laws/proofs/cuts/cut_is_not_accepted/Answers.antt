@@ -1,5 +1,0 @@
-use Rattle.session_laws.proofs.Cut as law
-use Rattle.session_laws.proofs.cuts.cut_is_not_accepted.Goals as goal
-
-pub returns : goal.returns
-returns c = law.cut_is_not_accepted

@@ -1,5 +1,0 @@
-use Rattle.session_laws.proofs.Cut as law
-use Rattle.session_laws.proofs.cuts.verdict_is_said.Goals as goal
-
-pub returns : goal.returns
-returns c = law.verdict_is_said

@@ -1,0 +1,5 @@
+use Rattle.session_laws.proofs.PeersHonest as law
+use Rattle.session_laws.proofs.honest_parties.honest_turn.Goals as goal
+
+pub returns : goal.returns
+returns c = law.honest_turn

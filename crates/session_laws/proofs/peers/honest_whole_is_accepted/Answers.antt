@@ -1,5 +1,0 @@
-use Rattle.session_laws.proofs.PeersHonest as law
-use Rattle.session_laws.proofs.peers.honest_whole_is_accepted.Goals as goal
-
-pub returns : goal.returns
-returns c = law.honest_whole_is_accepted

@@ -1,0 +1,6 @@
+pub mod Xors
+pub mod Ancestors
+pub mod Punctured
+pub mod FoundTrees
+pub mod Grown
+pub mod Messages

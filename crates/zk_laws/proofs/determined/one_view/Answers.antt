@@ -1,5 +1,0 @@
-use Rattle.zk_laws.proofs.Views as law
-use Rattle.zk_laws.proofs.determined.one_view.Goals as goal
-
-pub returns : goal.returns
-returns c = law.one_view

@@ -1,5 +1,0 @@
-use Rattle.zk_laws.proofs.HonestIsAccepted as law
-use Rattle.zk_laws.proofs.rehearsing.honest_session_is_accepted.Goals as goal
-
-pub returns : goal.returns
-returns c = law.honest_session_is_accepted

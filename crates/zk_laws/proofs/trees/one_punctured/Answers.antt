@@ -1,5 +1,0 @@
-use Rattle.zk_laws.proofs.Punctured as law
-use Rattle.zk_laws.proofs.trees.one_punctured.Goals as goal
-
-pub returns : goal.returns
-returns c = law.one_punctured

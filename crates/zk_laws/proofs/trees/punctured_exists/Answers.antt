@@ -1,5 +1,0 @@
-use Rattle.zk_laws.proofs.FoundTrees as law
-use Rattle.zk_laws.proofs.trees.punctured_exists.Goals as goal
-
-pub returns : goal.returns
-returns c = law.punctured_exists
