@@ -20,17 +20,18 @@ use session_rehearsal::rehearse;
 use session_verifier::{SessionNote, verify_session};
 use sha2::{Digest, Sha256};
 use std::alloc::{AllocError, Global};
-use zk_model::{MAX_SECTION_LENGTH, Side, Span};
+use zk_model::{MAX_SECTION_LENGTH, Side};
 use zk_port::{FailAt, Link, QuietGate};
 
 /// The seed of all files.
 const SEED: [u8; 32] = [7; 32];
 
-/// The name of one session, and its link.
+/// The peer's bytes of one session, the number of the call of the link that fails, or 0, and the session's name.
 #[derive(Drop)]
 struct Case {
     name: String,
-    link: PieceLink,
+    script: Vec<u8>,
+    call: u64,
 }
 
 /// What each end sends in a session that both hold with each other.
@@ -145,29 +146,30 @@ fn script_of(alloc: Global, scenario: &Scenario<'_>, honest: &[u8]) -> Result<Ve
 }
 
 /// The session of one number of a scenario's range.
-fn case_of(alloc: Global, scenario: &Scenario<'_>, script: &[u8], number: u64) -> Result<Case> {
-    let mut name = String::new(alloc);
-    let mut script = script.to_vec(alloc)?;
-    let mut call = 0;
-    match scenario.sweep {
+fn case_of(alloc: Global, sweep: Sweep, script: &[u8], number: u64) -> Result<Case> {
+    let mut case = Case {
+        name: String::new(alloc),
+        script: script.to_vec(alloc)?,
+        call: 0,
+    };
+    match sweep {
         Sweep::Nothing => {}
         Sweep::Cut => {
-            name = format!(in alloc; "cut={number} ")?;
-            script.truncate(number as usize);
+            case.name = format!(in alloc; "cut={number} ")?;
+            case.script.truncate(number as usize);
         }
         Sweep::Change { mask } => {
-            name = format!(in alloc; "change={number} ")?;
-            if let Some(byte) = script.get_mut(number as usize) {
+            case.name = format!(in alloc; "change={number} ")?;
+            if let Some(byte) = case.script.get_mut(number as usize) {
                 *byte ^= mask;
             }
         }
         Sweep::Fail => {
-            name = format!(in alloc; "fail={number} ")?;
-            call = number;
+            case.name = format!(in alloc; "fail={number} ")?;
+            case.call = number;
         }
     }
-    let link = link_of(alloc, script, call, scenario.piece)?;
-    Ok(Case { name, link })
+    Ok(case)
 }
 
 /// The sessions of a scenario, whose honest peer sends these bytes.
@@ -176,17 +178,9 @@ fn cases_of(alloc: Global, scenario: &Scenario<'_>, honest: &[u8]) -> Result<Vec
     let Numbers { from, to } = scenario.numbers;
     let mut cases = Vec::new(alloc);
     for number in from..to {
-        cases.push(case_of(alloc, scenario, &script, number)?)?;
+        cases.push(case_of(alloc, scenario.sweep, &script, number)?)?;
     }
     Ok(cases)
-}
-
-/// Which units were had, the log and the link's calls.
-fn rest_words(alloc: Global, granted: Option<Span>, log: &Log, link: &PieceLink) -> Result<String> {
-    let units = span_words(alloc, granted)?;
-    let log = log_words(alloc, log)?;
-    let calls = link_words(alloc, link)?;
-    Ok(format!(in alloc; "units={units} {log} {calls}")?)
 }
 
 /// The line of one session of a verifier.
@@ -196,16 +190,22 @@ fn verifier_line(
     job: &VerifierJob<'_>,
     case: Case,
 ) -> Result<String> {
-    let fault = lease_fault(scenario.refusal)?;
-    let Case { name, link } = case;
+    let fault = match scenario.refusal {
+        Some(refusal) => Some(lease_fault(&refusal)?),
+        None => None,
+    };
+    let Case { name, script, call } = case;
+    let link = link_of(alloc, script, call, scenario.piece)?;
     let (note, asked) = verified(alloc, job, scenario.start, fault, link);
     let words = verifier_words(alloc, &note.outcome)?;
     let asked = match asked {
         Some(count) => format!(in alloc; "{count}")?,
         None => format!(in alloc; "none")?,
     };
-    let rest = rest_words(alloc, note.granted, &note.log, &note.link)?;
-    Ok(format!(in alloc; "{name}{words} asked={asked} {rest}\n")?)
+    let units = span_words(alloc, note.granted)?;
+    let log = log_words(alloc, &note.log)?;
+    let calls = link_words(alloc, &note.link)?;
+    Ok(format!(in alloc; "{name}{words} asked={asked} units={units} {log} {calls}\n")?)
 }
 
 /// The line of one session of a prover.
@@ -215,39 +215,48 @@ fn prover_line(
     job: &ProverJob<'_>,
     case: Case,
 ) -> Result<String> {
-    let fault = claim_fault(scenario.refusal)?;
-    let Case { name, link } = case;
+    let fault = match scenario.refusal {
+        Some(refusal) => Some(claim_fault(&refusal)?),
+        None => None,
+    };
+    let Case { name, script, call } = case;
+    let link = link_of(alloc, script, call, scenario.piece)?;
     let (note, asked) = proved(alloc, job, fault, link);
     let words = prover_words(alloc, &note.outcome)?;
     let asked = match asked {
         Some((start, count)) => format!(in alloc; "{start}+{count}")?,
         None => format!(in alloc; "none")?,
     };
-    let rest = rest_words(alloc, note.granted, &note.log, &note.link)?;
-    Ok(format!(in alloc; "{name}{words} asked={asked} {rest}\n")?)
+    let units = span_words(alloc, note.granted)?;
+    let log = log_words(alloc, &note.log)?;
+    let calls = link_words(alloc, &note.link)?;
+    Ok(format!(in alloc; "{name}{words} asked={asked} units={units} {log} {calls}\n")?)
 }
 
-/// What an end is to do.
-#[derive(Clone, Copy)]
-enum Job<'a> {
-    Verifier(&'a VerifierJob<'a>),
-    Prover(&'a ProverJob<'a>),
-}
-
-/// The lines of one end's sessions, whose honest peer sends these bytes.
-fn session_lines(
+/// The lines of a verifier's sessions, whose honest peer sends these bytes.
+fn verifier_lines(
     alloc: Global,
     scenario: &Scenario<'_>,
-    job: Job<'_>,
+    job: &VerifierJob<'_>,
     honest: &[u8],
 ) -> Result<String> {
     let mut lines = String::new(alloc);
     for case in cases_of(alloc, scenario, honest)? {
-        let line = match job {
-            Job::Verifier(job) => verifier_line(alloc, scenario, job, case)?,
-            Job::Prover(job) => prover_line(alloc, scenario, job, case)?,
-        };
-        lines.push_str(&line)?;
+        lines.push_str(&verifier_line(alloc, scenario, job, case)?)?;
+    }
+    Ok(lines)
+}
+
+/// The lines of a prover's sessions, whose honest peer sends these bytes.
+fn prover_lines(
+    alloc: Global,
+    scenario: &Scenario<'_>,
+    job: &ProverJob<'_>,
+    honest: &[u8],
+) -> Result<String> {
+    let mut lines = String::new(alloc);
+    for case in cases_of(alloc, scenario, honest)? {
+        lines.push_str(&prover_line(alloc, scenario, job, case)?)?;
     }
     Ok(lines)
 }
@@ -261,11 +270,11 @@ fn lines_of(
 ) -> Result<String> {
     let sent = hold_dialogue(alloc, scenario.start, prover, verifier)?;
     match scenario.end {
-        End::Verifier => session_lines(alloc, scenario, Job::Verifier(verifier), &sent.prover),
-        End::Prover => session_lines(alloc, scenario, Job::Prover(prover), &sent.verifier),
+        End::Verifier => verifier_lines(alloc, scenario, verifier, &sent.prover),
+        End::Prover => prover_lines(alloc, scenario, prover, &sent.verifier),
         End::Both | End::Rehearsal => {
-            let mut lines = session_lines(alloc, scenario, Job::Verifier(verifier), &sent.prover)?;
-            lines.push_str(&session_lines(alloc, scenario, Job::Prover(prover), &sent.verifier)?)?;
+            let mut lines = verifier_lines(alloc, scenario, verifier, &sent.prover)?;
+            lines.push_str(&prover_lines(alloc, scenario, prover, &sent.verifier)?)?;
             Ok(lines)
         }
     }
@@ -304,7 +313,7 @@ fn circuit_lines(
         Ok(verifier) => lines_of(alloc, scenario, &prover, &verifier),
         // There is no such session, and no honest peer.
         Err(TooLarge { need, units }) => match scenario.end {
-            End::Prover => session_lines(alloc, scenario, Job::Prover(&prover), &[]),
+            End::Prover => prover_lines(alloc, scenario, &prover, &[]),
             _ => Ok(format!(in alloc; "too-large need={need} units={units}\n")?),
         },
     }

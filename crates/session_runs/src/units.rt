@@ -66,44 +66,36 @@ impl Claimant for AskedUnits {
     }
 }
 
-/// The fault by which a lease is refused, if it is.
-pub fn lease_fault(refusal: Option<Refusal<'_>>) -> Result<Option<LeaseFault>> {
-    let Some(refusal) = refusal else {
-        return Ok(None);
-    };
+/// The fault by which a lease is refused.
+pub fn lease_fault(refusal: &Refusal<'_>) -> Result<LeaseFault> {
     let [first, second, third] = refusal.numbers;
-    let fault = match refusal.name {
-        "exhausted" => LeaseFault::Exhausted {
+    match refusal.name {
+        "exhausted" => Ok(LeaseFault::Exhausted {
             at: first,
             count: u32::try_from(second)?,
             total: third,
-        },
-        "device" => LeaseFault::Device,
-        "broken" => LeaseFault::Broken { first },
-        _ => return Err(Error::msg("no refusal of a lease")),
-    };
-    Ok(Some(fault))
+        }),
+        "device" => Ok(LeaseFault::Device),
+        "broken" => Ok(LeaseFault::Broken { first }),
+        _ => Err(Error::msg("no refusal of a lease")),
+    }
 }
 
-/// The fault by which a claim is refused, if it is.
-pub fn claim_fault(refusal: Option<Refusal<'_>>) -> Result<Option<ClaimFault>> {
-    let Some(refusal) = refusal else {
-        return Ok(None);
-    };
+/// The fault by which a claim is refused.
+pub fn claim_fault(refusal: &Refusal<'_>) -> Result<ClaimFault> {
     let [first, second, _] = refusal.numbers;
-    let fault = match refusal.name {
-        "broken" => ClaimFault::Broken { first },
-        "out-of-range" => ClaimFault::OutOfRange { total: first },
-        "overlap" => ClaimFault::Overlap {
+    match refusal.name {
+        "broken" => Ok(ClaimFault::Broken { first }),
+        "out-of-range" => Ok(ClaimFault::OutOfRange { total: first }),
+        "overlap" => Ok(ClaimFault::Overlap {
             earlier: Span {
                 start: first,
                 end: second,
             },
-        },
-        "full" => ClaimFault::Full { slots: first },
-        "device" => ClaimFault::Device,
-        "no-memory" => ClaimFault::NoMemory,
-        _ => return Err(Error::msg("no refusal of a claim")),
-    };
-    Ok(Some(fault))
+        }),
+        "full" => Ok(ClaimFault::Full { slots: first }),
+        "device" => Ok(ClaimFault::Device),
+        "no-memory" => Ok(ClaimFault::NoMemory),
+        _ => Err(Error::msg("no refusal of a claim")),
+    }
 }
