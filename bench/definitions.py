@@ -1,7 +1,7 @@
 #!/usr/bin/env python3
 """Counts the definitions that one has to believe for the headline, and their lines without comments and blank lines.
 
-`python3 bench/definitions.py` begins with what the clause `headline` of `run_zk` names, and follows every name to the
+`python3 bench/definitions.py` begins with what the clauses `headline`, `once` and `disk` of `run_zk` name, and follows every name to the
 `specs` that define it; `python3 bench/definitions.py MODULE.NAME ..` begins with other names. Data types that code
 declares and definitions of the kit are not counted.
 """
@@ -15,6 +15,9 @@ CRATES = pathlib.Path(__file__).resolve().parent.parent / "crates"
 
 HEADLINE = [
     "zk_cli.specs.ServedNotes.IsHeadline",
+    "zk_cli.specs.ServedNotes.GrantsOnceIn",
+    "zk_cli.specs.Journals.disk_change",
+    "zk_cli.specs.Journals.IsJournalDisk",
     "zk_cli.specs.Runs.EachNote",
     "command_words.specs.Words.asked",
     "command_words.specs.Words.texts",

@@ -79,9 +79,14 @@ assert [len(data) for _, _, data in JOURNALS] == [96, 64 + 32 * 4096, 96, 288]
 ROWS = [(name, text, len(data), data[-32:]) for name, text, data in FILES]
 ROWS += [(name, text, len(data), sha256(data)) for name, text, data in JOURNALS]
 
-if "--rust" in sys.argv[1:]:
-    for name, _, _, digest in ROWS:
-        print_rust(f"{name}_DIGEST", digest)
-else:
-    for _, text, length, digest in ROWS:
-        print(f"{text}: {length} bytes {digest.hex()}")
+
+def main():
+    for name, text, length, digest in ROWS:
+        if "--rust" in sys.argv[1:]:
+            print_rust(f"{name}_DIGEST", digest)
+        else:
+            print(f"{text}: {length} bytes {digest.hex()}")
+
+
+if __name__ == "__main__":
+    main()

@@ -30,6 +30,9 @@ from session import LONG, Claim, Extended, bits_of_wires, carried, coded, grown,
 MOST_UNITS = 4096
 MOST_RECEIVED = 4096
 
+# Who is asked for so many units: the first of them, or by which outcome they are refused.
+Grant = Callable[[int], Tuple[int, Optional[str]]]
+
 
 class Job(NamedTuple):
     """What a session is about: the claim with the prover's bits, the claimed outputs, the files and the length of sections."""
@@ -305,17 +308,18 @@ def compare_hello(end: End, wanted: bytes, got: bytes) -> None:
         end.refuse(1, f"bad-hello version want=1 got={got[101]}")
 
 
-def lease(end: End, job: Job, start: int, refusal: Optional[str]) -> int:
-    """How many units are leased, from this one on."""
+def lease(end: End, job: Job, grant: Grant) -> Tuple[int, int]:
+    """The first unit that is leased, and how many are."""
     count = job.units(job.section)
     end.asked = str(count)
+    start, refusal = grant(count)
     if refusal is None and start + count > job.total:
         refusal = f"exhausted at={start} count={count} total={job.total}"
     if refusal is not None:
         end.refuse(2 if refusal.startswith("exhausted") else 3, refusal)
     end.units = f"{start}..{start + count}"
     end.send(frame(2, struct.pack("<QII", start, count, job.section)))
-    return count
+    return start, count
 
 
 def take_keys(end: End, job: Job, start: int, count: int) -> List[int]:
@@ -348,10 +352,10 @@ def judge(job: Job, dealt_keys: List[int], given: List[int], challenge: int, sum
     return 0, 0, "accepted"
 
 
-def verify_steps(end: End, job: Job, start: int, refusal: Optional[str]) -> None:
+def verify_steps(end: End, job: Job, grant: Grant) -> None:
     products = len(products_of(job.claim.circuit))
     compare_hello(end, job.hello(), end.take(HELLO))
-    count = lease(end, job, start, refusal)
+    start, count = lease(end, job, grant)
     keys = take_keys(end, job, start, count)
     corrections = read_elements(end.take(element_place(5, products)))
     given = [(k + d * KEY) % P for k, d in zip(keys, corrections)]
@@ -364,14 +368,19 @@ def verify_steps(end: End, job: Job, start: int, refusal: Optional[str]) -> None
     raise Ended(outcome)
 
 
-def verify(job: Job, link: Link, start: int = 0, refusal: Optional[str] = None) -> Tuple[str, End]:
-    """How a verifier's session ends whose units are leased from this one on, or refused by this outcome."""
+def verify_by(job: Job, link: Link, grant: Grant) -> Tuple[str, End]:
+    """How a verifier's session ends that asks this for its units."""
     end = End("v", link)
     try:
-        verify_steps(end, job, start, refusal)
+        verify_steps(end, job, grant)
     except Ended as ended:
         return str(ended), end
     assert False
+
+
+def verify(job: Job, link: Link, start: int = 0, refusal: Optional[str] = None) -> Tuple[str, End]:
+    """How a verifier's session ends whose units are leased from this one on, or refused by this outcome."""
+    return verify_by(job, link, lambda count: (start, refusal))
 
 
 # ---- the prover

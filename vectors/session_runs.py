@@ -6,7 +6,7 @@ writes the line, and a line for each session. `session_runs.py --stdin` prints t
 written. With neither it compares both with the files `stdin` and `stdout` that stand there, and the circuits in `data` with those
 that the scenarios are about; it prints what differs, and ends with 1 where anything does.
 
-`ends.py` computes both ends, and `session.py` what honest ones say, which must be the same. The sessions that `docs/PROTOCOL.md`
+`ends.py` computes both ends, `program.py` runs of the program, and `session.py` what honest ones say, which must be the same. The sessions that `docs/PROTOCOL.md`
 publishes are among them, and must have the digests that stand there.
 """
 import pathlib
@@ -15,6 +15,8 @@ import sys
 from typing import Dict, Iterator, List, NamedTuple, Optional, Tuple
 
 import bristol
+import dealt_files
+import program
 from common import P, element, frame, sha256
 from ends import MOST_RECEIVED, MOST_UNITS, End, Job, Link, hold, prove, verify
 from published import ADDER, AND_GATE, FIVE_GATES, SESSIONS, log_of
@@ -49,8 +51,11 @@ CIRCUITS = {
     "chain.txt": chain_text(6000),
     "no_wires.txt": b"0 0 0 0\n",
     "no_outputs.txt": b"1 2\n1 1\n0\n1 1 0 1 INV\n",
+    "long_chain.txt": b"6001 6004\n" + chain_text(6000).split(b"\n", 1)[1],
     "many_inputs.txt": inputs_text(MANY_INPUTS),
     "more_inputs.txt": inputs_text(MANY_INPUTS + 1),
+    "most_inputs.txt": inputs_text(2 * MANY_INPUTS - 1),
+    "too_many_inputs.txt": inputs_text(2 * MANY_INPUTS),
 }
 READ = {name: bristol.read(text) for name, text in CIRCUITS.items()}
 
@@ -110,11 +115,16 @@ def refusal_of(scenario: Scenario) -> Optional[str]:
 
 def script_of(scenario: Scenario, honest: bytes) -> bytes:
     """What the peer sends."""
-    script = bytearray(honest[: scenario.number("keep", len(honest))] + bytes.fromhex(scenario.words.get("more", "")))
-    if "set" in scenario.words:
-        place, byte = map(int, scenario.words["set"].split(":"))
-        script[place] = byte
-    return bytes(script)
+    script = honest[: scenario.number("keep", len(honest))] + bytes.fromhex(scenario.words.get("more", ""))
+    return changed(scenario, "set", script)
+
+
+def changed(scenario: Scenario, name: str, data: bytes) -> bytes:
+    """The same but for the byte that this word sets."""
+    if name not in scenario.words:
+        return data
+    place, byte = map(int, scenario.words[name].split(":"))
+    return data[:place] + bytes([byte]) + data[place + 1 :]
 
 
 def cases_of(scenario: Scenario, script: bytes) -> Iterator[Tuple[str, bytes, int]]:
@@ -135,15 +145,9 @@ def cases_of(scenario: Scenario, script: bytes) -> Iterator[Tuple[str, bytes, in
             yield name, script[:number] + bytes([changed]) + script[number + 1 :], 0
 
 
-def log_words(log: List[Tuple[str, bytes]]) -> str:
-    data = b"".join(data for _, data in log)
-    runs = "".join(f" {side}{len(part)}" for side, part in log)
-    return f"log{runs} bytes={len(data)} sha256={sha256(data).hex()}"
-
-
 def note_line(name: str, outcome: str, end: End) -> str:
     calls = f"sends={end.link.sends} receives={end.link.receives} failed={end.link.faults}"
-    return f"{name}{outcome} asked={end.asked} units={end.units} {log_words(end.log)} {calls}"
+    return f"{name}{outcome} asked={end.asked} units={end.units} {program.log_words(end.log)} {calls}"
 
 
 def verifier_lines(scenario: Scenario, job: Job, honest: bytes) -> List[str]:
@@ -172,11 +176,84 @@ def rehearsal_line(scenario: Scenario) -> str:
     outcome, end = verify(job, Link(sent[0]))
     assert outcome == "accepted"
     assert b"".join(data for _, data in end.log) == b"".join(accepted(job.claim, job.params, job.section))
-    return f"{outcome} units={units} {log_words(end.log)}"
+    return f"{outcome} units={units} {program.log_words(end.log)}"
+
+
+# ---- runs of the program
+
+
+def outside_of(scenario: Scenario) -> program.Outside:
+    """What a run is given."""
+    name = scenario.words.get("circuit", "and.txt")
+    text = CIRCUITS[name] + scenario.words.get("tail", "").replace("_", " ").encode()
+    params, total = scenario.params(), scenario.number("units", 1)
+    numbers = (0, 0, 0, 0) if params is None else (1, params.height, params.trees, params.base)
+    prover, verifier = dealt_files.deal(dealt_files.Params(*numbers, total))
+    files = {"x.prover": prover, "x.verifier": verifier, name: text.ljust(scenario.number("size", 0), b"\n")}
+    fails = [scenario.number(f"{each}-fails", 0) for each in ("shelf", "sink", "door")]
+    disk = program.Disk(journal_of(scenario, total), scenario.number("disk-fails", 0))
+    return program.Outside(files, disk, *fails)
+
+
+def journal_of(scenario: Scenario, total: int) -> bytes:
+    """The verifier's journal, with ceilings that stand in it, cut, and with a byte that is another."""
+    new = dealt_files.journal(1, total)
+    ceilings = [min(total, 16 * (slot + 1)) for slot in range(-(-scenario.number("ceilings", 0) // 16))]
+    journal = new[:64] + b"".join(struct.pack("<Q", ceiling) + bytes(23) + b"\x5a" for ceiling in ceilings)
+    size = scenario.number("journal-size", len(new))
+    return changed(scenario, "journal-set", journal.ljust(size, b"\0")[:size])
+
+
+def shown(scenario: Scenario, outside: program.Outside) -> str:
+    words = ""
+    files = {**outside.files, "disk": bytes(outside.disk.data)}
+    for name in filter(None, scenario.words.get("show", "").split(",")):
+        words += f" {name}={len(files[name])},{sha256(files[name]).hex()}" if name in files else f" {name}=none"
+    return words
+
+
+def run_line(scenario: Scenario, name: str, words: List[str], peers: List[Link]) -> str:
+    outside = outside_of(scenario)
+    came = program.run(outside, words, peers)
+    written = program.quoted(outside.written)
+    return f"{name}status={came.status} written={written} {came.part}{shown(scenario, outside)}"
+
+
+def words_line(scenario: Scenario) -> str:
+    circuit = READ[scenario.words.get("circuit", "and.txt")]
+    words = scenario.words["words"].split(",")
+    if "BITS" in words:
+        pattern = scenario.words.get("bits", "1")
+        words[words.index("BITS")] = "".join(pattern[i % len(pattern)] for i in range(circuit.inputs))
+    return run_line(scenario, "", words, [])
+
+
+def service_words(scenario: Scenario, job: Job) -> List[str]:
+    words = ["serve", "here", "x.verifier", scenario.words.get("circuit", "and.txt"), bristol.word_of(list(job.outputs))]
+    words += ["--sessions", scenario.words.get("sessions", "1"), "--section", str(job.section)]
+    for name in ("workers", "logs"):
+        words += [f"--{name}", scenario.words[name]] if name in scenario.words else []
+    return words
+
+
+def service_lines(scenario: Scenario, job: Job) -> List[str]:
+    """The peers that call are honest, each over the units after those of the peer before, but for the one that is stated."""
+    first, size = scenario.number("start", 0), job.units(job.section)
+    honest = [hold(job, first + size * number)[0] for number in range(scenario.number("peers", 1))]
+    stated = scenario.number("peer", 0)
+    lines = []
+    script = honest[stated] if stated < len(honest) else b""
+    for name, changed_script, failing in cases_of(scenario, script_of(scenario, script)):
+        peers = [Link(each) for each in honest]
+        peers[stated : stated + 1] = [Link(changed_script, failing=failing)] if peers else []
+        lines.append(run_line(scenario, name, service_words(scenario, job), peers))
+    return lines
 
 
 def lines_of(scenario: Scenario) -> List[str]:
     """What a scenario writes."""
+    if scenario.end == "run":
+        return [words_line(scenario)]
     if scenario.end == "rehearsal":
         return [rehearsal_line(scenario)]
     job = scenario.job()
@@ -185,6 +262,8 @@ def lines_of(scenario: Scenario) -> List[str]:
         if scenario.end == "prover":
             return prover_lines(scenario, job, b"")
         return [f"too-large need={job.need(job.section)} units={units}"]
+    if scenario.end == "service":
+        return service_lines(scenario, job)
     by_prover, by_verifier = hold(job, scenario.number("start", 0))
     if scenario.end == "verifier":
         return verifier_lines(scenario, job, by_prover)
@@ -293,8 +372,143 @@ def refused_claims() -> List[Scenario]:
     return scenarios + [line("verifier", circuit="more_inputs.txt", section=1)]
 
 
+def run(words: str, **given: object) -> Scenario:
+    named = {name.replace("_", "-"): value for name, value in given.items()}
+    return line("run", words=words.replace(" ", ","), **named)
+
+
+REHEARSE = "rehearse and.txt 11 --section 1"
+DEALT = "x.prover,x.verifier,x.prover.journal,x.verifier.journal"
+
+
+def failing_runs() -> List[Scenario]:
+    """Runs in which a call of the shelf or of the output fails, or a name is missing; and files that are dealt."""
+    scenarios = [run(REHEARSE, shelf_fails=1), run("rehearse missing.txt 11"), run("eval missing.txt 11"), run("eval  11")]
+    scenarios += [run(words, sink_fails=1) for words in (REHEARSE, "eval and.txt 11", "rehearse and.txt 1", "deal x --units 1")]
+    scenarios += [run(REHEARSE, shelf_fails=2, sink_fails=2), run("rehearsal and.txt 11", shelf_fails=1, sink_fails=1)]
+    scenarios += [run("deal x --units 1", shelf_fails=number) for number in range(1, 6)]
+    scenarios.append(run("deal x --units 1", show=DEALT))
+    scenarios.append(run("deal x --base 10 --units 1 --trees 1 --height 1", show=DEALT))
+    return scenarios + [run("deal y --units 2", show="x.prover,y.prover,y.verifier.journal,z")]
+
+
+def large_runs() -> List[Scenario]:
+    """Rehearsals of thousands of gates and units, and faults after thousands of tokens."""
+    scenarios = [run("rehearse chain.txt BITS --section 1", circuit="chain.txt", bits="10")]
+    tails = ["", "1 x 0 6003 INV", "3 1 0 1 6003 AND", "1 1 2 6003 EQ", "1 1 0 6004 INV", "1 1 6003 6003 INV"]
+    tails += ["1 1 0 6001 INV", "1 1 0 6002 INV", "1 1 0 6003 INV 7"]
+    for tail in tails:
+        words = {"tail": tail.replace(" ", "_")} if tail else {}
+        scenarios.append(run("rehearse long_chain.txt 10", circuit="long_chain.txt", **words))
+    for name, section in (("many", 1), ("more", 1), ("most", LONG), ("too_many", LONG)):
+        circuit = f"{name}_inputs.txt"
+        scenarios.append(run(f"rehearse {circuit} BITS --section {section}", circuit=circuit))
+    return scenarios + [run(REHEARSE, size=size) for size in (2**26, 2**26 + 1)]
+
+
+SERVE = "serve here x.verifier and.txt 1 --sessions 1"
+
+
+def stopped_services() -> List[Scenario]:
+    """Services that nobody calls, or that stop before they listen."""
+    scenarios = [run(SERVE, door_fails=number) for number in range(4)]
+    scenarios += [run(SERVE, shelf_fails=number) for number in (1, 2, 3)] + [run(SERVE, **ONE_TREE)]
+    for file, word in (("x.verifier", "10"), ("x.verifier", "none"), ("missing", "1"), ("x.prover", "1"), ("and.txt", "1"), ("missing", "10")):
+        scenarios.append(run(f"serve here {file} and.txt {word} --sessions 1"))
+    scenarios.append(run("serve here x.verifier and.txt 1 --sessions 1 --section 0"))
+    circuit = "too_many_inputs.txt"
+    scenarios.append(run(f"serve here x.verifier {circuit} 1 --sessions 1", circuit=circuit))
+    return scenarios + [run("serve here x.verifier long_chain.txt 1 --sessions 1", circuit="long_chain.txt")]
+
+
+def limits() -> List[Scenario]:
+    """Numbers of sessions and workers at their limits and beyond, with nobody at the door."""
+    serve = "serve here x.verifier and.txt 1"
+    numbers = [(0, 1), (1, 0), (65537, 1), (1, 1025), (65536, 1), (1, 1024)]
+    scenarios = [run(f"{serve} --sessions {sessions} --workers {workers}") for sessions, workers in numbers]
+    return scenarios + [run(f"{serve} --workers 2"), run(f"{SERVE} --workers 2 --workers 2"), run(f"{SERVE} --logs")]
+
+
+def journals() -> List[Scenario]:
+    """Journals that are refused: the disk fails, or they are short, or a byte of their header or of a body is another."""
+    scenarios = [run(SERVE, disk_fails=number) for number in range(1, 6)]
+    scenarios.append(run(SERVE, disk_fails=1, door_fails=1))
+    scenarios.append(run("serve here x.prover and.txt 1 --sessions 1", disk_fails=1))
+    circuit = "too_many_inputs.txt"
+    scenarios.append(run(f"serve here x.verifier {circuit} 1 --sessions 1", circuit=circuit, disk_fails=1))
+    scenarios += [run(SERVE, journal_size=size, show="disk") for size in (0, 63, 64, 95, 97)]
+    scenarios += [run(SERVE, units=32, ceilings=ceilings, journal_size=96) for ceilings in (0, 16)]
+    headers = ["0:0", "7:50", "8:0", "9:1", "15:255", "16:2", "23:1", "24:0", "24:2", "31:1", "32:0", "63:0"]
+    scenarios += [run(SERVE, journal_set=place, show="disk") for place in headers]
+    scenarios += [run(SERVE, units=32, ceilings=16, journal_set=place) for place in ("64:17", "64:0", "65:1", "71:1", "72:1", "79:1", "80:1")]
+    scenarios += [run(SERVE, units=32, ceilings=32, journal_set=place) for place in ("96:16", "64:32", "127:91")]
+    return scenarios + [run(SERVE, units=20, ceilings=20, journal_set=place) for place in ("96:20", "96:19", "96:32")]
+
+
+def served(peers: int, sessions: Optional[int] = None, **words: object) -> Scenario:
+    """A service of several peers, one after the other."""
+    named = {name.replace("_", "-"): value for name, value in words.items()}
+    return line("service", peers=peers, sessions=sessions or peers, workers=1, **named)
+
+
+TEN_UNITS = {"circuit": "adder64.txt", "bits": "10", "section": 3}
+
+
+def leases() -> List[Scenario]:
+    """Services of several sessions, whose units come from a new journal, or from a ceiling on."""
+    scenarios = [served(2, units=32, show="disk"), served(2, show="disk"), served(3), served(0, 2, units=32, show="disk")]
+    scenarios += [served(3, 2, units=32), served(2, 5, units=32), served(17, units=32, show="disk")]
+    scenarios += [served(2, **ONE_TREE, show="disk"), served(3, **TEN_UNITS, units=32, show="disk")]
+    scenarios += [served(4, **TEN_UNITS, units=25, show="disk"), served(2, **TEN_UNITS, units=9, show="disk")]
+    scenarios += [served(1, units=32, ceilings=16, start=16, show="disk"), served(1, units=16, ceilings=16, start=16, show="disk")]
+    scenarios.append(served(5, units=20, ceilings=16, start=16, show="disk"))
+    scenarios.append(served(1, units=32, journal_size=96, show="disk"))
+    return scenarios + [served(2, **TEN_UNITS, units=36, ceilings=16, start=16, show="disk")]
+
+
+def failing_services() -> List[Scenario]:
+    """Services of several sessions in which calls of the disk, the door and the output fail, or one peer is not honest."""
+    scenarios = [served(2, units=32, disk_fails=number, show="disk") for number in range(1, 10)]
+    scenarios += [served(3, **TEN_UNITS, units=32, disk_fails=number, show="disk") for number in range(9, 14)]
+    scenarios += [served(2, **TEN_UNITS, units=16, disk_fails=5), served(3, disk_fails=5)]
+    scenarios += [served(2, units=32, door_fails=number) for number in range(1, 6)]
+    scenarios += [served(2, units=32, outputs=0, door_fails=3), served(3, door_fails=4), served(2, units=32, sink_fails=1)]
+    for peer in range(3):
+        scenarios += [served(3, units=32, peer=peer, cut=cut) for cut in ("0..1", "101..104", "130..132", "164..165")]
+        scenarios += [served(3, units=32, peer=peer, fail="1..10"), served(3, units=32, peer=peer, change="101..103:1")]
+    scenarios += [served(3, peer=1, keep=101, more="02"), served(3, peer=1, fail="1..3"), served(3, peer=0, change="136..137:1")]
+    return scenarios + [served(3, units=2, peer=0, change="157..158:1"), served(2, outputs=0)]
+
+
+def logged_services() -> List[Scenario]:
+    """Services that keep the logs of their sessions, and stores that fail."""
+    shown = {"logs": "l", "show": "l,l.0,l.1,l.2"}
+    scenarios = [line("service", **shown), line("service", **shown, outputs=0), line("service", **shown, keep=50), line("service", **shown, keep=110)]
+    scenarios += [served(3, units=32, **shown), served(3, units=2, **shown), served(3, units=32, peer=1, keep=102, **shown)]
+    scenarios += [served(3, units=32, shelf_fails=number, **shown) for number in range(1, 7)]
+    scenarios += [served(3, units=2, shelf_fails=number, **shown) for number in (3, 4, 5)]
+    scenarios += [served(3, disk_fails=5, **shown), served(2, units=32, shelf_fails=4, sink_fails=1, **shown)]
+    scenarios.append(line("service", logs="x.verifier", show="x.verifier,x.verifier.0"))
+    words = {"ceilings": 16, "start": 16, "units": 32, "logs": "k", "show": "k.16,k.17,disk"}
+    return scenarios + [served(2, **words)]
+
+
+def services() -> List[Scenario]:
+    """Services of one session, with peers that are honest, end, change a byte or fail."""
+    scenarios = [line("service"), line("service", section=1), line("service", bits="0", section=1), line("service", **ONE_TREE)]
+    for section, units in ((LONG, 64), (1, 128)):
+        scenarios.append(line("service", circuit="chain.txt", bits="10", section=section, units=units))
+    scenarios += [line("service", cut="0..166"), line("service", change="0..165:1"), line("service", fail="1..10")]
+    scenarios += [line("service", **{name: number}) for name, number in (("door-fails", 1), ("door-fails", 2), ("sink-fails", 1))]
+    scenarios.append(line("service", outputs="0"))
+    scenarios.append(line("service", **{"outputs": "0", "sink-fails": 1}))
+    return scenarios + [line("service", circuit="five_gates.txt", bits="1101", section=1, files="1,1,10")]
+
+
 def all_scenarios() -> List[Scenario]:
     parts = [published(), honest_sessions(), wrong_provers(), wrong_askers(), refused_leases(), wrong_verifiers(), refused_claims()]
+    parts += [failing_runs(), large_runs(), stopped_services(), limits(), journals(), services()]
+    parts += [leases(), failing_services(), logged_services()]
     return [scenario for part in parts for scenario in part]
 
 

@@ -2,9 +2,10 @@
 """What `crates/stored_runs` is run on and what it must write, computed apart from the program.
 
 That program takes a command line from each line of its input and writes what the command prints, then `status N`.
-`stored_runs.py --stdin` prints the command lines, `stored_runs.py --stdout` what must be written. With neither it
-compares both with the files `stdin` and `stdout` that stand there, and the circuits in `data` with those in `examples`;
-it prints what differs, and ends with 1 where anything does.
+`stored_runs.py --stdin` prints the command lines, `stored_runs.py --stdout` what must be written, and `stored_runs.py
+--alone` the dealt file in `data`. With none it compares these with the files `stdin` and `stdout` that stand there and
+with that of `data`, and the circuits in `data` with those in `examples`; it prints what differs, and ends with 1 where
+anything does.
 
 Outputs come from what each circuit is for: sums, comparisons, the vectors of AES in FIPS 197 (2001). Faults stand here
 as they follow from the rules in `bristol.py`. That module must find the same of each; from it come the numbers of
@@ -18,9 +19,13 @@ from typing import List, NamedTuple, Optional, Tuple
 
 import bristol
 import common
+import dealt_files
 
 # The id of files that are dealt from 32 bytes 7.
 FILE_ID = common.FILE_ID.hex()
+
+# A verifier's file that has no journal.
+ALONE = "alone.verifier"
 
 TOP = pathlib.Path(__file__).resolve().parent.parent
 CRATE = TOP / "crates" / "stored_runs"
@@ -142,12 +147,32 @@ WRONG_WORDS = [
     "serve x",
     "serve here z.verifier and.txt 1",
     "serve here z.verifier and.txt 1 --sessions 0",
-    "serve here z.verifier and.txt 1 --sessions 2",
+    "serve here z.verifier and.txt 1 --sessions 65537",
+    "serve here z.verifier and.txt 1 --sessions 4294967297",
+    "serve here z.verifier and.txt 1 --sessions 18446744073709551617",
+    "serve here z.verifier and.txt 1 --sessions x",
+    "serve here z.verifier and.txt 1 --sessions",
     "serve here z.verifier and.txt 1 --sessions 1 --sessions 1",
     "serve here z.verifier and.txt 1 --sessions 1 --section 0",
+    "serve here z.verifier and.txt 1 --workers 1",
+    "serve here z.verifier and.txt 1 --sessions 1 --workers 0",
+    "serve here z.verifier and.txt 1 --sessions 1 --workers 1025",
+    "serve here z.verifier and.txt 1 --sessions 1 --workers 4294967297",
+    "serve here z.verifier and.txt 1 --sessions 1 --workers",
+    "serve here z.verifier and.txt 1 --sessions 1 --workers 1 --workers 1",
+    "serve here z.verifier and.txt 1 --sessions 1 --logs",
+    "serve here z.verifier and.txt 1 --sessions 1 --logs -l",
+    "serve here z.verifier and.txt 1 --sessions 1 --logs --section 1",
+    "serve here z.verifier and.txt 1 --sessions 1 --logs l --logs l",
+    "serve here z.verifier and.txt 1 --logs l",
+    "serve here z.verifier and.txt 1 --sessions 1 --units 1",
     "serve here z.verifier and.txt 2 --sessions 1",
     "serve here z.verifier and.txt --sessions 1",
     "serve here z.verifier and.txt 1 1 --sessions 1",
+    "serve z.verifier and.txt 1 --sessions 1",
+    "eval and.txt 11 --workers 1",
+    "rehearse and.txt 11 --logs l",
+    "deal x --units 1 --sessions 1",
     "audit x",
 ]
 
@@ -298,7 +323,8 @@ def dealings() -> List[Run]:
 
 
 def services() -> List[Run]:
-    """Services over files of kind direct that are dealt for them, and over those of kind extended that `dealings` leaves."""
+    """Services over files of kind direct that are dealt for them, over those of kind extended that `dealings` leaves, and over one that
+    has no journal. All of their journals are new."""
     given: List[Tuple[str, List[str], int]] = [
         ("z.verifier and.txt 1", [], 0),
         ("z.verifier no_outputs.txt none", [], 0),
@@ -313,10 +339,19 @@ def services() -> List[Run]:
         ("z.verifier missing.txt 1", ["failed shelf"], 4),
         # Outputs are counted before the verifier's file is read.
         ("missing and.txt 10", ["refused outputs 1 2"], 3),
+        (f"{ALONE} and.txt 1", ["journal failed 1"], 5),
+        (f"{ALONE} and.txt 10", ["refused outputs 1 2"], 3),
     ]
     runs = [Run("deal z --units 1", [f"id {FILE_ID}", "units 1 direct"], 0)]
     runs += [Run(f"serve here {words} --sessions 1", lines, status) for words, lines, status in given]
-    return runs + [Run("serve --section 1 here z.verifier --sessions 01 and.txt 1", [], 0)]
+    orders = [
+        "serve --section 1 here z.verifier --sessions 01 and.txt 1",
+        "serve here z.verifier and.txt 1 --sessions 2",
+        "serve here z.verifier and.txt 1 --sessions 65536 --workers 2",
+        "serve here z.verifier and.txt 1 --workers 0008 --sessions 3 --logs l",
+        "serve --workers 1 --logs l --sessions 1 --section 1 here y.verifier and.txt 1",
+    ]
+    return runs + [Run(words, [], 0) for words in orders]
 
 
 def too_large() -> List[Run]:
@@ -340,9 +375,16 @@ def all_runs() -> List[Run]:
     return runs + services() + too_large()
 
 
+def alone() -> bytes:
+    """A verifier's file of one direct unit."""
+    return dealt_files.deal(dealt_files.DIRECT)[1]
+
+
 def differences(given: str, written: str) -> List[str]:
     """The files that are not as they must be."""
     wrong = [name for name, text in (("stdin", given), ("stdout", written)) if (CRATE / name).read_text() != text]
+    if (DATA / ALONE).read_bytes() != alone():
+        wrong.append(f"data/{ALONE}")
     copies = sorted(path.name for path in EXAMPLES.glob("*.txt"))
     return wrong + [f"data/{name}" for name in copies if (DATA / name).read_bytes() != (EXAMPLES / name).read_bytes()]
 
@@ -354,8 +396,11 @@ def main() -> int:
     if sys.argv[1:] in (["--stdin"], ["--stdout"]):
         sys.stdout.write(given if sys.argv[1] == "--stdin" else written)
         return 0
+    if sys.argv[1:] == ["--alone"]:
+        sys.stdout.buffer.write(alone())
+        return 0
     if sys.argv[1:]:
-        sys.exit("stored_runs.py [--stdin | --stdout]")
+        sys.exit("stored_runs.py [--stdin | --stdout | --alone]")
     wrong = differences(given, written)
     for name in wrong:
         print(f"crates/stored_runs/{name} is not as it must be")

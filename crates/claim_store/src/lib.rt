@@ -50,6 +50,3 @@ pub fn bytes_say_one_list()
 pub fn claims_start_again()
     ensures { ClaimsStartAgain }
 {}
-
-#[cfg(test)]
-mod tests;

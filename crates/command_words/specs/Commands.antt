@@ -1,26 +1,42 @@
 -- Commands as what they ask for.
-use Rattle.std.specs.Prelude.{ℕ, ◌≤◌, ◌^◌}
+use Rattle.std.specs.Prelude.{ℕ, ◌≤◌}
+use Rattle.std.specs.Option.{option_map}
 use Rattle.zk_model.specs.Files.{AreParams}
-use Rattle.command_words.specs.Words.{Ask, rehearse, rehearse_ask, eval, eval_ask, deal, deal_ask, serve, serve_ask}
+use Rattle.command_words.specs.Words.{Ask, rehearse, rehearse_ask, eval, eval_ask, deal, deal_ask, serve, serve_ask, ServeOptions, serve_options}
 use Rattle.command_words.specs.declared.words.Command.{Command}
 use Rattle.command_words.specs.declared.words.Command.TheVariants.{Rehearse, Eval, Deal, Serve}
-use Rattle.zk_model.specs.declared.limits.TheConstants.{MAX_SECTION_LENGTH}
+use Rattle.command_words.specs.declared.words.ServedOptions.{ServedOptions}
+use Rattle.command_words.specs.declared.words.TheConstants.{MAX_SESSIONS}
+use Rattle.zk_model.specs.declared.limits.TheConstants.{MAX_PASSES, MAX_SECTION_LENGTH}
+
+-- the options of a service
+abbrev pub named_options : ServedOptions → ServeOptions
+named_options options =
+    serve_options options.sessions options.workers options.section (option_map (λ logs. logs.now) options.logs)
 
 abbrev pub ask_of : Command → Ask
 ask_of (Rehearse circuit bits kind section) = rehearse (rehearse_ask circuit.now bits.items kind section)
 ask_of (Eval circuit bits) = eval (eval_ask circuit.now bits.items)
 ask_of (Deal name params) = deal (deal_ask name.now params)
-ask_of (Serve address file circuit outputs section) =
-    serve (serve_ask address.now file.now circuit.now outputs.items section)
+ask_of (Serve address file circuit outputs options) =
+    serve (serve_ask address.now file.now circuit.now outputs.items (named_options options))
 
 -- a section has so many products
 pub record IsSectionSize (section : ℕ) : Type 0 where
   pub least : 1 ≤ section
   pub most : section ≤ MAX_SECTION_LENGTH
 
+-- so many sessions and so many workers may be asked for, and a section has so many products
+pub record AreServeLimits (options : ServeOptions) : Type 0 where
+  pub sessions_least : 1 ≤ options.sessions
+  pub sessions_most : options.sessions ≤ MAX_SESSIONS
+  pub workers_least : 1 ≤ options.workers
+  pub workers_most : options.workers ≤ MAX_PASSES
+  pub section : IsSectionSize options.section
+
 -- the numbers that a command names are within their limits
 abbrev pub IsWithinLimits : Command → Type 0
 IsWithinLimits (Rehearse circuit bits kind section) = IsSectionSize section
 IsWithinLimits (Eval circuit bits) = Unit {0}
 IsWithinLimits (Deal name params) = AreParams params
-IsWithinLimits (Serve address file circuit outputs section) = IsSectionSize section
+IsWithinLimits (Serve address file circuit outputs options) = AreServeLimits (named_options options)

@@ -1,5 +1,5 @@
 -- What the words of a command line ask for.
-use Rattle.std.specs.Prelude.{◌^◌, ◌&&◌, nat_le, ℕ, List, [], ◌∷◌, map, Bool, if◌then◌else◌, Option, Some, None, String, string_bytes, codes}
+use Rattle.std.specs.Prelude.{◌&&◌, nat_le, ℕ, List, [], ◌∷◌, map, Bool, if◌then◌else◌, Option, Some, None, String, string_bytes, codes}
 use Rattle.std.specs.Option.{option_map, option_and_then, is_some}
 use Rattle.std.specs.List.{list_any}
 use Rattle.std.specs.Str.{bytes_eq}
@@ -13,7 +13,8 @@ use Rattle.zk_model.specs.declared.limits.TheConstants.{FILE_LIMIT}
 use Rattle.command_words.specs.BitWords.{bits_of}
 use Rattle.command_words.specs.Numbers.{number_within}
 use Rattle.command_words.specs.Arguments.{arranged, option_named, stand_once, Word}
-use Rattle.zk_model.specs.declared.limits.TheConstants.{MAX_BASE, MAX_DEALT_UNITS, MAX_HEIGHT, MAX_SECTION_LENGTH, MAX_TREES}
+use Rattle.zk_model.specs.declared.limits.TheConstants.{MAX_BASE, MAX_DEALT_UNITS, MAX_HEIGHT, MAX_PASSES, MAX_SECTION_LENGTH, MAX_TREES}
+use Rattle.command_words.specs.declared.words.TheConstants.{MAX_SESSIONS}
 
 -- the words as their bytes
 abbrev pub texts : List (String Global) → List (List ℕ)
@@ -46,18 +47,30 @@ pub record DealAsk : Type 0 where
 abbrev pub deal_ask : List ℕ → Params → DealAsk
 deal_ask name params = record { name = name; params = params }
 
--- what the words of a verifier that serves name: where provers connect, the verifier's file, the circuit's file, the
--- claimed outputs, and how many products a section has
+-- how many sessions a verifier serves, by how many workers at once, how many products a section has, and what the names of logs begin
+-- with, where they are kept
+pub record ServeOptions : Type 0 where
+  pub sessions : ℕ
+  pub workers : ℕ
+  pub section : ℕ
+  pub logs : Option (List ℕ)
+
+abbrev pub serve_options : ℕ → ℕ → ℕ → Option (List ℕ) → ServeOptions
+serve_options sessions workers section logs =
+    record { sessions = sessions; workers = workers; section = section; logs = logs }
+
+-- what the words of a verifier that serves name: where provers connect, the verifier's file, the circuit's file, the claimed outputs,
+-- and the options
 pub record ServeAsk : Type 0 where
   pub address : List ℕ
   pub file : List ℕ
   pub circuit : List ℕ
   pub outputs : List Bool
-  pub section : ℕ
+  pub options : ServeOptions
 
-abbrev pub serve_ask : List ℕ → List ℕ → List ℕ → List Bool → ℕ → ServeAsk
-serve_ask address file circuit outputs section =
-    record { address = address; file = file; circuit = circuit; outputs = outputs; section = section }
+abbrev pub serve_ask : List ℕ → List ℕ → List ℕ → List Bool → ServeOptions → ServeAsk
+serve_ask address file circuit outputs options =
+    record { address = address; file = file; circuit = circuit; outputs = outputs; options = options }
 
 -- what can be asked for
 pub data Ask : Type 0 where
@@ -143,25 +156,33 @@ deal_of (name ∷ []) options =
     else None
 deal_of positional options = None
 
--- how many sessions are served: one, for now
+-- how many sessions are served
 abbrev pub sessions_of : List Word → Option ℕ
-sessions_of options = option_and_then (λ word. number_within 1 1 word) (option_named (codes "--sessions") options)
+sessions_of options = option_and_then (λ word. number_within 1 MAX_SESSIONS word) (option_named (codes "--sessions") options)
 
-abbrev pub serve_options : List (List ℕ)
-serve_options = codes "--sessions" ∷ codes "--section" ∷ []
+-- how many workers serve them: so many as a word says, or four
+abbrev pub workers_of : Option (List ℕ) → Option ℕ
+workers_of None = Some 4
+workers_of (Some word) = number_within 1 MAX_PASSES word
 
--- `--sessions 1 [--section G]`, and nothing else: the section's length
-abbrev pub serve_section_of : List Word → Option ℕ
-serve_section_of options =
-    if stand_once_among serve_options options
-    then option_and_then (λ sessions. length_of (option_named (codes "--section") options)) (sessions_of options)
+abbrev pub served_options : List (List ℕ)
+served_options = codes "--sessions" ∷ codes "--workers" ∷ codes "--section" ∷ codes "--logs" ∷ []
+
+-- `--sessions N [--workers W] [--section G] [--logs PREFIX]`, and nothing else
+abbrev pub serve_options_of : List Word → Option ServeOptions
+serve_options_of options =
+    if stand_once_among served_options options
+    then option_and_then (λ sessions. option_and_then (λ workers. option_map
+    (λ section. serve_options sessions workers section (option_named (codes "--logs") options))
+    (length_of (option_named (codes "--section") options)))
+    (workers_of (option_named (codes "--workers") options))) (sessions_of options)
     else None
 
--- `serve ADDRESS FILE CIRCUIT OUTPUTS --sessions 1 [--section G]`
+-- `serve ADDRESS FILE CIRCUIT OUTPUTS --sessions N [--workers W] [--section G] [--logs PREFIX]`
 abbrev pub serve_of : List (List ℕ) → List Word → Option Ask
 serve_of (address ∷ file ∷ circuit ∷ outputs ∷ []) options =
-    option_and_then (λ section. option_map (λ read. serve (serve_ask address file circuit read section))
-    (bits_of outputs)) (serve_section_of options)
+    option_and_then (λ found. option_map (λ read. serve (serve_ask address file circuit read found))
+    (bits_of outputs)) (serve_options_of options)
 serve_of positional options = None
 
 -- what the words ask for, if they are valid

@@ -53,6 +53,8 @@ fn is_valued(word: &str) -> bool
         || word == "--height"
         || word == "--base"
         || word == "--sessions"
+        || word == "--workers"
+        || word == "--logs"
 }
 
 /// Whether the word is an option that stands by itself.

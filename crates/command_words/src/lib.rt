@@ -16,4 +16,4 @@ mod words;
 
 pub use bits::{read_bits, write_bits};
 pub use laws::words_stand_so;
-pub use words::{Command, read_words};
+pub use words::{Command, MAX_SESSIONS, ServedOptions, read_words};

@@ -2,7 +2,7 @@
 ghost use Rattle.std.specs.Prelude.{◌≡◌, ◌≤◌, ◌^◌, ◌↔◌, map, codes, IfOk, IfSome, IsTrue};
 ghost use Rattle.std.specs.Option.{option_map};
 ghost use Rattle.command_words.specs.Words.{texts, asked, eval_of, rehearse_of, rehearsed_kind, section_of, length_of};
-ghost use Rattle.command_words.specs.Words.{serve_of, serve_section_of, sessions_of};
+ghost use Rattle.command_words.specs.Words.{serve_of, serve_options_of, sessions_of, workers_of};
 ghost use Rattle.command_words.specs.Words.{deal_of, params_of, direct_params, extended_of};
 ghost use Rattle.zk_model.specs.FileFaults.{file_length};
 ghost use Rattle.zk_model.specs.Files.{AreParams};
@@ -10,15 +10,34 @@ ghost use Rattle.zk_model.specs.declared.Side.TheVariants.{Prover, Verifier};
 ghost use Rattle.zk_model.specs.declared.limits.TheConstants.{FILE_LIMIT};
 ghost use Rattle.command_words.specs.Arguments.{option_named};
 ghost use Rattle.command_words.specs.PartsOf.{word_of};
-ghost use Rattle.command_words.specs.Commands.{ask_of, IsWithinLimits, IsSectionSize};
-ghost use Rattle.zk_model.specs.declared.limits.TheConstants.{MAX_DEALT_UNITS};
+ghost use Rattle.command_words.specs.Commands.{ask_of, named_options, AreServeLimits, IsWithinLimits, IsSectionSize};
+ghost use Rattle.zk_model.specs.declared.limits.TheConstants.{MAX_DEALT_UNITS, MAX_PASSES};
+ghost use Rattle.command_words.specs.declared.words.TheConstants.{MAX_SESSIONS};
 
 use crate::arrange::{Arguments, Named, are_once, arrange, find_option};
 use crate::bits::read_bits;
 use crate::numbers::read_number;
 use dealer_files::file_length;
 use std::alloc::{AllocError, Global};
-use zk_model::{FILE_LIMIT, Kind, MAX_DEALT_UNITS, MAX_SECTION_LENGTH, MAX_TREES, Params, Side};
+use zk_model::{
+    FILE_LIMIT, Kind, MAX_DEALT_UNITS, MAX_PASSES, MAX_SECTION_LENGTH, MAX_TREES, Params, Side,
+};
+
+/// How many sessions a run serves at most.
+pub const MAX_SESSIONS: u32 = 65_536;
+
+/// How many workers serve where no word says it.
+const WORKERS: u32 = 4;
+
+/// The options of `serve`: how many sessions, by how many workers at once, how many products a section has, and what the names of the
+/// logs begin with, where they are kept.
+#[derive(Clone, Copy, Debug)]
+pub struct ServedOptions<'a> {
+    pub sessions: u32,
+    pub workers: u32,
+    pub section: u32,
+    pub logs: Option<&'a str>,
+}
 
 /// A command with its words.
 #[derive(Debug, Drop)]
@@ -40,13 +59,13 @@ pub enum Command<'a> {
         name: &'a str,
         params: Params,
     },
-    /// `serve ADDRESS FILE CIRCUIT OUTPUTS --sessions 1 [--section G]`
+    /// `serve ADDRESS FILE CIRCUIT OUTPUTS --sessions N [--workers W] [--section G] [--logs PREFIX]`
     Serve {
         address: &'a str,
         file: &'a str,
         circuit: &'a str,
         outputs: Vec<bool>,
-        section: u32,
+        options: ServedOptions<'a>,
     },
 }
 
@@ -155,11 +174,11 @@ fn read_length(options: &[Named]) -> Option<u32>
     Some(read_number(value, 1, u64::from(MAX_SECTION_LENGTH))? as u32)
 }
 
-/// `ADDRESS FILE CIRCUIT OUTPUTS --sessions 1 [--section G]`
+/// `ADDRESS FILE CIRCUIT OUTPUTS --sessions N [--workers W] [--section G] [--logs PREFIX]`
 fn read_serve<'a>(
     alloc: Global,
     positional: &[&'a str],
-    options: &[Named],
+    options: &[Named<'a>],
 ) -> Result<Option<Command<'a>>, AllocError>
     ensures asked { IfOk result (λ found. option_map ask_of found
         ≡ serve_of (map (λ p. p.now) positional.now) (map word_of options.now)) }
@@ -168,7 +187,7 @@ fn read_serve<'a>(
     let [address, file, circuit, word] = positional else {
         return Ok(None);
     };
-    let Some(section) = read_serve_section(options) else {
+    let Some(options) = read_serve_options(options) else {
         return Ok(None);
     };
     let Some(outputs) = read_bits(alloc, word)? else {
@@ -179,27 +198,47 @@ fn read_serve<'a>(
         file,
         circuit,
         outputs,
-        section,
+        options,
     }))
 }
 
-/// The length of a section, where `--sessions 1` stands, and at most `--section` beside it.
-fn read_serve_section(options: &[Named]) -> Option<u32>
-    ensures value { result ≡ serve_section_of (map word_of options.now) }
-    ensures size { IfSome result IsSectionSize }
+/// `--sessions N`, and at most `--workers W`, `--section G` and `--logs PREFIX` beside it.
+fn read_serve_options<'a>(options: &[Named<'a>]) -> Option<ServedOptions<'a>>
+    ensures value { option_map named_options result ≡ serve_options_of (map word_of options.now) }
+    ensures limits { IfSome result (λ found. AreServeLimits (named_options found)) }
 {
-    if !are_once(options, &["--sessions", "--section"]) {
+    if !are_once(options, &["--sessions", "--workers", "--section", "--logs"]) {
         return None;
     }
-    let _one = read_sessions(options)?;
-    read_length(options)
+    let sessions = read_sessions(options)?;
+    let workers = read_workers(options)?;
+    let section = read_length(options)?;
+    Some(ServedOptions {
+        sessions,
+        workers,
+        section,
+        logs: find_option(options, "--logs"),
+    })
 }
 
-/// How many sessions are served: one, for now.
-fn read_sessions(options: &[Named]) -> Option<u64>
-    ensures { result ≡ sessions_of (map word_of options.now) }
+/// How many sessions are served.
+fn read_sessions(options: &[Named]) -> Option<u32>
+    ensures value { result ≡ sessions_of (map word_of options.now) }
+    ensures limits { IfSome result (λ sessions. (1 ≤ sessions) × (sessions ≤ MAX_SESSIONS)) }
 {
-    read_number(find_option(options, "--sessions")?, 1, 1)
+    let word = find_option(options, "--sessions")?;
+    Some(read_number(word, 1, u64::from(MAX_SESSIONS))? as u32)
+}
+
+/// How many workers serve: the value of the first `--workers`, or else four.
+fn read_workers(options: &[Named]) -> Option<u32>
+    ensures value { result ≡ workers_of (option_named (codes "--workers") (map word_of options.now)) }
+    ensures limits { IfSome result (λ workers. (1 ≤ workers) × (workers ≤ MAX_PASSES)) }
+{
+    let Some(value) = find_option(options, "--workers") else {
+        return Some(WORKERS);
+    };
+    Some(read_number(value, 1, u64::from(MAX_PASSES))? as u32)
 }
 
 /// `NAME --units N [--trees T --height H --base K]`

@@ -1,11 +1,9 @@
 // The objects in memory, where memory is not missing.
+use memory_ports::{FailAt, MemoryDoor, MemoryShelf, MemorySink, NoFault, ScriptedLink};
 use std::alloc::Global;
 use std::collections::BTreeMap;
 use std::test::Fail;
-use zk_port::{
-    Door, FailAt, Link, LoadFault, MemoryDoor, MemoryShelf, MemorySink, NoFault, PortFault,
-    ScriptedLink, Shelf, Sink,
-};
+use zk_port::{Door, Link, LoadFault, PortFault, Shelf, Sink};
 
 #[test]
 fn links_come_in_order_and_give_their_bytes_in_order(rt: HostRuntime) -> Result<(), Fail> {

@@ -80,6 +80,3 @@ pub fn claim_slots(total: u64) -> u64
 {
     total.min(MAX_CLAIM_SLOTS)
 }
-
-#[cfg(test)]
-mod tests;

@@ -30,6 +30,7 @@ pub closed : (start disk : DiskState) (id : List ℕ) (total base slots used las
 closed start disk id total base slots used last fault v passes desk gathered = record {
   ceiling = v.ceiling;
   mark = v.own_mark;
+  grows = omega (arith, desk.ceiling, desk.risen);
   gathered = gathered;
   told = desk.told;
   read = (found_of start disk id total base slots used last fault v desk).read;

@@ -1,5 +1,5 @@
 -- What stands behind the lock: the journal, and the seat that raises the ceiling.
-use Rattle.std.specs.Prelude.{◌≡◌, ◌≢◌, ℕ, ◌*◌, ◌<◌, ◌≤◌, [], List, Some, None, IsSomeAnd}
+use Rattle.std.specs.Prelude.{◌≡◌, ◌≢◌, ℕ, ◌*◌, ◌<◌, ◌≤◌, [], List, Some, IsSomeAnd}
 use Rattle.atomic_table.specs.Seated.{TableId}
 use Rattle.zk_port.specs.Counts.{Rose}
 use Rattle.zk_port.specs.Disks.{DiskState, LeavesOnly, untold}

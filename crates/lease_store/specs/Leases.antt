@@ -83,6 +83,7 @@ Tried p count (Err (attempt.NeedsRoom end known)) q =
 pub record IsClosed (start disk : DiskState) (id : List ℕ) (base total : ℕ) (passes : List Pass) : Type 0 where
   pub ceiling : ℕ
   pub mark : ℕ
+  pub grows : base ≤ ceiling
   pub gathered : AreGathered base ceiling mark passes
   pub told : (bytes : List ℕ) → disk.content ≡ Some bytes → (first : List ℕ) × (start.content ≡ Some first)
   pub read : (first : List ℕ) → start.content ≡ Some first → IsSomeAnd disk.content (FindsCeiling id total ceiling first)

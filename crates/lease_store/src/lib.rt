@@ -8,6 +8,7 @@
 
 mod desk;
 mod fault;
+mod grantor;
 mod leasing;
 mod name;
 mod parts;
@@ -15,6 +16,7 @@ mod store;
 
 pub use desk::Desk;
 pub use fault::{StoreFault, TryFault};
+pub use grantor::Grantor;
 pub use name::LeaseName;
 pub use parts::LeaseParts;
 pub use store::LeaseStore;
@@ -33,6 +35,3 @@ pub enum LeaseFault {
     #[error("a call of the journal's disk failed before, as number {first}")]
     Broken { first: u64 },
 }
-
-#[cfg(test)]
-mod tests;

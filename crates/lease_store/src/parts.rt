@@ -117,6 +117,14 @@ impl<B: Disk> LeaseParts<B> {
         }
     }
 
+    /// The disk as it stands.
+    pub fn into_disk(self) -> B
+        ensures { result ≡ self.disk }
+    {
+        let LeaseParts { journal, .. } = self;
+        journal.into_disk()
+    }
+
     /// The store, under the name of these parts.
     pub fn named<N: LeaseName>(self) -> LeaseStore<B, N>
         requires table { self.table ≡ N.table }

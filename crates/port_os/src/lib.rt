@@ -1,21 +1,31 @@
-//! Real files and standard output behind the traits of the outside. They tell nothing of content, and count each
-//! fault: that they do with files and output what they are to do is trusted.
+//! Real files, standard output and connections of TCP behind the traits of the outside. They tell nothing of content, and count
+//! each fault: that they do with files, output and peers what they are to do is trusted.
 //!
-//! `file_shelf` has files by their paths, `output_sink` standard output; `no_memory` tells want of memory among the system's
-//! errors. As `main` makes them:
+//! `file_shelf` has files by their paths, `file_disk` a journal's file, `output_sink` standard output, and `tcp_door` and
+//! `tcp_link` connections. `no_memory` tells want of memory among the system's errors, `refusals` counts the others, and
+//! `reading` reads into a buffer's front. As `main` makes them:
 //!
 //!     let mut shelf = FileShelf::new(&rt);
 //!     let mut out = OutputSink::new(&rt);
+//!     let journal = FileDisk::new(&rt);
+//!     let door = TcpDoor::new(&rt);
 #![tactic(auto)]
 
+mod file_disk;
 mod file_shelf;
 mod no_memory;
 mod output_sink;
+mod reading;
 mod refusals;
+mod tcp_door;
+mod tcp_link;
 
+pub use file_disk::FileDisk;
 pub use file_shelf::FileShelf;
 pub use no_memory::found_no_memory;
 pub use output_sink::OutputSink;
+pub use tcp_door::TcpDoor;
+pub use tcp_link::TcpLink;
 
 #[cfg(test)]
 mod tests;

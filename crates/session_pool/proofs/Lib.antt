@@ -1,1 +1,4 @@
-pub mod Leased
+pub mod Works
+pub mod Back
+pub mod Doorways
+pub mod Runs

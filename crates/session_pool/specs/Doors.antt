@@ -1,19 +1,37 @@
 -- What is taken from a door.
-use Rattle.std.specs.Prelude.{◌≡◌, ◌⊎◌, ◌+◌, ◌≤◌, ℕ, Bool, true, false}
+use Rattle.std.specs.Prelude.{◌≡◌, ◌⊎◌, ◌+◌, ◌≤◌, ℕ, zero, suc, Bool, true, false, None}
 use Rattle.zk_port.specs.Counts.{Rose, counted}
 use Rattle.zk_port.specs.Doors.{DoorState}
 
--- As many notes are made as links left the door, one at most. The door is asked for the next link once and for nothing else, or, where
--- memory was missing first, for nothing. It failed exactly where its count of such calls rose. Where it failed, or memory was missing,
--- there is no note; and elsewhere there is one unless no link was left.
-pub record TakesOneAtMost (notes : ℕ) (door_failed memory_failed : Bool) (old new : DoorState) : Type 0 where
-  pub most : notes ≤ 1
-  pub taken : old.left ≡ new.left + notes
+-- what no door tells
+abbrev pub no_door : DoorState
+no_door = record {
+  left = 0;
+  offers = λ _. 0;
+  listened = None;
+  connected = None;
+  nexts = 0;
+  listen_faults = 0;
+  connect_faults = 0;
+  next_faults = 0;
+}
+
+-- a count of calls after so many more
+abbrev pub called : ℕ → ℕ → ℕ
+called zero before = before
+called (suc n) before = counted true (called n before)
+
+-- So many notes are made of as many links that left the door, and no more than sessions are wanted. Nothing but the next link was asked
+-- of the door: once for each note, and once more at most, where none was given. Where neither the door failed nor memory was missing,
+-- these are all that are wanted, or all that the door had; where they are all that are wanted, nothing failed, and it was asked no more.
+-- It failed exactly where its count of such calls rose.
+pub record Takes (sessions notes : ℕ) (door_failed memory_failed : Bool) (old new : DoorState) : Type 0 where
+  pub most : notes ≤ sessions
+  pub taken : new.left + notes ≡ old.left
   pub rest : new ≡ record old { left = new.left; offers = new.offers; nexts = new.nexts; next_faults = new.next_faults }
-  pub asked : (new.nexts ≡ counted true old.nexts) ⊎ ((memory_failed ≡ true) × (new ≡ old))
+  pub asked : (new.nexts ≡ called notes old.nexts) ⊎ (new.nexts ≡ called (notes + 1) old.nexts)
+  pub all : door_failed ≡ false → memory_failed ≡ false → (notes ≡ sessions) ⊎ (new.left ≡ 0)
+  pub done : notes ≡ sessions → (door_failed ≡ false) × (memory_failed ≡ false) × (new.nexts ≡ called notes old.nexts)
   pub failed : door_failed ≡ true → Rose old.next_faults new.next_faults
-  pub failed_none : door_failed ≡ true → notes ≡ 0
   pub calm : door_failed ≡ false → new.next_faults ≡ old.next_faults
   pub later : old.next_faults ≤ new.next_faults
-  pub memory_none : memory_failed ≡ true → notes ≡ 0
-  pub all : door_failed ≡ false → memory_failed ≡ false → notes ≡ 0 → old.left ≡ 0

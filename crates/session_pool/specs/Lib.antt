@@ -1,3 +1,4 @@
-pub mod FirstUnits
 pub mod Notes
 pub mod Doors
+pub mod Doorways
+pub mod Works

@@ -1,11 +1,12 @@
-// What came of the sessions of a run.
-use session_verifier::SessionNote;
+// What came of a run.
 
-/// What came of the sessions with the peers that called: a note for each, in order; whether a call of the door failed, and whether
-/// memory was missing for a link or its note.
+/// What came of the sessions with the peers that called: a note for each; the door and the disk as they are left; whether a call of the
+/// door failed, and whether memory was missing for a link, a note or a worker.
 #[derive(Drop)]
-pub struct Served<L> {
-    pub notes: Vec<SessionNote<L>>,
+pub struct Served<M, D, B> {
+    pub notes: Vec<M>,
+    pub door: D,
+    pub disk: B,
     pub door_failed: bool,
     pub memory_failed: bool,
 }

@@ -3,3 +3,4 @@ pub mod Stages
 pub mod Notes
 pub mod Turns
 pub mod Completing
+pub mod Stores

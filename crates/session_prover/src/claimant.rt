@@ -19,6 +19,9 @@ pub trait Claimant {
     /// The total of the units that it claims from.
     ghost total: { Self → ℕ };
 
+    /// What it becomes where it is asked for so many units from this one on, and answers so.
+    ghost moves: { Self → ℕ → ℕ → Result Span ClaimFault → Self → Type 0 };
+
     /// Claims so many units from this one on, which end at or below the total, or says why not.
     fn claim(&mut self, start: u64, count: u32) -> Result<Span, ClaimFault>
         requires once { answer self.old ≡ None }
@@ -28,5 +31,6 @@ pub trait Claimant {
         ensures start { IfOk result (λ span. span.start ≡ start) }
         ensures end { IfOk result (λ span. span.end ≡ start + count) }
         ensures within { IfOk result (λ span. span.end ≤ total self.old) }
-        ensures total { total self.new ≡ total self.old };
+        ensures total { total self.new ≡ total self.old }
+        ensures moves { moves self.old start count result self.new };
 }

@@ -7,7 +7,9 @@ mod claimant;
 mod course;
 mod note;
 mod prove;
+mod store_claimant;
 
 pub use claimant::Claimant;
 pub use note::{ProverNote, ProverOutcome};
 pub use prove::prove_session;
+pub use store_claimant::StoreClaimant;

@@ -1,5 +1,5 @@
 // A prover's session over a link.
-ghost use Rattle.std.specs.Prelude.{◌≡◌, ◌≤◌, ◌+◌, None, true, false, Some, [], length, IfOk, IfErr, OnOk};
+ghost use Rattle.std.specs.Prelude.{◌≡◌, ◌≤◌, ◌+◌, None, true, false, Some, [], length, IfOk, IfErr, OnOk, IsSomeAnd, MatchOption};
 ghost use Rattle.zk_model.specs.Frames as model;
 ghost use Rattle.zk_model.specs.Transcript.{sent_by, wanted_hello};
 ghost use Rattle.zk_model.specs.declared.Side.TheVariants.{Prover, Verifier};
@@ -34,6 +34,8 @@ fn claim_units<C: Claimant>(claimant: &mut C, grant: Grant) -> Result<Span, Clai
     ensures refused { IfErr result (RefusedFor
         (record { asked = C.asked claimant.new; answer = C.answer claimant.new }) grant) }
     ensures told { C.answer claimant.new ≡ Some result }
+    ensures asked { C.asked claimant.new ≡ Some (grant.start, grant.count) }
+    ensures moves { C.moves claimant.old grant.start grant.count result claimant.new }
     ensures within { IfOk result (λ _. grant.start + grant.count ≤ C.total claimant.old) }
 {
     claimant.claim(grant.start, grant.count)
@@ -58,6 +60,9 @@ fn run_session<C: Claimant, L: Link>(
     requires total { C.total claimant.old ≤ job.now.file.params.total }
     requires none { granted.old ≡ None }
     ensures granted { granted.new ≡ granted_of (C.answer claimant.new) }
+    ensures moved { MatchOption (C.answer claimant.new) (claimant.new ≡ claimant.old)
+        (λ answer. IsSomeAnd (C.asked claimant.new)
+        (λ units. C.moves claimant.old units.0 units.1 answer claimant.new)) }
     ensures accepted { OnOk result (IsEnded job.now (record {
       first = line.old;
       claim = record { asked = C.asked claimant.new; answer = C.answer claimant.new };
@@ -101,6 +106,9 @@ pub fn prove_session<C: Claimant, L: Link>(
     requires total { C.total claimant.old ≤ job.now.file.params.total }
     ensures granted { IsGranted job.now
         (record { asked = C.asked claimant.new; answer = C.answer claimant.new }) result.log result.granted }
+    ensures moved { MatchOption (C.answer claimant.new) (claimant.new ≡ claimant.old)
+        (λ answer. IsSomeAnd (C.asked claimant.new)
+        (λ units. C.moves claimant.old units.0 units.1 answer claimant.new)) }
     ensures outcome { IsOutcome job.now
         (record { asked = C.asked claimant.new; answer = C.answer claimant.new }) result.log
         (told_by (snapshot Prover [] (L.state link)) (snapshot Prover result.log (L.state result.link)))

@@ -72,7 +72,8 @@ fn exchange_dealt(
     requires units_most { units ≤ MAX_UNITS }
     ensures held { IfOk result (λ e. (log : List (Side × ℕ)) → IsNoted e log
         → IsSessionOf (ends_from statement.now bits.now
-        (dealt_prover (rehearsed_params kind units) seed.now) (dealt_verifier (rehearsed_params kind units) seed.now))
+        (dealt_prover (rehearsed_params kind units) seed.now)
+        (dealt_verifier (rehearsed_params kind units) seed.now))
         (whole_grant units section) e.verdict log) }
     ensures short { IfOk result IsShortExchange }
     ensures files { IfOk result (λ _. AreRehearsedFiles kind units seed.now) }
@@ -97,9 +98,11 @@ fn rehearse_claim(
     requires at_most { section ≤ MAX_SECTION_LENGTH }
     requires values { AreValues claim.now bits.now }
     ensures done { IfOk result (λ r. (circuit : Circuit) (inputs : List Bool)
-        → IsClaimed circuit inputs bits.now outputs claim.now → IsRehearsalOf circuit inputs kind section seed.now r) }
+        → IsClaimed circuit inputs bits.now outputs claim.now
+        → IsRehearsalOf circuit inputs kind section seed.now r) }
     ensures cause { IfErr result (λ fault. (circuit : Circuit) (inputs : List Bool)
-        → IsClaimed circuit inputs bits.now outputs claim.now → RehearseCause circuit inputs kind section fault) }
+        → IsClaimed circuit inputs bits.now outputs claim.now
+        → RehearseCause circuit inputs kind section fault) }
 {
     bits_solve();
     one_outcome();

@@ -1,5 +1,6 @@
-//! Sessions of either end over links in memory, with peers whose bytes are stated. Each line of standard input is a scenario:
-//! whose session it is, and words `name=value`. The line is written, and after it a line for each session.
+//! Sessions of either end over links in memory, with peers whose bytes are stated, and runs of the program over objects in memory
+//! whose failing calls are stated. Each line of standard input is a scenario: whose session it is, and words `name=value`. The line is
+//! written, and after it a line for each session or run.
 //!
 //! `stdin` has the scenarios and `stdout` what they must write, both by `vectors/session_runs.py`; `data` has the circuits.
 //!
@@ -8,6 +9,8 @@
 //! | `verifier`, `prover` | sessions of this end, whose peer is honest but for what the words say |
 //! | `both` | the same of the one end, and then of the other |
 //! | `rehearsal` | a rehearsal, over files of its own |
+//! | `service` | runs of `serve`, with peers at the door one after the other |
+//! | `run` | a run of the program |
 //!
 //! The honest peer's bytes are those of a session that both ends hold with each other. The seed of all files is 32 bytes 7.
 //!
@@ -30,6 +33,32 @@
 //! bytes, `change=A..B:MASK` changes its byte at this place in the bits of the mask, and `fail=A..B` fails the call of the link of
 //! this number, counted from 1.
 //!
+//! What a run of the program is given; `x.prover` and `x.verifier` are the dealt files, the circuit stands under its name, and the disk
+//! has the verifier's journal, of which it tells nothing:
+//!
+//! | Word | What it says | Else |
+//! |---|---|---|
+//! | `words=WORD,WORD..` | its words; `BITS` stands for the bits of the circuit's inputs | of a service those of the scenario |
+//! | `tail=TEXT` | text behind the circuit's, in which `_` is a space | none |
+//! | `size=N` | the size up to which line feeds follow the circuit's text | its own |
+//! | `ceilings=N` | the ceilings up to this one stand in the journal | none |
+//! | `journal-size=N` | how many bytes the journal has | its own |
+//! | `journal-set=PLACE:BYTE` | one byte of the journal that is another | none |
+//! | `shelf-fails=N`, `sink-fails=N`, `door-fails=N`, `disk-fails=N` | the number of the call that fails, counted from 1 | none |
+//! | `show=NAME,NAME..` | the files of which the line says how many bytes stand there, and SHA-256 of them; `disk` for the disk | none |
+//!
+//! What a service is asked for, and who calls. Each peer is honest over the units after those of the peer before, the first from
+//! `start` on; the words of the peer's bytes and of its link are about one of them:
+//!
+//! | Word | What it says | Else |
+//! |---|---|---|
+//! | `sessions=N`, `workers=W`, `logs=PREFIX` | the values of these options | 1, none, none |
+//! | `peers=N` | how many peers call | 1 |
+//! | `peer=N` | the number of the peer that the words are about, counted from 0 | 0 |
+//!
+//! A line of a run has its number, where there is a range; the status; what is written; what is handed back, with the outcome, the units
+//! and the log of each session; and the files that are shown.
+//!
 //! A line of a session has its number, where there is a range; how it ended; what was asked of who has the units (how many, and
 //! at the prover from which one on); which ones were had; how many bytes each side sent in a row in the log, `p` the prover and
 //! `v` the verifier; how many bytes these are, and SHA-256 of them, one after the other; how many sends and receives the link had,
@@ -37,6 +66,7 @@
 #![tactic(auto)]
 
 mod piece_link;
+mod runs;
 mod say;
 mod scenario;
 mod scene;
@@ -49,15 +79,20 @@ use scenario::read_scenario;
 use sessions::text_lines;
 use std::alloc::Global;
 use std::rt::Files;
+use std::sync::Wait;
+use std::thread::Threads;
 use zk_model::FILE_LIMIT;
 use zk_port::Shelf;
 
 /// The lines of one line's scenario.
-fn scenario_lines<R: Files + AllocGlobal>(rt: &R, alloc: Global, line: &str) -> Result<String> {
+fn scenario_lines<R>(rt: &R, alloc: Global, line: &str) -> Result<String>
+where
+    R: Files + AllocGlobal + Threads + Wait + Sync,
+{
     let scenario = read_scenario(line)?;
     let mut shelf = FileShelf::new(rt);
     let text = shelf.load(alloc, scenario.circuit, FILE_LIMIT)?;
-    text_lines(alloc, &scenario, &text)
+    text_lines(rt, alloc, &scenario, text)
 }
 
 fn main(rt: HostRuntime) -> Result<()> {

@@ -1,8 +1,9 @@
 // A link whose peer's bytes come in pieces, and which counts its calls.
 ghost use Rattle.std.specs.Prelude.{◌≡◌, ◌≤◌, true};
 
+use memory_ports::{FailAt, ScriptedLink};
 use std::alloc::Global;
-use zk_port::{FailAt, Link, PortFault, ScriptedLink};
+use zk_port::{Link, PortFault};
 
 /// A link in memory whose peer sends these bytes and ends; a receive takes at most so many, and the call of this number fails.
 #[derive(Drop)]

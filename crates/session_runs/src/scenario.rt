@@ -10,6 +10,10 @@ pub enum End {
     Both,
     /// A rehearsal of both.
     Rehearsal,
+    /// A run of the program that serves a verifier's session.
+    Service,
+    /// A run of the program of any words.
+    Run,
 }
 
 /// What files are dealt for.
@@ -53,6 +57,42 @@ pub struct Peer<'a> {
     pub set: Option<(u64, u8)>,
 }
 
+/// The verifier's journal: ceilings up to this one stand in it; how many bytes it has, where these are not all; and one byte in place
+/// of another.
+#[derive(Clone, Copy)]
+pub struct Journaled {
+    pub ceilings: u64,
+    pub size: Option<usize>,
+    pub set: Option<(u64, u8)>,
+}
+
+/// What a run of the program is given: the words; text that stands behind the circuit's, and the size up to which line feeds follow it;
+/// the journal; the numbers of the calls of the shelf, the sink, the door and the disk that fail, counted from 1, or 0; and the names of
+/// the files that the line says something of.
+#[derive(Clone, Copy)]
+pub struct Outside<'a> {
+    pub words: &'a str,
+    pub tail: &'a str,
+    pub size: usize,
+    pub journal: Journaled,
+    pub shelf_fails: u64,
+    pub sink_fails: u64,
+    pub door_fails: u64,
+    pub disk_fails: u64,
+    pub show: &'a str,
+}
+
+/// What a service is asked for: the words of its options, which are not among its words where they are empty; how many peers call, and
+/// the number of the one whose bytes and link are stated, counted from 0.
+#[derive(Clone, Copy)]
+pub struct Service<'a> {
+    pub sessions: &'a str,
+    pub workers: &'a str,
+    pub logs: &'a str,
+    pub peers: u64,
+    pub peer: u64,
+}
+
 /// A line's scenario.
 #[derive(Clone, Copy)]
 pub struct Scenario<'a> {
@@ -69,6 +109,8 @@ pub struct Scenario<'a> {
     pub piece: u64,
     pub sweep: Sweep,
     pub numbers: Numbers,
+    pub outside: Outside<'a>,
+    pub service: Service<'a>,
 }
 
 /// The scenario of a line without words.
@@ -91,6 +133,28 @@ fn plain(end: End) -> Scenario<'static> {
         piece: 4096,
         sweep: Sweep::Nothing,
         numbers: Numbers { from: 0, to: 1 },
+        outside: Outside {
+            words: "",
+            tail: "",
+            size: 0,
+            journal: Journaled {
+                ceilings: 0,
+                size: None,
+                set: None,
+            },
+            shelf_fails: 0,
+            sink_fails: 0,
+            door_fails: 0,
+            disk_fails: 0,
+            show: "",
+        },
+        service: Service {
+            sessions: "1",
+            workers: "",
+            logs: "",
+            peers: 1,
+            peer: 0,
+        },
     }
 }
 
@@ -100,6 +164,8 @@ fn read_end(word: &str) -> Result<End> {
         "prover" => Ok(End::Prover),
         "both" => Ok(End::Both),
         "rehearsal" => Ok(End::Rehearsal),
+        "service" => Ok(End::Service),
+        "run" => Ok(End::Run),
         _ => Err(Error::msg("no end of a session")),
     }
 }
@@ -148,10 +214,48 @@ fn read_numbers(text: &str) -> Result<Numbers> {
     })
 }
 
+/// A place and a byte, as `7:255`.
+fn read_set(text: &str) -> Result<(u64, u8)> {
+    let (place, byte) = halves(text, ":")?;
+    Ok((place.parse::<u64>()?, byte.parse::<u8>()?))
+}
+
 /// Has each number of a range change something.
 fn set_sweep(scenario: &mut Scenario<'_>, sweep: Sweep, numbers: &str) -> Result<()> {
     scenario.sweep = sweep;
     scenario.numbers = read_numbers(numbers)?;
+    Ok(())
+}
+
+/// Sets what a word names, of what a run of the program is given.
+fn set_outside<'a>(outside: &mut Outside<'a>, name: &str, value: &'a str) -> Result<()> {
+    match name {
+        "words" => outside.words = value,
+        "tail" => outside.tail = value,
+        "size" => outside.size = value.parse::<usize>()?,
+        "shelf-fails" => outside.shelf_fails = value.parse::<u64>()?,
+        "sink-fails" => outside.sink_fails = value.parse::<u64>()?,
+        "door-fails" => outside.door_fails = value.parse::<u64>()?,
+        "disk-fails" => outside.disk_fails = value.parse::<u64>()?,
+        "ceilings" => outside.journal.ceilings = value.parse::<u64>()?,
+        "journal-size" => outside.journal.size = Some(value.parse::<usize>()?),
+        "journal-set" => outside.journal.set = Some(read_set(value)?),
+        "show" => outside.show = value,
+        _ => return Err(Error::msg("no such word")),
+    }
+    Ok(())
+}
+
+/// Sets what a word names, of a service or of what a run of the program is given.
+fn set_service<'a>(scenario: &mut Scenario<'a>, name: &str, value: &'a str) -> Result<()> {
+    match name {
+        "sessions" => scenario.service.sessions = value,
+        "workers" => scenario.service.workers = value,
+        "logs" => scenario.service.logs = value,
+        "peers" => scenario.service.peers = value.parse::<u64>()?,
+        "peer" => scenario.service.peer = value.parse::<u64>()?,
+        _ => set_outside(&mut scenario.outside, name, value)?,
+    }
     Ok(())
 }
 
@@ -160,10 +264,7 @@ fn set_peer<'a>(scenario: &mut Scenario<'a>, name: &str, value: &'a str) -> Resu
     match name {
         "keep" => scenario.peer.keep = Some(value.parse::<u64>()?),
         "more" => scenario.peer.more = value,
-        "set" => {
-            let (place, byte) = halves(value, ":")?;
-            scenario.peer.set = Some((place.parse::<u64>()?, byte.parse::<u8>()?));
-        }
+        "set" => scenario.peer.set = Some(read_set(value)?),
         "pieces" => scenario.piece = value.parse::<u64>()?,
         "cut" => set_sweep(scenario, Sweep::Cut, value)?,
         "change" => {
@@ -172,7 +273,7 @@ fn set_peer<'a>(scenario: &mut Scenario<'a>, name: &str, value: &'a str) -> Resu
             set_sweep(scenario, Sweep::Change { mask }, numbers)?;
         }
         "fail" => set_sweep(scenario, Sweep::Fail, value)?,
-        _ => return Err(Error::msg("no such word")),
+        _ => set_service(scenario, name, value)?,
     }
     Ok(())
 }

@@ -4,6 +4,7 @@ ghost use Rattle.zk_model.specs.Bytes.{AreBytes};
 ghost use Rattle.zk_model.specs.declared.limits.TheConstants.{MAX_SECTION_LENGTH};
 
 use crate::piece_link::PieceLink;
+use crate::runs::{given_of, run_line, words_line};
 use crate::say::{link_words, log_words, prover_words, span_words, verdict_words, verifier_words};
 use crate::scenario::{End, Numbers, Scenario, Sweep};
 use crate::scene::{claimed_outputs, input_bits, params_of, wires_of};
@@ -11,27 +12,31 @@ use crate::units::{AskedUnits, NextUnits, claim_fault, lease_fault};
 use anyhow::{Error, Result};
 use bristol_reader::{Circuit, read};
 use claim_store::ClaimFault;
+use command_words::write_bits;
 use dealer_files::deal;
 use frame_link::Log;
 use lease_store::LeaseFault;
+use memory_ports::FailAt;
 use session_core::{CircuitClaim, ProverJob, TooLarge, VerifierJob};
 use session_prover::{ProverNote, prove_session};
 use session_rehearsal::rehearse;
 use session_verifier::{SessionNote, verify_session};
 use sha2::{Digest, Sha256};
 use std::alloc::{AllocError, Global};
+use std::sync::Wait;
+use std::thread::Threads;
 use zk_model::{MAX_SECTION_LENGTH, Side};
-use zk_port::{FailAt, Link, QuietGate};
+use zk_port::{Link, QuietGate};
 
 /// The seed of all files.
-const SEED: [u8; 32] = [7; 32];
+pub const SEED: [u8; 32] = [7; 32];
 
 /// The peer's bytes of one session, the number of the call of the link that fails, or 0, and the session's name.
 #[derive(Drop)]
-struct Case {
-    name: String,
-    script: Vec<u8>,
-    call: u64,
+pub struct Case {
+    pub name: String,
+    pub script: Vec<u8>,
+    pub call: u64,
 }
 
 /// What each end sends in a session that both hold with each other.
@@ -261,18 +266,110 @@ fn prover_lines(
     Ok(lines)
 }
 
-/// The lines of a scenario of these ends.
-fn lines_of(
+/// Adds an option to the words, where its value is not empty.
+fn push_option(alloc: Global, words: &mut Vec<String>, name: &str, value: &str) -> Result<()> {
+    if !value.is_empty() {
+        words.push(String::from_str(alloc, name)?)?;
+        words.push(String::from_str(alloc, value)?)?;
+    }
+    Ok(())
+}
+
+/// The words of a service about these outputs.
+fn service_words(alloc: Global, scenario: &Scenario<'_>, outputs: &[bool]) -> Result<Vec<String>> {
+    let outputs = write_bits(alloc, outputs)?;
+    let (circuit, section) = (scenario.circuit, scenario.section);
+    let line = format!(in alloc; "serve,here,x.verifier,{circuit},{outputs},--section,{section}")?;
+    let mut words = Vec::new(alloc);
+    for word in line.split(',') {
+        words.push(String::from_str(alloc, word)?)?;
+    }
+    push_option(alloc, &mut words, "--sessions", scenario.service.sessions)?;
+    push_option(alloc, &mut words, "--workers", scenario.service.workers)?;
+    push_option(alloc, &mut words, "--logs", scenario.service.logs)?;
+    Ok(words)
+}
+
+/// The peers that call at a service: the one of the stated number does what is stated, and the others are honest.
+fn peers_of(
+    alloc: Global,
+    scenario: &Scenario<'_>,
+    honest: &[Vec<u8>],
+    stated: &Case,
+) -> Result<Vec<Case>> {
+    let mut peers = Vec::new(alloc);
+    for (number, script) in honest.iter().enumerate() {
+        let is_stated = number as u64 == scenario.service.peer;
+        let script = if is_stated { &stated.script } else { script };
+        peers.push(Case {
+            name: String::new(alloc),
+            script: script.to_vec(alloc)?,
+            call: if is_stated { stated.call } else { 0 },
+        })?;
+    }
+    Ok(peers)
+}
+
+/// The lines of runs of the program that serve a claim, with these peers at the door: for each its honest bytes.
+fn service_lines<R: Threads + Wait + Sync>(
+    rt: &R,
+    alloc: Global,
+    scenario: &Scenario<'_>,
+    text: &[u8],
+    outputs: &[bool],
+    honest: &[Vec<u8>],
+) -> Result<String> {
+    let words = service_words(alloc, scenario, outputs)?;
+    let script = match honest.get(scenario.service.peer as usize) {
+        Some(script) => script.as_slice(),
+        None => &[],
+    };
+    let mut lines = String::new(alloc);
+    for case in cases_of(alloc, scenario, script)? {
+        let given = given_of(alloc, scenario, text.to_vec(alloc)?)?;
+        let peers = peers_of(alloc, scenario, honest, &case)?;
+        lines.push_str(&case.name)?;
+        lines.push_str(&run_line(rt, alloc, &scenario.outside, given, peers, &words)?)?;
+    }
+    Ok(lines)
+}
+
+/// What the honest peers of a service send: the first over the first unit that is stated, and each over the units after.
+fn honest_peers(
     alloc: Global,
     scenario: &Scenario<'_>,
     prover: &ProverJob<'_>,
     verifier: &VerifierJob<'_>,
+) -> Result<Vec<Vec<u8>>> {
+    let mut honest = Vec::new(alloc);
+    let mut start = scenario.start;
+    for _ in 0..scenario.service.peers {
+        let sent = hold_dialogue(alloc, start, prover, verifier)?;
+        honest.push(sent.prover)?;
+        start = start.saturating_add(u64::from(verifier.units()));
+    }
+    Ok(honest)
+}
+
+/// The lines of a scenario of these ends.
+fn lines_of<R: Threads + Wait + Sync>(
+    rt: &R,
+    alloc: Global,
+    scenario: &Scenario<'_>,
+    text: &[u8],
+    outputs: &[bool],
+    prover: &ProverJob<'_>,
+    verifier: &VerifierJob<'_>,
 ) -> Result<String> {
+    if scenario.end == End::Service {
+        let honest = honest_peers(alloc, scenario, prover, verifier)?;
+        return service_lines(rt, alloc, scenario, text, outputs, &honest);
+    }
     let sent = hold_dialogue(alloc, scenario.start, prover, verifier)?;
     match scenario.end {
         End::Verifier => verifier_lines(alloc, scenario, verifier, &sent.prover),
         End::Prover => prover_lines(alloc, scenario, prover, &sent.verifier),
-        End::Both | End::Rehearsal => {
+        _ => {
             let mut lines = verifier_lines(alloc, scenario, verifier, &sent.prover)?;
             lines.push_str(&prover_lines(alloc, scenario, prover, &sent.verifier)?)?;
             Ok(lines)
@@ -293,9 +390,11 @@ fn section_of(scenario: &Scenario<'_>) -> Result<u32>
 }
 
 /// The lines of a scenario about this circuit, of whose text this is the digest.
-fn circuit_lines(
+fn circuit_lines<R: Threads + Wait + Sync>(
+    rt: &R,
     alloc: Global,
     scenario: &Scenario<'_>,
+    text: &[u8],
     circuit: &Circuit,
     digest: [u8; 32],
 ) -> Result<String>
@@ -310,7 +409,7 @@ fn circuit_lines(
     let prover = ProverJob::new(&statement, &prover_file, &wires);
     let section = section_of(scenario)?;
     match VerifierJob::fit(&statement, &verifier_file, section) {
-        Ok(verifier) => lines_of(alloc, scenario, &prover, &verifier),
+        Ok(verifier) => lines_of(rt, alloc, scenario, text, &outputs, &prover, &verifier),
         // There is no such session, and no honest peer.
         Err(TooLarge { need, units }) => match scenario.end {
             End::Prover => prover_lines(alloc, scenario, &prover, &[]),
@@ -331,11 +430,27 @@ fn rehearsal_line(alloc: Global, scenario: &Scenario<'_>, circuit: Circuit) -> R
     Ok(format!(in alloc; "{words} units={units} {log}\n")?)
 }
 
+/// The digest of a circuit's text.
+fn digest_of(text: &[u8]) -> [u8; 32]
+    ensures { AreBytes 32 result }
+{
+    Sha256::digest(text)
+}
+
 /// The lines of a scenario about the circuit of this text.
-pub fn text_lines(alloc: Global, scenario: &Scenario<'_>, text: &[u8]) -> Result<String> {
-    let circuit = read(alloc, text)?;
+pub fn text_lines<R: Threads + Wait + Sync>(
+    rt: &R,
+    alloc: Global,
+    scenario: &Scenario<'_>,
+    text: Vec<u8>,
+) -> Result<String> {
+    if scenario.end == End::Run {
+        return words_line(rt, alloc, scenario, text);
+    }
+    let circuit = read(alloc, &text)?;
     if scenario.end == End::Rehearsal {
         return rehearsal_line(alloc, scenario, circuit);
     }
-    circuit_lines(alloc, scenario, &circuit, Sha256::digest(text))
+    let digest = digest_of(&text);
+    circuit_lines(rt, alloc, scenario, &text, &circuit, digest)
 }

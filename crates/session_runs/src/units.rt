@@ -2,9 +2,8 @@
 use crate::scenario::Refusal;
 use anyhow::{Error, Result};
 use claim_store::ClaimFault;
-use lease_store::LeaseFault;
+use lease_store::{Grantor, LeaseFault};
 use session_prover::Claimant;
-use session_verifier::Grantor;
 use zk_model::Span;
 
 /// Leases units from this one on, or answers by a fault.
@@ -23,6 +22,10 @@ impl Grantor for NextUnits {
     ghost asked = { λ g. g.asked };
 
     ghost total = { λ g. g.total };
+
+    ghost may = { λ g count. Unit {0} };
+
+    ghost moves = { λ g count answer h. Unit {0} };
 
     fn grant(&mut self, count: u32) -> Result<Span, LeaseFault> {
         let at = self.start;
@@ -53,6 +56,8 @@ impl Claimant for AskedUnits {
     ghost answer = { λ c. c.answer };
 
     ghost total = { λ c. c.total };
+
+    ghost moves = { λ c start count answer d. Unit {0} };
 
     fn claim(&mut self, start: u64, count: u32) -> Result<Span, ClaimFault> {
         let answer = match (self.fault, start.checked_add(u64::from(count))) {

@@ -32,7 +32,8 @@ use Rattle.frame_link.specs.Lines.{LinkSnapshot, IsCutShort}
 use Rattle.session_verifier.proofs.StageLemmas.{sent_answered}
 use Rattle.session_verifier.specs.Outcomes.{lease_outcome, lease_code, judgement_outcome}
 use Rattle.session_verifier.specs.Stages.{StopCause, StartsAt, IsStopped, StopsBehind, IsSent, IsFault, SendsUpTo, IsNoLink, CountsOutcome, IsLogAt, IsWholeHello, IsRefusalTried, IsRefusalSent, IsRefusalUnsent, IsRefusedGrant, IsGrantUnsent, LacksTheGrant, RefusesHello, IsWaiting, IsJudgedLog, IsCourse, first_turn, second_turn}
-use Rattle.session_verifier.specs.Notes.{granted_by, IsJudgedSession, JudgesRightly, IsShown, HasJudged, LacksMemory, RefusesNoLease, EndsBecause, LeasesBehindHello, Refuses, CountsFaults, ReceivesFew}
+use Rattle.session_pool.specs.Notes.{granted_by}
+use Rattle.session_verifier.specs.Notes.{IsJudgedSession, JudgesRightly, IsShown, HasJudged, LacksMemory, RefusesNoLease, EndsBecause, LeasesBehindHello, Refuses, CountsFaults, ReceivesFew}
 use Rattle.session_verifier.specs.declared.note.VerifierOutcome.{VerifierOutcome}
 use Rattle.session_verifier.specs.declared.note.VerifierOutcome.TheVariants.{Accepted, RejectedSum, RejectedOpening, PeerEnded, BadFrame, BadHello, Exhausted, Device, Broken, Link, NoMemory}
 
@@ -51,6 +52,13 @@ pub granted_is : (job : VerifierJob) (answer : Option (Result Span LeaseFault)) 
 granted_is job None granted outcome first now course = course.0
 granted_is job (Some (Err fault)) granted outcome first now course = course.0
 granted_is job (Some (Ok span)) granted outcome first now course = course.0
+
+-- a lease that was refused is the outcome
+pub answers_lease : (job : VerifierJob) (answer : Option (Result Span LeaseFault)) (granted : Option Span) (outcome : VerifierOutcome) (first now : LinkSnapshot)
+    → IsCourse job answer granted outcome first now → (fault : LeaseFault) → answer ≡ Some (Err fault) → outcome ≡ lease_outcome fault
+answers_lease job None granted outcome first now course fault same = cc
+answers_lease job (Some (Err refused)) granted outcome first now course fault same = course.1.named ∙ ap lease_outcome (cc)
+answers_lease job (Some (Ok span)) granted outcome first now course fault same = cc
 
 -- ---- which outcomes are judgements
 

@@ -7,3 +7,4 @@ pub mod HonestLemmas
 pub mod RelatedLemmas
 pub mod ToldLemmas
 pub mod ShownLemmas
+pub mod LeaseLemmas

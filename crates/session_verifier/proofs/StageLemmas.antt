@@ -8,7 +8,7 @@ use Rattle.std.specs.List.{enumerate_from}
 use Rattle.std.proofs.lemmas.List.Elements.{All-nil, All-push, All-from_recursion}
 use Rattle.zk_model.specs.Program.{section_count}
 use Rattle.zk_model.specs.Transcript.{Hello, TreeAsk, IsHello, wanted_hello, hello_frame, grant_frame, ask_frame, reply_frame, corrections_frame, challenge_frame, sums_frame, openings_frame, verdict_frame, refuse_frame, bytes_from, turn_bytes, sent_by}
-use Rattle.zk_model.specs.Frames.{Frame, hello, grant, asks, replies, corrections, challenge, sums, openings, verdict, refuse, frame_spelling, Allows, AreAsks, AreElements, AreSums, IsWhole}
+use Rattle.zk_model.specs.Frames.{Frame, hello, asks, replies, corrections, challenge, sums, openings, verdict, frame_spelling, Allows, AreAsks, AreElements, AreSums, IsWhole}
 use Rattle.zk_model.specs.Files.{rounds_of}
 use Rattle.zk_model.specs.Replies.{unit_reply}
 use Rattle.zk_model.specs.View.{verdict_code, verdict_number}

@@ -1,4 +1,5 @@
 pub mod Outcomes
 pub mod Stages
 pub mod Notes
+pub mod Sessions
 pub mod Laws

@@ -25,17 +25,11 @@ use Rattle.session_core.specs.Judgements.{IsJudgement, verdict_in}
 use Rattle.session_core.specs.Cores.{VerifierStage, awaits_hello, has_judged}
 use Rattle.session_core.specs.declared.judgement.Judgement.{Judgement}
 use Rattle.session_core.specs.declared.judgement.Judgement.TheVariants as judged
-use Rattle.session_verifier.specs.Outcomes.{judgement_outcome}
+use Rattle.session_verifier.specs.Outcomes.{lease_outcome, judgement_outcome}
 use Rattle.session_verifier.specs.Stages.{IsStopped, IsRefusalTried, IsRefusedGrant, IsGrantUnsent, IsWaiting, IsWholeHello}
 use Rattle.session_verifier.specs.declared.note.VerifierOutcome.{VerifierOutcome}
 use Rattle.session_verifier.specs.declared.note.VerifierOutcome.TheVariants.{Accepted, RejectedSum, RejectedOpening, PeerEnded, BadFrame, BadHello, Exhausted, Device, Broken, Link, NoMemory}
 use Rattle.zk_model.specs.declared.limits.TheConstants.{HELLO_LENGTH}
-
--- the units that were leased, if any were
-abbrev pub granted_by : Option (Result Span LeaseFault) → Option Span
-granted_by None = None
-granted_by (Some (Ok span)) = Some span
-granted_by (Some (Err fault)) = None
 
 -- A whole session, with a grant of the units that were leased, that the verifier serves: it is in order, the challenge is its
 -- coin, and its verdict, which was sent, is that of its checks, with both sides of the equation that fails.
@@ -173,6 +167,10 @@ pub record LacksMemory (job : VerifierJob) (first now : LinkSnapshot) : Type 0 w
 -- no lease was refused
 abbrev pub RefusesNoLease : Option (Result Span LeaseFault) → Type 0
 RefusesNoLease answer = (fault : LeaseFault) → ¬ (answer ≡ Some (Err fault))
+
+-- a lease that was refused is the outcome
+abbrev pub AnswersLease : Option (Result Span LeaseFault) → VerifierOutcome → Type 0
+AnswersLease answer outcome = (fault : LeaseFault) → answer ≡ Some (Err fault) → outcome ≡ lease_outcome fault
 
 -- Why a session ended so: what was judged; what came; what the one who leases units answered, and the refusal that was sent; the
 -- link failed, in a receive or in the send of an answer; or memory was missing. Where a lease was refused, it is the cause, and no

@@ -1,5 +1,5 @@
 -- How a session ended for the verifier, as faults and judgements say it, and the codes of its refusals.
-use Rattle.std.specs.Prelude.{ℕ}
+use Rattle.std.specs.Prelude.{ℕ, Option, Some, None}
 use Rattle.frame_link.specs.declared.fault.LineFault.{LineFault}
 use Rattle.frame_link.specs.declared.fault.LineFault.TheVariants as line
 use Rattle.lease_store.specs.declared.LeaseFault.{LeaseFault}
@@ -16,6 +16,13 @@ abbrev pub lease_outcome : LeaseFault → VerifierOutcome
 lease_outcome (lease.Exhausted at count total) = Exhausted at count total
 lease_outcome lease.Device = Device
 lease_outcome (lease.Broken first) = Broken first
+
+-- the fault of the lease by which a session ended, if it ended so
+abbrev pub lease_fault : VerifierOutcome → Option LeaseFault
+lease_fault (Exhausted at count total) = Some (lease.Exhausted at count total)
+lease_fault Device = Some lease.Device
+lease_fault (Broken first) = Some (lease.Broken first)
+lease_fault outcome = None
 
 -- of a frame that did not pass
 abbrev pub line_outcome : LineFault → VerifierOutcome

@@ -1,5 +1,5 @@
 -- How far a session is at the verifier: which frames are logged where it waits, and why it stops there.
-use Rattle.std.specs.Prelude.{◌≡◌, ◌⊎◌, ℕ, ◌+◌, ◌*◌, ◌^◌, ◌≤◌, ◌<◌, List, [], ◌∷◌, ◌++◌, flat_map, take, length, true, Option, Some, None, IfSome, Result, Ok, Err}
+use Rattle.std.specs.Prelude.{◌≡◌, ◌⊎◌, ℕ, ◌+◌, ◌*◌, ◌≤◌, ◌<◌, List, [], ◌∷◌, ◌++◌, flat_map, take, length, true, Option, Some, None, IfSome, Result, Ok, Err}
 use Rattle.zk_model.specs.Program.{section_count}
 use Rattle.zk_model.specs.Files.{IsVerifierFile, rounds_of}
 use Rattle.zk_model.specs.Transcript.{Hello, TreeAsk, Round, IsHello, wanted_hello, hello_frame, grant_frame, ask_frame, corrections_frame, challenge_frame, sums_frame, refuse_frame, bytes_from, turn_bytes, sent_by, spelling}

@@ -3,13 +3,13 @@
 #![tactic(auto)]
 
 mod course;
-mod grantor;
 mod laws;
 mod note;
 mod serve;
+mod verification;
 mod verify;
 
-pub use grantor::Grantor;
 pub use laws::{shown_is_accepted, shown_is_found, shown_solves};
 pub use note::{SessionNote, VerifierOutcome};
+pub use verification::Verification;
 pub use verify::verify_session;

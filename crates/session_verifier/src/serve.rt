@@ -1,5 +1,5 @@
 // A verifier's session over a line.
-ghost use Rattle.std.specs.Prelude.{◌≡◌, ◌+◌, ◌≤◌, None, Some, IfSome, IfOk, IfErr};
+ghost use Rattle.std.specs.Prelude.{◌≡◌, ◌+◌, ◌≤◌, None, Some, IfSome, IfOk, IfErr, MatchOption};
 ghost use Rattle.frame_link.specs.Lines.{LineState, snapshot_of};
 ghost use Rattle.session_core.specs.Jobs.{units_of_job};
 ghost use Rattle.session_core.specs.Cores.{awaits_hello, owes_grant, behind_grant, awaits_corrections, has_judged};
@@ -7,10 +7,9 @@ ghost use Rattle.session_verifier.specs.Outcomes.{lease_code};
 ghost use Rattle.session_verifier.specs.Stages.{asks_due, IsHeldJob, IsLineAt, IsUsable, IsCourse, IsGranted, StopsBehind};
 
 use crate::course::{give_grant, judge, meet, refuse, take_asks};
-use crate::grantor::Grantor;
 use crate::note::VerifierOutcome;
 use frame_link::Line;
-use lease_store::LeaseFault;
+use lease_store::{Grantor, LeaseFault};
 use session_core::{Judgement, VerifierCore, VerifierJob};
 use std::alloc::Global;
 use zk_model::{Kind, Span};
@@ -105,9 +104,12 @@ pub(crate) fn serve<L: Link, R: Grantor, G: Gate>(
 ) -> Course
     requires once { R.answer grantor.old ≡ None }
     requires total { R.total grantor.old ≤ job.now.task.file.params.total }
+    requires may { R.may grantor.old (units_of_job job.now) }
     requires at { (first : LineState) × IsLineAt job.now awaits_hello first line.old }
     ensures total_kept { R.total grantor.new ≡ R.total grantor.old }
     ensures asked { IfSome (R.answer grantor.new) (λ _. R.asked grantor.new ≡ Some (units_of_job job.now)) }
+    ensures moved { MatchOption (R.answer grantor.new) (grantor.new ≡ grantor.old)
+        (λ answer. R.moves grantor.old (units_of_job job.now) answer grantor.new) }
     ensures course { (first : LineState) → IsLineAt job.now awaits_hello first line.old
         → IsCourse job.now (R.answer grantor.new) result.granted result.outcome
         (snapshot_of first) (snapshot_of line.new) }

@@ -1,16 +1,17 @@
 // A verifier's session over a link.
-ghost use Rattle.std.specs.Prelude.{◌≡◌, ◌≤◌, None, Some, [], false, IfSome, IsTrue};
+ghost use Rattle.std.specs.Prelude.{◌≡◌, ◌≤◌, None, Some, [], false, IfSome, IsTrue, MatchOption};
 ghost use Rattle.zk_model.specs.declared.Side.TheVariants.{Verifier};
 ghost use Rattle.frame_link.specs.Lines.{snapshot};
 ghost use Rattle.session_core.specs.Jobs.{units_of_job};
 ghost use Rattle.session_verifier.specs.Stages.{IsCourse};
-ghost use Rattle.session_verifier.specs.Notes.{granted_by, JudgesRightly, AcceptsExactly, IsShown, SendsRightly, KeepsKeys, EndsBecause, LeasesBehindHello, IsTold, CountsFaults, ReceivesFew, Completes};
+ghost use Rattle.session_pool.specs.Notes.{granted_by};
+ghost use Rattle.session_verifier.specs.Notes.{AnswersLease, JudgesRightly, AcceptsExactly, IsShown, SendsRightly, KeepsKeys, EndsBecause, LeasesBehindHello, IsTold, CountsFaults, ReceivesFew, Completes};
 ghost use Rattle.session_verifier.specs.declared.note.VerifierOutcome.TheVariants.{Accepted};
 
-use crate::grantor::Grantor;
 use crate::note::SessionNote;
 use crate::serve::serve;
 use frame_link::Line;
+use lease_store::Grantor;
 use proof_frames::laws::none_begins_another;
 use session_core::VerifierJob;
 use session_laws::{
@@ -33,8 +34,11 @@ fn verify_over_link<L: Link, R: Grantor, G: Gate>(
     requires open { IsTrue (L.state link).is_open }
     requires once { R.answer grantor.old ≡ None }
     requires total { R.total grantor.old ≤ job.now.task.file.params.total }
+    requires may { R.may grantor.old (units_of_job job.now) }
     ensures total_kept { R.total grantor.new ≡ R.total grantor.old }
     ensures asked { IfSome (R.answer grantor.new) (λ _. R.asked grantor.new ≡ Some (units_of_job job.now)) }
+    ensures moved { MatchOption (R.answer grantor.new) (grantor.new ≡ grantor.old)
+        (λ answer. R.moves grantor.old (units_of_job job.now) answer grantor.new) }
     ensures course { IsCourse job.now (R.answer grantor.new) result.granted result.outcome
         (snapshot Verifier [] (L.state link)) (snapshot Verifier result.log (L.state result.link)) }
     ensures ended { (L.state result.link).is_open ≡ false }
@@ -66,9 +70,13 @@ pub fn verify_session<L: Link, R: Grantor, G: Gate>(
     requires open { IsTrue (L.state link).is_open }
     requires once { R.answer grantor.old ≡ None }
     requires total { R.total grantor.old ≤ job.now.task.file.params.total }
+    requires may { R.may grantor.old (units_of_job job.now) }
     ensures total_kept { R.total grantor.new ≡ R.total grantor.old }
     ensures asked { IfSome (R.answer grantor.new) (λ _. R.asked grantor.new ≡ Some (units_of_job job.now)) }
+    ensures moved { MatchOption (R.answer grantor.new) (grantor.new ≡ grantor.old)
+        (λ answer. R.moves grantor.old (units_of_job job.now) answer grantor.new) }
     ensures granted { result.granted ≡ granted_by (R.answer grantor.new) }
+    ensures refused { AnswersLease (R.answer grantor.new) result.outcome }
     ensures verdict { JudgesRightly job.now result.granted result.outcome result.log }
     ensures accepted { AcceptsExactly job.now result.outcome result.log }
     ensures shown { result.outcome ≡ Accepted → IsShown job.now result.granted result.log }

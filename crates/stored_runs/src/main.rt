@@ -1,17 +1,16 @@
 //! Runs of the program over the examples: each line of standard input is a command line, its words apart by single
-//! spaces, and after the lines of each run comes the status that it ends with. The seed is 32 bytes 7.
+//! spaces, and after the lines of each run comes the status that it ends with. The seed is 32 bytes 7. Files and journals are those
+//! of the folder in which it runs, and nobody calls at the door.
 //!
 //! `stdin` has the command lines and `stdout` what they must print, both by `vectors/stored_runs.py`; `data` has the circuits.
 #![tactic(auto)]
 
-use port_os::{FileShelf, OutputSink};
+use memory_ports::{MemoryDoor, NoFault, ScriptedLink};
+use port_os::{FileDisk, FileShelf, OutputSink};
 use std::alloc::Global;
 use std::io;
-use std::rt::Files;
-use std::sync::Wait;
-use std::thread::Threads;
 use zk_cli::run_zk;
-use zk_port::{ClosedDisk, MemoryDoor, NoFault, QuietGate, ScriptedLink};
+use zk_port::QuietGate;
 
 /// The words of a line.
 fn words_of(alloc: Global, line: &str) -> io::Result<Vec<String>> {
@@ -22,33 +21,25 @@ fn words_of(alloc: Global, line: &str) -> io::Result<Vec<String>> {
     Ok(words)
 }
 
-/// Runs the words, and answers the status.
-fn run_words<R>(rt: &R, alloc: Global, words: &[String]) -> u8
-where
-    R: Threads + Wait + Files + Print + AllocGlobal,
-{
-    let mut shelf = FileShelf::new(rt);
-    let mut out = OutputSink::new(rt);
-    let door: MemoryDoor<ScriptedLink<NoFault>, NoFault> = MemoryDoor::new(alloc, NoFault);
-    let finish = run_zk(
-        rt,
-        alloc,
-        words,
-        &mut shelf,
-        ClosedDisk::new(),
-        door,
-        &QuietGate,
-        &[7; 32],
-        &mut out,
-    );
-    finish.status
-}
-
 fn main(rt: HostRuntime) -> io::Result<()> {
     let alloc: Global = rt.alloc();
     for line in rt.lines(alloc) {
         let words = words_of(alloc, line?.as_str())?;
-        let status = run_words(&rt, alloc, &words);
+        let mut shelf = FileShelf::new(&rt);
+        let mut out = OutputSink::new(&rt);
+        let door: MemoryDoor<ScriptedLink<NoFault>, NoFault> = MemoryDoor::new(alloc, NoFault);
+        let finish = run_zk(
+            &rt,
+            alloc,
+            &words,
+            &mut shelf,
+            FileDisk::new(&rt),
+            door,
+            &QuietGate,
+            &[7; 32],
+            &mut out,
+        );
+        let status = finish.status;
         println!(rt; "status {status}")?;
     }
     Ok(())

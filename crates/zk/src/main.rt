@@ -1,14 +1,14 @@
 //! The program: the real objects, and the top call.
 #![tactic(auto)]
 
-use port_os::{FileShelf, OutputSink, found_no_memory};
+use port_os::{FileDisk, FileShelf, OutputSink, TcpDoor, found_no_memory};
 use std::alloc::Global;
 use std::io::Read;
 use std::process::ExitCode;
 use std::rt::{Env, Files};
 use std::{env, fs, io};
 use zk_cli::{Finish, run_zk};
-use zk_port::{ClosedDisk, MemoryDoor, NoFault, QuietGate, ScriptedLink, Sink};
+use zk_port::{QuietGate, Sink};
 
 /// The words after the program's name.
 fn words<R: Env + AllocGlobal>(rt: &R) -> io::Result<Vec<String>> {
@@ -52,14 +52,13 @@ fn main(rt: HostRuntime) -> ExitCode {
         return ExitCode::from(4);
     };
     let mut shelf = FileShelf::new(&rt);
-    let door: MemoryDoor<ScriptedLink<NoFault>, NoFault> = MemoryDoor::new(alloc, NoFault);
     let finish = run_zk(
         &rt,
         alloc,
         &words,
         &mut shelf,
-        ClosedDisk::new(),
-        door,
+        FileDisk::new(&rt),
+        TcpDoor::new(&rt),
         &QuietGate,
         &seed,
         &mut out,
@@ -72,12 +71,3 @@ fn main(rt: HostRuntime) -> ExitCode {
     } = finish;
     ExitCode::from(status)
 }
-
-#[cfg(test)]
-mod log_tests;
-#[cfg(test)]
-mod run_tests;
-#[cfg(test)]
-mod serve_tests;
-#[cfg(test)]
-mod vectors;

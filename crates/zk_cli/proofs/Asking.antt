@@ -56,7 +56,7 @@ asks_both IsNamed a b c one two = record {
     of_both (inr quiet) (inr still) = inr (counts_stay a b c quiet still)
 
 -- of names among others
-asks_among : (IsNamed IsOther : List ℕ → Type 0) (shelf : ShelfChange) → ((name : List ℕ) → IsNamed name → IsOther name)
+pub asks_among : (IsNamed IsOther : List ℕ → Type 0) (shelf : ShelfChange) → ((name : List ℕ) → IsNamed name → IsOther name)
     → OnlyAsks IsNamed shelf → OnlyAsks IsOther shelf
 asks_among IsNamed IsOther shelf among asks = record { later = asks.later; counts = of_counts asks.counts }
   where

@@ -2,10 +2,13 @@
 use Rattle.std.proofs.Common.{ℕ, List, refl, inl, inr}
 use Rattle.bristol_reader.specs.Laws.{OneCircuit}
 use Rattle.zk_port.specs.Changes.{change}
+use Rattle.lease_journal.specs.Keeps.{StartsAgain}
+use Rattle.zk_port.specs.Disks.{DiskState}
 use Rattle.zk_port.specs.Doors.{DoorState}
 use Rattle.zk_port.specs.Links.{LinkState}
 use Rattle.zk_port.specs.Shelves.{ShelfState}
 use Rattle.command_words.specs.Words.{Ask, rehearse, eval, deal, serve}
+use Rattle.zk_cli.specs.Journals.{disk_change}
 use Rattle.zk_cli.specs.Meets.{Meets}
 use Rattle.zk_cli.specs.Runs.{SinkChange, Effects, IsName, effects, run_of}
 use Rattle.zk_cli.specs.ServeRuns.{IsServeName}
@@ -13,18 +16,20 @@ use Rattle.zk_cli.specs.Stops.{Prints, SaysStop, stop_line, stop_status}
 use Rattle.zk_cli.specs.declared.finish.Part.TheVariants.{Plain}
 use Rattle.zk_cli.specs.declared.refusal.Refusal.{Refusal}
 use Rattle.zk_cli.specs.declared.refusal.Refusal.TheVariants.{NoMemory}
-use Rattle.zk_cli.proofs.Asking.{loads_nothing}
+use Rattle.zk_cli.proofs.Asking.{asks_nothing, loads_nothing}
 use Rattle.zk_cli.proofs.DealOutcomes.{deals, stores_none}
 use Rattle.zk_cli.proofs.EvalOutcomes.{evaluates}
 use Rattle.zk_cli.proofs.RehearseOutcomes.{rehearses}
+use Rattle.zk_cli.proofs.Opening.{untouched}
 use Rattle.zk_cli.proofs.ServeDone.{serves}
+use Rattle.zk_cli.proofs.Serving.{others_same}
 use Rattle.zk_cli.proofs.Storing.{stores_nothing}
 
 pub meets_memory : {F L B D : Type 0} (shelf_tells : F → ShelfState) (door_tells : D → DoorState) (link_tells : L → LinkState)
-    → OneCircuit → (ask : Ask) (seed : List ℕ) (status : ℕ) (sink : SinkChange) (files : F) (journal : B) (links : D)
+    → OneCircuit → StartsAgain → (ask : Ask) (seed : List ℕ) (status : ℕ) (sink : SinkChange) (files : F) (journal : B) (links : D) (disk : DiskState)
     → Prints (stop_status NoMemory) (stop_line NoMemory) status sink
-    → Meets ask seed (run_of shelf_tells door_tells link_tells status Plain (change files files) sink (change journal journal) (change links links))
-meets_memory {F} {L} {B} {D} shelf_tells door_tells link_tells one ask seed status sink files journal links prints = of_ask ask
+    → Meets ask seed (disk_change disk disk) (run_of shelf_tells door_tells link_tells status Plain (change files files) sink (change journal journal) (change links links))
+meets_memory {F} {L} {B} {D} shelf_tells door_tells link_tells one law ask seed status sink files journal links disk prints = of_ask ask
   where
     run : Effects
     run = effects status (change (shelf_tells files) (shelf_tells files)) sink
@@ -32,7 +37,7 @@ meets_memory {F} {L} {B} {D} shelf_tells door_tells link_tells one ask seed stat
     stops : (Cause : Refusal → Type 0) → Cause NoMemory → SaysStop Cause run
     stops Cause cause = record { stop = NoMemory; cause = cause; prints = inl prints }
 
-    of_ask : (ask : Ask) → Meets ask seed
+    of_ask : (ask : Ask) → Meets ask seed (disk_change disk disk)
         (run_of shelf_tells door_tells link_tells status Plain (change files files) sink (change journal journal) (change links links))
     of_ask (rehearse ask) = (
       rehearses one ask seed Plain run (stops _ tt) (loads_nothing (IsName ask.circuit) (shelf_tells files)),
@@ -48,8 +53,7 @@ meets_memory {F} {L} {B} {D} shelf_tells door_tells link_tells one ask seed stat
       refl,
       record { journal = refl; door = refl },
     )
-    of_ask (serve ask) = (
-      serves link_tells one ask Plain (change (door_tells links) (door_tells links)) run (stops _ (inl (inl tt, refl)))
-          (loads_nothing (IsServeName ask) (shelf_tells files)),
-      refl,
-    )
+    of_ask (serve ask) =
+        serves link_tells one law ask Plain (disk_change disk disk) (change (door_tells links) (door_tells links)) run
+        (stops _ (inl (inl tt, untouched disk, refl))) (others_same _ (shelf_tells files).told (shelf_tells files).told refl)
+        (asks_nothing (IsServeName ask) (shelf_tells files))

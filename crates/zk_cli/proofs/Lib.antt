@@ -3,9 +3,15 @@ pub mod Causes
 pub mod DealOutcomes
 pub mod EvalOutcomes
 pub mod Lacking
+pub mod LeaseCauses
+pub mod LogStores
 pub mod Means
+pub mod NoteOrder
+pub mod Opening
+pub mod Ordering
 pub mod RehearseOutcomes
 pub mod ServeDone
 pub mod ServeOutcomes
+pub mod RunsInTurn
 pub mod Serving
 pub mod Storing

@@ -47,6 +47,10 @@ high_stop stop.DoorFailed = omega arith
 high_stop stop.ShelfFailed = omega arith
 high_stop stop.NoMemory = omega arith
 high_stop (stop.TooLarge need units) = omega arith
+high_stop (stop.JournalShort need got) = omega arith
+high_stop (stop.JournalHeader place) = omega arith
+high_stop (stop.JournalBody slot) = omega arith
+high_stop (stop.JournalFailed count) = omega arith
 
 memory_answers : (answer : ℕ) (sink : SinkChange) → Prints (stop_status stop.NoMemory) (stop_line stop.NoMemory) answer sink → answer ≡ 7
 memory_answers answer sink prints =
@@ -68,11 +72,11 @@ made_means Does Cause IsNamed text run does (inl (inr (inl fault))) = inr (inr (
 made_means Does Cause IsNamed text run does (inl (inr (inr short))) = inr (inr (inr (inl short.0)))
 made_means Does Cause IsNamed text run does (inr prints) = inr (inr (inr (inl (memory_answers run.status run.sink prints))))
 
--- of a run that stops, for another cause than words of no command or the door
+-- of a run that stops, for another cause than words of no command, the disk or the door
 pub stop_means : (Does : Type 0) (Cause : Refusal → Type 0) (IsNamed : List ℕ → Type 0) (run : Effects) → ¬ Cause stop.Usage
-    → ¬ Cause stop.DoorFailed → (Cause stop.ShelfFailed → SomeFailed IsNamed run.shelf) → SaysStop Cause run
+    → ¬ Cause stop.DoorFailed → ((count : ℕ) → ¬ Cause (stop.JournalFailed count)) → (Cause stop.ShelfFailed → SomeFailed IsNamed run.shelf) → SaysStop Cause run
     → StatusMeans Does Cause IsNamed run
-stop_means Does Cause IsNamed run asked undoored failed says =
+stop_means Does Cause IsNamed run asked undoored undisked failed says =
     elim (stop_answers says.stop run.status run.sink says.prints) [
       | inl e ↦ of_stop says.stop says.cause e
       | inr e ↦ inr (inr (inr (inl e)))
@@ -92,6 +96,10 @@ stop_means Does Cause IsNamed run asked undoored failed says =
     of_stop stop.ShelfFailed cause at = inr (inr (inl (at, inl (failed cause))))
     of_stop stop.NoMemory cause at = inr (inr (inr (inl at)))
     of_stop (stop.TooLarge need units) cause at = inr (inr (inr (inr (at, (stop.TooLarge need units, cause, refl)))))
+    of_stop (stop.JournalShort need got) cause at = inr (inl (at, (stop.JournalShort need got, cause, refl)))
+    of_stop (stop.JournalHeader place) cause at = inr (inl (at, (stop.JournalHeader place, cause, refl)))
+    of_stop (stop.JournalBody slot) cause at = inr (inl (at, (stop.JournalBody slot, cause, refl)))
+    of_stop (stop.JournalFailed count) cause at = absurd (undisked count cause)
 
 -- no stop but that of too many units has status 9
 pub no_nine : (Cause : Refusal → Type 0) → ((need units : ℕ) → ¬ Cause (stop.TooLarge need units)) → IsOfStop Cause 9 → ⊥
@@ -107,4 +115,8 @@ no_nine Cause small found = of_stop found.0 found.1 found.2
     of_stop stop.DoorFailed cause at = omega (arith, at)
     of_stop stop.ShelfFailed cause at = omega (arith, at)
     of_stop stop.NoMemory cause at = omega (arith, at)
+    of_stop (stop.JournalShort need got) cause at = omega (arith, at)
+    of_stop (stop.JournalHeader place) cause at = omega (arith, at)
+    of_stop (stop.JournalBody slot) cause at = omega (arith, at)
+    of_stop (stop.JournalFailed count) cause at = omega (arith, at)
     of_stop (stop.TooLarge need units) cause at = small need units cause

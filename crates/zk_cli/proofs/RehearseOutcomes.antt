@@ -33,7 +33,7 @@ means {L} ask seed (Rehearsed r) run lines =
     (subst (λ v. PrintsMade (verdict_status v) (rehearsal_lines r) run.status run.sink) is.accepted lines.1)
 means {L} ask seed Plain run lines =
     stop_means (Accepts {L = L} Plain run.sink) (RehearseStop ask run.shelf) (IsName ask.circuit) run
-    (λ cause. cause) (λ cause. cause) (λ failed. (ask.circuit, refl, failed)) lines
+    (λ cause. cause) (λ cause. cause) (λ count cause. cause) (λ failed. (ask.circuit, refl, failed)) lines
 means ask seed (Served notes) run lines = absurd lines
 
 -- why a run stops that a shelf tells a fitting circuit: for want of memory, or since it takes too many units

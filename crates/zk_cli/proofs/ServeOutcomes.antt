@@ -1,29 +1,27 @@
 -- What is said of the sessions that were served gives what the status says.
-use Rattle.std.proofs.Common.{◌≡◌, ◌⊎◌, ◌≤◌, ℕ, Bool, true, false, List, [], ◌∷◌, All, length, Option, Some, Result, Ok, Err, refl, ap, ◌∙◌, inl, inr, arith, zero, suc}
-use Rattle.std.specs.Prelude.{◌==◌, ◌||◌, nat_le, if◌then◌else◌}
-use Rattle.zk_port.specs.Logs.{appended}
-use Rattle.session_pool.specs.Doors.{TakesOneAtMost}
-use Rattle.zk_port.specs.Doors.{DoorState, after_listen}
-use Rattle.zk_port.specs.Links.{LinkState}
-use Rattle.session_verifier.specs.Notes.{EndsBecause}
+use Rattle.std.proofs.Common.{◌≡◌, ◌≢◌, ◌⊎◌, ◌<◌, ◌++◌, ℕ, zero, suc, Bool, true, false, List, [], ◌∷◌, All, length, get_or, Option, None, Some, refl, sym, ap, ◌∙◌, subst, inl, inr, arith}
+use Rattle.std.specs.Prelude.{◌==◌, ◌||◌, if◌then◌else◌}
+use Rattle.zk_model.specs.declared.Side.{Side}
 use Rattle.zk_model.specs.declared.Span.{Span}
-use Rattle.lease_store.specs.declared.LeaseFault.{LeaseFault}
-use Rattle.lease_store.specs.declared.LeaseFault.TheVariants as lease
-use Rattle.session_core.specs.Jobs.{VerifierJob, units_of_job}
-use Rattle.session_pool.specs.FirstUnits.{first_units}
-use Rattle.session_pool.specs.Notes.{IsLeaseOf, IsNote}
-use Rattle.frame_link.specs.Lines.{LinkSnapshot, snapshot}
-use Rattle.zk_model.specs.declared.Side.TheVariants.{Verifier}
+use Rattle.zk_port.specs.Doors.{DoorState}
+use Rattle.zk_port.specs.Links.{LinkState}
+use Rattle.session_pool.specs.Notes.{IsMarked}
+use Rattle.session_verifier.specs.Outcomes.{lease_fault}
 use Rattle.session_verifier.specs.declared.note.SessionNote.{SessionNote}
 use Rattle.session_verifier.specs.declared.note.VerifierOutcome.{VerifierOutcome}
 use Rattle.session_verifier.specs.declared.note.VerifierOutcome.TheVariants.{Accepted, RejectedSum, RejectedOpening, PeerEnded, BadFrame, BadHello, Exhausted, Device, Broken, Link, NoMemory}
 use Rattle.command_words.specs.Words.{ServeAsk}
-use Rattle.zk_cli.specs.Runs.{DoorChange, Effects}
-use Rattle.zk_cli.specs.NoteLines.{has_status, served_status, served_text, outcome_status}
-use Rattle.zk_cli.specs.ServeRuns.{ServeLines, NotesMean, ServeMeans}
+use Rattle.zk_cli.specs.DealRuns.{next_name}
+use Rattle.zk_cli.specs.Journals.{DiskChange}
+use Rattle.zk_cli.specs.NoteLines.{IsServedText, has_status, served_status, failures, outcome_status}
+use Rattle.zk_cli.specs.Runs.{ShelfChange, DoorChange, Effects, SomeFailed}
+use Rattle.zk_cli.specs.ServeRuns.{ServeLines, NotesMean, ServeMeans, SaysNotes}
+use Rattle.zk_cli.specs.ServiceLogs.{IsLogName, KeepsLogs, log_store, log_stores, is_shelf_failed, is_memory_missing}
 use Rattle.zk_cli.specs.Stops.{Prints, after_sink_fault}
 use Rattle.zk_cli.specs.declared.finish.Part.{Part}
 use Rattle.zk_cli.specs.declared.finish.Part.TheVariants.{Plain, Rehearsed, Served}
+use Rattle.zk_cli.specs.declared.refusal.Refusal.{Refusal}
+use Rattle.zk_cli.specs.declared.refusal.Refusal.TheVariants as stop
 use Rattle.zk_cli.proofs.Means.{stop_answers}
 
 true_is_false : true ≡ false → ⊥
@@ -31,38 +29,58 @@ true_is_false same = cc
 
 -- ---- the first status that applies
 
-abbrev chain : Bool → Bool → Bool → Bool → Bool → Bool → Bool → ℕ
-chain door memory one four five six seven =
-    if memory || seven then 7 else if five then 5 else if six then 6 else if door || four then 4 else if one then 1 else 0
+abbrev chain : Bool → Bool → Bool → Bool → Bool → Bool → Bool → Bool → ℕ
+chain door shelf memory one four five six seven =
+    if memory || seven then 7 else if five then 5 else if six then 6 else if door || shelf || four then 4 else if one then 1 else 0
 
-abbrev ChainMeans : Bool → Bool → Bool → Bool → Bool → ℕ → Type 0
-ChainMeans door one four six seven status =
-    ((status ≡ 0) × (door ≡ false) × (one ≡ false) × (four ≡ false) × (six ≡ false) × (seven ≡ false))
+-- all is well
+pub record IsCalm (door shelf memory one four five six seven : Bool) : Type 0 where
+  pub door_is : door ≡ false
+  pub shelf_is : shelf ≡ false
+  pub memory_is : memory ≡ false
+  pub one_is : one ≡ false
+  pub four_is : four ≡ false
+  pub five_is : five ≡ false
+  pub six_is : six ≡ false
+  pub seven_is : seven ≡ false
+
+abbrev ChainMeans : Bool → Bool → Bool → Bool → Bool → Bool → Bool → Bool → ℕ → Type 0
+ChainMeans door shelf memory one four five six seven status =
+    ((status ≡ 0) × IsCalm door shelf memory one four five six seven)
     ⊎ ((status ≡ 1) × (one ≡ true))
-    ⊎ ((status ≡ 4) × ((door ≡ true) ⊎ (four ≡ true)))
+    ⊎ ((status ≡ 4) × ((door ≡ true) ⊎ (shelf ≡ true) ⊎ (four ≡ true)))
+    ⊎ ((status ≡ 5) × (five ≡ true))
     ⊎ ((status ≡ 6) × (six ≡ true))
     ⊎ (status ≡ 7)
 
-chain_means : (door memory one four five six seven : Bool) → five ≡ false
-    → ChainMeans door one four six seven (chain door memory one four five six seven)
-chain_means door true one four five six seven no_five = inr (inr (inr (inr refl)))
-chain_means door false one four five six true no_five = inr (inr (inr (inr refl)))
-chain_means door false one four true six false no_five = absurd (true_is_false no_five)
-chain_means door false one four false true false no_five = inr (inr (inr (inl (refl, refl))))
-chain_means true false one four false false false no_five = inr (inr (inl (refl, inl refl)))
-chain_means false false one true false false false no_five = inr (inr (inl (refl, inr refl)))
-chain_means false false true false false false false no_five = inr (inl (refl, refl))
-chain_means false false false false false false false no_five = inl (refl, refl, refl, refl, refl, refl)
+chain_means : (door shelf memory one four five six seven : Bool)
+    → ChainMeans door shelf memory one four five six seven (chain door shelf memory one four five six seven)
+chain_means door shelf true one four five six seven = inr (inr (inr (inr (inr refl))))
+chain_means door shelf false one four five six true = inr (inr (inr (inr (inr refl))))
+chain_means door shelf false one four true six false = inr (inr (inr (inl (refl, refl))))
+chain_means door shelf false one four false true false = inr (inr (inr (inr (inl (refl, refl)))))
+chain_means true shelf false one four false false false = inr (inr (inl (refl, inl refl)))
+chain_means false true false one four false false false = inr (inr (inl (refl, inr (inl refl))))
+chain_means false false false one true false false false = inr (inr (inl (refl, inr (inr refl))))
+chain_means false false false true false false false false = inr (inl (refl, refl))
+chain_means false false false false false false false false = inl (
+  refl,
+  record {
+    door_is = refl;
+    shelf_is = refl;
+    memory_is = refl;
+    one_is = refl;
+    four_is = refl;
+    five_is = refl;
+    six_is = refl;
+    seven_is = refl;
+  },
+)
 
 -- ---- notes of which none has a status but 0
 
-one_all : {X : Type 0} (P : X → Type 0) (x : X) → P x → All P (x ∷ [])
-one_all P x is zero default within = is
-one_all P x is (suc k) default within = absurd (omega (arith, within))
-
-is_accepted : (outcome : VerifierOutcome) → (outcome_status outcome == 1 || false) ≡ false → (outcome_status outcome == 4 || false) ≡ false
-    → (outcome_status outcome == 5 || false) ≡ false → (outcome_status outcome == 6 || false) ≡ false
-    → (outcome_status outcome == 7 || false) ≡ false → outcome ≡ Accepted
+is_accepted : (outcome : VerifierOutcome) → (outcome_status outcome == 1) ≡ false → (outcome_status outcome == 4) ≡ false
+    → (outcome_status outcome == 5) ≡ false → (outcome_status outcome == 6) ≡ false → (outcome_status outcome == 7) ≡ false → outcome ≡ Accepted
 is_accepted Accepted one four five six seven = refl
 is_accepted (RejectedSum section left right) one four five six seven = absurd (true_is_false one)
 is_accepted (RejectedOpening output left right) one four five six seven = absurd (true_is_false one)
@@ -75,106 +93,175 @@ is_accepted (Broken first) one four five six seven = absurd (true_is_false five)
 is_accepted Link one four five six seven = absurd (true_is_false four)
 is_accepted NoMemory one four five six seven = absurd (true_is_false seven)
 
-all_accepted : {L : Type 0} (notes : List (SessionNote L)) → length notes ≤ 1
-    → has_status notes 1 ≡ false → has_status notes 4 ≡ false → has_status notes 5 ≡ false → has_status notes 6 ≡ false
-    → has_status notes 7 ≡ false → All (λ note. note.outcome ≡ Accepted) notes
-all_accepted [] most one four five six seven = λ k default within. absurd (omega (arith, within))
-all_accepted (note ∷ []) most one four five six seven =
-    one_all (λ n. n.outcome ≡ Accepted) note (is_accepted note.outcome one four five six seven)
-all_accepted (note ∷ other ∷ notes) most one four five six seven = absurd (omega (arith, most))
+first_is : (a b : Bool) → (a || b) ≡ false → a ≡ false
+first_is true b same = absurd (true_is_false same)
+first_is false b same = refl
 
--- ---- what the status says
+rest_is : (a b : Bool) → (a || b) ≡ false → b ≡ false
+rest_is true b same = absurd (true_is_false same)
+rest_is false b same = same
 
-mean_written : {L : Type 0} (address : List ℕ) (notes : List (SessionNote L)) (door_failed memory_failed : Bool) (door : DoorChange) (run : Effects)
-    → TakesOneAtMost (length notes) door_failed memory_failed (after_listen address 1 door.old) door.new
-    → has_status notes 5 ≡ false
-    → ChainMeans door_failed (has_status notes 1) (has_status notes 4) (has_status notes 6) (has_status notes 7) (served_status notes door_failed memory_failed)
-    → Prints (served_status notes door_failed memory_failed) (served_text notes door_failed) run.status run.sink
-    → NotesMean notes door run
-mean_written address notes door_failed memory_failed door run taken no_five means (inr (inr short)) = inr (inr (inr (inr short.0)))
-mean_written address notes door_failed memory_failed door run taken no_five (inl zero_is) (inl whole) =
-    inl (
-      whole.0 ∙ zero_is.0,
-      record {
-        each = all_accepted notes taken.most zero_is.2 zero_is.3 no_five zero_is.4 zero_is.5;
-        lines = record {
-          written = whole.1.written ∙ ap (λ failed. appended (served_text notes failed) run.sink.old.written) zero_is.1;
-          quiet = whole.1.quiet;
-        };
-        listen_quiet = ap (λ (s : DoorState). s.listen_faults) taken.rest;
-        next_quiet = taken.calm zero_is.1;
-      },
-    )
-mean_written address notes door_failed memory_failed door run taken no_five (inr (inl one)) (inl whole) = inr (inl (whole.0 ∙ one.0, one.1))
-mean_written address notes door_failed memory_failed door run taken no_five (inr (inr (inl four))) (inl whole) =
-    inr (inr (inl (whole.0 ∙ four.0, elim four.1 [ inl failed ↦ inl (inr (taken.failed failed)) | inr link ↦ inr (inr link) ])))
-mean_written address notes door_failed memory_failed door run taken no_five (inr (inr (inr (inl six)))) (inl whole) =
-    inr (inr (inr (inl (whole.0 ∙ six.0, six.1))))
-mean_written address notes door_failed memory_failed door run taken no_five (inr (inr (inr (inr seven)))) (inl whole) =
-    inr (inr (inr (inr (whole.0 ∙ seven))))
-mean_written address notes door_failed memory_failed door run taken no_five (inl zero_is) (inr (inl fault)) =
-    inr (inr (inl (fault.0 ∙ ap after_sink_fault zero_is.0, inr (inl fault.2))))
-mean_written address notes door_failed memory_failed door run taken no_five (inr (inl one)) (inr (inl fault)) =
-    inr (inr (inl (fault.0 ∙ ap after_sink_fault one.0, inr (inl fault.2))))
-mean_written address notes door_failed memory_failed door run taken no_five (inr (inr (inl four))) (inr (inl fault)) =
-    inr (inr (inl (fault.0 ∙ ap after_sink_fault four.0, inr (inl fault.2))))
-mean_written address notes door_failed memory_failed door run taken no_five (inr (inr (inr (inl six)))) (inr (inl fault)) =
-    inr (inr (inr (inl (fault.0 ∙ ap after_sink_fault six.0, six.1))))
-mean_written address notes door_failed memory_failed door run taken no_five (inr (inr (inr (inr seven)))) (inr (inl fault)) =
-    inr (inr (inr (inr (fault.0 ∙ ap after_sink_fault seven))))
+pub either_is : (a b : Bool) → (a || b) ≡ true → (a ≡ true) ⊎ (b ≡ true)
+either_is true b same = inl refl
+either_is false b same = inr same
 
--- ---- no lease of the first units is refused by a device
+-- a note has no such status, and the others have none
+first_has : {L : Type 0} (status : ℕ) (note : SessionNote L) (notes : List (SessionNote L)) → has_status (note ∷ notes) status ≡ false
+    → (outcome_status note.outcome == status) ≡ false
+first_has status note notes same = first_is (outcome_status note.outcome == status) (has_status notes status) same
 
-abbrev of_test : Bool → ℕ → ℕ → Result Span LeaseFault
-of_test fits count total = if fits then Ok (record { start = 0; end = count }) else Err (lease.Exhausted 0 count total)
+rest_has : {L : Type 0} (status : ℕ) (note : SessionNote L) (notes : List (SessionNote L)) → has_status (note ∷ notes) status ≡ false
+    → has_status notes status ≡ false
+rest_has status note notes same = rest_is (outcome_status note.outcome == status) (has_status notes status) same
 
-by_test : (fits : Bool) (count total : ℕ) (fault : LeaseFault) → of_test fits count total ≡ Err fault
-    → (at wanted all : ℕ) × (fault ≡ lease.Exhausted at wanted all)
-by_test true count total fault same = cc
-by_test false count total fault same = (0, count, total, cc)
+all_accepted : {L : Type 0} (notes : List (SessionNote L)) → has_status notes 1 ≡ false → has_status notes 4 ≡ false
+    → has_status notes 5 ≡ false → has_status notes 6 ≡ false → has_status notes 7 ≡ false → All (λ note. note.outcome ≡ Accepted) notes
+all_accepted [] one four five six seven place default within = absurd (omega (arith, within))
+all_accepted (note ∷ notes) one four five six seven zero default within =
+    is_accepted note.outcome (first_has 1 note notes one) (first_has 4 note notes four) (first_has 5 note notes five)
+    (first_has 6 note notes six) (first_has 7 note notes seven)
+all_accepted (note ∷ notes) one four five six seven (suc place) default within =
+    all_accepted notes (rest_has 1 note notes one) (rest_has 4 note notes four) (rest_has 5 note notes five)
+    (rest_has 6 note notes six) (rest_has 7 note notes seven) place default (omega (arith, within))
 
-by_device : (count total : ℕ) (fault : LeaseFault) → first_units count total ≡ Err fault
-    → (at wanted all : ℕ) × (fault ≡ lease.Exhausted at wanted all)
-by_device count total fault same = by_test (nat_le count total) count total fault same
+-- ---- a journal that failed
 
-refused_by : (job : VerifierJob) (answer : Option (Result Span LeaseFault)) (fault : LeaseFault) → IsLeaseOf job answer
-    → answer ≡ Some (Err fault) → (at wanted all : ℕ) × (fault ≡ lease.Exhausted at wanted all)
-refused_by job answer fault (inl none) same = cc
-refused_by job answer fault (inr first) same =
-    by_device (units_of_job job) job.task.file.params.total fault (cc)
+marks_one : (mark : ℕ) (outcome : VerifierOutcome) → (outcome_status outcome == 5) ≡ true → IsMarked mark (lease_fault outcome) → mark ≢ 0
+marks_one mark Accepted five marked = absurd (true_is_false (sym five))
+marks_one mark (RejectedSum section left right) five marked = absurd (true_is_false (sym five))
+marks_one mark (RejectedOpening output left right) five marked = absurd (true_is_false (sym five))
+marks_one mark (PeerEnded at) five marked = absurd (true_is_false (sym five))
+marks_one mark (BadFrame place) five marked = absurd (true_is_false (sym five))
+marks_one mark (BadHello differs) five marked = absurd (true_is_false (sym five))
+marks_one mark (Exhausted at count total) five marked = absurd (true_is_false (sym five))
+marks_one mark Device five marked = marked
+marks_one mark (Broken first) five marked = marked
+marks_one mark Link five marked = absurd (true_is_false (sym five))
+marks_one mark NoMemory five marked = absurd (true_is_false (sym five))
 
-not_five : (job : VerifierJob) (answer : Option (Result Span LeaseFault)) (outcome : VerifierOutcome) (first now : LinkSnapshot)
-    → IsLeaseOf job answer → EndsBecause job answer outcome first now → (outcome_status outcome == 5) ≡ false
-not_five job answer Accepted first now leased cause = refl
-not_five job answer (RejectedSum section left right) first now leased cause = refl
-not_five job answer (RejectedOpening output left right) first now leased cause = refl
-not_five job answer (PeerEnded at) first now leased cause = refl
-not_five job answer (BadFrame place) first now leased cause = refl
-not_five job answer (BadHello differs) first now leased cause = refl
-not_five job answer (Exhausted at count total) first now leased cause = refl
-not_five job answer Device first now leased cause = let by = refused_by job answer lease.Device leased cause.0 in cc
-not_five job answer (Broken at) first now leased cause = let by = refused_by job answer (lease.Broken at) leased cause.0 in cc
-not_five job answer Link first now leased cause = refl
-not_five job answer NoMemory first now leased cause = refl
+marks : {L : Type 0} (mark : ℕ) (notes : List (SessionNote L)) → has_status notes 5 ≡ true
+    → All (λ note. IsMarked mark (lease_fault note.outcome)) notes → mark ≢ 0
+marks mark [] five marked = absurd (true_is_false (sym five))
+marks mark (note ∷ notes) five marked = elim (either_is (outcome_status note.outcome == 5) (has_status notes 5) five) [
+  | inl here ↦ marks_one mark note.outcome here (marked 0 note (omega arith))
+  | inr there ↦ marks mark notes there (λ place default within. marked (suc place) default (omega (arith, within)))
+]
 
-none_five : {L : Type 0} (link_tells : L → LinkState) (job : VerifierJob) (notes : List (SessionNote L))
-    → All (IsNote link_tells job) notes → length notes ≤ 1 → has_status notes 5 ≡ false
-none_five link_tells job [] each most = refl
-none_five link_tells job (note ∷ []) each most =
-    let is : IsNote link_tells job note = each 0 note (omega arith) in
-    ap (λ b. b || false) (not_five job is.answer note.outcome (snapshot Verifier [] is.first) (snapshot Verifier note.log (link_tells note.link)) is.leased is.cause)
-none_five link_tells job (note ∷ other ∷ notes) each most = absurd (omega (arith, most))
+-- ---- logs
 
-pub serve_means : {L : Type 0} (link_tells : L → LinkState) (ask : ServeAsk) (part : Part L) (door : DoorChange) (run : Effects)
-    → ServeLines link_tells ask part door run → ServeMeans ask part door run
-serve_means link_tells ask (Served notes) door run says =
-    let no_five = none_five link_tells says.leads.job notes.items says.leads.each says.leads.taken.most in
-    mean_written ask.address notes.items says.door_failed says.memory_failed door run says.leads.taken no_five
-    (chain_means says.door_failed says.memory_failed (has_status notes.items 1) (has_status notes.items 4) (has_status notes.items 5)
-    (has_status notes.items 6) (has_status notes.items 7) no_five)
-    says.prints
-serve_means link_tells ask Plain door run says = elim (stop_answers says.stop run.status run.sink says.prints) [
+stops_so : (logs : Option Refusal) → is_shelf_failed logs ≡ true → logs ≡ Some stop.ShelfFailed
+stops_so None failed = absurd (true_is_false (sym failed))
+stops_so (Some stop.ShelfFailed) failed = refl
+stops_so (Some other) failed = absurd (true_is_false (sym failed))
+
+-- where neither the shelf failed nor memory was missing, all logs are kept
+all_kept : {L : Type 0} (prefix : Option (List ℕ)) (notes : List (SessionNote L)) (shelf : ShelfChange) (logs : Option Refusal)
+    → KeepsLogs prefix notes shelf logs → is_shelf_failed logs ≡ false → is_memory_missing logs ≡ false → KeepsLogs prefix notes shelf None
+all_kept prefix notes shelf None kept failed missing = kept
+all_kept prefix notes shelf (Some why) kept failed missing = elim kept.cause [
+  | inl memory ↦ absurd (true_is_false (sym (ap (λ w. is_memory_missing (Some w)) memory) ∙ missing))
+  | inr shelf_failed ↦ absurd (true_is_false (sym (ap (λ w. is_shelf_failed (Some w)) shelf_failed.0) ∙ failed))
+]
+
+-- each store is one of a log
+named_one : (prefix : List ℕ) (granted : Option Span) (log : List (Side × ℕ)) (more : List (List ℕ × List ℕ)) (place : ℕ) (default : List ℕ × List ℕ)
+    → ((at : ℕ) → at < length more → IsLogName (Some prefix) (get_or more at default).0)
+    → place < length (log_store prefix granted log ++ more) → IsLogName (Some prefix) (get_or (log_store prefix granted log ++ more) place default).0
+named_one prefix None log more place default rest within = rest place within
+named_one prefix (Some span) log more zero default rest within = (span.start, refl)
+named_one prefix (Some span) log more (suc place) default rest within = rest place (omega (arith, within))
+
+named : {L : Type 0} (prefix : List ℕ) (notes : List (SessionNote L)) (place : ℕ) (default : List ℕ × List ℕ)
+    → place < length (log_stores (Some prefix) notes) → IsLogName (Some prefix) (get_or (log_stores (Some prefix) notes) place default).0
+named prefix [] place default within = absurd (omega (arith, within))
+named prefix (note ∷ notes) place default within =
+    named_one prefix note.granted note.log (log_stores (Some prefix) notes) place default
+    (λ at inside. named prefix notes at default inside) within
+
+-- the shelf failed at the name of a log
+log_failed : {L : Type 0} (prefix : Option (List ℕ)) (notes : List (SessionNote L)) (shelf : ShelfChange) (logs : Option Refusal)
+    → KeepsLogs prefix notes shelf logs → is_shelf_failed logs ≡ true → SomeFailed (IsLogName prefix) shelf
+log_failed prefix notes shelf None kept failed = absurd (true_is_false (sym failed))
+log_failed None notes shelf (Some why) kept failed = let few = kept.some in absurd (omega (arith, few))
+log_failed (Some prefix) notes shelf (Some why) kept failed = (
+  next_name kept.done (log_stores (Some prefix) notes),
+  named prefix notes kept.done ([], []) kept.some,
+  (elim kept.cause [
+    | inl memory ↦ absurd (true_is_false (sym (stop_differs why memory failed)))
+    | inr at ↦ at.1
+  ]),
+)
+  where
+    stop_differs : (why : Refusal) → why ≡ stop.NoMemory → is_shelf_failed (Some why) ≡ true → false ≡ true
+    stop_differs why memory failed = sym (ap (λ w. is_shelf_failed (Some w)) memory) ∙ failed
+
+-- ---- the status
+
+module _ {L : Type 0} (link_tells : L → LinkState) (ask : ServeAsk) (notes : List (SessionNote L)) (disk : DiskChange) (door : DoorChange)
+    (run : Effects) (says : SaysNotes link_tells ask notes disk door run) where
+  abbrev logs : Option Refusal
+  logs = says.says.logs
+
+  abbrev status : ℕ
+  status = served_status notes (failures says.door_failed (is_shelf_failed logs) (says.memory_failed || is_memory_missing logs))
+
+  abbrev Means : ℕ → Type 0
+  Means = ChainMeans says.door_failed (is_shelf_failed logs) (says.memory_failed || is_memory_missing logs)
+      (has_status notes 1) (has_status notes 4) (has_status notes 5) (has_status notes 6) (has_status notes 7)
+
+  failed_so : (says.door_failed ≡ true) ⊎ (is_shelf_failed logs ≡ true) ⊎ (has_status notes 4 ≡ true) → run.status ≡ 4 → NotesMean ask notes disk door run
+  failed_so (inl failed) is = inr (inr (inl (is, inl (inr (says.leads.leads.taken.failed failed)))))
+  failed_so (inr (inl failed)) is = inr (inr (inl (is, inr (inl (log_failed ask.options.logs notes run.shelf logs says.says.stored failed)))))
+  failed_so (inr (inr link)) is = inr (inr (inl (is, inr (inr (inr link)))))
+
+  five_so : has_status notes 5 ≡ true → run.status ≡ 5 → NotesMean ask notes disk door run
+  five_so five is =
+      let leads = says.leads.leads in
+      inr (inr (inr (inl (is, leads.kept.rose (marks leads.mark notes five leads.marked), five))))
+
+  mean_written : (text : List ℕ) → IsServedText notes says.door_failed text → Means status → Prints status text run.status run.sink
+      → NotesMean ask notes disk door run
+  mean_written text served means (inr (inr short)) = inr (inr (inr (inr (inr short.0))))
+  mean_written text served (inl zero_is) (inl whole) =
+      let calm = zero_is.1 in
+      inl (
+        whole.0 ∙ zero_is.0,
+        record {
+          each = all_accepted notes calm.one_is calm.four_is calm.five_is calm.six_is calm.seven_is;
+          lines = (text, subst (λ (failed : Bool). IsServedText notes failed text) calm.door_is served, whole.1);
+          logs = all_kept ask.options.logs notes run.shelf logs says.says.stored calm.shelf_is
+              (rest_is says.memory_failed (is_memory_missing logs) calm.memory_is);
+          listen_quiet = ap (λ (s : DoorState). s.listen_faults) says.leads.leads.taken.rest;
+          next_quiet = says.leads.leads.taken.calm calm.door_is;
+        },
+      )
+  mean_written text served (inr (inl one)) (inl whole) = inr (inl (whole.0 ∙ one.0, one.1))
+  mean_written text served (inr (inr (inl four))) (inl whole) = failed_so four.1 (whole.0 ∙ four.0)
+  mean_written text served (inr (inr (inr (inl five)))) (inl whole) = five_so five.1 (whole.0 ∙ five.0)
+  mean_written text served (inr (inr (inr (inr (inl six))))) (inl whole) = inr (inr (inr (inr (inl (whole.0 ∙ six.0, six.1)))))
+  mean_written text served (inr (inr (inr (inr (inr seven))))) (inl whole) = inr (inr (inr (inr (inr (whole.0 ∙ seven)))))
+  mean_written text served (inl zero_is) (inr (inl fault)) =
+      inr (inr (inl (fault.0 ∙ ap after_sink_fault zero_is.0, inr (inr (inl fault.2)))))
+  mean_written text served (inr (inl one)) (inr (inl fault)) = inr (inr (inl (fault.0 ∙ ap after_sink_fault one.0, inr (inr (inl fault.2)))))
+  mean_written text served (inr (inr (inl four))) (inr (inl fault)) = inr (inr (inl (fault.0 ∙ ap after_sink_fault four.0, inr (inr (inl fault.2)))))
+  mean_written text served (inr (inr (inr (inl five)))) (inr (inl fault)) = five_so five.1 (fault.0 ∙ ap after_sink_fault five.0)
+  mean_written text served (inr (inr (inr (inr (inl six))))) (inr (inl fault)) =
+      inr (inr (inr (inr (inl (fault.0 ∙ ap after_sink_fault six.0, six.1)))))
+  mean_written text served (inr (inr (inr (inr (inr seven))))) (inr (inl fault)) =
+      inr (inr (inr (inr (inr (fault.0 ∙ ap after_sink_fault seven)))))
+
+  pub notes_mean : NotesMean ask notes disk door run
+  notes_mean = elim says.says.lines [
+    | inl written ↦ mean_written written.0 written.1 (chain_means says.door_failed (is_shelf_failed logs) (says.memory_failed || is_memory_missing logs)
+        (has_status notes 1) (has_status notes 4) (has_status notes 5) (has_status notes 6) (has_status notes 7)) written.2
+    | inr short ↦ inr (inr (inr (inr (inr short.0))))
+  ]
+
+pub serve_means : {L : Type 0} (link_tells : L → LinkState) (ask : ServeAsk) (part : Part L) (disk : DiskChange) (door : DoorChange) (run : Effects)
+    → ServeLines link_tells ask part disk door run → ServeMeans ask part disk door run
+serve_means link_tells ask (Served notes) disk door run says = notes_mean link_tells ask notes.items disk door run says
+serve_means link_tells ask Plain disk door run says = elim (stop_answers says.stop run.status run.sink says.prints) [
   | inl e ↦ inl (says.stop, says.cause, e)
   | inr e ↦ inr e
 ]
-serve_means link_tells ask (Rehearsed r) door run says = absurd says
+serve_means link_tells ask (Rehearsed r) disk door run says = absurd says

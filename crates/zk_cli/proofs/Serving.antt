@@ -1,7 +1,5 @@
 -- What a verifier that serves composes: its files, its notes, and what it says.
-use Rattle.std.proofs.Common.{◌≡◌, ◌≤◌, ℕ, Bool, List, length, All, Result, Ok, Err, IfOk, IfErr, Option, Some, None, get_or, append-nil, refl, sym, ap, subst, inl, inr, arith}
-use Rattle.std.specs.Prelude.{take}
-use Rattle.zk_port.specs.Logs.{appended}
+use Rattle.std.proofs.Common.{◌≡◌, ◌≤◌, ℕ, Bool, List, All, Option, Some, None, get_or, sym, ap, subst, inl, inr, arith}
 use Rattle.zk_model.specs.Circuit.{Circuit}
 use Rattle.zk_model.specs.Files.{ProverFile, VerifierFile, AreDealt}
 use Rattle.zk_model.specs.Transcript.{Transcript, IsCommitment, IsTranscript}
@@ -19,26 +17,20 @@ use Rattle.zk_port.specs.Counts.{Rose}
 use Rattle.dealer_files.specs.Faults.{IsFirstFault}
 use Rattle.zk_model.specs.declared.Side.TheVariants.{Verifier}
 use Rattle.zk_port.specs.Files.{Files, StandsLonger}
-use Rattle.session_core.specs.Jobs.{units_of_job, verifier_of}
 use Rattle.session_core.specs.Jobs.{VerifierJob}
-use Rattle.session_pool.specs.Doors.{TakesOneAtMost}
-use Rattle.session_pool.specs.Notes.{IsNote}
 use Rattle.session_verifier.specs.Notes.{IsShown}
-use Rattle.zk_port.specs.Doors.{after_listen}
 use Rattle.zk_port.specs.Links.{LinkState}
 use Rattle.zk_port.specs.Shelves.{ShelfState}
-use Rattle.zk_port.specs.Sinks.{SinkState}
-use Rattle.session_pool.specs.declared.served.Served as pool
 use Rattle.session_verifier.specs.declared.note.SessionNote.{SessionNote}
 use Rattle.session_verifier.specs.declared.note.VerifierOutcome.TheVariants.{Accepted}
 use Rattle.command_words.specs.Words.{ServeAsk}
 use Rattle.zk_model.specs.declared.limits.TheConstants.{FILE_LIMIT}
-use Rattle.zk_cli.specs.Runs.{ShelfChange, DoorChange, OnlyLoads, IsName}
-use Rattle.zk_cli.specs.ServeRuns.{IsClaim, IsVerifierFileAt, IsServeJob, IsServeName, LeadsSessions}
-use Rattle.zk_cli.specs.ServeRuns.{ClaimStop, FileStop, OpeningStop, ServeStop}
+use Rattle.zk_cli.specs.Runs.{ShelfChange, DoorChange, OnlyLoads, OthersStay, IsName}
+use Rattle.zk_cli.specs.Journals.{DiskChange}
+use Rattle.zk_cli.specs.ServeRuns.{IsServeJob, IsLoadedName, LeadsFiles, ClaimStop, FileStop}
 use Rattle.zk_cli.proofs.Asking.{loads_among, loads_both}
-use Rattle.zk_cli.specs.ServedNotes.{IsHeadline, HeadlineIsOfAcceptedLog}
-use Rattle.zk_cli.specs.Stops.{Prints, HasText, LoadStop, CircuitStop}
+use Rattle.zk_cli.specs.ServedNotes.{GrantsOnce, IsHeadline, HeadlineIsOfAcceptedLog}
+use Rattle.zk_cli.specs.Stops.{HasText, LoadStop, CircuitStop}
 use Rattle.zk_cli.specs.declared.refusal.Refusal.{Refusal}
 use Rattle.zk_cli.specs.declared.refusal.Refusal.TheVariants as stop
 
@@ -68,55 +60,29 @@ pub file_of_load : (name : List ℕ) (shelf : ShelfChange) (why : Refusal) → L
 file_of_load name shelf (stop.BadFile fault) cause = absurd cause
 file_of_load name shelf other cause = cause
 
--- where nothing is written for want of memory, a first part of the text is
-pub says_nothing : (status : ℕ) (text : List ℕ) (sink : SinkState) → Prints status text 7 (change sink sink)
-says_nothing status text sink = inr (inr (refl, record { count = 0; part = append_nothing sink.written }, refl))
-  where
-    append_nothing : (written : Option (List ℕ)) → written ≡ appended (take 0 text) written
-    append_nothing None = refl
-    append_nothing (Some before) = ap Some (sym (append-nil before))
-
 -- ---- which files are asked for
 
 pub loads_claim : (ask : ServeAsk) (a b : ShelfState) → OnlyLoads (IsName ask.circuit) (change a b)
-    → OnlyLoads (IsServeName ask) (change a b)
-loads_claim ask a b loads = loads_among (IsName ask.circuit) (IsServeName ask) (change a b) (λ name is. inl is) loads
+    → OnlyLoads (IsLoadedName ask) (change a b)
+loads_claim ask a b loads = loads_among (IsName ask.circuit) (IsLoadedName ask) (change a b) (λ name is. inl is) loads
 
 pub loads_files : (ask : ServeAsk) (a b c : ShelfState) → OnlyLoads (IsName ask.circuit) (change a b)
-    → OnlyLoads (IsName ask.file) (change b c) → OnlyLoads (IsServeName ask) (change a c)
+    → OnlyLoads (IsName ask.file) (change b c) → OnlyLoads (IsLoadedName ask) (change a c)
 loads_files ask a b c claim file =
-    loads_both (IsServeName ask) a b c (loads_claim ask a b claim)
-    (loads_among (IsName ask.file) (IsServeName ask) (change b c) (λ name is. inr is) file)
+    loads_both (IsLoadedName ask) a b c (loads_claim ask a b claim)
+    (loads_among (IsName ask.file) (IsLoadedName ask) (change b c) (λ name is. inr is) file)
+
+-- where all files are as they were, so are those of other names
+pub others_same : (IsNamed : List ℕ → Type 0) (old new : Option Files) → new ≡ old → OthersStay IsNamed old new
+others_same IsNamed None new same = same
+others_same IsNamed (Some files) None same = cc
+others_same IsNamed (Some files) (Some others) same = λ other not. ap (λ (found : Option Files). file_in found other) same
+  where
+    file_in : Option Files → List ℕ → Option (List ℕ)
+    file_in None name = None
+    file_in (Some found) name = found name
 
 -- ---- sessions
-
--- a session of a job that a claim and a file make is not opened
-pub lacks_session : {T : Type 0} (ask : ServeAsk) (shelf : ShelfChange) (circuit : Circuit) (claim : Statement) (file : VerifierFile)
-    (result : Result T Refusal) (door : DoorChange) → IsClaim shelf.old.told ask circuit claim
-    → IsVerifierFileAt shelf.old.told ask.file file → IfErr result (OpeningStop (verifier_of claim file ask.section) ask.address door)
-    → IfErr result (ServeStop ask shelf door)
-lacks_session ask shelf circuit claim file (Ok value) door is_claim is_file stops = tt
-lacks_session ask shelf circuit claim file (Err why) door is_claim is_file stops =
-    inr (circuit, verifier_of claim file ask.section, record { claim = is_claim; file = is_file; section = refl }, stops)
-
--- the sessions of a job that a claim and a file make are those of what was asked
-pub leads_sessions : {L : Type 0} (link_tells : L → LinkState) (told : Option Files) (ask : ServeAsk) (circuit : Circuit)
-    (claim : Statement) (file : VerifierFile) (result : Result (pool.Served L) Refusal) (door : DoorChange)
-    → IsClaim told ask circuit claim → IsVerifierFileAt told ask.file file
-    → IfOk result (λ _. units_of_job (verifier_of claim file ask.section) ≤ 4096)
-    → IfOk result (λ served. All (IsNote link_tells (verifier_of claim file ask.section)) served.notes.items)
-    → IfOk result (λ served. TakesOneAtMost (length served.notes.items) served.door_failed served.memory_failed
-    (after_listen ask.address 1 door.old) door.new)
-    → IfOk result (λ served. LeadsSessions link_tells ask served.notes.items served.door_failed served.memory_failed told door)
-leads_sessions link_tells told ask circuit claim file (Err stop) door is_claim is_file few notes taken = tt
-leads_sessions link_tells told ask circuit claim file (Ok served) door is_claim is_file few notes taken = record {
-  circuit = circuit;
-  job = verifier_of claim file ask.section;
-  served = record { claim = is_claim; file = is_file; section = refl };
-  few = few;
-  each = notes;
-  taken = taken;
-}
 
 -- what an accepted session about what was asked shows
 headline : ExtractedShowsOutputs → (told : Option Files) (ask : ServeAsk) (circuit : Circuit) (job : VerifierJob)
@@ -145,12 +111,31 @@ headline law told ask circuit job served granted log shown =
 
 -- of each note that is handed back
 pub headlines : {L : Type 0} (link_tells : L → LinkState) → ExtractedShowsOutputs → (told : Option Files) (ask : ServeAsk)
-    (notes : List (SessionNote L)) (door : DoorChange) (door_failed memory_failed : Bool)
-    → LeadsSessions link_tells ask notes door_failed memory_failed told door
+    (notes : List (SessionNote L)) (disk : DiskChange) (door : DoorChange) (door_failed memory_failed : Bool)
+    → LeadsFiles link_tells ask notes door_failed memory_failed told disk door
     → All (λ note. note.outcome ≡ Accepted → IsHeadline told ask note.granted note.log) notes
-headlines link_tells law told ask notes door door_failed memory_failed leads = λ k default within accepted.
+headlines link_tells law told ask notes disk door door_failed memory_failed files = λ k default within accepted.
     let note = get_or notes k default in
-    headline law told ask leads.circuit leads.job leads.served note.granted note.log ((leads.each k default within).shown accepted)
+    headline law told ask files.circuit files.job files.served note.granted note.log ((files.leads.each k default within).1.shown accepted)
+
+-- and of all of them
+pub grants_once : {L : Type 0} (link_tells : L → LinkState) (told : Option Files) (ask : ServeAsk) (notes : List (SessionNote L))
+    (disk : DiskChange) (door : DoorChange) (door_failed memory_failed : Bool)
+    → LeadsFiles link_tells ask notes door_failed memory_failed told disk door → GrantsOnce told ask notes disk
+grants_once link_tells told ask notes disk door door_failed memory_failed files = record {
+  circuit = files.circuit;
+  job = files.job;
+  served = files.served;
+  base = files.leads.base;
+  recovered = files.leads.recovered;
+  apart = files.leads.apart;
+  ceiling = files.leads.ceiling;
+  grows = files.leads.kept.grows;
+  spans = files.leads.spans;
+  read = files.leads.kept.read;
+  durable = files.leads.kept.durable;
+  any_moment = files.leads.kept.any_moment;
+}
 
 -- ---- what the headline's record holds
 

@@ -1,5 +1,5 @@
 -- One store after another.
-use Rattle.std.proofs.Common.{◌≡◌, ◌⊎◌, ◌++◌, ℕ, suc, List, [], ◌∷◌, take, Bool, IsFalse, Result, Ok, Err, IfErr, OnOk, OnErr, Option, None, Some, refl, ap, ◌∙◌, subst, inl, inr, arith}
+use Rattle.std.proofs.Common.{◌≡◌, ◌⊎◌, ◌++◌, ℕ, suc, List, [], ◌∷◌, take, Bool, IsFalse, Result, Ok, Err, IfErr, OnOk, OnErr, Option, None, Some, refl, ap, sym, ◌∙◌, subst, inl, inr, arith}
 use Rattle.std.specs.Option.{option_map}
 use Rattle.zk_model.specs.Files as model
 use Rattle.zk_port.specs.Changes.{change}
@@ -125,16 +125,22 @@ stores_nothing IsNamed a = record {
 
 -- ---- one store
 
--- a store that is refused under one of the names
+-- a store that is refused under one of these names
+pub refused_of : (IsNamed : List ℕ → Type 0) (whole : List ℕ) (failed : Bool) (a b : ShelfState) → IsNamed whole
+    → port.OthersStay whole a.told b.told → CountsNames failed whole a.faults_of b.faults_of
+    → (IsFalse failed → b.faults ≡ a.faults) → OnlyStores IsNamed (change a b)
+refused_of IsNamed whole failed a b is others counts quiet = record {
+  others = but_named a.told b.told others;
+  asked = asks_one IsNamed whole failed a b is counts quiet;
+}
+  where
+    but_named : (old new : Option Files) → port.OthersStay whole old new → OthersStay IsNamed old new
+    but_named None new stays = stays
+    but_named (Some files) None stays = absurd stays
+    but_named (Some files) (Some more) stays = λ other not. stays other (λ e. not (subst IsNamed (sym e) is))
+
+-- a dealt file's
 pub refused_store : (name whole : List ℕ) (file : Stored) (failed : Bool) (a b : ShelfState) → whole ≡ name ++ ending file
     → port.OthersStay whole a.told b.told → CountsNames failed whole a.faults_of b.faults_of
     → (IsFalse failed → b.faults ≡ a.faults) → OnlyStores (IsDealName name) (change a b)
-refused_store name whole file failed a b is others counts quiet = record {
-  others = but_named a.told b.told others;
-  asked = asks_one (IsDealName name) whole failed a b (file, is) counts quiet;
-}
-  where
-    but_named : (old new : Option Files) → port.OthersStay whole old new → OthersStay (IsDealName name) old new
-    but_named None new stays = stays
-    but_named (Some files) None stays = absurd stays
-    but_named (Some files) (Some more) stays = λ other not. stays other (λ e. not (file, e ∙ is))
+refused_store name whole file failed a b is = refused_of (IsDealName name) whole failed a b (file, is)

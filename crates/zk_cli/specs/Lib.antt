@@ -7,3 +7,5 @@ pub mod Runs
 pub mod ServeRuns
 pub mod ServedNotes
 pub mod Stops
+pub mod Journals
+pub mod ServiceLogs

@@ -4,6 +4,7 @@ use Rattle.command_words.specs.Words.{Ask, rehearse, eval, deal, serve}
 use Rattle.zk_cli.specs.DealRuns.{Deals}
 use Rattle.zk_cli.specs.EvalRuns.{Evaluates}
 use Rattle.zk_cli.specs.RehearseRuns.{Rehearses}
+use Rattle.zk_cli.specs.Journals.{DiskChange}
 use Rattle.zk_cli.specs.Runs.{Run}
 use Rattle.zk_cli.specs.ServeRuns.{Serves}
 use Rattle.zk_cli.specs.Stops.{PrintsMade, stop_status, stop_line}
@@ -24,9 +25,8 @@ pub record SaysUsage {F L B D : Type 0} (run : Run F L B D) : Type 0 where
 
 -- The record of the command that is asked for; beside it, whether nothing is handed back, and which of the disk and the
 -- door come back as they were. Want of memory, status 7, may come at any time and says nothing else.
-abbrev pub Meets : {F L B D : Type 0} → Ask → List ℕ → Run F L B D → Type 0
-Meets (rehearse ask) seed run = Rehearses ask seed run.part run.effects × IsLocal run
-Meets (eval ask) seed run = Evaluates ask run.effects × (run.part ≡ Plain) × IsLocal run
-Meets (deal ask) seed run = Deals ask seed run.effects × (run.part ≡ Plain) × IsLocal run
-Meets (serve ask) seed run =
-    Serves run.link_tells ask run.part run.door run.effects × (run.journal.new ≡ run.journal.old)
+abbrev pub Meets : {F L B D : Type 0} → Ask → List ℕ → DiskChange → Run F L B D → Type 0
+Meets (rehearse ask) seed disk run = Rehearses ask seed run.part run.effects × IsLocal run
+Meets (eval ask) seed disk run = Evaluates ask run.effects × (run.part ≡ Plain) × IsLocal run
+Meets (deal ask) seed disk run = Deals ask seed run.effects × (run.part ≡ Plain) × IsLocal run
+Meets (serve ask) seed disk run = Serves run.link_tells ask run.part disk run.door run.effects

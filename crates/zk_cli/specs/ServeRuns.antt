@@ -1,6 +1,6 @@
--- `serve ADDRESS FILE CIRCUIT OUTPUTS --sessions 1 [--section G]`: what is served and said, and what it promises of its
--- run.
-use Rattle.std.specs.Prelude.{◌≡◌, ◌≢◌, ◌⊎◌, ◌≤◌, ℕ, List, All, length, Bool, true, false, Option, None}
+-- `serve ADDRESS FILE CIRCUIT OUTPUTS --sessions N ..`: what is served and said, and what its run promises.
+use Rattle.std.specs.Prelude.{◌≡◌, ◌≢◌, ◌⊎◌, ◌+◌, ◌-◌, ◌*◌, ◌≤◌, ℕ, List, All, AllPairs, length, Bool, true, false, Option, None, Some, IfSome}
+use Rattle.std.specs.List.Sorted.{IsNonDecreasingBy}
 use Rattle.sha2.specs.Sha256.{sha256}
 use Rattle.zk_model.specs.Bristol.{IsText}
 use Rattle.zk_model.specs.Circuit.{Circuit}
@@ -10,36 +10,55 @@ use Rattle.zk_model.specs.HonestProver.{ProverTask}
 use Rattle.zk_model.specs.Statement.{Statement, circuit_statement}
 use Rattle.zk_model.specs.declared.Side.TheVariants.{Verifier}
 use Rattle.zk_model.specs.declared.limits.TheConstants.{MAX_UNITS}
+use Rattle.zk_model.specs.Journals.{Stands, ceiling_slots}
+use Rattle.zk_model.specs.declared.JournalKind.TheVariants.{Ceilings}
 use Rattle.zk_port.specs.Counts.{Rose}
+use Rattle.zk_port.specs.Disks.{DiskState}
+use Rattle.lease_journal.specs.Causes.{StartCause}
+use Rattle.lease_journal.specs.declared.fault.StartFault.{StartFault}
+use Rattle.lease_journal.specs.declared.fault.StartFault.TheVariants as start
+use Rattle.lease_store.specs.Ceilings.{SaysCeiling}
+use Rattle.lease_store.specs.declared.fault.StoreFault.{StoreFault}
+use Rattle.lease_store.specs.declared.fault.StoreFault.TheVariants as store
 use Rattle.zk_port.specs.Doors.{RefusesListen, after_listen}
 use Rattle.zk_port.specs.Files.{Files}
 use Rattle.zk_port.specs.Links.{LinkState}
 use Rattle.dealer_files.specs.Faults.{IsDealtFile, IsFirstFault}
 use Rattle.session_core.specs.Jobs.{VerifierJob, IsTooLarge, units_of_job}
-use Rattle.session_pool.specs.Doors.{TakesOneAtMost}
-use Rattle.session_pool.specs.Notes.{IsNote}
+use Rattle.session_pool.specs.Doors.{Takes}
+use Rattle.session_pool.specs.Notes.{AreApart, IsBetween, IsMarked, IsRefusedBy}
 use Rattle.session_verifier.specs.Notes.{HasHonestPeer}
+use Rattle.session_verifier.specs.Outcomes.{lease_fault}
+use Rattle.session_verifier.specs.Sessions.{IsNote}
 use Rattle.session_verifier.specs.declared.note.SessionNote.{SessionNote}
 use Rattle.session_verifier.specs.declared.note.VerifierOutcome.TheVariants.{Accepted}
+use Rattle.command_words.specs.Commands.{named_options}
 use Rattle.command_words.specs.Words.{ServeAsk, serve_ask}
-use Rattle.zk_cli.specs.NoteLines.{has_status, served_text, served_status}
-use Rattle.zk_cli.specs.Runs.{ShelfChange, SinkChange, DoorChange, SinkFailed, Effects, HasFailed}
-use Rattle.zk_cli.specs.Runs.{OnlyLoads, IsDone, EachNote}
-use Rattle.zk_cli.specs.Stops.{Prints, WritesAll, SaysStop, IsOfStop}
+use Rattle.zk_cli.specs.Journals.{DiskChange, IsUntouched, KeepsCeiling, OnlyReads, journal_name}
+use Rattle.zk_cli.specs.NoteLines.{IsServedText, has_status, start_of}
+use Rattle.zk_cli.specs.Runs.{ShelfChange, DoorChange, SomeFailed, SinkFailed, Effects, HasFailed}
+use Rattle.zk_cli.specs.Runs.{OthersStay, OnlyAsks, IsDone, EachNote}
+use Rattle.zk_cli.specs.ServiceLogs.{IsLogName, KeepsLogs, SaysService}
+use Rattle.zk_cli.specs.Stops.{WritesAll, SaysStop, IsOfStop}
 use Rattle.zk_cli.specs.Stops.{IsLoaded, HasText, HasCircuit, LoadStop, CircuitStop}
 use Rattle.zk_cli.specs.declared.finish.Part.{Part}
 use Rattle.zk_cli.specs.declared.finish.Part.TheVariants.{Plain, Served}
 use Rattle.zk_cli.specs.declared.refusal.Refusal.{Refusal}
 use Rattle.zk_cli.specs.declared.refusal.Refusal.TheVariants.{BadFile, WrongOutputs, TooLarge, DoorFailed, NoMemory}
+use Rattle.zk_cli.specs.declared.refusal.Refusal.TheVariants.{JournalFailed, JournalShort, JournalHeader, JournalBody}
 use Rattle.zk_cli.specs.declared.serve_command.ServeWords.{ServeWords}
 
 -- what is asked for
 abbrev pub serve_words : ServeWords → ServeAsk
-serve_words words = serve_ask words.address.now words.file.now words.circuit.now words.outputs.now words.section
+serve_words words =
+    serve_ask words.address.now words.file.now words.circuit.now words.outputs.now (named_options words.options)
 
--- the names of the two files
+-- the names of the two files that are loaded, and those of logs beside them
+abbrev pub IsLoadedName : ServeAsk → List ℕ → Type 0
+IsLoadedName ask name = (name ≡ ask.circuit) ⊎ (name ≡ ask.file)
+
 abbrev pub IsServeName : ServeAsk → List ℕ → Type 0
-IsServeName ask name = (name ≡ ask.circuit) ⊎ (name ≡ ask.file)
+IsServeName ask name = IsLoadedName ask name ⊎ IsLogName ask.options.logs name
 
 -- where a shelf tells, the text under the circuit's name says this circuit, which has as many outputs as are claimed;
 -- and this is the statement that some inputs give them, with the digest of the text
@@ -59,7 +78,7 @@ IsVerifierFileAt told name file =
 pub record IsServeJob (told : Option Files) (ask : ServeAsk) (circuit : Circuit) (job : VerifierJob) : Type 0 where
   pub claim : IsClaim told ask circuit job.task.statement
   pub file : IsVerifierFileAt told ask.file job.task.file
-  pub section : job.section_length ≡ ask.section
+  pub section : job.section_length ≡ ask.options.section
 
 -- ---- why nothing is served
 
@@ -81,57 +100,108 @@ LacksFile ask shelf stop =
     (circuit : Circuit) × (statement : Statement) × IsClaim shelf.old.told ask circuit statement
     × FileStop ask.file shelf stop
 
--- why no session is opened: it takes too many units, and nothing is asked of the door; or the door, which was asked to
--- listen at the address, failed, or found no memory
-abbrev pub OpeningStop : VerifierJob → List ℕ → DoorChange → Refusal → Type 0
-OpeningStop job address door (TooLarge need units) =
-    IsTooLarge job (record { need = need; units = units }) × (door.new ≡ door.old)
-OpeningStop job address door DoorFailed = (units_of_job job ≤ MAX_UNITS)
-    × RefusesListen address door.old door.new × Rose door.old.listen_faults door.new.listen_faults
-OpeningStop job address door NoMemory = (units_of_job job ≤ MAX_UNITS)
-    × RefusesListen address door.old door.new × (door.new.listen_faults ≡ door.old.listen_faults)
-OpeningStop job address door stop = ⊥
+-- why the claim and the file can't be had, the first of these
+abbrev pub LacksFiles : ServeAsk → ShelfChange → Refusal → Type 0
+LacksFiles ask shelf stop = ClaimStop ask shelf stop ⊎ LacksFile ask shelf stop
+
+-- why a journal is not opened: a call of the disk failed, whose count is this now; or the bytes that stand there are refused by this fault
+abbrev pub JournalStop : (StartFault → Type 0) → DiskChange → Refusal → Type 0
+JournalStop Cause disk (JournalFailed count) = (count ≡ disk.new.faults) × Rose disk.old.faults disk.new.faults
+JournalStop Cause disk (JournalShort need got) = Cause (start.Short need got)
+JournalStop Cause disk (JournalHeader place) = Cause (start.BadHeader place)
+JournalStop Cause disk (JournalBody slot) = Cause (start.BadBody slot)
+JournalStop Cause disk NoMemory = Unit {0}
+JournalStop Cause disk stop = ⊥
+
+-- what a start that is refused stops a run by, where the disk's calls have failed so often
+abbrev pub start_refusal : StoreFault → ℕ → Refusal
+start_refusal store.NoMemory count = NoMemory
+start_refusal (store.Journal start.Device) count = JournalFailed count
+start_refusal (store.Journal (start.Short need got)) count = JournalShort need got
+start_refusal (store.Journal (start.BadHeader place)) count = JournalHeader place
+start_refusal (store.Journal (start.BadBody slot)) count = JournalBody slot
+
+-- the fault that a disk's content has as a journal of ceilings of this id and total, where it is known
+abbrev pub IsCeilingsFault : List ℕ → ℕ → DiskState → StartFault → Type 0
+IsCeilingsFault id total disk fault = (bytes : List ℕ) → disk.content ≡ Some bytes → StartCause Ceilings id total bytes fault
+
+-- why the door does not listen at the address: it failed, or found no memory
+abbrev pub ListenStop : List ℕ → DoorChange → Refusal → Type 0
+ListenStop address door DoorFailed =
+    RefusesListen address door.old door.new × Rose door.old.listen_faults door.new.listen_faults
+ListenStop address door NoMemory =
+    RefusesListen address door.old door.new × (door.new.listen_faults ≡ door.old.listen_faults)
+ListenStop address door stop = ⊥
+
+-- Why no session of a job is opened: it takes too many units, and nothing is asked of the disk or the door; its file's journal is not
+-- opened, and nothing is asked of the door; or the door does not listen. The journal is at most read.
+abbrev pub OpeningStop : ServeAsk → VerifierJob → DiskChange → DoorChange → Refusal → Type 0
+OpeningStop ask job disk door (TooLarge need units) =
+    IsTooLarge job (record { need = need; units = units }) × IsUntouched disk × (door.new ≡ door.old)
+OpeningStop ask job disk door stop = (units_of_job job ≤ MAX_UNITS) × OnlyReads (journal_name ask.file) disk
+    × ((JournalStop (IsCeilingsFault job.task.file.id job.task.file.params.total disk.old) disk stop × (door.new ≡ door.old))
+    ⊎ ListenStop ask.address door stop)
 
 -- there is a claim and a file, but no session is opened
-abbrev pub LacksSession : Option Files → ServeAsk → DoorChange → Refusal → Type 0
-LacksSession told ask door stop =
-    (circuit : Circuit) × (job : VerifierJob) × IsServeJob told ask circuit job
-    × OpeningStop job ask.address door stop
+abbrev pub LacksSession : Option Files → ServeAsk → DiskChange → DoorChange → Refusal → Type 0
+LacksSession told ask disk door stop =
+    (circuit : Circuit) × (job : VerifierJob) × IsServeJob told ask circuit job × OpeningStop ask job disk door stop
 
 -- Why nothing is served, the first of these: the circuit can't be had, or has another number of outputs; the file can't
--- be had; the session is too large; the door does not listen. Before that nothing is asked of the door.
-abbrev pub ServeStop : ServeAsk → ShelfChange → DoorChange → Refusal → Type 0
-ServeStop ask shelf door stop =
-    ((ClaimStop ask shelf stop ⊎ LacksFile ask shelf stop) × (door.new ≡ door.old))
-    ⊎ LacksSession shelf.old.told ask door stop
+-- be had; the session is too large; the journal is not opened; the door does not listen.
+abbrev pub ServeStop : ServeAsk → ShelfChange → DiskChange → DoorChange → Refusal → Type 0
+ServeStop ask shelf disk door stop =
+    (LacksFiles ask shelf stop × IsUntouched disk × (door.new ≡ door.old))
+    ⊎ LacksSession shelf.old.told ask disk door stop
 
--- The door listened at the address, once and for one session; one job stands above all notes, and each note is one of a
--- session about it; as many links were taken as there are notes, and nothing else was asked of the door.
-pub record LeadsSessions {L : Type 0} (link_tells : L → LinkState) (ask : ServeAsk)
-    (notes : List (SessionNote L)) (door_failed memory_failed : Bool) (told : Option Files) (door : DoorChange)
-    : Type 0 where
+-- ---- what is served
+
+-- The sessions about a job that were led. The door listened at the address, once and for so many sessions, and as many links were taken as
+-- there are notes. The file's journal was opened at the base that it says, and kept. Granted spans have the units of a session, are apart, lie
+-- between the base and a ceiling that every image of the disk recovers, and end within the total. A journal is said to have failed only
+-- where a call of the disk failed; and units to be missing only where those of the other sessions leave too few.
+pub record LeadsJob {L : Type 0} (link_tells : L → LinkState) (ask : ServeAsk) (job : VerifierJob) (notes : List (SessionNote L))
+    (door_failed memory_failed : Bool) (disk : DiskChange) (door : DoorChange) : Type 0 where
+  pub few : units_of_job job ≤ MAX_UNITS
+  pub each : All (IsNote link_tells job) notes
+  pub taken : Takes ask.options.sessions (length notes) door_failed memory_failed
+      (after_listen ask.address ask.options.sessions door.old) door.new
+  pub base : ℕ
+  pub recovered : (bytes : List ℕ) → disk.old.content ≡ Some bytes
+      → SaysCeiling job.task.file.id job.task.file.params.total base bytes
+  pub ceiling : ℕ
+  pub mark : ℕ
+  pub kept : KeepsCeiling (journal_name ask.file) job.task.file.id job.task.file.params.total base ceiling mark disk
+  pub apart : AllPairs (λ one other. AreApart one.granted other.granted) notes
+  pub spans : All (λ note. IsBetween (units_of_job job) base ceiling note.granted) notes
+  pub within : All (λ note. IfSome note.granted (λ span. span.end ≤ job.task.file.params.total)) notes
+  pub marked : All (λ note. IsMarked mark (lease_fault note.outcome)) notes
+  pub refused : All (λ note. IsRefusedBy (units_of_job job) job.task.file.params.total
+      (base + units_of_job job * (length notes - 1)) (lease_fault note.outcome)) notes
+
+-- one job of what was asked stands above all notes
+pub record LeadsFiles {L : Type 0} (link_tells : L → LinkState) (ask : ServeAsk) (notes : List (SessionNote L))
+    (door_failed memory_failed : Bool) (told : Option Files) (disk : DiskChange) (door : DoorChange) : Type 0 where
   pub circuit : Circuit
   pub job : VerifierJob
   pub served : IsServeJob told ask circuit job
-  pub few : units_of_job job ≤ MAX_UNITS
-  pub each : All (IsNote link_tells job) notes
-  pub taken : TakesOneAtMost (length notes) door_failed memory_failed (after_listen ask.address 1 door.old) door.new
+  pub leads : LeadsJob link_tells ask job notes door_failed memory_failed disk door
 
--- sessions were led; the lines of their notes are written, and the status is theirs
+-- sessions were led; their notes are in the order of their first units, their logs are kept, the lines of their notes are written, and the status is theirs
 pub record SaysNotes {L : Type 0} (link_tells : L → LinkState) (ask : ServeAsk)
-    (notes : List (SessionNote L)) (door : DoorChange) (run : Effects) : Type 0 where
+    (notes : List (SessionNote L)) (disk : DiskChange) (door : DoorChange) (run : Effects) : Type 0 where
   pub door_failed : Bool
   pub memory_failed : Bool
-  pub leads : LeadsSessions link_tells ask notes door_failed memory_failed run.shelf.old.told door
-  pub prints : Prints (served_status notes door_failed memory_failed) (served_text notes door_failed)
-      run.status run.sink
+  pub leads : LeadsFiles link_tells ask notes door_failed memory_failed run.shelf.old.told disk door
+  pub ordered : IsNonDecreasingBy (λ note. start_of note.granted) notes
+  pub says : SaysService ask.options.logs notes door_failed memory_failed run
 
 -- what was served is handed back, exactly where the door listened, and said; or the line of a stop is written, which
 -- has its cause
-abbrev pub ServeLines : {L : Type 0} → (L → LinkState) → ServeAsk → Part L → DoorChange → Effects → Type 0
-ServeLines link_tells ask (Served notes) door run = SaysNotes link_tells ask notes.items door run
-ServeLines link_tells ask Plain door run = SaysStop (ServeStop ask run.shelf door) run
-ServeLines link_tells ask part door run = ⊥
+abbrev pub ServeLines : {L : Type 0} → (L → LinkState) → ServeAsk → Part L → DiskChange → DoorChange → Effects → Type 0
+ServeLines link_tells ask (Served notes) disk door run = SaysNotes link_tells ask notes.items disk door run
+ServeLines link_tells ask Plain disk door run = SaysStop (ServeStop ask run.shelf disk door) run
+ServeLines link_tells ask part disk door run = ⊥
 
 -- ---- what the status says
 
@@ -140,46 +210,58 @@ abbrev pub DoorCallFailed : DoorChange → Type 0
 DoorCallFailed door =
     Rose door.old.listen_faults door.new.listen_faults ⊎ Rose door.old.next_faults door.new.next_faults
 
--- every session is accepted, all lines are written, and neither the door nor the sink failed
-pub record AllAccepted {L : Type 0} (notes : List (SessionNote L)) (door : DoorChange) (sink : SinkChange)
-    : Type 0 where
+-- every session is accepted, all lines are written, all logs are kept, and no call of the door or the sink failed
+pub record AllAccepted {L : Type 0} (ask : ServeAsk) (notes : List (SessionNote L)) (door : DoorChange) (run : Effects) : Type 0 where
   pub each : All (λ note. note.outcome ≡ Accepted) notes
-  pub lines : WritesAll (served_text notes false) sink
+  pub lines : (text : List ℕ) × IsServedText notes false text × WritesAll text run.sink
+  pub logs : KeepsLogs ask.options.logs notes run.shelf None
   pub listen_quiet : door.new.listen_faults ≡ door.old.listen_faults
   pub next_quiet : door.new.next_faults ≡ door.old.next_faults
 
 -- Once the door listened: 0 where every session is accepted; 1 where one was rejected, or its peer ended, sent another
--- frame or another hello; 4 where the door, the sink or the link of a session failed; 6 where the units of one were
--- wanting; 7: memory
-abbrev pub NotesMean : {L : Type 0} → List (SessionNote L) → DoorChange → Effects → Type 0
-NotesMean notes door run =
-    ((run.status ≡ 0) × AllAccepted notes door run.sink)
+-- frame or another hello; 4 where the door, the shelf, the sink or the link of a session failed; 5 where the journal did; 6 where the units
+-- of one were wanting; 7: memory
+abbrev pub NotesMean : {L : Type 0} → ServeAsk → List (SessionNote L) → DiskChange → DoorChange → Effects → Type 0
+NotesMean ask notes disk door run =
+    ((run.status ≡ 0) × AllAccepted ask notes door run)
     ⊎ ((run.status ≡ 1) × (has_status notes 1 ≡ true))
-    ⊎ ((run.status ≡ 4) × (DoorCallFailed door ⊎ SinkFailed run.sink ⊎ (has_status notes 4 ≡ true)))
+    ⊎ ((run.status ≡ 4) × (DoorCallFailed door ⊎ SomeFailed (IsLogName ask.options.logs) run.shelf ⊎ SinkFailed run.sink
+    ⊎ (has_status notes 4 ≡ true)))
+    ⊎ ((run.status ≡ 5) × Rose disk.old.faults disk.new.faults × (has_status notes 5 ≡ true))
     ⊎ ((run.status ≡ 6) × (has_status notes 6 ≡ true))
     ⊎ (run.status ≡ 7)
 
 -- before that, that of a stop which has its cause, or 7
-abbrev pub ServeMeans : {L : Type 0} → ServeAsk → Part L → DoorChange → Effects → Type 0
-ServeMeans ask (Served notes) door run = NotesMean notes.items door run
-ServeMeans ask Plain door run = IsOfStop (ServeStop ask run.shelf door) run.status ⊎ (run.status ≡ 7)
-ServeMeans ask part door run = ⊥
+abbrev pub ServeMeans : {L : Type 0} → ServeAsk → Part L → DiskChange → DoorChange → Effects → Type 0
+ServeMeans ask (Served notes) disk door run = NotesMean ask notes.items disk door run
+ServeMeans ask Plain disk door run = IsOfStop (ServeStop ask run.shelf disk door) run.status ⊎ (run.status ≡ 7)
+ServeMeans ask part disk door run = ⊥
 
 -- ---- where nothing is refused and nothing fails
 
--- a shelf that tells has a circuit with as many outputs as are claimed, and a verifier's file, and this has as many
--- units as a session about the circuit takes, which are few
-pub record IsServable (told : Option Files) (ask : ServeAsk) : Type 0 where
+-- a journal of ceilings stands in the content, of this id and total, that leaves so many units
+pub record LeavesUnits (id : List ℕ) (total units : ℕ) (content : Option (List ℕ)) : Type 0 where
+  pub bytes : List ℕ
+  pub known : content ≡ Some bytes
+  pub stands : Stands Ceilings id total (ceiling_slots total) bytes
+  pub base : ℕ
+  pub says : SaysCeiling id total base bytes
+  pub enough : base + units ≤ total
+
+-- a shelf that tells has a circuit with as many outputs as are claimed, and a verifier's file, about which a session takes few units; and
+-- the disk has its journal, which leaves as many units as all sessions take
+pub record IsServable (told : Option Files) (disk : DiskState) (ask : ServeAsk) : Type 0 where
   pub tells : told ≢ None
   pub circuit : HasCircuit told ask.circuit (λ circuit. length ask.outputs ≡ circuit.outputs)
   pub file : HasText told ask.file (IsDealtFile Verifier)
   pub few : (other : Circuit) (job : VerifierJob) → IsServeJob told ask other job → units_of_job job ≤ MAX_UNITS
   pub room : (other : Circuit) (job : VerifierJob) → IsServeJob told ask other job
-      → units_of_job job ≤ job.task.file.params.total
+      → LeavesUnits job.task.file.id job.task.file.params.total (units_of_job job * ask.options.sessions) disk.content
 
--- a call failed: one for one of the two files, one of the sink, or one of the door
-abbrev pub HasServeFailed : ServeAsk → DoorChange → Effects → Type 0
-HasServeFailed ask door run = HasFailed (IsServeName ask) run ⊎ DoorCallFailed door
+-- a call failed: one of the shelf for one of the names, one of the sink, the disk or the door
+abbrev pub HasServeFailed : ServeAsk → DiskChange → DoorChange → Effects → Type 0
+HasServeFailed ask disk door run =
+    HasFailed (IsServeName ask) run ⊎ Rose disk.old.faults disk.new.faults ⊎ DoorCallFailed door
 
 -- a session whose peer is an honest prover of what was asked, and whose link did not fail
 pub record IsWithHonestPeer {L : Type 0} (link_tells : L → LinkState) (told : Option Files) (ask : ServeAsk)
@@ -188,14 +270,15 @@ pub record IsWithHonestPeer {L : Type 0} (link_tells : L → LinkState) (told : 
   pub honest : (circuit : Circuit) (job : VerifierJob) → IsServeJob told ask circuit job
       → (prover : ProverTask) × HasHonestPeer job prover note.outcome note.log
 
--- One session at most is served, with a peer that called where the door listened at the address, and what came of it is
--- handed back and said; or nothing is handed back, and the line of a stop with its cause is written. What the status
--- says; that all is done where nothing is refused, nothing fails and the peer is honest; and that nothing but the files
--- of the circuit and of the verifier is asked of the shelf.
+-- Sessions are served with the peers that called where the door listened at the address, over the file's journal, and what came of them
+-- is handed back and said; or nothing is handed back, and the line of a stop with its cause is written. What the status says; that all is
+-- done where nothing is refused, nothing fails and all peers are honest; and that nothing but the files of the circuit and of the verifier,
+-- and names of logs, is asked of the shelf, and nothing but logs is changed there.
 pub record Serves {L : Type 0} (link_tells : L → LinkState) (ask : ServeAsk) (part : Part L)
-    (door : DoorChange) (run : Effects) : Type 0 where
-  pub lines : ServeLines link_tells ask part door run
-  pub means : ServeMeans ask part door run
-  pub done : IsServable run.shelf.old.told ask → ¬ HasServeFailed ask door run
+    (disk : DiskChange) (door : DoorChange) (run : Effects) : Type 0 where
+  pub lines : ServeLines link_tells ask part disk door run
+  pub means : ServeMeans ask part disk door run
+  pub done : IsServable run.shelf.old.told disk.old ask → ¬ HasServeFailed ask disk door run
       → EachNote part (IsWithHonestPeer link_tells run.shelf.old.told ask) → IsDone run.status
-  pub kept : OnlyLoads (IsServeName ask) run.shelf
+  pub others : OthersStay (IsLogName ask.options.logs) run.shelf.old.told run.shelf.new.told
+  pub asked : OnlyAsks (IsServeName ask) run.shelf

@@ -78,6 +78,10 @@ stop_line (stop.WrongOutputs need got) = pair_line (codes "refused outputs") nee
 stop_line (stop.TooLarge need units) = pair_line (codes "too large") need units
 stop_line stop.ShelfFailed = codes "failed shelf\n"
 stop_line stop.DoorFailed = codes "failed door\n"
+stop_line (stop.JournalShort need got) = pair_line (codes "refused Short 1") need got
+stop_line (stop.JournalHeader place) = refused_line (codes "BadHeader 2") place
+stop_line (stop.JournalBody slot) = refused_line (codes "BadBody 3") slot
+stop_line (stop.JournalFailed count) = codes "journal failed " ++ decimal count ++ codes "\n"
 stop_line stop.NoMemory = codes "memory\n"
 
 -- the status that is answered
@@ -91,6 +95,10 @@ stop_status (stop.WrongBits need got) = 3
 stop_status (stop.WrongOutputs need got) = 3
 stop_status stop.ShelfFailed = 4
 stop_status stop.DoorFailed = 4
+stop_status (stop.JournalShort need got) = 3
+stop_status (stop.JournalHeader place) = 3
+stop_status (stop.JournalBody slot) = 3
+stop_status (stop.JournalFailed count) = 5
 stop_status stop.NoMemory = 7
 stop_status (stop.TooLarge need units) = 9
 

@@ -1,5 +1,5 @@
 // Files that are loaded, and circuits that stand as such.
-ghost use Rattle.std.specs.Prelude.{◌≡◌, ◌⊎◌, IfOk, IfErr};
+ghost use Rattle.std.specs.Prelude.{◌≡◌, ◌⊎◌, IfOk, IfErr, OnOk};
 ghost use Rattle.zk_model.specs.Bristol.{IsText};
 ghost use Rattle.zk_model.specs.declared.ReadFault.{ReadFault};
 ghost use Rattle.zk_port.specs.Changes.{change};
@@ -20,6 +20,7 @@ pub fn load_file<F: Shelf>(alloc: Global, shelf: &mut F, name: &str) -> Result<V
     ensures loaded { IfOk result (λ bytes. IsLoaded (F.state shelf.old).told name.now bytes.items) }
     ensures stop { IfErr result (LoadStop name.now (change (F.state shelf.old) (F.state shelf.new))) }
     ensures kept { OnlyLoads (IsName name.now) (change (F.state shelf.old) (F.state shelf.new)) }
+    ensures quiet { OnOk result (F.state shelf.new ≡ F.state shelf.old) }
 {
     match shelf.load(alloc, name, FILE_LIMIT) {
         Ok(bytes) => Ok(bytes),

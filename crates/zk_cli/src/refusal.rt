@@ -28,6 +28,14 @@ pub enum Refusal {
     ShelfFailed,
     /// The door does not listen.
     DoorFailed,
+    /// A journal ends at `got`, before its header is whole or inside a slot that is read, where `need` bytes are needed.
+    JournalShort { need: u64, got: u64 },
+    /// This byte of a journal's header is another.
+    JournalHeader { place: u64 },
+    /// The body of this slot of a journal breaks its rule.
+    JournalBody { slot: u64 },
+    /// A call of the disk failed, which has failed so often now.
+    JournalFailed { count: u64 },
     /// Memory was missing.
     NoMemory,
 }

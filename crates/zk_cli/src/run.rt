@@ -5,7 +5,8 @@ ghost use Rattle.session_verifier.specs.declared.note.VerifierOutcome.TheVariant
 ghost use Rattle.command_words.specs.Words.{Ask, ServeAsk, serve, texts, asked};
 ghost use Rattle.zk_cli.specs.Meets.{Meets, SaysUsage};
 ghost use Rattle.zk_cli.specs.Runs.{EachNote, run_of};
-ghost use Rattle.zk_cli.specs.ServedNotes.{IsHeadline};
+ghost use Rattle.zk_cli.specs.Journals.{IsJournalDisk, disk_change};
+ghost use Rattle.zk_cli.specs.ServedNotes.{GrantsOnceIn, IsHeadline};
 
 use crate::deal_command::run_deal;
 use crate::eval_command::run_eval;
@@ -16,6 +17,7 @@ use crate::say::{say_memory, say_stop};
 use crate::serve_command::{ServeWords, run_serve};
 use bristol_reader::one_circuit;
 use command_words::{Command, read_words};
+use lease_journal::starts_again;
 use std::alloc::Global;
 use std::sync::Wait;
 use std::thread::Threads;
@@ -29,28 +31,32 @@ use zk_port::{Disk, Door, Gate, Shelf, Sink};
 /// of the file failed, or the output before a 0; 7 where memory is missing; 9 where the session would take more than
 /// 4,096 units. `eval CIRCUIT BITS` ends with 0 where it wrote the outputs, and with 3, 4 and 7 in the same cases.
 /// `deal NAME --units N [--trees T --height H --base K]` ends with 0 where all is stored and said, 4 where a store or
-/// the output failed, and 7. `serve ADDRESS FILE CIRCUIT OUTPUTS --sessions 1 [--section G]` ends with 0 where each
-/// session is accepted, or no peer called; 1 where one is not; 3 where a file is refused, or the outputs for it; 4
-/// where a load, the door, a link or the output failed; 6 where units are missing; and with 7 and 9.
+/// the output failed, and 7. `serve ADDRESS FILE CIRCUIT OUTPUTS --sessions N [--workers W] [--section G] [--logs PREFIX]`
+/// ends with 0 where each session is accepted, or no peer called; 1 where one is not; 3 where a file or the journal is
+/// refused, or the outputs for it; 4 where a load, the door, a link, a log or the output failed; 5 where the journal
+/// failed; 6 where units are missing; and with 7 and 9.
 pub fn run_zk<R, F, D, B, O, G>(
-    _rt: &R,
+    rt: &R,
     alloc: Global,
     words: &[String],
     shelf: &mut F,
     journal: B,
-    mut door: D,
+    door: D,
     gate: &G,
     seed: &[u8; 32],
     out: &mut O,
 ) -> Finish<B, D>
 where
-    R: Threads + Wait,
+    R: Threads + Wait + Sync,
     F: Shelf,
     D: Door + Drop + Send,
     D::Link: Drop + Send,
     B: Disk + Drop + Send,
     O: Sink,
     G: Gate + Sync + Drop,
+
+    // The disk is one on which a journal may be opened.
+    requires disk { IsJournalDisk (B.state journal) }
 
     // Words of no command.
     ensures usage { asked (texts words.now) ≡ None → SaysUsage (run_of F.state D.state D.Link.state
@@ -60,7 +66,7 @@ where
 
     // Words of a command: its record holds of this run.
     ensures meets { (ask : Ask) → asked (texts words.now) ≡ Some ask → Meets ask seed.now
-        (run_of F.state D.state D.Link.state
+        (disk_change (B.state journal) (B.state result.journal)) (run_of F.state D.state D.Link.state
         result.status result.part (change shelf.old shelf.new) (change (O.state out.old) (O.state out.new))
         (change journal result.journal) (change door result.door)) }
 
@@ -70,8 +76,14 @@ where
     // nonzero polynomial of degree two at most.
     ensures headline { (ask : ServeAsk) → asked (texts words.now) ≡ Some (serve ask) → EachNote result.part
         (λ note. note.outcome ≡ Accepted → IsHeadline (F.state shelf.old).told ask note.granted note.log) }
+
+    // Its second part: over this run, with the journal that the disk had, no unit is granted that an earlier run or
+    // another session was granted, whatever crashes leave.
+    ensures once { (ask : ServeAsk) → asked (texts words.now) ≡ Some (serve ask) → GrantsOnceIn
+        (F.state shelf.old).told ask result.part (disk_change (B.state journal) (B.state result.journal)) }
 {
     one_circuit();
+    starts_again();
     let found = match read_words(alloc, words) {
         Ok(found) => found,
         Err(_) => {
@@ -126,22 +138,16 @@ where
             file,
             circuit,
             outputs,
-            section,
+            options,
         } => {
             let named = ServeWords {
                 address,
                 file,
                 circuit,
                 outputs: outputs.as_slice(),
-                section,
+                options,
             };
-            let Ending { status, part } = run_serve(alloc, shelf, &mut door, gate, out, &named);
-            Finish {
-                status,
-                journal,
-                door,
-                part,
-            }
+            run_serve(rt, alloc, shelf, journal, door, gate, out, &named)
         }
     }
 }

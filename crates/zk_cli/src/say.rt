@@ -97,6 +97,10 @@ fn write_stop(alloc: Global, stop: Refusal) -> Result<String, AllocError>
         Refusal::TooLarge { need, units } => write_pair(alloc, "too large", need, units),
         Refusal::ShelfFailed => String::from_str(alloc, "failed shelf\n"),
         Refusal::DoorFailed => String::from_str(alloc, "failed door\n"),
+        Refusal::JournalShort { need, got } => write_pair(alloc, "refused Short 1", need, got),
+        Refusal::JournalHeader { place } => write_refused(alloc, "BadHeader 2", place),
+        Refusal::JournalBody { slot } => write_refused(alloc, "BadBody 3", slot),
+        Refusal::JournalFailed { count } => Ok(format!(in alloc; "journal failed {count}\n")?),
         Refusal::NoMemory => String::from_str(alloc, "memory\n"),
     }
 }
@@ -112,8 +116,12 @@ fn status_of(stop: Refusal) -> u8
         | Refusal::BadFile(_)
         | Refusal::TooLong { .. }
         | Refusal::WrongBits { .. }
-        | Refusal::WrongOutputs { .. } => 3,
+        | Refusal::WrongOutputs { .. }
+        | Refusal::JournalShort { .. }
+        | Refusal::JournalHeader { .. }
+        | Refusal::JournalBody { .. } => 3,
         Refusal::ShelfFailed | Refusal::DoorFailed => 4,
+        Refusal::JournalFailed { .. } => 5,
         Refusal::TooLarge { .. } => 9,
     }
 }

@@ -1,33 +1,37 @@
-// `serve ADDRESS FILE CIRCUIT OUTPUTS --sessions 1 [--section G]`
-ghost use Rattle.std.specs.Prelude.{◌≡◌, ◌≤◌, ◌^◌, All, IfOk, IfErr, length};
+// `serve ADDRESS FILE CIRCUIT OUTPUTS --sessions N [--workers W] [--section G] [--logs PREFIX]`
+ghost use Rattle.std.specs.Prelude.{◌≡◌, ◌≤◌, IfOk, IfErr, OnOk};
 ghost use Rattle.zk_model.specs.Circuit.{Circuit};
-ghost use Rattle.zk_model.specs.declared.limits.TheConstants.{MAX_SECTION_LENGTH, MAX_UNITS};
 ghost use Rattle.zk_port.specs.Changes.{change};
-ghost use Rattle.zk_port.specs.Doors.{after_listen};
-ghost use Rattle.session_core.specs.Jobs.{units_of_job, verifier_of};
-ghost use Rattle.session_pool.specs.Doors.{TakesOneAtMost};
-ghost use Rattle.session_pool.specs.Notes.{IsNote};
+ghost use Rattle.zk_model.specs.declared.limits.TheConstants.{MAX_UNITS};
+ghost use Rattle.session_core.specs.Jobs.{units_of_job};
 ghost use Rattle.session_verifier.specs.declared.note.VerifierOutcome.TheVariants.{Accepted};
-ghost use Rattle.zk_cli.specs.NoteLines.{served_text, served_status};
+ghost use Rattle.command_words.specs.Commands.{AreServeLimits, named_options};
+ghost use Rattle.zk_cli.specs.Journals.{IsJournalDisk, disk_change};
 ghost use Rattle.zk_cli.specs.Runs.{OnlyLoads, IsName, EachNote, effects};
-ghost use Rattle.zk_cli.specs.ServeRuns.{IsClaim, IsVerifierFileAt, IsServeName, LeadsSessions, Serves, serve_words};
-ghost use Rattle.zk_cli.specs.ServeRuns.{ClaimStop, FileStop, OpeningStop, ServeStop};
-ghost use Rattle.zk_cli.specs.ServedNotes.{IsHeadline};
-ghost use Rattle.zk_cli.specs.Stops.{Prints};
+ghost use Rattle.zk_cli.specs.ServeRuns.{IsClaim, IsLoadedName, IsVerifierFileAt, LeadsFiles, LeadsJob, Serves, serve_words};
+ghost use Rattle.zk_cli.specs.ServeRuns.{ClaimStop, FileStop, LacksFiles, OpeningStop, ServeStop};
+ghost use Rattle.zk_cli.specs.ServedNotes.{GrantsOnceIn, IsHeadline};
 
 use crate::circuit_file::{load_file, read_circuit};
-use crate::finish::{Ending, Part};
-use crate::note_lines::{served_status, write_served};
+use crate::finish::{Finish, Part};
+use crate::journal_file::open_ceilings;
+use crate::note_lines::order_notes;
 use crate::refusal::Refusal;
-use crate::say::{say, say_stop};
+use crate::say::say_stop;
+use crate::service_said::say_service;
 use bristol_reader::one_circuit;
+use command_words::ServedOptions;
 use dealer_files::{VerifierFile, decode_verifier};
+use lease_journal::starts_again;
 use session_core::{CircuitClaim, VerifierJob};
 use session_laws::extracted_shows_outputs;
-use session_pool::{Served, serve_first};
+use session_pool::{Served, serve_all};
+use session_verifier::{SessionNote, Verification};
 use sha2::{Digest, Sha256};
 use std::alloc::Global;
-use zk_port::{Door, Gate, PortFault, Shelf, Sink};
+use std::sync::Wait;
+use std::thread::Threads;
+use zk_port::{Disk, Door, Gate, PortFault, Shelf, Sink};
 
 /// What the words of the command name.
 #[derive(Clone, Copy, Debug)]
@@ -36,7 +40,7 @@ pub struct ServeWords<'a> {
     pub file: &'a str,
     pub circuit: &'a str,
     pub outputs: &'a [bool],
-    pub section: u32,
+    pub options: ServedOptions<'a>,
 }
 
 /// The claim that the circuit under its name gives the outputs.
@@ -50,6 +54,7 @@ fn load_claim<F: Shelf>(
     ensures stop { IfErr result (ClaimStop (serve_words words.now)
         (change (F.state shelf.old) (F.state shelf.new))) }
     ensures kept { OnlyLoads (IsName words.now.circuit.now) (change (F.state shelf.old) (F.state shelf.new)) }
+    ensures quiet { OnOk result (F.state shelf.new ≡ F.state shelf.old) }
 {
     let text = load_file(alloc, shelf, words.circuit)?;
     let circuit = read_circuit(alloc, &text)?;
@@ -73,111 +78,222 @@ fn load_verifier<F: Shelf>(
     ensures stop { IfErr result
         (FileStop name.now (change (F.state shelf.old) (F.state shelf.new))) }
     ensures kept { OnlyLoads (IsName name.now) (change (F.state shelf.old) (F.state shelf.new)) }
+    ensures quiet { OnOk result (F.state shelf.new ≡ F.state shelf.old) }
 {
     let bytes = load_file(alloc, shelf, name)?;
     let file = decode_verifier(alloc, &bytes)?;
     Ok(file)
 }
 
-/// Listens for one session, and leads it with the first peer that calls.
-fn serve_claim<D: Door, G: Gate>(
-    alloc: Global,
-    claim: &CircuitClaim,
-    file: &VerifierFile,
-    words: &ServeWords<'_>,
-    door: &mut D,
-    gate: &G,
-) -> Result<Served<D::Link>, Refusal>
-where
-    D::Link: Drop,
-    requires at_least_one { 1 ≤ words.now.section }
-    requires at_most { words.now.section ≤ MAX_SECTION_LENGTH }
-    ensures notes { IfOk result (λ served. All
-        (IsNote D.Link.state (verifier_of claim.now file.now words.now.section)) served.notes.items) }
-    ensures bounded { IfOk result (λ _.
-        units_of_job (verifier_of claim.now file.now words.now.section) ≤ MAX_UNITS) }
-    ensures taken { IfOk result (λ served. TakesOneAtMost (length served.notes.items)
-        served.door_failed served.memory_failed
-        (after_listen words.now.address.now 1 (D.state door.old)) (D.state door.new)) }
-    ensures stop { IfErr result (OpeningStop (verifier_of claim.now file.now words.now.section)
-        words.now.address.now (change (D.state door.old) (D.state door.new))) }
-{
-    let statement = claim.statement();
-    let job = VerifierJob::fit(&statement, file, words.section)?;
-    match door.listen(alloc, words.address, 1) {
-        Ok(()) => Ok(serve_first(alloc, &job, door, gate)),
-        Err(PortFault::Failed) => Err(Refusal::DoorFailed),
-        Err(PortFault::NoMemory) => Err(Refusal::NoMemory),
-    }
+/// Why nothing is served, with the disk and the door as they are then.
+#[derive(Drop)]
+struct Stopped<B, D> {
+    refusal: Refusal,
+    journal: B,
+    door: D,
 }
 
-/// Serves one session about what the words name, or says why not.
-fn serve_files<F: Shelf, D: Door, G: Gate>(
+/// The claim and the file that the words name.
+fn load_files<F: Shelf>(
     alloc: Global,
     shelf: &mut F,
     words: &ServeWords<'_>,
-    door: &mut D,
-    gate: &G,
-) -> Result<Served<D::Link>, Refusal>
-where
-    D::Link: Drop,
-    requires at_least_one { 1 ≤ words.now.section }
-    requires at_most { words.now.section ≤ MAX_SECTION_LENGTH }
-    ensures leads { IfOk result (λ served. LeadsSessions D.Link.state (serve_words words.now)
-        served.notes.items served.door_failed served.memory_failed
-        (F.state shelf.old).told (change (D.state door.old) (D.state door.new))) }
-    ensures stop { IfErr result (ServeStop (serve_words words.now)
-        (change (F.state shelf.old) (F.state shelf.new)) (change (D.state door.old) (D.state door.new))) }
-    ensures kept { OnlyLoads (IsServeName (serve_words words.now))
+) -> Result<(CircuitClaim, VerifierFile), Refusal>
+    ensures claim { IfOk result (λ r. (circuit : Circuit)
+        × IsClaim (F.state shelf.old).told (serve_words words.now) circuit r.0) }
+    ensures file { IfOk result (λ r. IsVerifierFileAt (F.state shelf.old).told words.now.file.now r.1) }
+    ensures stop { IfErr result (LacksFiles (serve_words words.now)
+        (change (F.state shelf.old) (F.state shelf.new))) }
+    ensures kept { OnlyLoads (IsLoadedName (serve_words words.now))
         (change (F.state shelf.old) (F.state shelf.new)) }
+    ensures quiet { OnOk result (F.state shelf.new ≡ F.state shelf.old) }
 {
     let claim = load_claim(alloc, shelf, words)?;
     let file = load_verifier(alloc, shelf, words.file)?;
-    serve_claim(alloc, &claim, &file, words, door, gate)
+    Ok((claim, file))
 }
 
-/// Writes the lines of what was served, and answers the status; for the lines no memory may be left.
-fn say_notes<O: Sink, L>(alloc: Global, out: &mut O, served: &Served<L>) -> u8
-    ensures { Prints (served_status served.now.notes.items served.now.door_failed served.now.memory_failed)
-        (served_text served.now.notes.items served.now.door_failed) result
-        (change (O.state out.old) (O.state out.new)) }
+/// Opens the file's journal, listens, and leads the sessions about a job with the peers that call.
+fn serve_job<R, D, B, G>(
+    rt: &R,
+    alloc: Global,
+    job: &VerifierJob<'_>,
+    file: &VerifierFile,
+    words: &ServeWords<'_>,
+    journal: B,
+    mut door: D,
+    gate: &G,
+) -> Result<Served<SessionNote<D::Link>, D, B>, Stopped<B, D>>
+where
+    R: Threads + Wait + Sync,
+    D: Door + Drop + Send,
+    D::Link: Drop + Send,
+    B: Disk + Drop + Send,
+    G: Gate + Sync,
+    requires disk { IsJournalDisk (B.state journal) }
+    requires limits { AreServeLimits (named_options words.now.options) }
+    requires file { job.now.task.file ≡ file.now }
+    requires few { units_of_job job.now ≤ MAX_UNITS }
+    ensures leads { IfOk result (λ served. LeadsJob D.Link.state (serve_words words.now) job.now
+        served.notes.items served.door_failed served.memory_failed
+        (disk_change (B.state journal) (B.state served.disk))
+        (change (D.state door) (D.state served.door))) }
+    ensures stop { IfErr result (λ stopped. OpeningStop (serve_words words.now) job.now
+        (disk_change (B.state journal) (B.state stopped.journal))
+        (change (D.state door) (D.state stopped.door)) stopped.refusal) }
 {
-    let Ok(text) = write_served(alloc, &served.notes, served.door_failed) else {
-        return 7;
+    let options = words.options;
+    let opened = open_ceilings(alloc, journal, words.file, file, options.workers);
+    let (parts, passes) = match opened {
+        Ok(opened) => opened,
+        Err((refusal, journal)) => {
+            return Err(Stopped {
+                refusal,
+                journal,
+                door,
+            });
+        }
     };
-    let status = served_status(&served.notes, served.door_failed, served.memory_failed);
-    say(alloc, out, text.as_bytes(), status)
+    let refusal = match door.listen(alloc, words.address, options.sessions) {
+        Ok(()) => {
+            let session = Verification::new(job);
+            return Ok(serve_all(
+                rt,
+                alloc,
+                &session,
+                parts,
+                passes,
+                door,
+                options.sessions,
+                gate,
+            ));
+        }
+        Err(PortFault::Failed) => Refusal::DoorFailed,
+        Err(PortFault::NoMemory) => Refusal::NoMemory,
+    };
+    Err(Stopped {
+        refusal,
+        journal: parts.into_disk(),
+        door,
+    })
 }
 
-/// `serve ADDRESS FILE CIRCUIT OUTPUTS --sessions 1 [--section G]`: serves one session about what the words name,
-/// says what came of it and hands it back, or says why none is served; with the status.
-pub fn run_serve<F: Shelf, D: Door, O: Sink, G: Gate>(
+/// Serves what the words name, or says why not.
+fn serve_files<R, F, D, B, G>(
+    rt: &R,
     alloc: Global,
     shelf: &mut F,
-    door: &mut D,
+    words: &ServeWords<'_>,
+    journal: B,
+    door: D,
+    gate: &G,
+) -> Result<Served<SessionNote<D::Link>, D, B>, Stopped<B, D>>
+where
+    R: Threads + Wait + Sync,
+    F: Shelf,
+    D: Door + Drop + Send,
+    D::Link: Drop + Send,
+    B: Disk + Drop + Send,
+    G: Gate + Sync,
+    requires disk { IsJournalDisk (B.state journal) }
+    requires limits { AreServeLimits (named_options words.now.options) }
+    ensures leads { IfOk result (λ served. LeadsFiles D.Link.state (serve_words words.now) served.notes.items
+        served.door_failed served.memory_failed (F.state shelf.old).told
+        (disk_change (B.state journal) (B.state served.disk)) (change (D.state door) (D.state served.door))) }
+    ensures stop { IfErr result (λ stopped. ServeStop (serve_words words.now)
+        (change (F.state shelf.old) (F.state shelf.new))
+        (disk_change (B.state journal) (B.state stopped.journal))
+        (change (D.state door) (D.state stopped.door)) stopped.refusal) }
+    ensures kept { OnlyLoads (IsLoadedName (serve_words words.now))
+        (change (F.state shelf.old) (F.state shelf.new)) }
+    ensures quiet { OnOk result (F.state shelf.new ≡ F.state shelf.old) }
+{
+    let (claim, file) = match load_files(alloc, shelf, words) {
+        Ok(files) => files,
+        Err(refusal) => {
+            return Err(Stopped {
+                refusal,
+                journal,
+                door,
+            });
+        }
+    };
+    let statement = claim.statement();
+    match VerifierJob::fit(&statement, &file, words.options.section) {
+        Ok(job) => serve_job(rt, alloc, &job, &file, words, journal, door, gate),
+        Err(found) => Err(Stopped {
+            refusal: Refusal::from(found),
+            journal,
+            door,
+        }),
+    }
+}
+
+/// `serve ADDRESS FILE CIRCUIT OUTPUTS --sessions N [--workers W] [--section G] [--logs PREFIX]`: serves sessions about what the words name
+/// over the file's journal, keeps their logs, says what came of them and hands them back, in the order of their first units, or says why
+/// none is served; with the status.
+pub fn run_serve<R, F, D, B, O, G>(
+    rt: &R,
+    alloc: Global,
+    shelf: &mut F,
+    journal: B,
+    door: D,
     gate: &G,
     out: &mut O,
     words: &ServeWords<'_>,
-) -> Ending<D::Link>
+) -> Finish<B, D>
 where
-    D::Link: Drop,
-    requires at_least_one { 1 ≤ words.now.section }
-    requires at_most { words.now.section ≤ MAX_SECTION_LENGTH }
+    R: Threads + Wait + Sync,
+    F: Shelf,
+    D: Door + Drop + Send,
+    D::Link: Drop + Send,
+    B: Disk + Drop + Send,
+    O: Sink,
+    G: Gate + Sync,
+    requires disk { IsJournalDisk (B.state journal) }
+    requires limits { AreServeLimits (named_options words.now.options) }
     ensures serves { Serves D.Link.state (serve_words words.now) result.part
-        (change (D.state door.old) (D.state door.new)) (effects result.status
+        (disk_change (B.state journal) (B.state result.journal)) (change (D.state door) (D.state result.door))
+        (effects result.status
         (change (F.state shelf.old) (F.state shelf.new)) (change (O.state out.old) (O.state out.new))) }
     ensures headline { EachNote result.part (λ note. note.outcome ≡ Accepted →
         IsHeadline (F.state shelf.old).told (serve_words words.now) note.granted note.log) }
+    ensures once { GrantsOnceIn (F.state shelf.old).told (serve_words words.now) result.part
+        (disk_change (B.state journal) (B.state result.journal)) }
 {
     one_circuit();
+    starts_again();
     extracted_shows_outputs();
-    match serve_files(alloc, shelf, words, door, gate) {
-        Ok(served) => Ending {
-            status: say_notes(alloc, out, &served),
-            part: Part::Served(served.notes),
-        },
-        Err(stop) => Ending {
-            status: say_stop(alloc, out, stop),
+    match serve_files(rt, alloc, shelf, words, journal, door, gate) {
+        Ok(
+            Served {
+                mut notes,
+                door,
+                disk,
+                door_failed,
+                memory_failed,
+            },
+        ) => {
+            order_notes(&mut notes);
+            let logs = words.options.logs;
+            let status = say_service(alloc, shelf, out, &notes, logs, door_failed, memory_failed);
+            Finish {
+                status,
+                journal: disk,
+                door,
+                part: Part::Served(notes),
+            }
+        }
+        Err(
+            Stopped {
+                refusal,
+                journal,
+                door,
+            },
+        ) => Finish {
+            status: say_stop(alloc, out, refusal),
+            journal,
+            door,
             part: Part::Plain,
         },
     }

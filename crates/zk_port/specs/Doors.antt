@@ -1,9 +1,8 @@
 -- What a door tells of itself, and how it hands out links.
-use Rattle.std.specs.Prelude.{◌≡◌, ◌⊎◌, ◌+◌, ◌==◌, ◌&&◌, ℕ, List, [], ◌∷◌, ◌++◌, Bool, true, false, not, Option, Some, None, IfSome, IsTrue}
+use Rattle.std.specs.Prelude.{◌≡◌, ◌+◌, ℕ, List, [], ◌∷◌, true, false, Option, Some, None, IfSome, IsTrue}
 use Rattle.zk_port.specs.Counts.{counted}
 use Rattle.zk_port.specs.Logs.{appended, NotesOnce}
 use Rattle.zk_port.specs.Links.{LinkState}
-use Rattle.zk_port.specs.declared.way.Way.{Way}
 
 -- how many links `next` can still give, and how many that will be after a listen for so many sessions; the addresses that were
 -- listened at and connected to, in order, where the door tells them; how often `next` was called; and how often a call of each kind
@@ -17,19 +16,6 @@ pub record DoorState : Type 0 where
   pub listen_faults : ℕ
   pub connect_faults : ℕ
   pub next_faults : ℕ
-
--- a door in memory with no links, of which nothing was asked yet
-abbrev pub unasked_door : DoorState
-unasked_door = record {
-  left = 0;
-  offers = λ _. 0;
-  listened = Some [];
-  connected = Some [];
-  nexts = 0;
-  listen_faults = 0;
-  connect_faults = 0;
-  next_faults = 0;
-}
 
 -- after a listen at this address, for so many sessions
 abbrev pub after_listen : List ℕ → ℕ → DoorState → DoorState
@@ -71,26 +57,3 @@ pub record IsFreshLink (link : LinkState) : Type 0 where
   pub unsent : link.sends ≡ 0
   pub unreceived : link.receives ≡ 0
   pub unfailed : link.faults ≡ 0
-
--- the first of the links is given, if there is one, and the others stay in order
-abbrev pub GivesFirst : {L : Type 0} → Option L → List L → List L → Type 0
-GivesFirst None old new = (old ≡ []) × (new ≡ [])
-GivesFirst (Some link) old new = old ≡ link ∷ new
-
-abbrev pub is_unlogged : Option (List (Way × ℕ)) → Bool
-is_unlogged None = true
-is_unlogged (Some []) = true
-is_unlogged (Some (entry ∷ log)) = false
-
-abbrev pub is_unended : Option Bool → Bool
-is_unended None = true
-is_unended (Some ended) = not ended
-
--- whether a link is fresh, as a test
-abbrev pub is_fresh : LinkState → Bool
-is_fresh link =
-    is_unlogged link.log && is_unended link.ended && link.is_open && (link.sends == 0) && (link.receives == 0) && (link.faults == 0)
-
--- the same of a list that is told
-abbrev pub NotesText : List ℕ → List (List ℕ) → List (List ℕ) → Type 0
-NotesText address old new = (new ≡ old) ⊎ (new ≡ old ++ address ∷ [])

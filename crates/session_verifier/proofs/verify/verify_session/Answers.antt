@@ -4,7 +4,7 @@ use Rattle.zk_model.specs.Files.{IsVerifierFile}
 use Rattle.zk_model.specs.Program.{Program}
 use Rattle.zk_model.specs.declared.Side.TheVariants.{Verifier}
 use Rattle.frame_link.specs.Lines.{LinkSnapshot, snapshot}
-use Rattle.session_verifier.proofs.CourseLemmas.{IsKnown, granted_is, judges_rightly, receives_few, counts_faults, leases_behind, ends_because, is_shown}
+use Rattle.session_verifier.proofs.CourseLemmas.{IsKnown, answers_lease, granted_is, judges_rightly, receives_few, counts_faults, leases_behind, ends_because, is_shown}
 use Rattle.session_verifier.proofs.HonestLemmas.{AreLaws, completes}
 use Rattle.session_verifier.proofs.ServedLemmas.{sends_rightly, accepts_exactly}
 use Rattle.session_verifier.proofs.ToldLemmas.{is_told}
@@ -31,6 +31,9 @@ now_of g c = snapshot Verifier c.verify_over_link-note.result.log (g.L.Link.stat
 
 pub returns-clause-granted : goal.returns-clause-granted
 returns-clause-granted g c = granted_is c.args.job.now (g.R.Grantor.answer c.verify_over_link-note.new.grantor) c.verify_over_link-note.result.granted c.verify_over_link-note.result.outcome (first_of g c) (now_of g c) c.verify_over_link-note.ensures.course
+
+pub returns-clause-refused : goal.returns-clause-refused
+returns-clause-refused g c = answers_lease c.args.job.now (g.R.Grantor.answer c.verify_over_link-note.new.grantor) c.verify_over_link-note.result.granted c.verify_over_link-note.result.outcome (first_of g c) (now_of g c) c.verify_over_link-note.ensures.course
 
 pub returns-clause-verdict : goal.returns-clause-verdict
 returns-clause-verdict g c = judges_rightly c.args.job.now (g.R.Grantor.answer c.verify_over_link-note.new.grantor) c.verify_over_link-note.result.granted c.verify_over_link-note.result.outcome (first_of g c) (now_of g c) (known_of g c) c.verify_over_link-note.ensures.course

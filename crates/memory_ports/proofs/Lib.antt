@@ -1,0 +1,5 @@
+pub mod FileMaps
+pub mod Halves
+pub mod Scripts
+pub mod Laying
+pub mod Crashes

@@ -1,0 +1,4 @@
+pub mod Doors
+pub mod Plans
+pub mod Stops
+pub mod Epochs

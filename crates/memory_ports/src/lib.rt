@@ -1,0 +1,34 @@
+//! The outside in memory, for tests: objects of the traits of `zk_port` that tell all of what they hold. A plan says which of
+//! their calls fail, and those are the calls that do.
+//!
+//! `memory_shelf`, `memory_sink`, `memory_door` and `scripted_link` have the objects of those names, and `plan` the plans.
+//! `memory_disk` has a disk that a crash may tear (`epoch` says what it may leave), `quiet_disk` the same with nothing told,
+//! `sure_disk` one that never fails and `closed_disk` one that always does; `file_bytes` reads and writes what they hold.
+//!
+//! A sink whose second call fails, as a test makes it:
+//!
+//!     let mut out = MemorySink::new(alloc, FailAt::new([2].to_vec(alloc)?));
+#![tactic(auto)]
+
+mod closed_disk;
+mod epoch;
+mod file_bytes;
+mod memory_disk;
+mod memory_door;
+mod memory_shelf;
+mod memory_sink;
+mod plan;
+mod quiet_disk;
+mod scripted_link;
+mod sure_disk;
+
+pub use closed_disk::ClosedDisk;
+pub use epoch::Leftover;
+pub use memory_disk::MemoryDisk;
+pub use memory_door::MemoryDoor;
+pub use memory_shelf::MemoryShelf;
+pub use memory_sink::MemorySink;
+pub use plan::{FailAt, FaultPlan, NoFault, StopAt};
+pub use quiet_disk::QuietDisk;
+pub use scripted_link::ScriptedLink;
+pub use sure_disk::SureDisk;

@@ -1,0 +1,89 @@
+// Peers that are honest over whichever units they are granted.
+ghost use Rattle.std.specs.Prelude.{◌≡◌};
+ghost use Rattle.zk_port.specs.Doors.{IsFreshLink};
+
+use crate::vectors::{AND_HELLO, AND_REST_0, AND_REST_1, AND_REST_2, AND_REST_3};
+use std::alloc::Global;
+use zk_port::{Link, PortFault};
+
+/// What an honest prover sends after a grant of the unit of this number, or nothing.
+fn rest_of(start: u8) -> &'static [u8] {
+    match start {
+        0 => &AND_REST_0,
+        1 => &AND_REST_1,
+        2 => &AND_REST_2,
+        3 => &AND_REST_3,
+        _ => &[],
+    }
+}
+
+/// A link whose peer proves the and gate's claim, over one of the first four units, which the verifier grants it. It tells nothing.
+#[derive(Drop)]
+pub struct HonestPeer {
+    to_come: &'static [u8],
+    is_open: bool,
+    sends: u64,
+    receives: u64,
+}
+
+impl HonestPeer {
+    /// One that begins so, and is honest where this is its hello.
+    pub fn new(hello: &'static [u8]) -> Self
+        ensures { IsFreshLink (⟦<HonestPeer as Link>⟧.state result) }
+    {
+        HonestPeer {
+            to_come: hello,
+            is_open: true,
+            sends: 0,
+            receives: 0,
+        }
+    }
+
+    /// One that is honest.
+    pub fn honest() -> Self
+        ensures { IsFreshLink (⟦<HonestPeer as Link>⟧.state result) }
+    {
+        HonestPeer::new(&AND_HELLO)
+    }
+}
+
+impl Link for HonestPeer {
+    ghost use Rattle.std.specs.Prelude.{None};
+
+    ghost state = { λ l. record {
+      log = None;
+      to_come = None;
+      ended = None;
+      is_open = l.is_open;
+      sends = l.sends;
+      receives = l.receives;
+      faults = 0;
+    } };
+
+    fn faults(&self) -> u64 {
+        0
+    }
+
+    fn send(&mut self, _alloc: Global, bytes: &[u8]) -> Result<(), PortFault> {
+        self.sends = self.sends.saturating_add(1);
+        // A grant is a frame of kind 2, whose payload begins with the first unit, the low byte first.
+        if let [2, _, _, _, _, start, ..] = bytes {
+            self.to_come = rest_of(*start);
+        }
+        Ok(())
+    }
+
+    fn receive(&mut self, _alloc: Global, buffer: &mut [u8]) -> Result<usize, PortFault> {
+        self.receives = self.receives.saturating_add(1);
+        let count = buffer.len().min(self.to_come.len());
+        let (piece, behind) = self.to_come.split_at(count);
+        let (front, _) = buffer.split_at_mut(count);
+        front.copy_from_slice(piece);
+        self.to_come = behind;
+        Ok(count)
+    }
+
+    fn end(&mut self) {
+        self.is_open = false;
+    }
+}

@@ -1,0 +1,38 @@
+use Rattle.session_pool.proofs.Runs.{all_apart, all_left, all_refused, same_closed, none_left}
+use Rattle.session_pool.proofs.serving.serve_named.Goals as goal
+
+pub returns-then-is_err-clause-left : goal.returns-then-is_err-clause-left
+returns-then-is_err-clause-left g c =
+    rw (c.close.ensures.notes, c.close.ensures.disk)
+    (none_left g.N.LeaseName.start (g.B.Disk.state c.close-disk.result) g.N.LeaseName.id g.N.LeaseName.total c.args.passes.items
+    g.W.Shift.units g.W.Shift.granted g.W.Shift.refused c.new-notes.result.items c.reserve.new.self.items c.args.parts.base
+    c.new-notes.ensures.items c.reserve.ensures.items
+    (same_closed g.N.LeaseName.start (g.B.Disk.state c.close-disk.result) g.N.LeaseName.id g.N.LeaseName.total c.args.passes.items
+    c.named-store.result.base c.args.parts.base c.named-store.ensures.base c.close-disk.ensures))
+
+pub returns-clause-apart : goal.returns-clause-apart
+returns-clause-apart g c =
+    let back = c.take_all_back.ensures.back.work in
+    let closed = same_closed g.N.LeaseName.start (g.B.Disk.state c.close-disk-2.result) g.N.LeaseName.id g.N.LeaseName.total c.take_all_back.new.passes.items
+    c.named-store.result.base c.args.parts.base c.named-store.ensures.base c.close-disk-2.ensures in
+    rw c.close-2.ensures.notes
+    (all_apart g.W.Shift.granted g.W.Shift.refused g.W.Shift.is_note g.W.Shift.fresh g.W.Shift.units c.take_all_back.new.notes.items c.take_all_back.new.passes.items
+    g.N.LeaseName.start (g.B.Disk.state c.close-disk-2.result) g.N.LeaseName.id c.args.parts.base g.N.LeaseName.total back closed)
+
+pub returns-clause-left : goal.returns-clause-left
+returns-clause-left g c =
+    let back = c.take_all_back.ensures.back.work in
+    let closed = same_closed g.N.LeaseName.start (g.B.Disk.state c.close-disk-2.result) g.N.LeaseName.id g.N.LeaseName.total c.take_all_back.new.passes.items
+    c.named-store.result.base c.args.parts.base c.named-store.ensures.base c.close-disk-2.ensures in
+    rw (c.close-2.ensures.notes, c.close-2.ensures.disk)
+    (all_left g.W.Shift.granted g.W.Shift.refused g.W.Shift.is_note g.W.Shift.fresh g.W.Shift.units c.take_all_back.new.notes.items c.take_all_back.new.passes.items
+    g.N.LeaseName.start (g.B.Disk.state c.close-disk-2.result) g.N.LeaseName.id c.args.parts.base g.N.LeaseName.total back closed)
+
+pub returns-clause-refused : goal.returns-clause-refused
+returns-clause-refused g c =
+    let back = c.take_all_back.ensures.back.work in
+    let closed = same_closed g.N.LeaseName.start (g.B.Disk.state c.close-disk-2.result) g.N.LeaseName.id g.N.LeaseName.total c.take_all_back.new.passes.items
+    c.named-store.result.base c.args.parts.base c.named-store.ensures.base c.close-disk-2.ensures in
+    rw c.close-2.ensures.notes
+    (all_refused g.W.Shift.granted g.W.Shift.refused g.W.Shift.is_note g.W.Shift.fresh g.W.Shift.units c.take_all_back.new.notes.items c.take_all_back.new.passes.items
+    g.N.LeaseName.start (g.B.Disk.state c.close-disk-2.result) g.N.LeaseName.id c.args.parts.base g.N.LeaseName.total back closed)

@@ -1,0 +1,94 @@
+-- What notes are to the entries of the passes by which they were served.
+use Rattle.std.specs.Prelude.{◌≡◌, ℕ, ◌+◌, ◌*◌, ◌<◌, ◌≤◌, ◌⊎◌, max, Bool, List, [], ◌∷◌, length, All, Option, None, Some, IfSome, Result}
+use Rattle.std.specs.List.{sum_by}
+use Rattle.atomic_table.specs.Seated.{TableId}
+use Rattle.zk_model.specs.declared.Span.{Span}
+use Rattle.lease_words.specs.Views.{inside, times_drawn, units_drawn}
+use Rattle.lease_words.specs.Calls.{entries_of, known_of, mark_of, greatest_end, all_entries}
+use Rattle.lease_words.specs.declared.fault.Exhausted.{Exhausted as Refusal}
+use Rattle.lease_words.specs.declared.pass.Pass.{Pass}
+use Rattle.lease_words.specs.declared.view.Entry.{Entry}
+use Rattle.lease_store.specs.Leases.{IsPassAt}
+use Rattle.lease_store.specs.declared.LeaseFault.{LeaseFault}
+use Rattle.lease_store.specs.declared.LeaseFault.TheVariants.{Exhausted, Device, Broken}
+use Rattle.session_pool.specs.Notes.{IsNoteOf, IsMarked, TellsMark}
+
+-- What the workers of a run agree on is this of the session: what its notes say, and its units, which are those of the store
+pub record IsShiftOf {M : Type 0} (is_note : M → Type 0) (granted : M → Option Span) (refused : M → Option LeaseFault)
+    (units total : ℕ) (IsNote : Option (Result Span LeaseFault) → M → Type 0) (session_granted : M → Option Span)
+    (session_refused : M → Option LeaseFault) (size session_total : ℕ) : Type 0 where
+  pub some_units : 1 ≤ size
+  pub units_are : size ≡ units
+  pub total_is : total ≡ session_total
+  pub notes : (note : M) → IsNoteOf IsNote note → is_note note
+  pub granted_is : (note : M) → granted note ≡ session_granted note
+  pub refused_is : (note : M) → refused note ≡ session_refused note
+
+-- 1 where a granted span has the unit, and else 0
+abbrev pub has_unit : Option Span → ℕ → ℕ
+has_unit None unit = 0
+has_unit (Some s) unit = inside s.start s.end unit
+
+-- how often a unit was granted
+abbrev pub times_granted : {M : Type 0} → (M → Option Span) → ℕ → List M → ℕ
+times_granted granted unit notes = sum_by (λ m. has_unit (granted m) unit) notes
+
+-- a granted span is not empty, has so many units, and ends at or below a known ceiling and within the total
+abbrev pub IsUpTo : ℕ → ℕ → ℕ → Option Span → Type 0
+IsUpTo units total known granted =
+    IfSome granted (λ s. (s.start < s.end) × (s.end ≡ s.start + units) × (s.end ≤ known) × (s.end ≤ total))
+
+-- units that are refused for want of them end above the total, and at or below the greatest end of what was drawn
+abbrev pub IsReached : ℕ → ℕ → ℕ → Option LeaseFault → Type 0
+IsReached units total reach None = Unit {0}
+IsReached units total reach (Some (Exhausted at count all)) =
+    (at + units ≤ reach) × (count ≡ units) × (all ≡ total) × (total < at + units)
+IsReached units total reach (Some Device) = Unit {0}
+IsReached units total reach (Some (Broken first)) = Unit {0}
+
+-- a store with this mark may have such a pass
+abbrev pub AllowsMark : Pass → ℕ → Type 0
+AllowsMark p mark = (mark_of p ≡ 0) ⊎ (mark_of p ≡ mark)
+
+-- What notes are to entries, to a known ceiling and to the marks that a store may have: each is a note of the session; no unit is
+-- granted more often than drawn; a journal's failure is that of the mark; and where the passes had not drawn before, no more units are
+-- drawn than a session takes for each, and what is refused was drawn.
+pub record IsWork {M : Type 0} (granted : M → Option Span) (refused : M → Option LeaseFault) (is_note : M → Type 0)
+    (fresh : Type 0) (units total : ℕ) (entries : List Entry) (known : ℕ) (Allows : ℕ → Type 0) (notes : List M) : Type 0 where
+  pub rightly : All is_note notes
+  pub once : (unit : ℕ) → times_granted granted unit notes ≤ times_drawn unit entries
+  pub upto : All (λ m. IsUpTo units total known (granted m)) notes
+  pub marked : (mark : ℕ) → Allows mark → All (λ m. IsMarked mark (refused m) × TellsMark mark (refused m)) notes
+  pub drawn : fresh → units_drawn entries ≤ units * length notes
+  pub reached : fresh → All (λ m. IsReached units total (greatest_end 0 entries) (refused m)) notes
+
+-- a refusal that a pass keeps was drawn
+abbrev pub IsKept : Type 0 → ℕ → ℕ → Pass → Type 0
+IsKept fresh units total p = fresh → (e : Refusal) → p.kept ≡ Some e
+    → IsReached units total (greatest_end 0 (entries_of p)) (Some (Exhausted e.at e.count e.total))
+
+-- what a worker keeps
+pub record IsWorker {M : Type 0} (granted : M → Option Span) (refused : M → Option LeaseFault) (is_note : M → Type 0)
+    (fresh : Type 0) (units : ℕ) (table : TableId) (total : ℕ) (pass : Pass) (parts amount : ℕ) (notes : List M) : Type 0 where
+  pub own : IsPassAt table total pass
+  pub part : parts ≡ 1
+  pub counted : amount ≡ length notes
+  pub work : IsWork granted refused is_note fresh units total (entries_of pass) (known_of pass) (AllowsMark pass) notes
+  pub kept : IsKept fresh units total pass
+
+-- what contracts see of a worker
+pub record WorkerState : Type 0 where
+  pub starved : Bool
+
+-- the greatest ceiling that one of these passes knows
+abbrev pub most_known : List Pass → ℕ
+most_known [] = 0
+most_known (p ∷ ps) = max (known_of p) (most_known ps)
+
+-- what came back of some workers
+pub record AreBack {M : Type 0} (granted : M → Option Span) (refused : M → Option LeaseFault) (is_note : M → Type 0)
+    (fresh : Type 0) (units : ℕ) (table : TableId) (total : ℕ) (passes : List Pass) (amount : ℕ) (notes : List M) : Type 0 where
+  pub own : All (IsPassAt table total) passes
+  pub counted : amount ≡ length notes
+  pub work : IsWork granted refused is_note fresh units total (all_entries passes) (most_known passes)
+      (λ mark. All (λ p. AllowsMark p mark) passes) notes

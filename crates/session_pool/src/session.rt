@@ -1,0 +1,60 @@
+// What is led over a link.
+ghost use Rattle.std.specs.Prelude.{◌≡◌, ◌≤◌, None, Some, Err, IfSome, MatchOption};
+ghost use Rattle.zk_model.specs.declared.limits.TheConstants.{MAX_UNITS};
+ghost use Rattle.zk_port.specs.Doors.{IsFreshLink};
+
+use lease_store::Grantor;
+use std::alloc::Global;
+use zk_port::{Gate, Link};
+
+/// What is led over each link of a door: a session that leases units once at most, all of them at once, and of which a note is made.
+pub trait Session<L: Link> {
+    ghost use Rattle.std.specs.Prelude.{ℕ, List, Option, Result};
+    ghost use Rattle.zk_model.specs.declared.Span.{Span};
+    ghost use Rattle.lease_store.specs.declared.LeaseFault.{LeaseFault};
+    ghost use Rattle.session_pool.specs.Notes.{granted_by};
+
+    /// What came of it.
+    type Note: Drop;
+
+    /// How many units it leases.
+    ghost size: { Self → ℕ };
+
+    /// The id of the file whose units it leases, and their total.
+    ghost id: { Self → List ℕ };
+
+    ghost total: { Self → ℕ };
+
+    /// What a note says of a session that was answered so when it asked for units, if it asked.
+    ghost is_note: { Self → Option (Result Span LeaseFault) → Self.Note → Type 0 };
+
+    /// The units that were granted, if any were.
+    ghost granted: { Self.Note → Option Span };
+
+    /// Why none were, where the session ended by that.
+    ghost refused: { Self.Note → Option LeaseFault };
+
+    /// How many units it leases.
+    fn units(&self) -> u32
+        ensures units { result ≡ size self.now }
+        ensures at_least_one { 1 ≤ result }
+        ensures at_most { result ≤ MAX_UNITS };
+
+    /// Leads it over a fresh link, which is ended then.
+    fn lead<T: Grantor, G: Gate>(
+        &self,
+        alloc: Global,
+        grantor: &mut T,
+        link: L,
+        gate: &G,
+    ) -> Self::Note
+        requires fresh { IsFreshLink (L.state link) }
+        requires once { T.answer grantor.old ≡ None }
+        requires total { T.total grantor.old ≡ total self.now }
+        requires may { T.may grantor.old (size self.now) }
+        ensures note { is_note self.now (T.answer grantor.new) result }
+        ensures granted { granted result ≡ granted_by (T.answer grantor.new) }
+        ensures refused { IfSome (refused result) (λ fault. T.answer grantor.new ≡ Some (Err fault)) }
+        ensures moved { MatchOption (T.answer grantor.new) (grantor.new ≡ grantor.old)
+            (λ answer. T.moves grantor.old (size self.now) answer grantor.new) };
+}

@@ -1,0 +1,52 @@
+-- What a note of a session says of it, as one record.
+use Rattle.std.specs.Prelude.{◌≡◌, ℕ, List, [], false, Option, Result}
+use Rattle.zk_model.specs.declared.Side.{Side}
+use Rattle.zk_model.specs.declared.Side.TheVariants.{Verifier}
+use Rattle.zk_model.specs.declared.Span.{Span}
+use Rattle.zk_port.specs.Doors.{IsFreshLink}
+use Rattle.zk_port.specs.Links.{LinkState}
+use Rattle.frame_link.specs.Lines.{snapshot}
+use Rattle.lease_store.specs.declared.LeaseFault.{LeaseFault}
+use Rattle.session_core.specs.Jobs.{VerifierJob}
+use Rattle.session_pool.specs.Notes.{granted_by}
+use Rattle.session_verifier.specs.Notes.{AnswersLease, JudgesRightly, AcceptsExactly, IsShown, SendsRightly, KeepsKeys, EndsBecause, LeasesBehindHello, IsTold, CountsFaults, ReceivesFew, Completes}
+use Rattle.session_verifier.specs.declared.note.SessionNote.{SessionNote}
+use Rattle.session_verifier.specs.declared.note.VerifierOutcome.{VerifierOutcome}
+use Rattle.session_verifier.specs.declared.note.VerifierOutcome.TheVariants.{Accepted}
+
+-- A session about the job over a link that was fresh, and now tells this, in which the one who leases units answered so, if it was
+-- asked: which units were granted, that a refused lease is the outcome, and that the wanted hello came before; that an outcome which judges is the verdict of the checks
+-- on a whole session, and that an accepted log has no other; what acceptance shows; what the verifier sent; that its keys fit the
+-- pairs of whatever prover; why the session ended; what the link tells beside the log; how often it failed; that it is ended; and
+-- that with an honest peer the session is accepted, unless memory was missing.
+pub record IsSessionOf
+    (job : VerifierJob)
+    (answer : Option (Result Span LeaseFault))
+    (granted : Option Span)
+    (outcome : VerifierOutcome)
+    (log : List (Side × ℕ))
+    (link : LinkState) : Type 0 where
+  pub granted_is : granted ≡ granted_by answer
+  pub refused : AnswersLease answer outcome
+  pub behind_hello : LeasesBehindHello job answer log
+  pub verdict : JudgesRightly job granted outcome log
+  pub accepted : AcceptsExactly job outcome log
+  pub shown : outcome ≡ Accepted → IsShown job granted log
+  pub sends : SendsRightly job granted outcome log
+  pub related : KeepsKeys job log
+  pub first : LinkState
+  pub fresh : IsFreshLink first
+  pub cause : EndsBecause job answer outcome (snapshot Verifier [] first) (snapshot Verifier log link)
+  pub told : IsTold job granted outcome (snapshot Verifier [] first) (snapshot Verifier log link)
+  pub faults : CountsFaults outcome (snapshot Verifier [] first) (snapshot Verifier log link)
+  pub receives : ReceivesFew (snapshot Verifier [] first) (snapshot Verifier log link)
+  pub complete : Completes job answer outcome (snapshot Verifier [] first) (snapshot Verifier log link)
+  pub ended : link.is_open ≡ false
+
+-- a note is one of a session in which that was the answer
+abbrev pub IsAnsweredNote : {L : Type 0} → (L → LinkState) → VerifierJob → Option (Result Span LeaseFault) → SessionNote L → Type 0
+IsAnsweredNote link_tells job answer note = IsSessionOf job answer note.granted note.outcome note.log (link_tells note.link)
+
+-- a note is one of a session, whatever the answer was
+abbrev pub IsNote : {L : Type 0} → (L → LinkState) → VerifierJob → SessionNote L → Type 0
+IsNote link_tells job note = (answer : Option (Result Span LeaseFault)) × IsAnsweredNote link_tells job answer note

@@ -1,0 +1,15 @@
+//! Tests of journals, leases, claims and services over disks in memory: calls that fail, crashes at each call and what they leave,
+//! starts after them, damaged journals, and threads that lease and serve at once.
+//!
+//! `journal_tests` has those of `lease_journal`, `lease_tests` those of `lease_store`, `claim_tests` those of `claim_store` and
+//! `pool_tests` those of `session_pool`.
+#![tactic(auto)]
+
+#[cfg(test)]
+mod claim_tests;
+#[cfg(test)]
+mod journal_tests;
+#[cfg(test)]
+mod lease_tests;
+#[cfg(test)]
+mod pool_tests;

@@ -1,0 +1,122 @@
+-- Sessions in another order are the same sessions.
+use Rattle.std.proofs.Common.{◌≡◌, ◌<◌, ◌≤◌, ◌+◌, ◌-◌, ◌*◌, ℕ, List, Bool, length, get_or, refl, sym, ◌∙◌, subst, inl, inr, arith, All, Option, None, Some, IfSome}
+use Rattle.std.specs.List.{AllPairs, swap}
+use Rattle.std.specs.List.Sorted.{IsPermutation}
+use Rattle.std.proofs.lemmas.List.Edits.{Swapped, swapped_from_swap, length-swap}
+use Rattle.std.proofs.lemmas.List.Sorted.{IsPermutation-keeps, All-permutation, length_permutation}
+use Rattle.std.proofs.lemmas.Bool.{cases_eq, cases_lt}
+use Rattle.zk_model.specs.declared.Span.{Span}
+use Rattle.zk_port.specs.Doors.{after_listen}
+use Rattle.zk_port.specs.Files.{Files}
+use Rattle.zk_port.specs.Links.{LinkState}
+use Rattle.session_core.specs.Jobs.{VerifierJob, units_of_job}
+use Rattle.session_pool.specs.Doors.{Takes}
+use Rattle.session_pool.specs.Notes.{AreApart, IsBetween, IsMarked, IsRefusedBy}
+use Rattle.session_verifier.specs.Outcomes.{lease_fault}
+use Rattle.session_verifier.specs.Sessions.{IsNote}
+use Rattle.session_verifier.specs.declared.note.SessionNote.{SessionNote}
+use Rattle.command_words.specs.Words.{ServeAsk}
+use Rattle.zk_cli.specs.Journals.{DiskChange}
+use Rattle.zk_cli.specs.Runs.{DoorChange}
+use Rattle.zk_cli.specs.ServeRuns.{LeadsFiles, LeadsJob}
+
+apart_both : (a b : Option Span) → AreApart a b → AreApart b a
+apart_both None None apart = tt
+apart_both None (Some t) apart = tt
+apart_both (Some s) None apart = tt
+apart_both (Some s) (Some t) (inl before) = inr before
+apart_both (Some s) (Some t) (inr behind) = inl behind
+
+module _ {X : Type 0} (R : X → X → Type 0) (both : (x y : X) → R x y → R y x) where
+  -- of two places, whichever comes first
+  of_two : (xs : List X) (d : X) → AllPairs R xs → (m n : ℕ) → m < length xs → n < length xs → (m ≡ n → ⊥) → R (get_or xs m d) (get_or xs n d)
+  of_two xs d pairs m n within within_too other = elim (cases_lt m n) [
+    | inl less ↦ pairs m n d less within_too
+    | inr more ↦ (elim (cases_lt n m) [
+      | inl less ↦ both (get_or xs n d) (get_or xs m d) (pairs n m d less within)
+      | inr same ↦ absurd (other (omega (arith, more, same)))
+    ])
+  ]
+
+  module _ (l : List X) (i j : ℕ) (here : i < length l) (there : j < length l) (all : AllPairs R l) (d : X) where
+    moved : Swapped (λ k. get_or l k d) (λ k. get_or (swap l i j) k d) i j
+    moved = swapped_from_swap l (swap l i j) i j d here there refl
+
+    -- of a place that is swapped, and another
+    of_first : (n : ℕ) → n < length l → (i ≡ n → ⊥) → R (get_or (swap l i j) i d) (get_or (swap l i j) n d)
+    of_first n within other = elim (cases_eq n j) [
+      | inl is ↦ subst (λ (k : ℕ). R (get_or (swap l i j) i d) (get_or (swap l i j) k d)) (sym is)
+          (subst (λ (p : X × X). R p.0 p.1) (λ t. (sym moved.0 t, sym moved.1 t))
+          (of_two l d all j i there here (λ same. other (sym same ∙ sym is))))
+      | inr not ↦ subst (λ (p : X × X). R p.0 p.1) (λ t. (sym moved.0 t, sym (moved.2 n (λ same. other (sym same)) not) t))
+          (of_two l d all j n there within (λ same. not (sym same)))
+    ]
+
+    of_second : (n : ℕ) → n < length l → (j ≡ n → ⊥) → (n ≡ i → ⊥) → R (get_or (swap l i j) j d) (get_or (swap l i j) n d)
+    of_second n within other not = subst (λ (p : X × X). R p.0 p.1) (λ t. (sym moved.1 t, sym (moved.2 n not (λ same. other (sym same))) t))
+        (of_two l d all i n here within (λ same. not (sym same)))
+
+    of_any : (m n : ℕ) → m < length l → n < length l → (m ≡ n → ⊥) → R (get_or (swap l i j) m d) (get_or (swap l i j) n d)
+    of_any m n within within_too other = elim (cases_eq m i) [
+      | inl is ↦ subst (λ (k : ℕ). R (get_or (swap l i j) k d) (get_or (swap l i j) n d)) (sym is) (of_first n within_too (λ same. other (is ∙ same)))
+      | inr not_first ↦ (elim (cases_eq n i) [
+        | inl is ↦ both (get_or (swap l i j) n d) (get_or (swap l i j) m d)
+            (subst (λ (k : ℕ). R (get_or (swap l i j) k d) (get_or (swap l i j) m d)) (sym is) (of_first m within (λ same. not_first (sym same))))
+        | inr not_too ↦ (elim (cases_eq m j) [
+          | inl is ↦ subst (λ (k : ℕ). R (get_or (swap l i j) k d) (get_or (swap l i j) n d)) (sym is) (of_second n within_too (λ same. other (is ∙ same)) not_too)
+          | inr neither ↦ (elim (cases_eq n j) [
+            | inl is ↦ both (get_or (swap l i j) n d) (get_or (swap l i j) m d)
+                (subst (λ (k : ℕ). R (get_or (swap l i j) k d) (get_or (swap l i j) m d)) (sym is) (of_second m within (λ same. neither (sym same)) not_first))
+            | inr too ↦ subst (λ (p : X × X). R p.0 p.1) (λ t. (sym (moved.2 m not_first neither) t, sym (moved.2 n not_too too) t))
+                (of_two l d all m n within within_too other)
+          ])
+        ])
+      ])
+    ]
+
+  swapped_pairs : (l : List X) (i j : ℕ) → i < length l → j < length l → AllPairs R l → AllPairs R (swap l i j)
+  swapped_pairs l i j here there all m n d less within =
+      let size = length-swap l i j in
+      of_any l i j here there all d m n (omega (arith, size, less, within)) (omega (arith, size, within)) (λ same. absurd (omega (arith, same, less)))
+
+  pub pairs_permuted : (xs ys : List X) → IsPermutation xs ys → AllPairs R xs → AllPairs R ys
+  pairs_permuted xs ys permuted pairs = IsPermutation-keeps xs (AllPairs R) pairs swapped_pairs ys permuted
+
+-- sessions that were led, in another order
+pub leads_permuted : {L : Type 0} (link_tells : L → LinkState) (ask : ServeAsk) (job : VerifierJob) (notes ordered : List (SessionNote L))
+    (door_failed memory_failed : Bool) (disk : DiskChange) (door : DoorChange) → IsPermutation notes ordered
+    → LeadsJob link_tells ask job notes door_failed memory_failed disk door → LeadsJob link_tells ask job ordered door_failed memory_failed disk door
+leads_permuted {L} link_tells ask job notes ordered door_failed memory_failed disk door permuted leads =
+    let same : length ordered ≡ length notes = length_permutation notes ordered permuted in
+    record {
+      few = leads.few;
+      each = All-permutation (IsNote link_tells job) notes ordered permuted leads.each;
+      taken = subst (λ (n : ℕ). Takes ask.options.sessions n door_failed memory_failed (after_listen ask.address ask.options.sessions door.old) door.new)
+          (sym same) leads.taken;
+      base = leads.base;
+      recovered = leads.recovered;
+      ceiling = leads.ceiling;
+      mark = leads.mark;
+      kept = leads.kept;
+      apart = pairs_permuted (λ (one other : SessionNote L). AreApart one.granted other.granted)
+          (λ one other. apart_both one.granted other.granted) notes ordered permuted leads.apart;
+      spans = All-permutation (λ (note : SessionNote L). IsBetween (units_of_job job) leads.base leads.ceiling note.granted) notes ordered permuted leads.spans;
+      within = All-permutation (λ (note : SessionNote L). IfSome note.granted (λ span. span.end ≤ job.task.file.params.total)) notes ordered permuted leads.within;
+      marked = All-permutation (λ (note : SessionNote L). IsMarked leads.mark (lease_fault note.outcome)) notes ordered permuted leads.marked;
+      refused = subst (λ (n : ℕ). All (λ note. IsRefusedBy (units_of_job job) job.task.file.params.total
+          (leads.base + units_of_job job * (n - 1)) (lease_fault note.outcome)) ordered) (sym same)
+          (All-permutation (λ (note : SessionNote L). IsRefusedBy (units_of_job job) job.task.file.params.total
+          (leads.base + units_of_job job * (length notes - 1)) (lease_fault note.outcome)) notes ordered permuted leads.refused);
+    }
+
+-- and what was asked for stands above them still
+pub files_permuted : {L : Type 0} (link_tells : L → LinkState) (ask : ServeAsk) (notes ordered : List (SessionNote L))
+    (door_failed memory_failed : Bool) (told : Option Files) (disk : DiskChange) (door : DoorChange) → IsPermutation notes ordered
+    → LeadsFiles link_tells ask notes door_failed memory_failed told disk door
+    → LeadsFiles link_tells ask ordered door_failed memory_failed told disk door
+files_permuted link_tells ask notes ordered door_failed memory_failed told disk door permuted files = record {
+  circuit = files.circuit;
+  job = files.job;
+  served = files.served;
+  leads = leads_permuted link_tells ask files.job notes ordered door_failed memory_failed disk door permuted files.leads;
+}

@@ -1,0 +1,64 @@
+-- What becomes of a journal over a run that opens it.
+use Rattle.std.specs.Prelude.{◌≡◌, ◌≢◌, ◌⊎◌, ◌+◌, ◌*◌, ◌≤◌, ◌++◌, ◌∷◌, [], ℕ, List, codes, Some, IfSome, IsSomeAnd}
+use Rattle.zk_model.specs.Journals.{IsTidy, slots_at}
+use Rattle.zk_port.specs.Counts.{Rose}
+use Rattle.zk_port.specs.Disks.{DiskState, Stays, LeavesOnly}
+use Rattle.zk_port.specs.Images.{Only}
+use Rattle.zk_port.specs.Logs.{appended, NotesOnce}
+use Rattle.lease_journal.specs.Causes.{SaysSlots}
+use Rattle.lease_store.specs.Ceilings.{FindsCeiling, SaysCeiling}
+
+-- the disk, before and after
+pub record DiskChange : Type 1 where
+  pub old : DiskState
+  pub new : DiskState
+
+abbrev pub disk_change : DiskState → DiskState → DiskChange
+disk_change old new = record { old = old; new = new }
+
+-- A disk on which a journal may be opened: where it tells its content, no slot after the first closed one is open, as in a journal that
+-- stores alone have written; and it has room for the slots that the header says.
+pub record IsJournalDisk (disk : DiskState) : Type 0 where
+  pub tidy : (bytes : List ℕ) → disk.content ≡ Some bytes → IsTidy 64 (slots_at bytes) bytes
+  pub room : (size : ℕ) → disk.room ≡ Some size → (slots : ℕ) → SaysSlots disk.content slots → 64 + 32 * slots ≤ size
+
+-- the name of a dealt file's journal
+abbrev pub journal_name : List ℕ → List ℕ
+journal_name file = file ++ codes ".journal"
+
+-- nothing is asked of the disk
+pub record IsUntouched (disk : DiskChange) : Type 0 where
+  pub chosen : disk.new.chosen ≡ disk.old.chosen
+  pub stays : Stays disk.old disk.new
+  pub still : disk.new.faults ≡ disk.old.faults
+
+-- the file of this name was chosen, or at most asked for, and nothing is written
+pub record OnlyReads (name : List ℕ) (disk : DiskChange) : Type 0 where
+  pub chosen : NotesOnce name disk.old.chosen disk.new.chosen
+  pub stays : Stays (record disk.old { chosen = disk.new.chosen }) disk.new
+  pub later : disk.old.faults ≤ disk.new.faults
+
+-- the file of this name was chosen, and its journal opened: nothing is written, no call failed, and a crash leaves the content
+pub record OpensJournal (name : List ℕ) (disk : DiskChange) : Type 0 where
+  pub chosen : disk.new.chosen ≡ appended (name ∷ []) disk.old.chosen
+  pub stays : Stays (record disk.old { chosen = disk.new.chosen }) disk.new
+  pub still : disk.new.faults ≡ disk.old.faults
+
+-- The file of this name was chosen, and its journal of ceilings of this id and total was read and added to. Where the content was known,
+-- it and each image say this ceiling or a higher one, which is no lower than the base, and what a crash might have left since then is what one might have left before, or
+-- says the base or a higher one. With no mark the content says this very ceiling, a crash leaves the content, and no call of the disk failed;
+-- with a mark the count of faults rose.
+pub record KeepsCeiling (name id : List ℕ) (total base ceiling mark : ℕ) (disk : DiskChange) : Type 0 where
+  pub chosen : disk.new.chosen ≡ appended (name ∷ []) disk.old.chosen
+  pub room : disk.new.room ≡ disk.old.room
+  pub grows : base ≤ ceiling
+  pub told : (bytes : List ℕ) → disk.new.content ≡ Some bytes → (first : List ℕ) × (disk.old.content ≡ Some first)
+  pub read : (first : List ℕ) → disk.old.content ≡ Some first → IsSomeAnd disk.new.content (FindsCeiling id total ceiling first)
+  pub durable : (first : List ℕ) → disk.old.content ≡ Some first → (image : List ℕ) → disk.new.images image
+      → FindsCeiling id total ceiling first image
+  pub any_moment : (first : List ℕ) → disk.old.content ≡ Some first
+      → LeavesOnly disk.old disk.new (λ image. disk.old.images image ⊎ FindsCeiling id total base first image)
+  pub exact : mark ≡ 0 → IfSome disk.new.content (SaysCeiling id total ceiling)
+  pub only : mark ≡ 0 → Only disk.new.content disk.new.images
+  pub still : mark ≡ 0 → disk.new.faults ≡ disk.old.faults
+  pub rose : mark ≢ 0 → Rose disk.old.faults disk.new.faults

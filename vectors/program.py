@@ -1,0 +1,448 @@
+"""The program over files, an output, a door and a journal's disk in memory of which some calls fail, computed apart from it.
+
+A run is given words, files by their names, what the disk has, the numbers of the calls of the shelf, the sink, the door and the disk
+that fail, and the peers that call at the door. What it writes, its status and what it hands back follow `docs/CLI.md`, its journal
+`docs/FORMATS.md`, and its sessions `ends.py`. Several peers are served by one worker.
+"""
+import json
+import struct
+from typing import Dict, List, NamedTuple, Optional, Tuple
+
+import bristol
+from common import FILE_ID, sha256
+from dealt_files import Params, deal, journal
+from ends import MOST_UNITS, End, Job, Link, verify_by
+from session import LONG, Claim, Extended, products_of
+
+FILE_LIMIT = 2**26
+
+
+class Stopped(Exception):
+    """A run stops: the line that it writes, and its status."""
+
+    def __init__(self, line: str, status: int):
+        super().__init__(line)
+        self.line, self.status = line + "\n", status
+
+
+class DiskFailed(Exception):
+    """A call of the disk failed."""
+
+
+class Disk:
+    """A file whose call of this number, from 1, fails. A write that fails writes the first half of its bytes."""
+
+    def __init__(self, data: bytes, failing: int):
+        self.data, self.failing = bytearray(data), failing
+        self.calls = self.faults = 0
+
+    def begin(self) -> None:
+        self.calls += 1
+        if self.calls == self.failing:
+            self.faults += 1
+            raise DiskFailed()
+
+    def choose(self) -> None:
+        self.begin()
+
+    def sync(self) -> None:
+        self.begin()
+
+    def read(self, at: int, count: int) -> bytes:
+        self.begin()
+        return bytes(self.data[at : at + count])
+
+    def place(self, at: int, data: bytes) -> None:
+        self.data.extend(bytes(max(0, at - len(self.data))))
+        self.data[at : at + len(data)] = data
+
+    def write(self, at: int, data: bytes) -> None:
+        try:
+            self.begin()
+        except DiskFailed:
+            self.place(at, data[: len(data) // 2])
+            raise
+        self.place(at, data)
+
+
+class Outside:
+    """What a run is given, and what it has written. A refused write leaves the first half of its bytes, and a refused store no file."""
+
+    def __init__(self, files: Dict[str, bytes], disk: Disk, shelf_fails: int, sink_fails: int, door_fails: int):
+        self.files, self.disk, self.written = files, disk, b""
+        self.fails = {"shelf": shelf_fails, "sink": sink_fails, "door": door_fails}
+        self.calls = {"shelf": 0, "sink": 0, "door": 0}
+
+    def is_failing(self, name: str) -> bool:
+        self.calls[name] += 1
+        return self.calls[name] == self.fails[name]
+
+    def load(self, name: str) -> bytes:
+        if self.is_failing("shelf") or name not in self.files:
+            raise Stopped("failed shelf", 4)
+        if len(self.files[name]) > FILE_LIMIT:
+            raise Stopped(f"refused TooLong 0 {FILE_LIMIT}", 3)
+        return self.files[name]
+
+    def store(self, name: str, data: bytes) -> None:
+        if self.is_failing("shelf"):
+            self.files.pop(name, None)
+            raise Stopped("failed shelf", 4)
+        self.files[name] = data
+
+    def say(self, text: str, status: int) -> int:
+        """The status after a text is written."""
+        data = text.encode()
+        if not self.is_failing("sink"):
+            self.written += data
+            return status
+        self.written += data[: len(data) // 2]
+        return 4 if status <= 1 else status
+
+
+class Came(NamedTuple):
+    """What came of a run: its status, and what it hands back."""
+
+    status: int
+    part: str
+
+
+# ---- the words
+
+
+def read_number(word: str, low: int, high: int) -> int:
+    if not word.isdigit() or not low <= int(word) <= high:
+        raise ValueError(word)
+    return int(word)
+
+
+def read_bits(word: str) -> List[int]:
+    if word != "none" and (not word or set(word) - set("01")):
+        raise ValueError(word)
+    return [] if word == "none" else [int(bit) for bit in word]
+
+
+def sorted_words(words: List[str], valued: List[str], flags: List[str]) -> Tuple[List[str], Dict[str, str]]:
+    """The words in their places, and the options, each at most once."""
+    places: List[str] = []
+    options: Dict[str, str] = {}
+    rest = iter(words)
+    for word in rest:
+        if word in options:
+            raise ValueError(word)
+        if word in flags:
+            options[word] = ""
+        elif word in valued:
+            options[word] = next(rest, "-")
+            if options[word].startswith("-"):
+                raise ValueError(word)
+        elif word.startswith("-"):
+            raise ValueError(word)
+        else:
+            places.append(word)
+    return places, options
+
+
+# ---- the commands
+
+
+def load_circuit(outside: Outside, name: str) -> bristol.Circuit:
+    found = bristol.read(outside.load(name))
+    if not isinstance(found, bristol.Circuit):
+        raise Stopped(f"refused {found.name} {bristol.NUMBERS[found.name]} {found.place}", 3)
+    return found
+
+
+def need_of(circuit: bristol.Circuit, section: int) -> Tuple[int, int, int]:
+    """How many products, sections and correlations a session has."""
+    products = len(products_of(circuit))
+    sections = -(-products // section)
+    return products, sections, products + sections
+
+
+def outputs_of(circuit: bristol.Circuit, bits: List[int]) -> str:
+    if len(bits) != circuit.inputs:
+        raise Stopped(f"refused bits {circuit.inputs} {len(bits)}", 3)
+    return bristol.word_of(bristol.evaluate(circuit, bits))
+
+
+def run_eval(outside: Outside, words: List[str]) -> Came:
+    (name, word), _ = sorted_words(words, [], [])
+    bits = read_bits(word)
+    return Came(outside.say(outputs_of(load_circuit(outside, name), bits) + "\n", 0), "plain")
+
+
+def run_rehearse(outside: Outside, words: List[str]) -> Came:
+    (name, word), options = sorted_words(words, ["--section"], ["--extended"])
+    bits, section = read_bits(word), read_number(options.get("--section", str(LONG)), 1, LONG)
+    circuit = load_circuit(outside, name)
+    outputs = outputs_of(circuit, bits)
+    products, sections, need = need_of(circuit, section)
+    units = max(1, -(-need // (8 * 1024 if "--extended" in options else 64)))
+    if units > MOST_UNITS:
+        raise Stopped(f"too large {need} {units}", 9)
+    lines = f"outputs {outputs}\nproducts {products} sections {sections} correlations {need} units {units}\naccepted\n"
+    return Came(outside.say(lines, 0), f"rehearsed outputs={outputs} need={need} units={units}")
+
+
+def dealt_for(options: Dict[str, str]) -> Params:
+    units = read_number(options["--units"], 1, 2**32)
+    given = [name for name in ("--trees", "--height", "--base") if name in options]
+    if not given:
+        return Params(0, 0, 0, 0, units)
+    if len(given) < 3:
+        raise ValueError(given)
+    trees, height, base = (int(options[name]) for name in ("--trees", "--height", "--base"))
+    return Params(1, height, trees, base, units)
+
+
+def run_deal(outside: Outside, words: List[str]) -> Came:
+    (name,), options = sorted_words(words, ["--units", "--trees", "--height", "--base"], [])
+    params = dealt_for(options)
+    prover, verifier = deal(params)
+    outside.store(f"{name}.prover", prover)
+    outside.store(f"{name}.verifier", verifier)
+    outside.store(f"{name}.prover.journal", journal(0, params.total))
+    outside.store(f"{name}.verifier.journal", journal(1, params.total))
+    lines = f"id {FILE_ID.hex()}\nunits {params.total} {'extended' if params.kind else 'direct'}\n"
+    return Came(outside.say(lines, 0), "plain")
+
+
+def read_verifier(data: bytes) -> Params:
+    """What a verifier's file is dealt for; of wrong files there are those of another magic and another side."""
+    if data[:8] != b"WQSFILE1":
+        raise Stopped("refused BadMagic 1", 3)
+    if data[8] != 1:
+        raise Stopped("refused BadKind 2", 3)
+    number = lambda start, size: int.from_bytes(data[start : start + size], "little")
+    return Params(data[9], data[10], number(12, 4), number(16, 4), number(24, 8))
+
+
+OUTCOMES = {
+    "rejected-sum": "rejected sum {section}",
+    "rejected-opening": "rejected opening {output}",
+    "peer-ended": "ended {at}",
+    "bad-frame": "frame {place}",
+    "exhausted": "exhausted {at} {count} {total}",
+    "broken": "journal {first}",
+}
+
+
+def outcome_words(outcome: str) -> str:
+    """An outcome as the lines of `serve` have it."""
+    name, *fields = outcome.split(" ")
+    if name == "bad-hello":
+        return f"hello {fields[0]}"
+    return OUTCOMES.get(name, name).format(**dict(field.split("=") for field in fields))
+
+
+def note_line(outcome: str, end: End) -> str:
+    words = outcome_words(outcome)
+    if end.units == "none":
+        return f"no grant {words}\n"
+    judged = outcome == "accepted" or outcome.startswith("rejected")
+    return f"units {end.units} {'' if judged else 'broken '}{words}\n"
+
+
+def status_of(outcome: str) -> int:
+    """The status of a session."""
+    name = outcome.split(" ")[0]
+    return {"accepted": 0, "link": 4, "device": 5, "broken": 5, "exhausted": 6}.get(name, 1)
+
+
+def log_words(log: List[Tuple[str, bytes]]) -> str:
+    data = b"".join(data for _, data in log)
+    runs = "".join(f" {side}{len(part)}" for side, part in log)
+    return f"log{runs} bytes={len(data)} sha256={sha256(data).hex()}"
+
+
+class Service(NamedTuple):
+    """What the words of a service name."""
+
+    file: str
+    circuit: str
+    outputs: List[int]
+    sessions: int
+    section: int
+    logs: Optional[str]
+
+
+def read_service(words: List[str]) -> Service:
+    (_, file, circuit, word), options = sorted_words(words, ["--sessions", "--workers", "--section", "--logs"], [])
+    sessions = read_number(options["--sessions"], 1, 65536)
+    read_number(options.get("--workers", "4"), 1, 1024)
+    section = read_number(options.get("--section", str(LONG)), 1, LONG)
+    return Service(file, circuit, read_bits(word), sessions, section, options.get("--logs"))
+
+
+def served_job(outside: Outside, service: Service) -> Job:
+    """What the sessions of a service are about."""
+    outputs, section = service.outputs, service.section
+    text = outside.files.get(service.circuit, b"")
+    circuit = load_circuit(outside, service.circuit)
+    if len(outputs) != circuit.outputs:
+        raise Stopped(f"refused outputs {circuit.outputs} {len(outputs)}", 3)
+    params = read_verifier(outside.load(service.file))
+    extended = Extended(height=params.height, trees=params.trees, base=params.base) if params.kind else None
+    job = Job(Claim(circuit, sha256(text), []), tuple(outputs), extended, params.total, section)
+    if job.units(section) > MOST_UNITS:
+        raise Stopped(f"too large {job.need(section)} {job.units(section)}", 9)
+    return job
+
+
+def first_wrong(header: bytes, total: int) -> Optional[int]:
+    """The first byte of a journal's header that is not as it must be; 24 where the number of slots is another."""
+    wanted = journal(1, total)[:64]
+    wrong = [place for place in range(64) if header[place] != wanted[place]]
+    return min((24 if 24 <= place < 32 else place for place in wrong), default=None)
+
+
+class Leases:
+    """The units of a journal that is open, for one worker."""
+
+    def __init__(self, disk: Disk, total: int, used: int, ceiling: int):
+        self.disk, self.total, self.used, self.ceiling = disk, total, used, ceiling
+        self.next, self.mark = ceiling, 0
+        self.exhausted: Optional[str] = None
+
+    def put(self, ceiling: int) -> None:
+        """Writes a slot, and opens it."""
+        at = 64 + 32 * self.used
+        self.disk.write(at, struct.pack("<QQ", ceiling, 0))
+        self.disk.sync()
+        self.disk.write(at + 31, b"\x5a")
+        self.disk.sync()
+        self.used, self.ceiling = self.used + 1, ceiling
+
+    def cover(self, end: int) -> Optional[str]:
+        """Raises the ceiling up to this end, or the outcome by which it is not."""
+        if end <= self.ceiling:
+            return None
+        if self.mark:
+            return f"broken first={self.mark}"
+        try:
+            self.put(min(self.total, -(-end // 16) * 16))
+            return None
+        except DiskFailed:
+            self.mark = self.disk.faults
+            return "device"
+
+    def grant(self, count: int) -> Tuple[int, Optional[str]]:
+        """The first of the units that are drawn, or the outcome by which they are refused."""
+        if self.exhausted:
+            return 0, self.exhausted
+        at, self.next = self.next, self.next + count
+        if self.next > self.total:
+            self.exhausted = f"exhausted at={at} count={count} total={self.total}"
+            return at, self.exhausted
+        return at, self.cover(self.next)
+
+
+def read_slots(disk: Disk, total: int) -> Leases:
+    """What the slots say up to the first that is not open."""
+    slots, used, ceiling, bad = -(-total // 16), 0, 0, None
+    while used < slots:
+        at = 64 + 32 * used
+        slot = disk.read(at, 32)
+        if len(slot) < 32:
+            raise Stopped(f"refused Short 1 {64 + 32 * slots} {at + len(slot)}", 3)
+        if slot[31] != 0x5A:
+            break
+        number, other = struct.unpack("<QQ", slot[:16])
+        keeps = other == 0 and ceiling < number <= total and (number % 16 == 0 or number == total)
+        if not keeps and bad is None:
+            bad = used
+        used, ceiling = used + 1, number
+    if bad is not None:
+        raise Stopped(f"refused BadBody 3 {bad}", 3)
+    return Leases(disk, total, used, ceiling)
+
+
+def open_journal(disk: Disk, total: int) -> Leases:
+    try:
+        disk.choose()
+        disk.sync()
+        header = disk.read(0, 64)
+        if len(header) < 64:
+            raise Stopped(f"refused Short 1 64 {len(header)}", 3)
+        place = first_wrong(header, total)
+        if place is not None:
+            raise Stopped(f"refused BadHeader 2 {place}", 3)
+        return read_slots(disk, total)
+    except DiskFailed:
+        raise Stopped(f"journal failed {disk.faults}", 5) from None
+
+
+Note = Tuple[str, End]
+
+
+def start_of(note: Note) -> int:
+    """The first unit of a session, and a number above all where it was granted none."""
+    units = note[1].units
+    return 2**64 if units == "none" else int(units.split("..")[0])
+
+
+def lead_sessions(outside: Outside, job: Job, leases: Leases, sessions: int, peers: List[Link]) -> Tuple[List[Note], bool]:
+    """The sessions with the peers that call, by their units, and whether the door failed."""
+    notes: List[Note] = []
+    rest = iter(peers)
+    while len(notes) < sessions:
+        if outside.is_failing("door"):
+            return sorted(notes, key=start_of), True
+        peer = next(rest, None)
+        if peer is None:
+            break
+        notes.append(verify_by(job, peer, leases.grant))
+    return sorted(notes, key=start_of), False
+
+
+def store_logs(outside: Outside, prefix: Optional[str], notes: List[Note]) -> bool:
+    """Stores the logs of the sessions that were granted units, up to the first store that fails; whether one did."""
+    try:
+        for note in notes:
+            if prefix is not None and note[1].units != "none":
+                outside.store(f"{prefix}.{start_of(note)}", b"".join(data for _, data in note[1].log))
+    except Stopped:
+        return True
+    return False
+
+
+def served_text(notes: List[Note], door_failed: bool) -> str:
+    """The lines of sessions that were granted units, in order; those of the others in order of their bytes; and the door's."""
+    lines = [note_line(outcome, end) for outcome, end in notes]
+    granted = [each for each in lines if each.startswith("units")]
+    refused = sorted((each for each in lines if not each.startswith("units")), key=str.encode)
+    return "".join(granted + refused) + ("door failed\n" if door_failed else "")
+
+
+def run_serve(outside: Outside, words: List[str], peers: List[Link]) -> Came:
+    service = read_service(words)
+    job = served_job(outside, service)
+    leases = open_journal(outside.disk, job.total)
+    if outside.is_failing("door"):
+        raise Stopped("failed door", 4)
+    notes, door_failed = lead_sessions(outside, job, leases, service.sessions, peers)
+    store_failed = store_logs(outside, service.logs, notes)
+    statuses = [status_of(outcome) for outcome, _ in notes] + [4 * door_failed, 4 * store_failed]
+    status = next(each for each in (7, 5, 6, 4, 1, 0) if each in statuses)
+    part = "".join(f" {outcome} units={end.units} {log_words(end.log)}" for outcome, end in notes)
+    return Came(outside.say(served_text(notes, door_failed), status), f"served{part}")
+
+
+def run(outside: Outside, words: List[str], peers: List[Link]) -> Came:
+    """What comes of these words, with these peers at the door."""
+    commands = {"eval": run_eval, "rehearse": run_rehearse, "deal": run_deal}
+    try:
+        if words[0] == "serve":
+            return run_serve(outside, words[1:], peers)
+        if words[0] not in commands:
+            raise ValueError(words[0])
+        return commands[words[0]](outside, words[1:])
+    except (ValueError, KeyError):
+        return Came(outside.say(bristol.USAGE + "\n", 2), "plain")
+    except Stopped as stopped:
+        return Came(outside.say(stopped.line, stopped.status), "plain")
+
+
+def quoted(text: bytes) -> str:
+    return json.dumps(text.decode())
