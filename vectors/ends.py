@@ -33,6 +33,9 @@ MOST_RECEIVED = 4096
 # Who is asked for so many units: the first of them, or by which outcome they are refused.
 Grant = Callable[[int], Tuple[int, Optional[str]]]
 
+# Who is asked to claim so many units from one on: by which outcome they are refused.
+Claimant = Callable[[int, int], Optional[str]]
+
 
 class Job(NamedTuple):
     """What a session is about: the claim with the prover's bits, the claimed outputs, the files and the length of sections."""
@@ -396,10 +399,9 @@ def take_grant(end: End, job: Job) -> Tuple[int, int, int]:
     return start, count, section
 
 
-def claim_units(end: End, job: Job, start: int, count: int, refusal: Optional[str]) -> None:
+def claim_units(end: End, claim: Claimant, start: int, count: int) -> None:
     end.asked = f"{start}+{count}"
-    if refusal is None and start + count > job.total:
-        refusal = f"out-of-range total={job.total}"
+    refusal = claim(start, count)
     if refusal is not None:
         raise Ended(refusal)
     end.units = f"{start}..{start + count}"
@@ -433,10 +435,10 @@ def answers(job: Job, section: int, pairs: List[Tuple[int, int]], challenge: int
     return frame(7, elements(sums)) + frame(8, elements(opened))
 
 
-def prove_steps(end: End, job: Job, refusal: Optional[str]) -> None:
+def prove_steps(end: End, job: Job, claim: Claimant) -> None:
     end.send(job.hello())
     start, count, section = take_grant(end, job)
-    claim_units(end, job, start, count, refusal)
+    claim_units(end, claim, start, count)
     pairs = take_pairs(end, job, start, count)
     bits = bits_of_wires(job.claim)
     products = products_of(job.claim.circuit)
@@ -447,14 +449,24 @@ def prove_steps(end: End, job: Job, refusal: Optional[str]) -> None:
     raise Ended(f"rejected code={verdict} number={number}" if verdict else "accepted")
 
 
-def prove(job: Job, link: Link, refusal: Optional[str] = None) -> Tuple[str, End]:
-    """How a prover's session ends whose units are claimed, or refused by this outcome."""
+def prove_by(job: Job, link: Link, claim: Claimant) -> Tuple[str, End]:
+    """How a prover's session ends that asks this for its units."""
     end = End("p", link)
     try:
-        prove_steps(end, job, refusal)
+        prove_steps(end, job, claim)
     except Ended as ended:
         return str(ended), end
     assert False
+
+
+def prove(job: Job, link: Link, refusal: Optional[str] = None) -> Tuple[str, End]:
+    """How a prover's session ends whose units are claimed, or refused by this outcome."""
+
+    def claim(start: int, count: int) -> Optional[str]:
+        is_above = start + count > job.total
+        return f"out-of-range total={job.total}" if refusal is None and is_above else refusal
+
+    return prove_by(job, link, claim)
 
 
 def hold(job: Job, start: int = 0) -> Tuple[bytes, bytes]:

@@ -5,24 +5,23 @@
 honest ones at the same time, honest ones among some that end early or send a wrong byte, and runs that are killed once a session has
 its grant. It compares lines, statuses and logs with what the provers saw, and asks that no unit is granted twice over all runs.
 """
+import functools
 import pathlib
-import signal
 import socket
 import struct
-import subprocess
 import sys
 import tempfile
-import threading
 from typing import Callable, List, NamedTuple, Optional, Tuple
 
 import bristol
 from common import frame, sha256
 from dealt_files import Params, deal, journal
 from ends import GRANT, End, Ended, Job, Link, prove_steps
+from processes import SECONDS, Service, at_once, end_all
 from published import ADDER
 from session import LONG, Claim
 
-PARAMS = Params(0, 0, 0, 0, 2000)
+PARAMS = Params(0, 0, 0, 0, 800)
 BITS = [int(bit) for number in (5, 7) for bit in f"{number:064b}"[::-1]]
 OUTPUTS = "0011" + 60 * "0"
 CIRCUIT = bristol.read(ADDER)
@@ -35,7 +34,7 @@ class Socket(Link):
 
     def __init__(self, address: Tuple[str, int]):
         super().__init__(b"")
-        self.stream = socket.create_connection(address)
+        self.stream = socket.create_connection(address, timeout=SECONDS)
 
     def receive(self, most: int) -> bytes:
         return self.stream.recv(most)
@@ -91,40 +90,15 @@ def lies(address: Tuple[str, int]) -> Seen:
     return seen(end, "refused", "no grant hello circuit")
 
 
-def free_address() -> Tuple[str, int]:
-    with socket.socket() as probe:
-        probe.bind(("127.0.0.1", 0))
-        return probe.getsockname()
-
-
-class Service:
+def begun(program: str, folder: pathlib.Path, sessions: int, workers: int) -> Service:
     """The program, as it serves over the files of a folder."""
+    words = ["v", "adder.txt", OUTPUTS, "--sessions", str(sessions), "--workers", str(workers), "--logs", "log"]
+    return Service([program], folder, words)
 
-    def __init__(self, program: str, folder: pathlib.Path, sessions: int, workers: int):
-        self.folder, self.address = folder, free_address()
-        words = ["serve", "%s:%d" % self.address, "v", "adder.txt", OUTPUTS, "--sessions", str(sessions)]
-        words += ["--workers", str(workers), "--logs", "log"]
-        self.process = subprocess.Popen([program] + words, cwd=folder, stdout=subprocess.PIPE)
-        while self.process.poll() is None:
-            if self.listens():
-                return
-        raise SystemExit(f"serve ended with {self.process.returncode}: {self.process.stdout.read()!r}")
 
-    def listens(self) -> bool:
-        """Whether the system has a listener at the port; a probe by a connection would be a peer."""
-        port = f":{self.address[1]:04X}"
-        rows = pathlib.Path("/proc/net/tcp").read_text().splitlines()[1:]
-        return any(row.split()[1].endswith(port) and row.split()[3] == "0A" for row in rows)
-
-    def meet(self, peers: List[Callable[[Tuple[str, int]], Seen]]) -> List[Seen]:
-        """What peers saw that called at the same time."""
-        all_seen: List[Seen] = []
-        threads = [threading.Thread(target=lambda peer=peer: all_seen.append(peer(self.address))) for peer in peers]
-        for thread in threads:
-            thread.start()
-        for thread in threads:
-            thread.join()
-        return all_seen
+def meet(service: Service, peers: List[Callable[[Tuple[str, int]], Seen]]) -> List[Seen]:
+    """What peers saw that called at the same time."""
+    return at_once([functools.partial(peer, service.address) for peer in peers])
 
 
 def line_of(seen_by: Seen) -> str:
@@ -135,14 +109,14 @@ def line_of(seen_by: Seen) -> str:
 
 def check_service(program: str, folder: pathlib.Path, peers: List, workers: int, status: int) -> List[int]:
     """Serves these peers, and gives the first units that were granted."""
-    service = Service(program, folder, len(peers), workers)
-    all_seen = service.meet(peers)
-    text = service.process.communicate()[0].decode()
+    service = begun(program, folder, len(peers), workers)
+    all_seen = meet(service, peers)
+    text, ended = service.end()
     granted = sorted((each for each in all_seen if each.start is not None), key=lambda each: each.start)
     others = sorted(line_of(each) for each in all_seen if each.start is None)
     lines = [line_of(each) for each in granted] + others
     assert text.splitlines() == lines, (text, lines)
-    assert service.process.returncode == status, service.process.returncode
+    assert ended == status, ended
     for each in granted:
         assert (folder / f"log.{each.start}").read_bytes() == each.log, each.start
     return [each.start for each in granted]
@@ -150,26 +124,34 @@ def check_service(program: str, folder: pathlib.Path, peers: List, workers: int,
 
 def check_stopped(program: str, folder: pathlib.Path, workers: int) -> List[int]:
     """Kills the program once three sessions have their grants, and gives the first units of these."""
-    service = Service(program, folder, 9, workers)
-    all_seen = service.meet([leaves] * 3)
-    service.process.send_signal(signal.SIGKILL)
-    service.process.communicate()
+    service = begun(program, folder, 9, workers)
+    all_seen = meet(service, [leaves] * 3)
+    service.kill()
+    service.end()
     return [each.start for each in all_seen]
+
+
+def check_runs(program: str, folder: pathlib.Path, workers: int) -> List[int]:
+    """All runs over one journal, and the first units that were granted in them."""
+    (folder / "adder.txt").write_bytes(ADDER)
+    (folder / "v").write_bytes(deal(PARAMS)[1])
+    (folder / "v.journal").write_bytes(journal(1, PARAMS.total))
+    starts: List[int] = []
+    for _ in range(3):
+        starts += check_service(program, folder, [honest] * 8, workers, 0)
+        starts += check_stopped(program, folder, workers)
+        starts += check_service(program, folder, [honest, leaves, lies, honest, leaves, honest], workers, 1)
+    return starts
 
 
 def main() -> int:
     program = str(pathlib.Path(sys.argv[1]).resolve())
     workers = int(sys.argv[2]) if len(sys.argv) > 2 else 4
     with tempfile.TemporaryDirectory() as name:
-        folder = pathlib.Path(name)
-        (folder / "adder.txt").write_bytes(ADDER)
-        (folder / "v").write_bytes(deal(PARAMS)[1])
-        (folder / "v.journal").write_bytes(journal(1, PARAMS.total))
-        starts: List[int] = []
-        for _ in range(3):
-            starts += check_service(program, folder, [honest] * 8, workers, 0)
-            starts += check_stopped(program, folder, workers)
-            starts += check_service(program, folder, [honest, leaves, lies, honest, leaves, honest], workers, 1)
+        try:
+            starts = check_runs(program, pathlib.Path(name), workers)
+        finally:
+            end_all()
     apart = all(second - first >= UNITS for first, second in zip(sorted(starts), sorted(starts)[1:]))
     assert apart, sorted(starts)
     print(f"{len(starts)} sessions of {UNITS} units in 9 runs: no unit granted twice")

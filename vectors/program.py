@@ -1,8 +1,9 @@
 """The program over files, an output, a door and a journal's disk in memory of which some calls fail, computed apart from it.
 
 A run is given words, files by their names, what the disk has, the numbers of the calls of the shelf, the sink, the door and the disk
-that fail, and the peers that call at the door. What it writes, its status and what it hands back follow `docs/CLI.md`, its journal
-`docs/FORMATS.md`, and its sessions `ends.py`. Several peers are served by one worker.
+that fail, and the peers that call at the door, or the one to which it connects. What it writes, its status
+and what it hands back follow `docs/CLI.md`, its journal `docs/FORMATS.md`, and its sessions `ends.py`.
+Several peers are served by one worker.
 """
 import json
 import struct
@@ -11,7 +12,7 @@ from typing import Dict, List, NamedTuple, Optional, Tuple
 import bristol
 from common import FILE_ID, sha256
 from dealt_files import Params, deal, journal
-from ends import MOST_UNITS, End, Job, Link, verify_by
+from ends import MOST_UNITS, End, Job, Link, prove_by, verify_by
 from session import LONG, Claim, Extended, products_of
 
 FILE_LIMIT = 2**26
@@ -208,14 +209,18 @@ def run_deal(outside: Outside, words: List[str]) -> Came:
     return Came(outside.say(lines, 0), "plain")
 
 
-def read_verifier(data: bytes) -> Params:
-    """What a verifier's file is dealt for; of wrong files there are those of another magic and another side."""
+def read_dealt(side: int, data: bytes) -> Params:
+    """What a file of this side is dealt for; wrong files are those of another magic and another side."""
     if data[:8] != b"WQSFILE1":
         raise Stopped("refused BadMagic 1", 3)
-    if data[8] != 1:
+    if data[8] != side:
         raise Stopped("refused BadKind 2", 3)
     number = lambda start, size: int.from_bytes(data[start : start + size], "little")
     return Params(data[9], data[10], number(12, 4), number(16, 4), number(24, 8))
+
+
+def extended_of(params: Params) -> Optional[Extended]:
+    return Extended(height=params.height, trees=params.trees, base=params.base) if params.kind else None
 
 
 OUTCOMES = {
@@ -282,19 +287,33 @@ def served_job(outside: Outside, service: Service) -> Job:
     circuit = load_circuit(outside, service.circuit)
     if len(outputs) != circuit.outputs:
         raise Stopped(f"refused outputs {circuit.outputs} {len(outputs)}", 3)
-    params = read_verifier(outside.load(service.file))
-    extended = Extended(height=params.height, trees=params.trees, base=params.base) if params.kind else None
-    job = Job(Claim(circuit, sha256(text), []), tuple(outputs), extended, params.total, section)
+    params = read_dealt(1, outside.load(service.file))
+    job = Job(Claim(circuit, sha256(text), []), tuple(outputs), extended_of(params), params.total, section)
     if job.units(section) > MOST_UNITS:
         raise Stopped(f"too large {job.need(section)} {job.units(section)}", 9)
     return job
 
 
-def first_wrong(header: bytes, total: int) -> Optional[int]:
-    """The first byte of a journal's header that is not as it must be; 24 where the number of slots is another."""
-    wanted = journal(1, total)[:64]
+def first_wrong(kind: int, header: bytes, total: int) -> Optional[int]:
+    """The first byte of a journal's header that is wrong: 24 where no journal has so many slots."""
+    wanted = journal(kind, total)[:64]
+    if kind == 0 and 1 <= slots_of(header) <= 2**28:
+        wanted = wanted[:24] + header[24:32] + wanted[32:]
     wrong = [place for place in range(64) if header[place] != wanted[place]]
     return min((24 if 24 <= place < 32 else place for place in wrong), default=None)
+
+
+def slots_of(header: bytes) -> int:
+    return int.from_bytes(header[24:32], "little")
+
+
+def put_slot(disk: Disk, slot: int, body: Tuple[int, int]) -> None:
+    """Writes a slot, and opens it."""
+    at = 64 + 32 * slot
+    disk.write(at, struct.pack("<QQ", *body))
+    disk.sync()
+    disk.write(at + 31, b"\x5a")
+    disk.sync()
 
 
 class Leases:
@@ -306,12 +325,7 @@ class Leases:
         self.exhausted: Optional[str] = None
 
     def put(self, ceiling: int) -> None:
-        """Writes a slot, and opens it."""
-        at = 64 + 32 * self.used
-        self.disk.write(at, struct.pack("<QQ", ceiling, 0))
-        self.disk.sync()
-        self.disk.write(at + 31, b"\x5a")
-        self.disk.sync()
+        put_slot(self.disk, self.used, (ceiling, 0))
         self.used, self.ceiling = self.used + 1, ceiling
 
     def cover(self, end: int) -> Optional[str]:
@@ -338,37 +352,99 @@ class Leases:
         return at, self.cover(self.next)
 
 
-def read_slots(disk: Disk, total: int) -> Leases:
+Body = Tuple[int, int]
+
+
+def is_ceiling(total: int, bodies: List[Body], body: Body) -> bool:
+    """Whether a body may follow these in the verifier's journal."""
+    (ceiling, other), last = body, bodies[-1][0] if bodies else 0
+    return other == 0 and last < ceiling <= total and (ceiling % 16 == 0 or ceiling == total)
+
+
+def is_span(total: int, bodies: List[Body], body: Body) -> bool:
+    """Whether a body may stand in the prover's journal."""
+    return body[0] < body[1] <= total
+
+
+def read_bodies(kind: int, disk: Disk, total: int, slots: int) -> List[Body]:
     """What the slots say up to the first that is not open."""
-    slots, used, ceiling, bad = -(-total // 16), 0, 0, None
-    while used < slots:
-        at = 64 + 32 * used
+    keeps = is_ceiling if kind == 1 else is_span
+    bodies: List[Body] = []
+    bad = None
+    while len(bodies) < slots:
+        at = 64 + 32 * len(bodies)
         slot = disk.read(at, 32)
         if len(slot) < 32:
             raise Stopped(f"refused Short 1 {64 + 32 * slots} {at + len(slot)}", 3)
         if slot[31] != 0x5A:
             break
-        number, other = struct.unpack("<QQ", slot[:16])
-        keeps = other == 0 and ceiling < number <= total and (number % 16 == 0 or number == total)
-        if not keeps and bad is None:
-            bad = used
-        used, ceiling = used + 1, number
+        first, second = struct.unpack("<QQ", slot[:16])
+        if bad is None and not keeps(total, bodies, (first, second)):
+            bad = len(bodies)
+        bodies.append((first, second))
     if bad is not None:
         raise Stopped(f"refused BadBody 3 {bad}", 3)
-    return Leases(disk, total, used, ceiling)
+    return bodies
 
 
-def open_journal(disk: Disk, total: int) -> Leases:
+def open_bodies(kind: int, disk: Disk, total: int) -> Tuple[int, List[Body]]:
+    """How many slots a journal has, and what those say that are open."""
+    disk.choose()
+    disk.sync()
+    header = disk.read(0, 64)
+    if len(header) < 64:
+        raise Stopped(f"refused Short 1 64 {len(header)}", 3)
+    place = first_wrong(kind, header, total)
+    if place is not None:
+        raise Stopped(f"refused BadHeader 2 {place}", 3)
+    return slots_of(header), read_bodies(kind, disk, total, slots_of(header))
+
+
+def open_leases(disk: Disk, total: int) -> Leases:
     try:
-        disk.choose()
-        disk.sync()
-        header = disk.read(0, 64)
-        if len(header) < 64:
-            raise Stopped(f"refused Short 1 64 {len(header)}", 3)
-        place = first_wrong(header, total)
-        if place is not None:
-            raise Stopped(f"refused BadHeader 2 {place}", 3)
-        return read_slots(disk, total)
+        _, bodies = open_bodies(1, disk, total)
+        return Leases(disk, total, len(bodies), bodies[-1][0] if bodies else 0)
+    except DiskFailed:
+        raise Stopped(f"journal failed {disk.faults}", 5) from None
+
+
+def first_met(spans: List[Body], start: int, end: int) -> Optional[Body]:
+    """The first of these spans that has one of these units."""
+    return next((span for span in spans if span[0] < end and start < span[1]), None)
+
+
+class Claims:
+    """The claims of a journal that is open."""
+
+    def __init__(self, disk: Disk, total: int, slots: int, spans: List[Body]):
+        self.disk, self.total, self.slots, self.spans = disk, total, slots, spans
+
+    def claim(self, start: int, count: int) -> Optional[str]:
+        """Claims these units, or gives the outcome by which they are refused."""
+        end = start + count
+        if end > self.total:
+            return f"out-of-range total={self.total}"
+        earlier = first_met(self.spans, start, end)
+        if earlier:
+            return "overlap earlier={}..{}".format(*earlier)
+        if len(self.spans) == self.slots:
+            return f"full slots={self.slots}"
+        try:
+            put_slot(self.disk, len(self.spans), (start, end))
+        except DiskFailed:
+            return "device"
+        return None
+
+
+def open_claims(disk: Disk, total: int) -> Claims:
+    """The claims of a journal: once all keep the rule each is read again, and compared with those before."""
+    try:
+        slots, bodies = open_bodies(0, disk, total)
+        for slot, (start, end) in enumerate(bodies):
+            disk.read(64 + 32 * slot, 16)
+            if first_met(bodies[:slot], start, end):
+                raise Stopped(f"refused BadBody 3 {slot}", 3)
+        return Claims(disk, total, slots, bodies)
     except DiskFailed:
         raise Stopped(f"journal failed {disk.faults}", 5) from None
 
@@ -418,7 +494,7 @@ def served_text(notes: List[Note], door_failed: bool) -> str:
 def run_serve(outside: Outside, words: List[str], peers: List[Link]) -> Came:
     service = read_service(words)
     job = served_job(outside, service)
-    leases = open_journal(outside.disk, job.total)
+    leases = open_leases(outside.disk, job.total)
     if outside.is_failing("door"):
         raise Stopped("failed door", 4)
     notes, door_failed = lead_sessions(outside, job, leases, service.sessions, peers)
@@ -429,12 +505,65 @@ def run_serve(outside: Outside, words: List[str], peers: List[Link]) -> Came:
     return Came(outside.say(served_text(notes, door_failed), status), f"served{part}")
 
 
+# How sessions of a prover are said: their lines, and their statuses.
+PROVED = {
+    "accepted": ("units {units} accepted", 0),
+    "peer-ended": ("peer ended {at}", 8),
+    "bad-frame": ("peer frame {place}", 8),
+    "bad-grant": ("peer grant", 8),
+    "peer-refused": ("peer refused {code}", 8),
+    "overlap": ("peer overlap {earlier}", 8),
+    "out-of-range": ("peer range {total}", 8),
+    "full": ("journal full {slots}", 5),
+    "device": ("journal failed {faults}", 5),
+    "link": ("failed link", 4),
+}
+
+
+def proved_line(outcome: str, units: str, faults: int) -> Tuple[str, int]:
+    """The line of a session of a prover, and its status."""
+    name, *words = outcome.split(" ")
+    fields = dict(word.split("=") for word in words)
+    if name == "rejected":
+        equation = {"1": "sum", "2": "opening"}[fields["code"]]
+        return f"units {units} rejected {equation} {fields['number']}\n", 1
+    line, status = PROVED[name]
+    return line.format(units=units, faults=faults, **fields) + "\n", status
+
+
+def proved_job(outside: Outside, file: str, name: str, bits: List[int], outputs: List[int]) -> Job:
+    """What the session of a prover is about; the length of sections is that of its grant."""
+    text = outside.files.get(name, b"")
+    circuit = load_circuit(outside, name)
+    given = read_bits(outputs_of(circuit, bits))
+    if len(outputs) != circuit.outputs:
+        raise Stopped(f"refused outputs {circuit.outputs} {len(outputs)}", 3)
+    differing = [output for output in range(circuit.outputs) if given[output] != outputs[output]]
+    if differing:
+        raise Stopped(f"unsatisfied {differing[0]}", 1)
+    params = read_dealt(0, outside.load(file))
+    return Job(Claim(circuit, sha256(text), bits), tuple(outputs), extended_of(params), params.total, LONG)
+
+
+def run_prove(outside: Outside, words: List[str], peers: List[Link]) -> Came:
+    (_, file, name, bits, outputs), _ = sorted_words(words, [], [])
+    job = proved_job(outside, file, name, read_bits(bits), read_bits(outputs))
+    claims = open_claims(outside.disk, job.total)
+    if outside.is_failing("door") or not peers:
+        raise Stopped("failed door", 4)
+    outcome, end = prove_by(job, peers[0], claims.claim)
+    line, status = proved_line(outcome, end.units, outside.disk.faults)
+    return Came(outside.say(line, status), f"proved {outcome} units={end.units} {log_words(end.log)}")
+
+
 def run(outside: Outside, words: List[str], peers: List[Link]) -> Came:
-    """What comes of these words, with these peers at the door."""
+    """What comes of these words, with these peers at the door, or the first of them to connect to."""
     commands = {"eval": run_eval, "rehearse": run_rehearse, "deal": run_deal}
     try:
         if words[0] == "serve":
             return run_serve(outside, words[1:], peers)
+        if words[0] == "prove":
+            return run_prove(outside, words[1:], peers)
         if words[0] not in commands:
             raise ValueError(words[0])
         return commands[words[0]](outside, words[1:])

@@ -6,8 +6,9 @@ writes the line, and a line for each session. `session_runs.py --stdin` prints t
 written. With neither it compares both with the files `stdin` and `stdout` that stand there, and the circuits in `data` with those
 that the scenarios are about; it prints what differs, and ends with 1 where anything does.
 
-`ends.py` computes both ends, `program.py` runs of the program, and `session.py` what honest ones say, which must be the same. The sessions that `docs/PROTOCOL.md`
-publishes are among them, and must have the digests that stand there.
+`ends.py` computes both ends, `program.py` runs of the program, and `session.py` what honest ones say, which
+must be the same. The sessions that `docs/PROTOCOL.md` publishes are among them, and must have the digests
+that stand there.
 """
 import pathlib
 import struct
@@ -182,8 +183,8 @@ def rehearsal_line(scenario: Scenario) -> str:
 # ---- runs of the program
 
 
-def outside_of(scenario: Scenario) -> program.Outside:
-    """What a run is given."""
+def outside_of(scenario: Scenario, kind: int) -> program.Outside:
+    """What a run is given, with the journal of this kind."""
     name = scenario.words.get("circuit", "and.txt")
     text = CIRCUITS[name] + scenario.words.get("tail", "").replace("_", " ").encode()
     params, total = scenario.params(), scenario.number("units", 1)
@@ -191,15 +192,26 @@ def outside_of(scenario: Scenario) -> program.Outside:
     prover, verifier = dealt_files.deal(dealt_files.Params(*numbers, total))
     files = {"x.prover": prover, "x.verifier": verifier, name: text.ljust(scenario.number("size", 0), b"\n")}
     fails = [scenario.number(f"{each}-fails", 0) for each in ("shelf", "sink", "door")]
-    disk = program.Disk(journal_of(scenario, total), scenario.number("disk-fails", 0))
+    disk = program.Disk(journal_of(scenario, kind, total), scenario.number("disk-fails", 0))
     return program.Outside(files, disk, *fails)
 
 
-def journal_of(scenario: Scenario, total: int) -> bytes:
-    """The verifier's journal, with ceilings that stand in it, cut, and with a byte that is another."""
-    new = dealt_files.journal(1, total)
-    ceilings = [min(total, 16 * (slot + 1)) for slot in range(-(-scenario.number("ceilings", 0) // 16))]
-    journal = new[:64] + b"".join(struct.pack("<Q", ceiling) + bytes(23) + b"\x5a" for ceiling in ceilings)
+def bodies_of(scenario: Scenario, kind: int, total: int) -> Iterator[Tuple[int, int]]:
+    """What the open slots of a journal say: the prover's claims, or the verifier's ceilings."""
+    if kind == 1:
+        for slot in range(-(-scenario.number("ceilings", 0) // 16)):
+            yield min(total, 16 * (slot + 1)), 0
+        return
+    for claim in filter(None, scenario.words.get("claims", "").split("+")):
+        start, end = map(int, claim.split(".."))
+        yield start, end
+
+
+def journal_of(scenario: Scenario, kind: int, total: int) -> bytes:
+    """A journal of this kind, with slots that are open, cut, and with a byte that is another."""
+    new = dealt_files.journal(kind, total)
+    bodies = bodies_of(scenario, kind, total)
+    journal = new[:64] + b"".join(struct.pack("<QQ", *body) + bytes(15) + b"\x5a" for body in bodies)
     size = scenario.number("journal-size", len(new))
     return changed(scenario, "journal-set", journal.ljust(size, b"\0")[:size])
 
@@ -213,7 +225,7 @@ def shown(scenario: Scenario, outside: program.Outside) -> str:
 
 
 def run_line(scenario: Scenario, name: str, words: List[str], peers: List[Link]) -> str:
-    outside = outside_of(scenario)
+    outside = outside_of(scenario, 0 if words[0] == "prove" else 1)
     came = program.run(outside, words, peers)
     written = program.quoted(outside.written)
     return f"{name}status={came.status} written={written} {came.part}{shown(scenario, outside)}"
@@ -245,8 +257,19 @@ def service_lines(scenario: Scenario, job: Job) -> List[str]:
     script = honest[stated] if stated < len(honest) else b""
     for name, changed_script, failing in cases_of(scenario, script_of(scenario, script)):
         peers = [Link(each) for each in honest]
-        peers[stated : stated + 1] = [Link(changed_script, failing=failing)] if peers else []
+        link = Link(changed_script, scenario.number("pieces", MOST_RECEIVED), failing)
+        peers[stated : stated + 1] = [link] if peers else []
         lines.append(run_line(scenario, name, service_words(scenario, job), peers))
+    return lines
+
+
+def proof_lines(scenario: Scenario, job: Job, honest: bytes) -> List[str]:
+    words = ["prove", "here", "x.prover", scenario.words.get("circuit", "and.txt")]
+    words += [bristol.word_of(job.claim.bits), bristol.word_of(list(job.outputs))]
+    lines = []
+    for name, script, failing in cases_of(scenario, script_of(scenario, honest)):
+        link = Link(script, scenario.number("pieces", MOST_RECEIVED), failing)
+        lines.append(run_line(scenario, name, words, [link]))
     return lines
 
 
@@ -259,8 +282,8 @@ def lines_of(scenario: Scenario) -> List[str]:
     job = scenario.job()
     units = job.units(job.section)
     if units > MOST_UNITS:
-        if scenario.end == "prover":
-            return prover_lines(scenario, job, b"")
+        if scenario.end in ("prover", "proof"):
+            return (prover_lines if scenario.end == "prover" else proof_lines)(scenario, job, b"")
         return [f"too-large need={job.need(job.section)} units={units}"]
     if scenario.end == "service":
         return service_lines(scenario, job)
@@ -269,6 +292,8 @@ def lines_of(scenario: Scenario) -> List[str]:
         return verifier_lines(scenario, job, by_prover)
     if scenario.end == "prover":
         return prover_lines(scenario, job, by_verifier)
+    if scenario.end == "proof":
+        return proof_lines(scenario, job, by_verifier)
     return verifier_lines(scenario, job, by_prover) + prover_lines(scenario, job, by_verifier)
 
 
@@ -500,15 +525,174 @@ def services() -> List[Scenario]:
         scenarios.append(line("service", circuit="chain.txt", bits="10", section=section, units=units))
     scenarios += [line("service", cut="0..166"), line("service", change="0..165:1"), line("service", fail="1..10")]
     scenarios += [line("service", **{name: number}) for name, number in (("door-fails", 1), ("door-fails", 2), ("sink-fails", 1))]
-    scenarios.append(line("service", outputs="0"))
+    scenarios += [line("service", outputs="0"), line("service", pieces=7)]
+    scenarios.append(line("service", **ONE_TREE, pieces=3))
     scenarios.append(line("service", **{"outputs": "0", "sink-fails": 1}))
     return scenarios + [line("service", circuit="five_gates.txt", bits="1101", section=1, files="1,1,10")]
+
+
+def proof(**words: object) -> Scenario:
+    return line("proof", **{name.replace("_", "-"): value for name, value in words.items()})
+
+
+TEN_TREES = {"files": "1,1,10", "units": 10}
+
+
+def honest_proofs() -> List[Scenario]:
+    """Proofs to honest verifiers, over a new journal or with earlier claims in it."""
+    scenarios = [proof(show="disk"), proof(section=1, more="00", show="disk"), proof(bits="0")]
+    scenarios += [proof(**ONE_TREE, more="00", show="disk"), proof(**EIGHT_TREES)]
+    scenarios += [proof(**words, pieces=pieces) for words in ({}, ONE_TREE) for pieces in (1, 7)]
+    scenarios += [proof(circuit="five_gates.txt", bits=f"{bits:04b}", section=2) for bits in range(16)]
+    five = {"circuit": "five_gates.txt", "bits": "1101", "section": 3, "files": "2,2,10"}
+    scenarios.append(proof(**five, units=4, start=1, show="disk"))
+    scenarios.append(proof(circuit="no_wires.txt", bits="none"))
+    scenarios += [proof(circuit="no_outputs.txt", bits=bit) for bit in (0, 1)]
+    scenarios.append(proof(**TEN_UNITS, units=32, start=5, show="disk"))
+    adder = {"circuit": "adder64.txt", "bits": "10", "files": "2,6,10"}
+    scenarios.append(proof(**adder, units=8, start=2, show="disk"))
+    for section, units in ((LONG, 64), (1, 128)):
+        scenarios.append(proof(circuit="chain.txt", bits="10", section=section, units=units, show="disk"))
+    scenarios.append(proof(circuit="chain.txt", bits="10", section=1000, **EIGHT_TREES))
+    for claims, start in (("0..4", 4), ("5..6+0..3", 3), ("3..4+0..1", 1), ("5..10+4..5+0..2", 2)):
+        scenarios.append(proof(**TEN_TREES, claims=claims, start=start, show="disk"))
+    scenarios.append(proof(units=2, claims="0..1", start=1, show="disk"))
+    # The hello has the digest of the text as it stands, with what is behind its last gate.
+    scenarios += [proof(tail="_"), proof(size=4096)]
+    return scenarios + [proof(circuit="more_inputs.txt", section=1)]
+
+
+def unsuited_grants() -> List[Scenario]:
+    """Proofs to verifiers that refuse, or whose grant does not suit."""
+    refusals = [frame(10, bytes([number])).hex() for number in range(6)]
+    scenarios = [proof(keep=0, more=refusal, show="disk") for refusal in refusals]
+    numbers = [(1, 0), (1, LONG + 1), (1, 2**32 - 1), (0, LONG), (2, LONG), (2, 1), (4097, LONG)]
+    for count, section in numbers + [(2**32 - 1, LONG)]:
+        scenarios.append(proof(keep=0, more=grant(0, count, section), show="disk"))
+    for circuit, count in (("many_inputs.txt", 4096), ("more_inputs.txt", 4097)):
+        scenarios.append(proof(circuit=circuit, section=1, keep=0, more=grant(0, count, 1)))
+    return scenarios
+
+
+def taken_units() -> List[Scenario]:
+    """Proofs to verifiers that grant units that are claimed or above the total; and full journals."""
+    scenarios = []
+    for start in (8, 9, 10, 2**64 - 2, 2**64 - 1):
+        scenarios.append(proof(**TEN_TREES, keep=0, more=grant(start, 2, LONG), show="disk"))
+    spans = [("0..4", 3), ("0..4", 2), ("4..6", 3), ("5..6+3..5", 4), ("3..5+5..6", 4), ("4..5+5..6", 4)]
+    for claims, start in spans + [("0..10", 0)]:
+        scenarios.append(proof(**TEN_TREES, claims=claims, start=start, show="disk"))
+    scenarios.append(proof(**TEN_TREES, claims="0..4", keep=0, more=grant(9, 2, LONG)))
+    one_slot = {"units": 4, "claims": "0..1", "journal_set": "24:1", "show": "disk"}
+    scenarios += [proof(**one_slot, start=start) for start in (0, 1, 3)]
+    scenarios.append(proof(**one_slot, keep=0, more=grant(4, 1, LONG)))
+    return scenarios + [proof(units=2, claims="0..1+1..2", start=1), proof(claims="0..1")]
+
+
+def wrong_verdicts() -> List[Scenario]:
+    """Proofs to verifiers that reject, end or change a byte."""
+    numbers = ((0, 7), (1, 0), (1, 258), (2, 0), (2, 2**32 - 1), (3, 0))
+    verdicts = [frame(9, struct.pack("<BI", verdict, number)).hex() for verdict, number in numbers]
+    scenarios = [proof(keep=34, more=verdict) for verdict in verdicts]
+    scenarios += [proof(keep=34, more=verdict, sink_fails=1) for verdict in (verdicts[1], verdicts[3])]
+    scenarios += [proof(cut="0..45", show="disk"), proof(pieces=3, cut="0..45")]
+    scenarios += [proof(change=f"0..44:{mask}", show="disk") for mask in (1, 128)]
+    scenarios += [proof(units=2, change="0..44:1", show="disk"), proof(**ONE_TREE, cut="0..135")]
+    scenarios.append(proof(**ONE_TREE, change="0..134:1"))
+    return scenarios + [proof(**ONE_TREE, set=place) for place in ("133:1", "129:0", "129:2")]
+
+
+def failing_proofs() -> List[Scenario]:
+    """Proofs in which a call of the link, the disk, the door, the shelf or the output fails."""
+    scenarios = [proof(fail="1..9", show="disk"), proof(fail="1..13", **ONE_TREE, show="disk")]
+    scenarios += [proof(disk_fails=number, show="disk") for number in range(1, 10)]
+    claims = {"claims": "0..1+6..8", "start": 3}
+    scenarios += [proof(**TEN_TREES, **claims, disk_fails=number, show="disk") for number in range(1, 14)]
+    scenarios += [proof(door_fails=number, show="disk") for number in (1, 2)]
+    scenarios += [proof(shelf_fails=number, show="disk") for number in (1, 2, 3)]
+    scenarios += [proof(sink_fails=number) for number in (1, 2)] + [proof(disk_fails=1, door_fails=1)]
+    scenarios += [proof(keep=keep, sink_fails=1) for keep in (0, 34)] + [proof(fail="1..2", sink_fails=1)]
+    scenarios += [proof(disk_fails=5, sink_fails=1), proof(claims="0..1", sink_fails=1)]
+    return scenarios + [proof(disk_fails=8, fail="5..6")]
+
+
+def flipped(word: str, place: int) -> str:
+    return word[:place] + {"0": "1", "1": "0"}[word[place]] + word[place + 1 :]
+
+
+def false_proofs() -> List[Scenario]:
+    """Proofs of outputs that the circuit does not give: no dealt file, journal or verifier is asked for."""
+    scenarios = [proof(bits="10", outputs=1, show="disk"), proof(outputs=0, show="disk")]
+    calls = [("shelf_fails", 1), ("shelf_fails", 2), ("disk_fails", 1), ("door_fails", 1), ("sink_fails", 1)]
+    scenarios += [proof(bits="10", outputs=1, **{name: number}) for name, number in calls]
+    five = {"circuit": "five_gates.txt", "bits": "1101"}
+    scenarios += [proof(**five, outputs=outputs) for outputs in ("000", "110", "101", "011")]
+    for circuit, places in (("adder64.txt", (0, 31, 63)), ("chain.txt", (3,))):
+        words = {"circuit": circuit, "bits": "10"}
+        given = bristol.word_of(list(line("both", **words).job().outputs))
+        scenarios += [proof(**words, outputs=flipped(given, place)) for place in places]
+    return scenarios
+
+
+PROVE = "prove here x.prover and.txt 11 1"
+
+
+def stopped_proofs() -> List[Scenario]:
+    """Proofs whose files, bits or outputs are refused, or with nobody at the address."""
+    scenarios = [run(PROVE, show="disk")] + [run(PROVE, door_fails=number) for number in (1, 2)]
+    scenarios += [run(PROVE, shelf_fails=number) for number in (1, 2, 3)]
+    wrong = ["101 1", "1 1", "none 1", "11 none", "11 10", "101 10", "10 10", "10 none"]
+    scenarios += [run(f"prove here x.prover and.txt {words}") for words in wrong]
+    for file in ("x.verifier", "missing", "and.txt"):
+        scenarios += [run(f"prove here {file} and.txt {words}") for words in ("11 1", "11 0", "101 1")]
+    scenarios.append(run("prove here x.verifier and.txt 11 1", **ONE_TREE))
+    scenarios.append(run("prove here x.verifier and.txt 11 1", disk_fails=1))
+    scenarios += [run("prove here x.prover missing.txt 11 1"), run("prove here x.prover x.prover 11 1")]
+    scenarios.append(run("prove  x.prover and.txt 11 1"))
+    for tail in ({}, {"tail": "1_1_0_6002_INV"}, {"tail": "1_1_0_6003_INV"}):
+        scenarios.append(run("prove here x.prover long_chain.txt 10 1", circuit="long_chain.txt", **tail))
+    scenarios.append(run("prove here x.prover too_many_inputs.txt 1 1", circuit="too_many_inputs.txt"))
+    return scenarios + [run(PROVE, size=2**26 + 1)]
+
+
+def words_of_no_proof() -> List[Scenario]:
+    """Words of `prove` that ask for nothing."""
+    words = ["prove", "prove here", "prove here x.prover and.txt 11", "proves here x.prover and.txt 11 1"]
+    more = ["1", "--section 1", "--sessions 1", "--extended", "--", "--logs l"]
+    words += [f"{PROVE} {word}" for word in more] + ["prove --section 1 here x.prover and.txt 11 1"]
+    words += ["prove -here x.prover and.txt 11 1", "prove here x.prover and.txt -11 1"]
+    bits = ["12 1", " 1", "11 2", "11 ", "1_1 1", "None 1"]
+    words += [f"prove here x.prover and.txt {word}" for word in bits]
+    scenarios = [run(word) for word in words] + [run(f"{PROVE} 1", sink_fails=1)]
+    return scenarios + [run(f"{PROVE} 1", shelf_fails=1, disk_fails=1, door_fails=1)]
+
+
+def journals_of_claims() -> List[Scenario]:
+    """Journals of claims: the disk fails, or they are short, or a byte of the header or a claim is wrong."""
+    scenarios = [run(PROVE, disk_fails=number) for number in range(1, 6)]
+    scenarios.append(run(PROVE, disk_fails=1, door_fails=1))
+    scenarios += [run(PROVE, units=4, claims="1..2+3..4", disk_fails=number) for number in range(1, 10)]
+    scenarios += [proof(journal_size=size, show="disk") for size in (0, 63, 64, 95, 97)]
+    for claims in ("0..1", "0..1+2..3", "3..3+4..5", "0..2+1..3"):
+        scenarios += [proof(units=10, claims=claims, journal_size=size, start=4) for size in (127, 128)]
+    headers = ["0:0", "7:50", "8:1", "9:1", "15:255", "16:2", "23:1", "24:0", "24:2", "27:15", "27:16"]
+    headers += ["28:1", "31:1", "32:0", "63:0"]
+    scenarios += [proof(journal_set=place, show="disk") for place in headers]
+    bodies = ["24:2", "24:0", "64:1", "71:1", "72:0", "72:2", "79:1"]
+    scenarios += [proof(claims="0..1", journal_set=place) for place in bodies]
+    wrong = ["2..2", "3..2", "0..11", "10..11", "0..4+3..5", "3..5+0..4", "0..4+0..4", "0..10+4..5"]
+    wrong += ["0..4+3..5+7..7", "7..7+0..4+3..5"]
+    scenarios += [proof(units=10, claims=claims, start=5, show="disk") for claims in wrong]
+    places = ["80:1", "94:255", "95:91", "95:0", "127:90"]
+    return scenarios + [proof(units=10, claims="0..4", journal_set=place, show="disk") for place in places]
 
 
 def all_scenarios() -> List[Scenario]:
     parts = [published(), honest_sessions(), wrong_provers(), wrong_askers(), refused_leases(), wrong_verifiers(), refused_claims()]
     parts += [failing_runs(), large_runs(), stopped_services(), limits(), journals(), services()]
     parts += [leases(), failing_services(), logged_services()]
+    parts += [honest_proofs(), unsuited_grants(), taken_units(), wrong_verdicts(), failing_proofs()]
+    parts += [false_proofs(), stopped_proofs(), words_of_no_proof(), journals_of_claims()]
     return [scenario for part in parts for scenario in part]
 
 

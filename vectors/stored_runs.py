@@ -11,7 +11,8 @@ Outputs come from what each circuit is for: sums, comparisons, the vectors of AE
 as they follow from the rules in `bristol.py`. That module must find the same of each; from it come the numbers of
 inputs and gates. A rehearsal has a product for each input wire and for each XOR and AND, a section for each product, a
 correlation for each product and each section, and units of 64 correlations, or in kind extended of 8 trees with 1,024 leaves
-each, but one unit at least. Nobody calls at the door, so a verifier that serves prints nothing, or why it does not listen.
+each, but one unit at least. Nobody calls at the door and nobody listens, so a verifier that serves prints nothing, or why it does
+not listen, and a prover why it is not connected.
 """
 import pathlib
 import sys
@@ -144,6 +145,15 @@ WRONG_WORDS = [
     "deal x --units 65535 --trees 1 --height 16 --base 65536",
     "deal x --units 1 --section 1",
     "prove x",
+    "prove here z.prover and.txt 11",
+    "prove here z.prover and.txt 11 1 1",
+    "prove here z.prover and.txt 12 1",
+    "prove here z.prover and.txt 11 2",
+    "prove here z.prover and.txt  1",
+    "prove here z.prover and.txt 11 1 --section 1",
+    "prove here z.prover and.txt 11 1 --extended",
+    "prove -here z.prover and.txt 11 1",
+    "proves here z.prover and.txt 11 1",
     "serve x",
     "serve here z.verifier and.txt 1",
     "serve here z.verifier and.txt 1 --sessions 0",
@@ -354,6 +364,49 @@ def services() -> List[Run]:
     return runs + [Run(words, [], 0) for words in orders]
 
 
+def flipped(bits: str, place: int) -> str:
+    """The same bits with another at this place."""
+    return bits[:place] + "10"[int(bits[place])] + bits[place + 1 :]
+
+
+def unsatisfied() -> List[Run]:
+    """Proofs of outputs of which one is not what the circuit gives."""
+    aes, adder = aes_case(*AES_B), next(case for case in small_cases() if case.file == "adder64.txt")
+    given = [(aes, place) for place in (0, 77, 127)] + [(adder, place) for place in (0, 31, 63)]
+    return [
+        Run(f"prove here missing {case.file} {case.bits} {flipped(case.outputs, place)}", [f"unsatisfied {place}"], 1)
+        for case, place in given
+    ]
+
+
+def proofs() -> List[Run]:
+    """Proofs over the files of the services, to nobody."""
+    aes, connected = aes_case(*AES_C_1), "failed door"
+    given: List[Tuple[str, List[str], int]] = [
+        ("z.prover and.txt 11 1", [connected], 4),
+        ("z.prover and.txt 10 0", [connected], 4),
+        ("z.prover no_outputs.txt 0 none", [connected], 4),
+        ("z.prover constant.txt none 1", [connected], 4),
+        ("y.prover and.txt 11 1", [connected], 4),
+        (f"z.prover aes128.txt {aes.bits} {aes.outputs}", [connected], 4),
+        ("z.prover and.txt 10 1", ["unsatisfied 0"], 1),
+        ("z.prover and.txt 101 1", ["refused bits 2 3"], 3),
+        ("z.prover and.txt none 1", ["refused bits 2 0"], 3),
+        ("z.prover and.txt 11 10", ["refused outputs 1 2"], 3),
+        ("z.prover and.txt 11 none", ["refused outputs 1 0"], 3),
+        ("z.verifier and.txt 11 1", ["refused BadKind 2"], 3),
+        ("and.txt and.txt 11 1", ["refused BadMagic 1"], 3),
+        ("z.prover short_text.txt 11 1", ["refused ShortText 1 2"], 3),
+        ("missing and.txt 11 1", ["failed shelf"], 4),
+        ("z.prover missing.txt 11 1", ["failed shelf"], 4),
+        # Bits are counted before outputs, and both are before the prover's file is read.
+        ("missing and.txt 1 10", ["refused bits 2 1"], 3),
+        ("missing and.txt 11 10", ["refused outputs 1 2"], 3),
+        ("missing and.txt 10 1", ["unsatisfied 0"], 1),
+    ]
+    return [Run(f"prove here {words}", lines, status) for words, lines, status in given] + unsatisfied()
+
+
 def too_large() -> List[Run]:
     """A session of one unit more than there may be: a product for each input, and one section."""
     file = "many_inputs.txt"
@@ -372,7 +425,7 @@ def all_runs() -> List[Run]:
         runs += [eval_run(case.file, case.bits, case.outputs, 0), rehearse_run(case)]
     runs += [eval_run(case.file, case.bits, case.outputs, 0) for case in aes]
     runs += [rehearse_run(aes[1])] + refusals() + orders() + sections() + extensions() + dealings()
-    return runs + services() + too_large()
+    return runs + services() + proofs() + too_large()
 
 
 def alone() -> bytes:

@@ -1,13 +1,13 @@
 //! What a circuit gives at input bits.
 //!
-//! `eval` gives the outputs, `eval_wires` the bits of all wires. As the command `eval` calls it:
+//! `eval` gives the outputs, `eval_wires` the bits of all wires, `output_bits` those of them that are outputs. As the command `eval` calls it:
 //!
 //!     let circuit = read(alloc, &text)?;
 //!     let outputs = eval(alloc, &circuit, bits)?;
 #![tactic(auto)]
 
-ghost use Rattle.std.specs.Prelude.{◌≡◌, Bool, List, length, take, IfOk, IfErr, slice_set};
-ghost use Rattle.zk_model.specs.Circuit.{AreWireBits, Satisfies, wire_set};
+ghost use Rattle.std.specs.Prelude.{◌≡◌, Bool, List, length, take, drop, IfOk, IfErr, slice_set};
+ghost use Rattle.zk_model.specs.Circuit.{AreWireBits, Satisfies, output_wire, wire_set};
 ghost use Rattle.circuit_laws.specs.GateBits.{gate_bit};
 ghost use Rattle.bool_eval.specs.GateBits.{IsWithin, AreBlankBehind, LeavesUnset};
 ghost use Rattle.bool_eval.specs.Answers.{IsCause, AreOnlyOutputs};
@@ -50,6 +50,16 @@ pub fn eval(alloc: Global, circuit: &Circuit, bits: &[bool]) -> Result<Vec<bool>
     let wires = eval_wires(alloc, circuit, bits)?;
     let outputs = wires[circuit.wires() - circuit.outputs()..].to_vec(alloc)?;
     Ok(outputs)
+}
+
+/// The bits of the output wires, among those of all wires.
+pub fn output_bits<'a>(circuit: &Circuit, wires: &'a [bool]) -> &'a [bool]
+    requires { length wires.now ≡ circuit.now.wires }
+    ensures { result.now ≡ drop (output_wire circuit.now 0) wires.now }
+{
+    let first = circuit.wires() - circuit.outputs();
+    let (_, outputs) = wires.split_at(first);
+    outputs
 }
 
 /// One bit for each wire, the input bits first, such that every gate's truth table is met. A wire that is no input and

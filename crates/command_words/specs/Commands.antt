@@ -2,9 +2,9 @@
 use Rattle.std.specs.Prelude.{ℕ, ◌≤◌}
 use Rattle.std.specs.Option.{option_map}
 use Rattle.zk_model.specs.Files.{AreParams}
-use Rattle.command_words.specs.Words.{Ask, rehearse, rehearse_ask, eval, eval_ask, deal, deal_ask, serve, serve_ask, ServeOptions, serve_options}
+use Rattle.command_words.specs.Words.{Ask, rehearse, rehearse_ask, eval, eval_ask, deal, deal_ask, serve, serve_ask, ServeOptions, serve_options, prove, prove_ask}
 use Rattle.command_words.specs.declared.words.Command.{Command}
-use Rattle.command_words.specs.declared.words.Command.TheVariants.{Rehearse, Eval, Deal, Serve}
+use Rattle.command_words.specs.declared.words.Command.TheVariants.{Rehearse, Eval, Deal, Serve, Prove}
 use Rattle.command_words.specs.declared.words.ServedOptions.{ServedOptions}
 use Rattle.command_words.specs.declared.words.TheConstants.{MAX_SESSIONS}
 use Rattle.zk_model.specs.declared.limits.TheConstants.{MAX_PASSES, MAX_SECTION_LENGTH}
@@ -20,6 +20,8 @@ ask_of (Eval circuit bits) = eval (eval_ask circuit.now bits.items)
 ask_of (Deal name params) = deal (deal_ask name.now params)
 ask_of (Serve address file circuit outputs options) =
     serve (serve_ask address.now file.now circuit.now outputs.items (named_options options))
+ask_of (Prove address file circuit bits outputs) =
+    prove (prove_ask address.now file.now circuit.now bits.items outputs.items)
 
 -- a section has so many products
 pub record IsSectionSize (section : ℕ) : Type 0 where
@@ -40,3 +42,4 @@ IsWithinLimits (Rehearse circuit bits kind section) = IsSectionSize section
 IsWithinLimits (Eval circuit bits) = Unit {0}
 IsWithinLimits (Deal name params) = AreParams params
 IsWithinLimits (Serve address file circuit outputs options) = AreServeLimits (named_options options)
+IsWithinLimits (Prove address file circuit bits outputs) = Unit {0}

@@ -72,12 +72,25 @@ abbrev pub serve_ask : List ℕ → List ℕ → List ℕ → List Bool → Serv
 serve_ask address file circuit outputs options =
     record { address = address; file = file; circuit = circuit; outputs = outputs; options = options }
 
+-- what the words of a prover name: where the verifier listens, the prover's file, the circuit's file, the input bits and the claimed outputs
+pub record ProveAsk : Type 0 where
+  pub address : List ℕ
+  pub file : List ℕ
+  pub circuit : List ℕ
+  pub bits : List Bool
+  pub outputs : List Bool
+
+abbrev pub prove_ask : List ℕ → List ℕ → List ℕ → List Bool → List Bool → ProveAsk
+prove_ask address file circuit bits outputs =
+    record { address = address; file = file; circuit = circuit; bits = bits; outputs = outputs }
+
 -- what can be asked for
 pub data Ask : Type 0 where
   rehearse : RehearseAsk → Ask
   eval : EvalAsk → Ask
   deal : DealAsk → Ask
   serve : ServeAsk → Ask
+  prove : ProveAsk → Ask
 
 -- each option has one of these names, and no two the same
 abbrev pub stand_once_among : List (List ℕ) → List Word → Bool
@@ -185,6 +198,13 @@ serve_of (address ∷ file ∷ circuit ∷ outputs ∷ []) options =
     (bits_of outputs)) (serve_options_of options)
 serve_of positional options = None
 
+-- `prove ADDRESS FILE CIRCUIT BITS OUTPUTS`
+abbrev pub prove_of : List (List ℕ) → List Word → Option Ask
+prove_of (address ∷ file ∷ circuit ∷ bits ∷ outputs ∷ []) [] =
+    option_and_then (λ read. option_map (λ claimed. prove (prove_ask address file circuit read claimed)) (bits_of outputs))
+    (bits_of bits)
+prove_of positional options = None
+
 -- what the words ask for, if they are valid
 abbrev pub asked : List (List ℕ) → Option Ask
 asked [] = None
@@ -193,4 +213,5 @@ asked (name ∷ words) = option_and_then (λ parts.
     else if bytes_eq name (codes "eval") then eval_of parts.0 parts.1
     else if bytes_eq name (codes "deal") then deal_of parts.0 parts.1
     else if bytes_eq name (codes "serve") then serve_of parts.0 parts.1
+    else if bytes_eq name (codes "prove") then prove_of parts.0 parts.1
     else None) (arranged words)

@@ -2,7 +2,7 @@
 ghost use Rattle.std.specs.Prelude.{◌≡◌, ◌≤◌, ◌^◌, ◌↔◌, map, codes, IfOk, IfSome, IsTrue};
 ghost use Rattle.std.specs.Option.{option_map};
 ghost use Rattle.command_words.specs.Words.{texts, asked, eval_of, rehearse_of, rehearsed_kind, section_of, length_of};
-ghost use Rattle.command_words.specs.Words.{serve_of, serve_options_of, sessions_of, workers_of};
+ghost use Rattle.command_words.specs.Words.{prove_of, serve_of, serve_options_of, sessions_of, workers_of};
 ghost use Rattle.command_words.specs.Words.{deal_of, params_of, direct_params, extended_of};
 ghost use Rattle.zk_model.specs.FileFaults.{file_length};
 ghost use Rattle.zk_model.specs.Files.{AreParams};
@@ -67,6 +67,14 @@ pub enum Command<'a> {
         outputs: Vec<bool>,
         options: ServedOptions<'a>,
     },
+    /// `prove ADDRESS FILE CIRCUIT BITS OUTPUTS`
+    Prove {
+        address: &'a str,
+        file: &'a str,
+        circuit: &'a str,
+        bits: Vec<bool>,
+        outputs: Vec<bool>,
+    },
 }
 
 /// The command that the words ask for, if they are valid.
@@ -89,6 +97,7 @@ pub fn read_words(alloc: Global, words: &[String]) -> Result<Option<Command<'_>>
         "eval" => read_eval(alloc, &positional, &options),
         "deal" => Ok(read_deal(&positional, &options)),
         "serve" => read_serve(alloc, &positional, &options),
+        "prove" => read_prove(alloc, &positional, &options),
         _ => Ok(None),
     }
 }
@@ -199,6 +208,37 @@ fn read_serve<'a>(
         circuit,
         outputs,
         options,
+    }))
+}
+
+/// `ADDRESS FILE CIRCUIT BITS OUTPUTS`, and no option
+fn read_prove<'a>(
+    alloc: Global,
+    positional: &[&'a str],
+    options: &[Named],
+) -> Result<Option<Command<'a>>, AllocError>
+    ensures asked { IfOk result (λ found. option_map ask_of found
+        ≡ prove_of (map (λ p. p.now) positional.now) (map word_of options.now)) }
+    ensures limits { IfOk result (λ found. IfSome found IsWithinLimits) }
+{
+    let [address, file, circuit, bits, outputs] = positional else {
+        return Ok(None);
+    };
+    if !options.is_empty() {
+        return Ok(None);
+    }
+    let Some(bits) = read_bits(alloc, bits)? else {
+        return Ok(None);
+    };
+    let Some(outputs) = read_bits(alloc, outputs)? else {
+        return Ok(None);
+    };
+    Ok(Some(Command::Prove {
+        address,
+        file,
+        circuit,
+        bits,
+        outputs,
     }))
 }
 

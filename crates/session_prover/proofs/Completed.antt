@@ -1,5 +1,5 @@
 -- With an honest verifier no other outcome is left.
-use Rattle.std.proofs.Common.{◌≡◌, inl, inr, ℕ, suc, ◌+◌, ◌<◌, ◌≤◌, List, [], ◌∷◌, ◌++◌, take, length, Option, Some, None, refl, ap, sym, ◌∙◌, subst, append_assoc, append-nil, length-append, arith}
+use Rattle.std.proofs.Common.{◌≡◌, inl, inr, ℕ, suc, ◌+◌, ◌<◌, ◌≤◌, List, [], ◌∷◌, ◌++◌, take, length, Some, refl, ap, sym, ◌∙◌, subst, append_assoc, append-nil, length-append, arith}
 use Rattle.std.proofs.lemmas.List.{take_all}
 use Rattle.session_laws.proofs.Turns.{answered, fewer_answered}
 use Rattle.session_laws.proofs.Sizes.{count_is}
@@ -14,16 +14,14 @@ use Rattle.zk_model.specs.declared.Expect.{Expect}
 use Rattle.zk_model.specs.declared.Params.{Params}
 use Rattle.zk_model.specs.declared.Side.{Side}
 use Rattle.zk_model.specs.declared.Side.TheVariants.{Verifier}
-use Rattle.zk_model.specs.declared.Span.{Span}
-use Rattle.claim_store.specs.declared.ClaimFault.{ClaimFault}
 use Rattle.frame_link.proofs.LineLemmas.{frame_most}
 use Rattle.session_core.specs.Jobs.{ProverJob}
 use Rattle.session_core.specs.Cores.{ProverStage, awaits_grant, awaits_replies, awaits_challenge, awaits_verdict, has_ended, prover_expects}
 use Rattle.session_laws.specs.Sessions.{HonestVerdict}
 use Rattle.session_prover.specs.declared.note.ProverOutcome.{ProverOutcome}
 use Rattle.session_prover.specs.declared.note.ProverOutcome.TheVariants as outcome
-use Rattle.session_prover.specs.Stages.{Claim, RefusedFor, IsLogAt, greeted_log}
-use Rattle.session_prover.specs.Notes.{Told, StopsBehind, IsOutcome, granted_of, task_of}
+use Rattle.session_prover.specs.Stages.{Claim, IsLogAt, greeted_log}
+use Rattle.session_prover.specs.Notes.{Told, StopsBehind, IsOutcome, task_of}
 use Rattle.session_prover.specs.Completing.{HasSpoken, HasHonestPeer, Completes}
 use Rattle.session_prover.specs.Turns.{IsSound}
 use Rattle.session_prover.proofs.Sides.{verifier_says}
@@ -134,42 +132,30 @@ no_end job claim log sound said all stops =
     let less = stops.cause in
     absurd (omega (arith, whole, left, none, right, long, most, less))
 
--- a refusal of the claim leaves nothing granted
-not_refused : (claim : Claim) (given : Grant) (f : ClaimFault) (granted : Option Span) (span : Span) → RefusedFor claim given f
-    → granted ≡ granted_of claim.answer → granted ≡ Some span → ⊥
-not_refused claim given f granted span refused is some = none_is_some (sym (is ∙ ap granted_of refused.answer) ∙ some)
-  where
-    none_is_some : {T : Type 0} {value : T} → None ≡ Some value → ⊥
-    none_is_some same = subst (λ o. if_none o) same tt
-      where
-        if_none : {T : Type 0} → Option T → Type 0
-        if_none None = Unit {0}
-        if_none (Some value) = ⊥
-
 -- ---- all together
 
-pub completes : (job : ProverJob) (claim : Claim) (granted : Option Span) (log : List (Side × ℕ)) (told : Told) (result : ProverOutcome) → HonestVerdict
-    → IsSound job → granted ≡ granted_of claim.answer → IsOutcome job claim log told result → Completes job granted log told result
-completes job claim granted log told outcome.Accepted law sound is caused inputs verifier span peer some calm = inl refl
-completes job claim granted log told (outcome.Rejected code number) law sound is (bad, reads) inputs verifier span peer some calm =
+pub completes : (job : ProverJob) (claim : Claim) (log : List (Side × ℕ)) (told : Told) (result : ProverOutcome) → HonestVerdict
+    → IsSound job → IsOutcome job claim log told result → Completes job claim log told result
+completes job claim log told outcome.Accepted law sound caused inputs verifier peer free calm = inl refl
+completes job claim log told (outcome.Rejected code number) law sound (bad, reads) inputs verifier peer free calm =
     let session = law (task_of job inputs) verifier reads.t log peer.counterparts peer.claims reads.in_order.transcript
     (reads.honest inputs peer.wires peer.witness) reads.in_order.bytes peer.honest in
     let none = session.served.judged.said.code in
     let same = reads.code_is in
     absurd (omega (arith, none, same, bad))
-completes job claim granted log told (outcome.PeerEnded at) law sound is (stops, count, ended, nothing) inputs verifier span peer some calm =
+completes job claim log told (outcome.PeerEnded at) law sound (stops, count, ended, nothing) inputs verifier peer free calm =
     let all = all_said job inputs verifier log peer.counterparts (peer.ended tt) in
     absurd (no_end job claim log sound all.0 all.1
     (record { stage = stops.stage; before = stops.before; waited = stops.waited; expect = stops.expect; expected = stops.expected; rest = stops.rest; few = stops.few; logged = stops.logged; cause = stops.cause.1 }))
-completes job claim granted log told (outcome.BadFrame at) law sound is (n, stops) inputs verifier span peer some calm =
+completes job claim log told (outcome.BadFrame at) law sound (n, stops) inputs verifier peer free calm =
     absurd (no_bad job claim log n sound (is_said job inputs verifier (outcome.BadFrame at) log peer)
     (record { stage = stops.stage; before = stops.before; waited = stops.waited; expect = stops.expect; expected = stops.expected; rest = stops.rest; few = stops.few; logged = stops.logged; cause = stops.cause.0 }))
-completes job claim granted log told outcome.BadGrant law sound is (given, fits, unsuited, logged) inputs verifier span peer some calm =
+completes job claim log told outcome.BadGrant law sound (given, fits, unsuited, logged) inputs verifier peer free calm =
     let said = is_said job inputs verifier outcome.BadGrant log peer in
     absurd (unsuited (suits_is job.file.params job.statement.program given
     (same_bytes_grant job.file.params job.statement.program given said.t.commitment.setup.grant said.more _ sound.file.params.total fits said.is.commitment.setup.grant
     (ap (λ l. l ++ said.more) (sym (ap (sent_by Verifier) logged ∙ granted_heard job given)) ∙ sym said.begun))))
-completes job claim granted log told (outcome.PeerRefused code) law sound is (fits, logged) inputs verifier span peer some calm =
+completes job claim log told (outcome.PeerRefused code) law sound (fits, logged) inputs verifier peer free calm =
     let said = is_said job inputs verifier (outcome.PeerRefused code) log peer in
     let kinds : 10 ≡ 2 = ap (head_or 0)
     (ap (λ l. l ++ said.more) (sym (ap (sent_by Verifier) logged ∙ verifier_says (greeted_log job) (refuse_frame code)
@@ -179,15 +165,15 @@ completes job claim granted log told (outcome.PeerRefused code) law sound is (fi
     head_or : ℕ → List ℕ → ℕ
     head_or other [] = other
     head_or other (x ∷ l) = x
-completes job claim granted log told (outcome.Broken first) law sound is (given, suits, refused, logged) inputs verifier span peer some calm =
-    absurd (not_refused claim given _ granted span refused is some)
-completes job claim granted log told (outcome.OutOfRange total) law sound is (given, suits, refused, logged) inputs verifier span peer some calm =
-    absurd (not_refused claim given _ granted span refused is some)
-completes job claim granted log told (outcome.Overlap earlier) law sound is (given, suits, refused, logged) inputs verifier span peer some calm =
-    absurd (not_refused claim given _ granted span refused is some)
-completes job claim granted log told (outcome.Full slots) law sound is (given, suits, refused, logged) inputs verifier span peer some calm =
-    absurd (not_refused claim given _ granted span refused is some)
-completes job claim granted log told outcome.Device law sound is (given, suits, refused, logged) inputs verifier span peer some calm =
-    absurd (not_refused claim given _ granted span refused is some)
-completes job claim granted log told outcome.Link law sound is (rose, where_failed) inputs verifier span peer some calm = absurd (calm rose)
-completes job claim granted log told outcome.NoMemory law sound is caused inputs verifier span peer some calm = inr refl
+completes job claim log told (outcome.Broken first) law sound (given, suits, refused, logged) inputs verifier peer free calm =
+    absurd (free _ refused.answer)
+completes job claim log told (outcome.OutOfRange total) law sound (given, suits, refused, logged) inputs verifier peer free calm =
+    absurd (free _ refused.answer)
+completes job claim log told (outcome.Overlap earlier) law sound (given, suits, refused, logged) inputs verifier peer free calm =
+    absurd (free _ refused.answer)
+completes job claim log told (outcome.Full slots) law sound (given, suits, refused, logged) inputs verifier peer free calm =
+    absurd (free _ refused.answer)
+completes job claim log told outcome.Device law sound (given, suits, refused, logged) inputs verifier peer free calm =
+    absurd (free _ refused.answer)
+completes job claim log told outcome.Link law sound (rose, where_failed) inputs verifier peer free calm = absurd (calm rose)
+completes job claim log told outcome.NoMemory law sound caused inputs verifier peer free calm = inr refl

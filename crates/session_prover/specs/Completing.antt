@@ -1,18 +1,19 @@
 -- With an honest verifier a session is accepted.
-use Rattle.std.specs.Prelude.{◌≡◌, ◌⊎◌, ℕ, List, flat_map, Option, Some}
+use Rattle.std.specs.Prelude.{◌≡◌, ◌⊎◌, ℕ, List, flat_map, Some, Err}
 use Rattle.zk_model.specs.Transcript.{Transcript, session_turns, spelling, sent_by}
 use Rattle.zk_model.specs.HonestProver.{IsWitness}
 use Rattle.zk_model.specs.ServedVerifier.{VerifierTask, IsServed}
 use Rattle.zk_model.specs.Peers.{IsFromHonestVerifier}
 use Rattle.zk_model.specs.declared.Side.{Side}
 use Rattle.zk_model.specs.declared.Side.TheVariants.{Verifier}
-use Rattle.zk_model.specs.declared.Span.{Span}
 use Rattle.zk_model.specs.declared.Verdict.{Verdict}
 use Rattle.zk_port.specs.Counts.{Rose}
 use Rattle.zk_laws.specs.Completeness.{AreCounterparts}
 use Rattle.session_laws.specs.Peers.{GivesClaims}
+use Rattle.claim_store.specs.declared.ClaimFault.{ClaimFault}
 use Rattle.session_core.specs.Jobs.{ProverJob}
 use Rattle.session_prover.specs.Notes.{Told, task_of}
+use Rattle.session_prover.specs.Stages.{Claim}
 use Rattle.session_prover.specs.declared.note.ProverOutcome.{ProverOutcome}
 use Rattle.session_prover.specs.declared.note.ProverOutcome.TheVariants.{Accepted, PeerEnded, NoMemory}
 
@@ -44,9 +45,8 @@ pub record HasHonestPeer
   pub honest : IsFromHonestVerifier verifier log
   pub ended : IsPeerEnd outcome → HasSpoken verifier log
 
--- with an honest peer, where the units are claimed and the link's count did not rise, the session is accepted, unless memory
--- was missing
-abbrev pub Completes : ProverJob → Option Span → List (Side × ℕ) → Told → ProverOutcome → Type 0
-Completes job granted log told outcome = (inputs : List ℕ) (verifier : VerifierTask) (span : Span)
-    → HasHonestPeer job inputs verifier outcome log → granted ≡ Some span → ¬ Rose told.before told.after
+-- with an honest peer, where no claim was refused and the link's count did not rise, the session is accepted, unless memory was missing
+abbrev pub Completes : ProverJob → Claim → List (Side × ℕ) → Told → ProverOutcome → Type 0
+Completes job claim log told outcome = (inputs : List ℕ) (verifier : VerifierTask) → HasHonestPeer job inputs verifier outcome log
+    → ((fault : ClaimFault) → claim.answer ≡ Some (Err fault) → ⊥) → ¬ Rose told.before told.after
     → (outcome ≡ Accepted) ⊎ (outcome ≡ NoMemory)

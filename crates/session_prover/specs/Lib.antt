@@ -4,3 +4,4 @@ pub mod Notes
 pub mod Turns
 pub mod Completing
 pub mod Stores
+pub mod Sessions

@@ -130,7 +130,8 @@ pub fn prove_session<C: Claimant, L: Link>(
         ≤ (L.state link).receives + length (sent_by Verifier result.log) + 1 }
     ensures faults { CountsOutcome result.outcome (L.state link).faults (L.state result.link).faults }
     ensures ended { (L.state result.link).is_open ≡ false }
-    ensures complete { Completes job.now result.granted result.log
+    ensures complete { Completes job.now
+        (record { asked = C.asked claimant.new; answer = C.answer claimant.new }) result.log
         (told_by (snapshot Prover [] (L.state link)) (snapshot Prover result.log (L.state result.link)))
         result.outcome }
 {

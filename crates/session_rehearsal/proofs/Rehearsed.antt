@@ -50,7 +50,7 @@ granted_all program Extended section units some most counted few =
 -- ---- the witness
 
 -- bits of all wires are a witness
-witness_is : (circuit : Circuit) (digest : List ℕ) (inputs outputs bits : List Bool) → BitsSolve → IsWellFormed circuit → AreWireBits circuit inputs bits
+pub witness_is : (circuit : Circuit) (digest : List ℕ) (inputs outputs bits : List Bool) → BitsSolve → IsWellFormed circuit → AreWireBits circuit inputs bits
     → IsWitness (circuit_statement circuit digest outputs) (map from_bit inputs) (map from_bit bits) (products_of_bits 0 circuit bits)
 witness_is circuit digest inputs outputs bits law formed met =
     let solved : Solves (circuit_program 0 circuit) [] (map from_bit bits) (products_of_bits 0 circuit bits) = law 0 circuit inputs bits formed (omega arith) met in

@@ -1,6 +1,5 @@
 // A rehearsal: files from a seed, and a session of both ends over them.
-ghost use Rattle.std.specs.Prelude.{◌≡◌, ◌≤◌, ◌^◌, ℕ, length, drop, List, Bool, IfOk, IfErr};
-ghost use Rattle.zk_model.specs.Circuit.{output_wire};
+ghost use Rattle.std.specs.Prelude.{◌≡◌, ◌≤◌, ◌^◌, ℕ, List, Bool, IfOk, IfErr};
 ghost use Rattle.zk_model.specs.Dealing.{dealt_prover, dealt_verifier};
 ghost use Rattle.zk_model.specs.Program.{correlations_needed};
 ghost use Rattle.zk_model.specs.Transcript.{units_for};
@@ -16,7 +15,7 @@ use crate::bits::Bits;
 use crate::exchange::{SessionValues, run_session};
 use crate::noting::note;
 use crate::rehearsal::{Rehearsal, RehearseFault};
-use bool_eval::eval_wires;
+use bool_eval::{eval_wires, output_bits};
 use bristol_reader::Circuit;
 use circuit_laws::{bits_solve, one_outcome};
 use dealer_files::deal;
@@ -24,16 +23,6 @@ use session_core::{CircuitClaim, Statement, units_for, wire_bits_are_values};
 use std::alloc::{AllocError, Global};
 use zk_laws::honest_session_is_accepted;
 use zk_model::{Kind, MAX_UNITS, Params};
-
-/// The bits of a circuit's output wires, from those of all wires.
-fn output_bits<'a>(circuit: &Circuit, bits: &'a [bool]) -> &'a [bool]
-    requires { length bits.now ≡ circuit.now.wires }
-    ensures { result.now ≡ drop (output_wire circuit.now 0) bits.now }
-{
-    let first = circuit.wires() - circuit.outputs();
-    let (_, outputs) = bits.split_at(first);
-    outputs
-}
 
 /// What the files of a rehearsal are dealt for: this many units, in kind extended with 8 trees of height 10 and 64 base
 /// correlations for the code.

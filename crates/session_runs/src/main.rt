@@ -10,7 +10,8 @@
 //! | `both` | the same of the one end, and then of the other |
 //! | `rehearsal` | a rehearsal, over files of its own |
 //! | `service` | runs of `serve`, with peers at the door one after the other |
-//! | `run` | a run of the program |
+//! | `proof` | runs of `prove`, whose door connects to one peer |
+//! | `run` | a run of the program, with nobody at the door |
 //!
 //! The honest peer's bytes are those of a session that both ends hold with each other. The seed of all files is 32 bytes 7.
 //!
@@ -34,14 +35,15 @@
 //! this number, counted from 1.
 //!
 //! What a run of the program is given; `x.prover` and `x.verifier` are the dealt files, the circuit stands under its name, and the disk
-//! has the verifier's journal, of which it tells nothing:
+//! has the journal of one of the files, of which it tells nothing: the prover's where the first word is `prove`, else the verifier's.
 //!
 //! | Word | What it says | Else |
 //! |---|---|---|
-//! | `words=WORD,WORD..` | its words; `BITS` stands for the bits of the circuit's inputs | of a service those of the scenario |
+//! | `words=WORD,WORD..` | its words; `BITS` stands for the bits of the circuit's inputs | of a service and of a proof those of the scenario |
 //! | `tail=TEXT` | text behind the circuit's, in which `_` is a space | none |
 //! | `size=N` | the size up to which line feeds follow the circuit's text | its own |
-//! | `ceilings=N` | the ceilings up to this one stand in the journal | none |
+//! | `ceilings=N` | the ceilings up to this one stand in the verifier's journal | none |
+//! | `claims=A..B+C..D..` | these claims stand in the prover's journal, in this order, whether they may or not | none |
 //! | `journal-size=N` | how many bytes the journal has | its own |
 //! | `journal-set=PLACE:BYTE` | one byte of the journal that is another | none |
 //! | `shelf-fails=N`, `sink-fails=N`, `door-fails=N`, `disk-fails=N` | the number of the call that fails, counted from 1 | none |
@@ -56,6 +58,8 @@
 //! | `peers=N` | how many peers call | 1 |
 //! | `peer=N` | the number of the peer that the words are about, counted from 0 | 0 |
 //!
+//! The peer of a proof is an honest verifier that grants units from `start` on, but for what the words of its bytes and of its link say.
+//!
 //! A line of a run has its number, where there is a range; the status; what is written; what is handed back, with the outcome, the units
 //! and the log of each session; and the files that are shown.
 //!
@@ -66,6 +70,7 @@
 #![tactic(auto)]
 
 mod piece_link;
+mod program_ends;
 mod runs;
 mod say;
 mod scenario;

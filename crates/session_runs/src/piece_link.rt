@@ -1,9 +1,17 @@
 // A link whose peer's bytes come in pieces, and which counts its calls.
-ghost use Rattle.std.specs.Prelude.{◌≡◌, ◌≤◌, true};
+ghost use Rattle.std.specs.Prelude.{◌≡◌, ◌≤◌, true, IfOk};
+ghost use Rattle.zk_port.specs.Doors.{IsFreshLink};
 
 use memory_ports::{FailAt, ScriptedLink};
-use std::alloc::Global;
+use std::alloc::{AllocError, Global};
 use zk_port::{Link, PortFault};
+
+/// Calls of which the one of this number fails, counted from 1.
+pub fn plan_of(alloc: Global, number: u64) -> Result<FailAt, AllocError>
+    ensures { IfOk result (λ plan. plan.faults ≡ 0) }
+{
+    Ok(FailAt::new([number].to_vec(alloc)?))
+}
 
 /// A link in memory whose peer sends these bytes and ends; a receive takes at most so many, and the call of this number fails.
 #[derive(Drop)]
@@ -18,8 +26,10 @@ pub struct PieceLink {
 impl PieceLink {
     /// A link over which nothing has passed.
     pub fn new(alloc: Global, script: Vec<u8>, plan: FailAt, piece: usize) -> Self
-        requires { 1 ≤ piece }
-        ensures { (⟦<PieceLink as Link>⟧.state result).is_open ≡ true }
+        requires some { 1 ≤ piece }
+        requires unfailed { plan.faults ≡ 0 }
+        ensures fresh { IsFreshLink (⟦<PieceLink as Link>⟧.state result) }
+        ensures is_open { (⟦<PieceLink as Link>⟧.state result).is_open ≡ true }
     {
         PieceLink {
             inner: ScriptedLink::new(alloc, script, plan),

@@ -12,6 +12,8 @@ pub enum End {
     Rehearsal,
     /// A run of the program that serves a verifier's session.
     Service,
+    /// A run of the program that proves a prover's session.
+    Proof,
     /// A run of the program of any words.
     Run,
 }
@@ -57,11 +59,12 @@ pub struct Peer<'a> {
     pub set: Option<(u64, u8)>,
 }
 
-/// The verifier's journal: ceilings up to this one stand in it; how many bytes it has, where these are not all; and one byte in place
-/// of another.
+/// A journal: ceilings up to this one stand in the verifier's, and these claims in the prover's; how many bytes it has, where these are
+/// not all; and one byte in place of another.
 #[derive(Clone, Copy)]
-pub struct Journaled {
+pub struct Journaled<'a> {
     pub ceilings: u64,
+    pub claims: &'a str,
     pub size: Option<usize>,
     pub set: Option<(u64, u8)>,
 }
@@ -74,7 +77,7 @@ pub struct Outside<'a> {
     pub words: &'a str,
     pub tail: &'a str,
     pub size: usize,
-    pub journal: Journaled,
+    pub journal: Journaled<'a>,
     pub shelf_fails: u64,
     pub sink_fails: u64,
     pub door_fails: u64,
@@ -139,6 +142,7 @@ fn plain(end: End) -> Scenario<'static> {
             size: 0,
             journal: Journaled {
                 ceilings: 0,
+                claims: "",
                 size: None,
                 set: None,
             },
@@ -165,6 +169,7 @@ fn read_end(word: &str) -> Result<End> {
         "both" => Ok(End::Both),
         "rehearsal" => Ok(End::Rehearsal),
         "service" => Ok(End::Service),
+        "proof" => Ok(End::Proof),
         "run" => Ok(End::Run),
         _ => Err(Error::msg("no end of a session")),
     }
@@ -206,7 +211,7 @@ fn read_refusal(text: &str) -> Result<Refusal<'_>> {
 }
 
 /// A range, as `0..7`.
-fn read_numbers(text: &str) -> Result<Numbers> {
+pub fn read_numbers(text: &str) -> Result<Numbers> {
     let (from, to) = halves(text, "..")?;
     Ok(Numbers {
         from: from.parse::<u64>()?,
@@ -238,6 +243,7 @@ fn set_outside<'a>(outside: &mut Outside<'a>, name: &str, value: &'a str) -> Res
         "door-fails" => outside.door_fails = value.parse::<u64>()?,
         "disk-fails" => outside.disk_fails = value.parse::<u64>()?,
         "ceilings" => outside.journal.ceilings = value.parse::<u64>()?,
+        "claims" => outside.journal.claims = value,
         "journal-size" => outside.journal.size = Some(value.parse::<usize>()?),
         "journal-set" => outside.journal.set = Some(read_set(value)?),
         "show" => outside.show = value,

@@ -2,9 +2,11 @@
 ghost use Rattle.std.specs.Prelude.{◌≡◌, ◌≤◌, true, IfOk};
 ghost use Rattle.zk_model.specs.Bytes.{AreBytes};
 ghost use Rattle.zk_model.specs.declared.limits.TheConstants.{MAX_SECTION_LENGTH};
+ghost use Rattle.zk_port.specs.Doors.{IsFreshLink};
 
-use crate::piece_link::PieceLink;
-use crate::runs::{given_of, run_line, words_line};
+use crate::piece_link::{PieceLink, plan_of};
+use crate::program_ends::{proof_lines, service_lines};
+use crate::runs::words_line;
 use crate::say::{link_words, log_words, prover_words, span_words, verdict_words, verifier_words};
 use crate::scenario::{End, Numbers, Scenario, Sweep};
 use crate::scene::{claimed_outputs, input_bits, params_of, wires_of};
@@ -12,11 +14,9 @@ use crate::units::{AskedUnits, NextUnits, claim_fault, lease_fault};
 use anyhow::{Error, Result};
 use bristol_reader::{Circuit, read};
 use claim_store::ClaimFault;
-use command_words::write_bits;
 use dealer_files::deal;
 use frame_link::Log;
 use lease_store::LeaseFault;
-use memory_ports::FailAt;
 use session_core::{CircuitClaim, ProverJob, TooLarge, VerifierJob};
 use session_prover::{ProverNote, prove_session};
 use session_rehearsal::rehearse;
@@ -31,12 +31,14 @@ use zk_port::{Link, QuietGate};
 /// The seed of all files.
 pub const SEED: [u8; 32] = [7; 32];
 
-/// The peer's bytes of one session, the number of the call of the link that fails, or 0, and the session's name.
+/// The peer's bytes of one session, the number of the call of the link that fails, or 0, how many bytes come at most in one receive, and
+/// the session's name.
 #[derive(Drop)]
 pub struct Case {
     pub name: String,
     pub script: Vec<u8>,
     pub call: u64,
+    pub piece: u64,
 }
 
 /// What each end sends in a session that both hold with each other.
@@ -63,10 +65,11 @@ fn part_of(alloc: Global, log: &Log, side: Side) -> Result<Vec<u8>, AllocError> 
 }
 
 /// A link whose peer sends these bytes, in pieces, and whose call of this number fails.
-fn link_of(alloc: Global, script: Vec<u8>, call: u64, piece: u64) -> Result<PieceLink>
-    ensures { IfOk result (λ link. (⟦<PieceLink as Link>⟧.state link).is_open ≡ true) }
+pub fn link_of(alloc: Global, script: Vec<u8>, call: u64, piece: u64) -> Result<PieceLink>
+    ensures fresh { IfOk result (λ link. IsFreshLink (⟦<PieceLink as Link>⟧.state link)) }
+    ensures is_open { IfOk result (λ link. (⟦<PieceLink as Link>⟧.state link).is_open ≡ true) }
 {
-    let plan = FailAt::new([call].to_vec(alloc)?);
+    let plan = plan_of(alloc, call)?;
     let piece = piece.clamp(1, 4096) as usize;
     Ok(PieceLink::new(alloc, script, plan, piece))
 }
@@ -151,13 +154,14 @@ fn script_of(alloc: Global, scenario: &Scenario<'_>, honest: &[u8]) -> Result<Ve
 }
 
 /// The session of one number of a scenario's range.
-fn case_of(alloc: Global, sweep: Sweep, script: &[u8], number: u64) -> Result<Case> {
+fn case_of(alloc: Global, scenario: &Scenario<'_>, script: &[u8], number: u64) -> Result<Case> {
     let mut case = Case {
         name: String::new(alloc),
         script: script.to_vec(alloc)?,
         call: 0,
+        piece: scenario.piece,
     };
-    match sweep {
+    match scenario.sweep {
         Sweep::Nothing => {}
         Sweep::Cut => {
             case.name = format!(in alloc; "cut={number} ")?;
@@ -178,12 +182,12 @@ fn case_of(alloc: Global, sweep: Sweep, script: &[u8], number: u64) -> Result<Ca
 }
 
 /// The sessions of a scenario, whose honest peer sends these bytes.
-fn cases_of(alloc: Global, scenario: &Scenario<'_>, honest: &[u8]) -> Result<Vec<Case>> {
+pub fn cases_of(alloc: Global, scenario: &Scenario<'_>, honest: &[u8]) -> Result<Vec<Case>> {
     let script = script_of(alloc, scenario, honest)?;
     let Numbers { from, to } = scenario.numbers;
     let mut cases = Vec::new(alloc);
     for number in from..to {
-        cases.push(case_of(alloc, scenario.sweep, &script, number)?)?;
+        cases.push(case_of(alloc, scenario, &script, number)?)?;
     }
     Ok(cases)
 }
@@ -199,8 +203,13 @@ fn verifier_line(
         Some(refusal) => Some(lease_fault(&refusal)?),
         None => None,
     };
-    let Case { name, script, call } = case;
-    let link = link_of(alloc, script, call, scenario.piece)?;
+    let Case {
+        name,
+        script,
+        call,
+        piece,
+    } = case;
+    let link = link_of(alloc, script, call, piece)?;
     let (note, asked) = verified(alloc, job, scenario.start, fault, link);
     let words = verifier_words(alloc, &note.outcome)?;
     let asked = match asked {
@@ -224,8 +233,13 @@ fn prover_line(
         Some(refusal) => Some(claim_fault(&refusal)?),
         None => None,
     };
-    let Case { name, script, call } = case;
-    let link = link_of(alloc, script, call, scenario.piece)?;
+    let Case {
+        name,
+        script,
+        call,
+        piece,
+    } = case;
+    let link = link_of(alloc, script, call, piece)?;
     let (note, asked) = proved(alloc, job, fault, link);
     let words = prover_words(alloc, &note.outcome)?;
     let asked = match asked {
@@ -266,74 +280,6 @@ fn prover_lines(
     Ok(lines)
 }
 
-/// Adds an option to the words, where its value is not empty.
-fn push_option(alloc: Global, words: &mut Vec<String>, name: &str, value: &str) -> Result<()> {
-    if !value.is_empty() {
-        words.push(String::from_str(alloc, name)?)?;
-        words.push(String::from_str(alloc, value)?)?;
-    }
-    Ok(())
-}
-
-/// The words of a service about these outputs.
-fn service_words(alloc: Global, scenario: &Scenario<'_>, outputs: &[bool]) -> Result<Vec<String>> {
-    let outputs = write_bits(alloc, outputs)?;
-    let (circuit, section) = (scenario.circuit, scenario.section);
-    let line = format!(in alloc; "serve,here,x.verifier,{circuit},{outputs},--section,{section}")?;
-    let mut words = Vec::new(alloc);
-    for word in line.split(',') {
-        words.push(String::from_str(alloc, word)?)?;
-    }
-    push_option(alloc, &mut words, "--sessions", scenario.service.sessions)?;
-    push_option(alloc, &mut words, "--workers", scenario.service.workers)?;
-    push_option(alloc, &mut words, "--logs", scenario.service.logs)?;
-    Ok(words)
-}
-
-/// The peers that call at a service: the one of the stated number does what is stated, and the others are honest.
-fn peers_of(
-    alloc: Global,
-    scenario: &Scenario<'_>,
-    honest: &[Vec<u8>],
-    stated: &Case,
-) -> Result<Vec<Case>> {
-    let mut peers = Vec::new(alloc);
-    for (number, script) in honest.iter().enumerate() {
-        let is_stated = number as u64 == scenario.service.peer;
-        let script = if is_stated { &stated.script } else { script };
-        peers.push(Case {
-            name: String::new(alloc),
-            script: script.to_vec(alloc)?,
-            call: if is_stated { stated.call } else { 0 },
-        })?;
-    }
-    Ok(peers)
-}
-
-/// The lines of runs of the program that serve a claim, with these peers at the door: for each its honest bytes.
-fn service_lines<R: Threads + Wait + Sync>(
-    rt: &R,
-    alloc: Global,
-    scenario: &Scenario<'_>,
-    text: &[u8],
-    outputs: &[bool],
-    honest: &[Vec<u8>],
-) -> Result<String> {
-    let words = service_words(alloc, scenario, outputs)?;
-    let script = match honest.get(scenario.service.peer as usize) {
-        Some(script) => script.as_slice(),
-        None => &[],
-    };
-    let mut lines = String::new(alloc);
-    for case in cases_of(alloc, scenario, script)? {
-        let given = given_of(alloc, scenario, text.to_vec(alloc)?)?;
-        let peers = peers_of(alloc, scenario, honest, &case)?;
-        lines.push_str(&case.name)?;
-        lines.push_str(&run_line(rt, alloc, &scenario.outside, given, peers, &words)?)?;
-    }
-    Ok(lines)
-}
-
 /// What the honest peers of a service send: the first over the first unit that is stated, and each over the units after.
 fn honest_peers(
     alloc: Global,
@@ -369,6 +315,7 @@ fn lines_of<R: Threads + Wait + Sync>(
     match scenario.end {
         End::Verifier => verifier_lines(alloc, scenario, verifier, &sent.prover),
         End::Prover => prover_lines(alloc, scenario, prover, &sent.verifier),
+        End::Proof => proof_lines(rt, alloc, scenario, text, outputs, &sent.verifier),
         _ => {
             let mut lines = verifier_lines(alloc, scenario, verifier, &sent.prover)?;
             lines.push_str(&prover_lines(alloc, scenario, prover, &sent.verifier)?)?;
@@ -413,6 +360,7 @@ fn circuit_lines<R: Threads + Wait + Sync>(
         // There is no such session, and no honest peer.
         Err(TooLarge { need, units }) => match scenario.end {
             End::Prover => prover_lines(alloc, scenario, &prover, &[]),
+            End::Proof => proof_lines(rt, alloc, scenario, text, &outputs, &[]),
             _ => Ok(format!(in alloc; "too-large need={need} units={units}\n")?),
         },
     }

@@ -1,11 +1,11 @@
 //! Runs of the program over the examples: each line of standard input is a command line, its words apart by single
 //! spaces, and after the lines of each run comes the status that it ends with. The seed is 32 bytes 7. Files and journals are those
-//! of the folder in which it runs, and nobody calls at the door.
+//! of the folder in which it runs; nobody calls at the door, and nobody listens where it connects.
 //!
 //! `stdin` has the command lines and `stdout` what they must print, both by `vectors/stored_runs.py`; `data` has the circuits.
 #![tactic(auto)]
 
-use memory_ports::{MemoryDoor, NoFault, ScriptedLink};
+use memory_ports::{FailAt, MemoryDoor, NoFault, ScriptedLink};
 use port_os::{FileDisk, FileShelf, OutputSink};
 use std::alloc::Global;
 use std::io;
@@ -27,7 +27,8 @@ fn main(rt: HostRuntime) -> io::Result<()> {
         let words = words_of(alloc, line?.as_str())?;
         let mut shelf = FileShelf::new(&rt);
         let mut out = OutputSink::new(&rt);
-        let door: MemoryDoor<ScriptedLink<NoFault>, NoFault> = MemoryDoor::new(alloc, NoFault);
+        let nobody = FailAt::new(Vec::new(alloc));
+        let door: MemoryDoor<ScriptedLink<NoFault>, FailAt> = MemoryDoor::new(alloc, nobody);
         let finish = run_zk(
             &rt,
             alloc,

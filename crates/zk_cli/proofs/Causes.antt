@@ -1,15 +1,19 @@
 -- What causes a stop, and what does not where a shelf tells what is wanted.
-use Rattle.std.proofs.Common.{◌≡◌, ◌⊎◌, ◌<◌, ℕ, List, length, Option, Some, None, IsSomeAnd, refl, sym, subst, inl, inr, arith}
+use Rattle.std.proofs.Common.{◌≡◌, ◌⊎◌, ◌<◌, ℕ, List, length, Option, Some, None, IsSomeAnd, refl, sym, ap, subst, inl, inr, arith}
 use Rattle.std.specs.Prelude.{◌≢◌}
 use Rattle.zk_model.specs.Bristol.{IsText}
 use Rattle.zk_model.specs.Circuit.{Circuit}
 use Rattle.zk_model.specs.declared.ReadFault.{ReadFault}
+use Rattle.zk_model.specs.declared.Side.{Side}
 use Rattle.zk_model.specs.declared.limits.TheConstants.{FILE_LIMIT}
 use Rattle.zk_port.specs.Files.{Files, StandsAs, StandsLonger}
 use Rattle.bristol_reader.specs.Laws.{OneCircuit}
 use Rattle.bristol_reader.specs.Reads.{IsOnlyFault}
+use Rattle.dealer_files.specs.Faults.{IsDealtFile, IsFirstFault}
+use Rattle.dealer_files.specs.declared.fault.FileFault.{FileFault}
+use Rattle.dealer_files.specs.declared.fault.FileFault.TheVariants as file
 use Rattle.zk_cli.specs.Runs.{ShelfChange, NameFailed}
-use Rattle.zk_cli.specs.Stops.{IsLoaded, IsCircuitFile, LoadStop, CircuitStop}
+use Rattle.zk_cli.specs.Stops.{IsLoaded, IsCircuitFile, HasText, LoadStop, CircuitStop, FileStop, stop_status}
 use Rattle.zk_cli.specs.declared.refusal.Refusal.{Refusal}
 use Rattle.zk_cli.specs.declared.refusal.Refusal.TheVariants as stop
 
@@ -64,3 +68,24 @@ circuit_lacks one name shelf circuit tells file calm (stop.BadText fault) cause 
     absurd (cause.says.no_circuit circuit (subst (IsText circuit) (sym same) file.says))
 circuit_lacks one name shelf circuit tells file calm other cause =
     load_lacks name shelf file.text tells file.loaded calm other cause
+
+undecoded_7 : (side : Side) (bytes : List ℕ) (fault : FileFault) → IsDealtFile side bytes → IsFirstFault side bytes fault
+    → stop_status (stop.BadFile fault) ≡ 7
+undecoded_7 side bytes file.BadMagic dealt first = absurd (first dealt.body.head.magic)
+undecoded_7 side bytes file.BadKind dealt first = absurd (first.2 dealt.body.head.of_side)
+undecoded_7 side bytes file.BadParam dealt first = absurd (first.3 dealt.body.head.params)
+undecoded_7 side bytes (file.Length need got) dealt first =
+    elim first.1 [ inl short ↦ absurd (short.1 dealt.body.head.header) | inr other ↦ absurd (other.1 dealt.body.length) ]
+undecoded_7 side bytes (file.BadElement place) dealt first = absurd (dealt.in_range place first.1.bad)
+undecoded_7 side bytes file.ZeroKey dealt first = absurd (first.2 dealt.key)
+undecoded_7 side bytes file.BadDigest dealt first = absurd (first.3 dealt.digest)
+undecoded_7 side bytes file.NoMemory dealt first = refl
+
+-- a dealt file of this side stands there
+pub file_7 : (side : Side) (name : List ℕ) (shelf : ShelfChange) → shelf.old.told ≢ None → (dealt : HasText shelf.old.told name (IsDealtFile side))
+    → ¬ NameFailed name shelf → (why : Refusal) → FileStop side name shelf why → stop_status why ≡ 7
+file_7 side name shelf tells dealt calm (stop.BadFile fault) cause =
+    let same = told_text shelf.old.told name dealt.text cause.text tells dealt.loaded.stands cause.loaded.stands in
+    undecoded_7 side dealt.text fault dealt.says (subst (λ (b : List ℕ). IsFirstFault side b fault) same cause.says)
+file_7 side name shelf tells dealt calm other cause =
+    ap stop_status (load_lacks name shelf dealt.text tells dealt.loaded calm other cause)

@@ -99,7 +99,7 @@ means ask seed run (inl says) =
     (dealt_lines ask seed) run (λ all. (says.0, all)) says.1
 means ask seed run (inr says) =
     stop_means (Does ask seed run) (StopsStoring (dealt_stores ask seed) run.shelf) (IsDealName ask.name) run
-    no_usage no_door no_disk (failed_store ask seed run.shelf) says
+    no_usage no_door no_disk no_other (failed_store ask seed run.shelf) says
   where
     no_usage : ¬ StopsStoring (dealt_stores ask seed) run.shelf stop.Usage
     no_usage stops = elim (of_storing (dealt_stores ask seed) run.shelf stop.Usage stops) [
@@ -111,6 +111,12 @@ means ask seed run (inr says) =
     no_disk count stops = elim (of_storing (dealt_stores ask seed) run.shelf (stop.JournalFailed count) stops) [
       | inl e ↦ omega (arith, e)
       | inr e ↦ let s : 5 ≡ 4 = ap stop_status e in omega (arith, s)
+    ]
+
+    no_other : (output : ℕ) → ¬ StopsStoring (dealt_stores ask seed) run.shelf (stop.Unsatisfied output)
+    no_other output stops = elim (of_storing (dealt_stores ask seed) run.shelf (stop.Unsatisfied output) stops) [
+      | inl e ↦ omega (arith, e)
+      | inr e ↦ let s : 1 ≡ 4 = ap stop_status e in omega (arith, s)
     ]
 
     no_door : ¬ StopsStoring (dealt_stores ask seed) run.shelf stop.DoorFailed

@@ -29,7 +29,7 @@ means ask run (inl says) =
     (λ all. (says.0, says.1, all)) says.2
 means ask run (inr says) =
     stop_means (WritesOutputs ask run) (EvalStop ask run.shelf) (IsName ask.circuit) run
-    (λ cause. cause) (λ cause. cause) (λ count cause. cause) (λ failed. (ask.circuit, refl, failed)) says
+    (λ cause. cause) (λ cause. cause) (λ count cause. cause) (λ output cause. cause) (λ failed. (ask.circuit, refl, failed)) says
 
 statuses : (ask : EvalAsk) (run : Effects) → Means ask run
     → (run.status ≡ 0) ⊎ (run.status ≡ 3) ⊎ (run.status ≡ 4) ⊎ (run.status ≡ 7)

@@ -2,15 +2,17 @@
 use Rattle.std.proofs.Common.{ℕ, List, refl, inl, inr}
 use Rattle.bristol_reader.specs.Laws.{OneCircuit}
 use Rattle.zk_port.specs.Changes.{change}
+use Rattle.claim_store.specs.Causes.{ClaimsStartAgain}
 use Rattle.lease_journal.specs.Keeps.{StartsAgain}
 use Rattle.zk_port.specs.Disks.{DiskState}
 use Rattle.zk_port.specs.Doors.{DoorState}
 use Rattle.zk_port.specs.Links.{LinkState}
 use Rattle.zk_port.specs.Shelves.{ShelfState}
-use Rattle.command_words.specs.Words.{Ask, rehearse, eval, deal, serve}
+use Rattle.command_words.specs.Words.{Ask, rehearse, eval, deal, serve, prove}
 use Rattle.zk_cli.specs.Journals.{disk_change}
 use Rattle.zk_cli.specs.Meets.{Meets}
 use Rattle.zk_cli.specs.Runs.{SinkChange, Effects, IsName, effects, run_of}
+use Rattle.zk_cli.specs.ProveRuns.{IsProveName}
 use Rattle.zk_cli.specs.ServeRuns.{IsServeName}
 use Rattle.zk_cli.specs.Stops.{Prints, SaysStop, stop_line, stop_status}
 use Rattle.zk_cli.specs.declared.finish.Part.TheVariants.{Plain}
@@ -20,16 +22,17 @@ use Rattle.zk_cli.proofs.Asking.{asks_nothing, loads_nothing}
 use Rattle.zk_cli.proofs.DealOutcomes.{deals, stores_none}
 use Rattle.zk_cli.proofs.EvalOutcomes.{evaluates}
 use Rattle.zk_cli.proofs.RehearseOutcomes.{rehearses}
+use Rattle.zk_cli.proofs.ProveOutcomes.{proves}
 use Rattle.zk_cli.proofs.Opening.{untouched}
 use Rattle.zk_cli.proofs.ServeDone.{serves}
 use Rattle.zk_cli.proofs.Serving.{others_same}
 use Rattle.zk_cli.proofs.Storing.{stores_nothing}
 
 pub meets_memory : {F L B D : Type 0} (shelf_tells : F → ShelfState) (door_tells : D → DoorState) (link_tells : L → LinkState)
-    → OneCircuit → StartsAgain → (ask : Ask) (seed : List ℕ) (status : ℕ) (sink : SinkChange) (files : F) (journal : B) (links : D) (disk : DiskState)
+    → OneCircuit → StartsAgain → ClaimsStartAgain → (ask : Ask) (seed : List ℕ) (status : ℕ) (sink : SinkChange) (files : F) (journal : B) (links : D) (disk : DiskState)
     → Prints (stop_status NoMemory) (stop_line NoMemory) status sink
     → Meets ask seed (disk_change disk disk) (run_of shelf_tells door_tells link_tells status Plain (change files files) sink (change journal journal) (change links links))
-meets_memory {F} {L} {B} {D} shelf_tells door_tells link_tells one law ask seed status sink files journal links disk prints = of_ask ask
+meets_memory {F} {L} {B} {D} shelf_tells door_tells link_tells one law claimed ask seed status sink files journal links disk prints = of_ask ask
   where
     run : Effects
     run = effects status (change (shelf_tells files) (shelf_tells files)) sink
@@ -57,3 +60,6 @@ meets_memory {F} {L} {B} {D} shelf_tells door_tells link_tells one law ask seed 
         serves link_tells one law ask Plain (disk_change disk disk) (change (door_tells links) (door_tells links)) run
         (stops _ (inl (inl tt, untouched disk, refl))) (others_same _ (shelf_tells files).told (shelf_tells files).told refl)
         (asks_nothing (IsServeName ask) (shelf_tells files))
+    of_ask (prove ask) =
+        proves link_tells one claimed ask Plain (disk_change disk disk) (change (door_tells links) (door_tells links)) run
+        (stops _ (inl (inl (inl tt), untouched disk, refl))) (loads_nothing (IsProveName ask) (shelf_tells files))

@@ -1,5 +1,8 @@
 pub mod Asking
 pub mod Causes
+pub mod Claiming
+pub mod ClaimsInTurn
+pub mod ProveOutcomes
 pub mod DealOutcomes
 pub mod EvalOutcomes
 pub mod Lacking

@@ -11,8 +11,6 @@ use Rattle.lease_journal.specs.declared.fault.StartFault.TheVariants as start
 use Rattle.lease_words.specs.declared.pass.Pass.{Pass}
 use Rattle.lease_store.specs.Ceilings.{FindsCeiling, SaysCeiling}
 use Rattle.lease_store.specs.Leases.{IsClosed}
-use Rattle.lease_store.specs.declared.fault.StoreFault.{StoreFault}
-use Rattle.lease_store.specs.declared.fault.StoreFault.TheVariants as store
 use Rattle.session_core.specs.Jobs.{VerifierJob, units_of_job}
 use Rattle.session_pool.specs.Doors.{Takes}
 use Rattle.session_pool.specs.Notes.{AreApart, IsLeft, IsNoteOf, IsRefusedBy}
@@ -20,22 +18,19 @@ use Rattle.session_verifier.specs.Outcomes.{lease_fault}
 use Rattle.session_verifier.specs.Sessions.{IsAnsweredNote}
 use Rattle.session_verifier.specs.declared.note.SessionNote.{SessionNote}
 use Rattle.command_words.specs.Words.{ServeAsk}
-use Rattle.zk_cli.specs.Journals.{DiskChange, IsUntouched, OpensJournal, OnlyReads, KeepsCeiling, disk_change, journal_name}
+use Rattle.zk_cli.specs.Journals.{DiskChange, IsUntouched, JournalStop, OpensJournal, OnlyReads, KeepsCeiling, disk_change, journal_name, start_refusal}
 use Rattle.zk_cli.specs.Runs.{DoorChange}
-use Rattle.zk_cli.specs.ServeRuns.{IsCeilingsFault, JournalStop, ListenStop, LeadsJob, OpeningStop, start_refusal}
+use Rattle.zk_cli.specs.ServeRuns.{IsCeilingsFault, ListenStop, LeadsJob, OpeningStop}
 use Rattle.zk_cli.specs.declared.refusal.Refusal.{Refusal}
 use Rattle.zk_cli.specs.declared.refusal.Refusal.TheVariants as stop
 
 -- a start that is refused has its cause
-pub stops_start : (Cause : StartFault → Type 0) (disk : DiskChange) (fault : StoreFault) (count : ℕ) → count ≡ disk.new.faults
-    → ((refused : StartFault) → fault ≡ store.Journal refused → Cause refused)
-    → (fault ≡ store.Journal start.Device → Rose disk.old.faults disk.new.faults)
-    → JournalStop Cause disk (start_refusal fault count)
-stops_start Cause disk store.NoMemory count counted cause device = tt
-stops_start Cause disk (store.Journal start.Device) count counted cause device = (counted, device refl)
-stops_start Cause disk (store.Journal (start.Short need got)) count counted cause device = cause (start.Short need got) refl
-stops_start Cause disk (store.Journal (start.BadHeader place)) count counted cause device = cause (start.BadHeader place) refl
-stops_start Cause disk (store.Journal (start.BadBody slot)) count counted cause device = cause (start.BadBody slot) refl
+pub stops_start : (Cause : StartFault → Type 0) (disk : DiskChange) (fault : StartFault) (count : ℕ) → count ≡ disk.new.faults
+    → Cause fault → (fault ≡ start.Device → Rose disk.old.faults disk.new.faults) → JournalStop Cause disk (start_refusal fault count)
+stops_start Cause disk start.Device count counted cause device = (counted, device refl)
+stops_start Cause disk (start.Short need got) count counted cause device = cause
+stops_start Cause disk (start.BadHeader place) count counted cause device = cause
+stops_start Cause disk (start.BadBody slot) count counted cause device = cause
 
 -- a disk of which nothing is asked
 pub untouched : (disk : DiskState) → IsUntouched (disk_change disk disk)

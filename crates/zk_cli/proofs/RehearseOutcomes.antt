@@ -9,7 +9,7 @@ use Rattle.zk_cli.specs.RehearseRuns.{Rehearses, RehearseLines, RehearseStop, Ac
 use Rattle.zk_cli.specs.Runs.{ShelfChange, Effects, OnlyLoads, IsName, HasFailed, NameFailed}
 use Rattle.zk_cli.specs.Stops.{CircuitStop, IsOfStop, IsReady, PrintsMade, StatusMeans, stop_status}
 use Rattle.zk_cli.specs.declared.finish.Part.{Part}
-use Rattle.zk_cli.specs.declared.finish.Part.TheVariants.{Plain, Rehearsed, Served}
+use Rattle.zk_cli.specs.declared.finish.Part.TheVariants.{Plain, Proved, Rehearsed, Served}
 use Rattle.zk_cli.specs.declared.refusal.Refusal.{Refusal}
 use Rattle.zk_cli.specs.declared.refusal.Refusal.TheVariants as stop
 use Rattle.zk_cli.proofs.Causes.{told_circuit, circuit_lacks}
@@ -33,8 +33,9 @@ means {L} ask seed (Rehearsed r) run lines =
     (subst (λ v. PrintsMade (verdict_status v) (rehearsal_lines r) run.status run.sink) is.accepted lines.1)
 means {L} ask seed Plain run lines =
     stop_means (Accepts {L = L} Plain run.sink) (RehearseStop ask run.shelf) (IsName ask.circuit) run
-    (λ cause. cause) (λ cause. cause) (λ count cause. cause) (λ failed. (ask.circuit, refl, failed)) lines
+    (λ cause. cause) (λ cause. cause) (λ count cause. cause) (λ output cause. cause) (λ failed. (ask.circuit, refl, failed)) lines
 means ask seed (Served notes) run lines = absurd lines
+means ask seed (Proved note) run lines = absurd lines
 
 -- why a run stops that a shelf tells a fitting circuit: for want of memory, or since it takes too many units
 lacks : OneCircuit → (ask : RehearseAsk) (shelf : ShelfChange) (circuit : Circuit)
@@ -62,6 +63,7 @@ few_units one ask seed (Rehearsed r) run circuit ready lines accepts =
     subst (λ c. rehearsal_units c ask.kind ask.section ≤ MAX_UNITS) same (subst (λ n. n ≤ MAX_UNITS) made.is.units made.is.units_most)
 few_units one ask seed Plain run circuit ready lines accepts = absurd accepts
 few_units one ask seed (Served notes) run circuit ready lines accepts = absurd accepts
+few_units one ask seed (Proved note) run circuit ready lines accepts = absurd accepts
 
 done : {L : Type 0} → OneCircuit → (ask : RehearseAsk) (seed : List ℕ) (part : Part L) (run : Effects) (circuit : Circuit)
     → RehearseLines ask seed part run → IsReady run.shelf.old.told ask.circuit ask.bits circuit → ¬ HasFailed (IsName ask.circuit) run

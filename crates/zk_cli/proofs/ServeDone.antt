@@ -9,9 +9,6 @@ use Rattle.zk_port.specs.Disks.{DiskState}
 use Rattle.zk_port.specs.Files.{Files}
 use Rattle.zk_port.specs.Links.{LinkState}
 use Rattle.bristol_reader.specs.Laws.{OneCircuit}
-use Rattle.dealer_files.specs.Faults.{IsDealtFile, IsFirstFault}
-use Rattle.dealer_files.specs.declared.fault.FileFault.{FileFault}
-use Rattle.dealer_files.specs.declared.fault.FileFault.TheVariants as file
 use Rattle.lease_journal.specs.Keeps.{StartsAgain}
 use Rattle.lease_journal.specs.declared.fault.StartFault.TheVariants as start
 use Rattle.lease_store.specs.declared.LeaseFault.{LeaseFault}
@@ -24,34 +21,22 @@ use Rattle.session_verifier.specs.declared.note.SessionNote.{SessionNote}
 use Rattle.session_verifier.specs.declared.note.VerifierOutcome.{VerifierOutcome}
 use Rattle.session_verifier.specs.declared.note.VerifierOutcome.TheVariants.{Accepted, NoMemory}
 use Rattle.command_words.specs.Words.{ServeAsk}
-use Rattle.zk_cli.specs.Journals.{DiskChange}
+use Rattle.zk_cli.specs.Journals.{DiskChange, JournalStop}
 use Rattle.zk_cli.specs.NoteLines.{has_status, outcome_status}
 use Rattle.zk_cli.specs.Runs.{ShelfChange, DoorChange, Effects, NameFailed, OthersStay, OnlyAsks, EachNote, IsDone}
-use Rattle.zk_cli.specs.ServeRuns.{IsServeName, ClaimStop, FileStop, ListenStop, JournalStop, IsCeilingsFault, OpeningStop, ServeStop, LeadsFiles, ServeLines}
+use Rattle.zk_cli.specs.ServeRuns.{IsServeName, ClaimStop, ListenStop, IsCeilingsFault, OpeningStop, ServeStop, LeadsFiles, ServeLines}
 use Rattle.zk_cli.specs.ServeRuns.{IsServable, LeavesUnits, HasServeFailed, IsWithHonestPeer, NotesMean, ServeMeans, Serves}
 use Rattle.zk_cli.specs.ServiceLogs.{IsLogName}
 use Rattle.zk_cli.specs.Stops.{stop_status}
 use Rattle.zk_cli.specs.declared.finish.Part.{Part}
-use Rattle.zk_cli.specs.declared.finish.Part.TheVariants.{Plain, Rehearsed, Served}
+use Rattle.zk_cli.specs.declared.finish.Part.TheVariants.{Plain, Proved, Rehearsed, Served}
 use Rattle.zk_cli.specs.declared.refusal.Refusal.{Refusal}
 use Rattle.zk_cli.specs.declared.refusal.Refusal.TheVariants as stop
-use Rattle.zk_cli.proofs.Causes.{told_text, told_circuit, load_lacks, circuit_lacks}
+use Rattle.zk_cli.proofs.Causes.{told_circuit, circuit_lacks, file_7}
 use Rattle.zk_cli.proofs.LeaseCauses.{not_refused, refusal_is_told, says_one_ceiling}
 use Rattle.zk_cli.proofs.ServeOutcomes.{either_is, serve_means}
 
 -- ---- why a run stops: for want of memory alone
-
-undecoded_7 : (bytes : List ℕ) (fault : FileFault) → IsDealtFile Verifier bytes → IsFirstFault Verifier bytes fault
-    → stop_status (stop.BadFile fault) ≡ 7
-undecoded_7 bytes file.BadMagic dealt first = absurd (first dealt.body.head.magic)
-undecoded_7 bytes file.BadKind dealt first = absurd (first.2 dealt.body.head.of_side)
-undecoded_7 bytes file.BadParam dealt first = absurd (first.3 dealt.body.head.params)
-undecoded_7 bytes (file.Length need got) dealt first =
-    elim first.1 [ inl short ↦ absurd (short.1 dealt.body.head.header) | inr other ↦ absurd (other.1 dealt.body.length) ]
-undecoded_7 bytes (file.BadElement place) dealt first = absurd (dealt.in_range place first.1.bad)
-undecoded_7 bytes file.ZeroKey dealt first = absurd (first.2 dealt.key)
-undecoded_7 bytes file.BadDigest dealt first = absurd (first.3 dealt.digest)
-undecoded_7 bytes file.NoMemory dealt first = refl
 
 claim_lacks : OneCircuit → (ask : ServeAsk) (shelf : ShelfChange) (disk : DiskState) → IsServable shelf.old.told disk ask → ¬ NameFailed ask.circuit shelf
     → (why : Refusal) → ClaimStop ask shelf why → why ≡ stop.NoMemory
@@ -61,14 +46,6 @@ claim_lacks one ask shelf disk ready calm (stop.WrongOutputs need got) cause =
     absurd (cause.is.2 (cause.is.0 ∙ ap (λ c. c.outputs) same ∙ sym is.is ∙ sym cause.is.1))
 claim_lacks one ask shelf disk ready calm other cause =
     circuit_lacks one ask.circuit shelf ready.circuit.circuit ready.tells ready.circuit.file calm other cause
-
-file_7 : (ask : ServeAsk) (shelf : ShelfChange) (disk : DiskState) → IsServable shelf.old.told disk ask → ¬ NameFailed ask.file shelf
-    → (why : Refusal) → FileStop ask.file shelf why → stop_status why ≡ 7
-file_7 ask shelf disk ready calm (stop.BadFile fault) cause =
-    let same = told_text shelf.old.told ask.file ready.file.text cause.text ready.tells ready.file.loaded.stands cause.loaded.stands in
-    undecoded_7 ready.file.text fault ready.file.says (subst (λ (b : List ℕ). IsFirstFault Verifier b fault) same cause.says)
-file_7 ask shelf disk ready calm other cause =
-    ap stop_status (load_lacks ask.file shelf ready.file.text ready.tells ready.file.loaded calm other cause)
 
 -- no journal is refused where one stands that leaves units
 journal_7 : StartsAgain → (id : List ℕ) (total units : ℕ) (disk : DiskChange) → LeavesUnits id total units disk.old.content
@@ -106,7 +83,7 @@ stop_7 : OneCircuit → StartsAgain → (ask : ServeAsk) (disk : DiskChange) (do
 stop_7 one law ask disk door run ready calm why (inl (inl cause, unasked, unheard)) =
     ap stop_status (claim_lacks one ask run.shelf disk.old ready (λ rose. calm (inl (inl (ask.circuit, inl (inl refl), rose)))) why cause)
 stop_7 one law ask disk door run ready calm why (inl (inr cause, unasked, unheard)) =
-    file_7 ask run.shelf disk.old ready (λ rose. calm (inl (inl (ask.file, inl (inr refl), rose)))) why cause.3
+    file_7 Verifier ask.file run.shelf ready.tells ready.file (λ rose. calm (inl (inl (ask.file, inl (inr refl), rose)))) why cause.3
 stop_7 one law ask disk door run ready calm why (inr cause) =
     opening_7 law ask cause.1 (units_of_job cause.1 * ask.options.sessions) disk door (ready.few cause.0 cause.1 cause.2) (ready.room cause.0 cause.1 cause.2)
     (λ rose. calm (inr (inl rose))) (λ rose. calm (inr (inr (inl rose)))) why cause.3
@@ -226,6 +203,7 @@ serve_is_done link_tells one law ask Plain disk door run says means ready calm h
   | inr seven ↦ inr seven
 ]
 serve_is_done link_tells one law ask (Rehearsed r) disk door run says means ready calm honest = absurd says
+serve_is_done link_tells one law ask (Proved note) disk door run says means ready calm honest = absurd says
 
 pub serves : {L : Type 0} (link_tells : L → LinkState) → OneCircuit → StartsAgain → (ask : ServeAsk) (part : Part L) (disk : DiskChange) (door : DoorChange)
     (run : Effects) → ServeLines link_tells ask part disk door run → OthersStay (IsLogName ask.options.logs) run.shelf.old.told run.shelf.new.told

@@ -15,14 +15,14 @@ use Rattle.zk_cli.specs.DealRuns.{next_name}
 use Rattle.zk_cli.specs.Journals.{DiskChange}
 use Rattle.zk_cli.specs.NoteLines.{IsServedText, has_status, served_status, failures, outcome_status}
 use Rattle.zk_cli.specs.Runs.{ShelfChange, DoorChange, Effects, SomeFailed}
-use Rattle.zk_cli.specs.ServeRuns.{ServeLines, NotesMean, ServeMeans, SaysNotes}
+use Rattle.zk_cli.specs.ServeRuns.{ServeLines, ServeStop, NotesMean, ServeMeans, SaysNotes}
 use Rattle.zk_cli.specs.ServiceLogs.{IsLogName, KeepsLogs, log_store, log_stores, is_shelf_failed, is_memory_missing}
 use Rattle.zk_cli.specs.Stops.{Prints, after_sink_fault}
 use Rattle.zk_cli.specs.declared.finish.Part.{Part}
-use Rattle.zk_cli.specs.declared.finish.Part.TheVariants.{Plain, Rehearsed, Served}
+use Rattle.zk_cli.specs.declared.finish.Part.TheVariants.{Plain, Proved, Rehearsed, Served}
 use Rattle.zk_cli.specs.declared.refusal.Refusal.{Refusal}
 use Rattle.zk_cli.specs.declared.refusal.Refusal.TheVariants as stop
-use Rattle.zk_cli.proofs.Means.{stop_answers}
+use Rattle.zk_cli.proofs.Means.{IsHigh, stop_answers}
 
 true_is_false : true ≡ false → ⊥
 true_is_false same = cc
@@ -257,11 +257,22 @@ module _ {L : Type 0} (link_tells : L → LinkState) (ask : ServeAsk) (notes : L
     | inr short ↦ inr (inr (inr (inr (inr short.0))))
   ]
 
+-- a service does not stop for other outputs
+serve_is_high : (ask : ServeAsk) (shelf : ShelfChange) (disk : DiskChange) (door : DoorChange) (why : Refusal) → ServeStop ask shelf disk door why
+    → IsHigh why
+serve_is_high ask shelf disk door (stop.Unsatisfied output) (inl (inl cause, unasked, unheard)) = absurd cause
+serve_is_high ask shelf disk door (stop.Unsatisfied output) (inl (inr cause, unasked, unheard)) = absurd cause.3
+serve_is_high ask shelf disk door (stop.Unsatisfied output) (inr cause) =
+    elim cause.3.2 [ inl journal ↦ absurd journal.0 | inr unheard ↦ absurd unheard ]
+serve_is_high ask shelf disk door other cause = tt
+
 pub serve_means : {L : Type 0} (link_tells : L → LinkState) (ask : ServeAsk) (part : Part L) (disk : DiskChange) (door : DoorChange) (run : Effects)
     → ServeLines link_tells ask part disk door run → ServeMeans ask part disk door run
 serve_means link_tells ask (Served notes) disk door run says = notes_mean link_tells ask notes.items disk door run says
-serve_means link_tells ask Plain disk door run says = elim (stop_answers says.stop run.status run.sink says.prints) [
-  | inl e ↦ inl (says.stop, says.cause, e)
-  | inr e ↦ inr e
-]
+serve_means link_tells ask Plain disk door run says =
+    elim (stop_answers says.stop run.status run.sink (serve_is_high ask run.shelf disk door says.stop says.cause) says.prints) [
+      | inl e ↦ inl (says.stop, says.cause, e)
+      | inr e ↦ inr e
+    ]
 serve_means link_tells ask (Rehearsed r) disk door run says = absurd says
+serve_means link_tells ask (Proved note) disk door run says = absurd says

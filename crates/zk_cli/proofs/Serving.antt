@@ -15,7 +15,6 @@ use Rattle.zk_model.specs.declared.Span.{Span}
 use Rattle.zk_port.specs.Changes.{change}
 use Rattle.zk_port.specs.Counts.{Rose}
 use Rattle.dealer_files.specs.Faults.{IsFirstFault}
-use Rattle.zk_model.specs.declared.Side.TheVariants.{Verifier}
 use Rattle.zk_port.specs.Files.{Files, StandsLonger}
 use Rattle.session_core.specs.Jobs.{VerifierJob}
 use Rattle.session_verifier.specs.Notes.{IsShown}
@@ -27,10 +26,10 @@ use Rattle.command_words.specs.Words.{ServeAsk}
 use Rattle.zk_model.specs.declared.limits.TheConstants.{FILE_LIMIT}
 use Rattle.zk_cli.specs.Runs.{ShelfChange, DoorChange, OnlyLoads, OthersStay, IsName}
 use Rattle.zk_cli.specs.Journals.{DiskChange}
-use Rattle.zk_cli.specs.ServeRuns.{IsServeJob, IsLoadedName, LeadsFiles, ClaimStop, FileStop}
+use Rattle.zk_cli.specs.ServeRuns.{IsServeJob, IsLoadedName, LeadsFiles, ClaimStop}
 use Rattle.zk_cli.proofs.Asking.{loads_among, loads_both}
 use Rattle.zk_cli.specs.ServedNotes.{GrantsOnce, IsHeadline, HeadlineIsOfAcceptedLog}
-use Rattle.zk_cli.specs.Stops.{HasText, LoadStop, CircuitStop}
+use Rattle.zk_cli.specs.Stops.{HasText, LoadStop, CircuitStop, FileStop}
 use Rattle.zk_cli.specs.declared.refusal.Refusal.{Refusal}
 use Rattle.zk_cli.specs.declared.refusal.Refusal.TheVariants as stop
 
@@ -39,16 +38,16 @@ rose_since : (first before now : ℕ) → first ≤ before → Rose before now �
 rose_since first before now earlier rose = grind (arith, earlier, rose)
 
 -- a file that can't be had of a shelf at a later moment, with the same files, can't be had
-pub file_stop_since : (name : List ℕ) (old mid new : ShelfState) → mid.told ≡ old.told → old.faults_of name ≤ mid.faults_of name
-    → (why : Refusal) → FileStop name (change mid new) why → FileStop name (change old new) why
-file_stop_since name old mid new same earlier (stop.BadFile fault) cause =
-    subst (λ (told : Option Files). HasText told name (λ bytes. IsFirstFault Verifier bytes fault)) same cause
-file_stop_since name old mid new same earlier stop.ShelfFailed cause =
+pub file_stop_since : (side : Side) (name : List ℕ) (old mid new : ShelfState) → mid.told ≡ old.told → old.faults_of name ≤ mid.faults_of name
+    → (why : Refusal) → FileStop side name (change mid new) why → FileStop side name (change old new) why
+file_stop_since side name old mid new same earlier (stop.BadFile fault) cause =
+    subst (λ (told : Option Files). HasText told name (λ bytes. IsFirstFault side bytes fault)) same cause
+file_stop_since side name old mid new same earlier stop.ShelfFailed cause =
     rose_since (old.faults_of name) (mid.faults_of name) (new.faults_of name) earlier cause
-file_stop_since name old mid new same earlier (stop.TooLong limit) cause =
+file_stop_since side name old mid new same earlier (stop.TooLong limit) cause =
     (cause.0, subst (λ (told : Option Files). StandsLonger told name FILE_LIMIT) same cause.1)
-file_stop_since name old mid new same earlier stop.NoMemory cause = tt
-file_stop_since name old mid new same earlier other cause = absurd cause
+file_stop_since side name old mid new same earlier stop.NoMemory cause = tt
+file_stop_since side name old mid new same earlier other cause = absurd cause
 
 -- ---- causes of a stop
 
@@ -56,9 +55,9 @@ pub claim_of_circuit : (ask : ServeAsk) (shelf : ShelfChange) (why : Refusal) �
 claim_of_circuit ask shelf (stop.WrongOutputs need got) cause = absurd cause
 claim_of_circuit ask shelf other cause = cause
 
-pub file_of_load : (name : List ℕ) (shelf : ShelfChange) (why : Refusal) → LoadStop name shelf why → FileStop name shelf why
-file_of_load name shelf (stop.BadFile fault) cause = absurd cause
-file_of_load name shelf other cause = cause
+pub file_of_load : (side : Side) (name : List ℕ) (shelf : ShelfChange) (why : Refusal) → LoadStop name shelf why → FileStop side name shelf why
+file_of_load side name shelf (stop.BadFile fault) cause = absurd cause
+file_of_load side name shelf other cause = cause
 
 -- ---- which files are asked for
 

@@ -6,7 +6,11 @@ use Rattle.zk_port.specs.Disks.{DiskState, Stays, LeavesOnly}
 use Rattle.zk_port.specs.Images.{Only}
 use Rattle.zk_port.specs.Logs.{appended, NotesOnce}
 use Rattle.lease_journal.specs.Causes.{SaysSlots}
+use Rattle.lease_journal.specs.declared.fault.StartFault.{StartFault}
+use Rattle.lease_journal.specs.declared.fault.StartFault.TheVariants as start
 use Rattle.lease_store.specs.Ceilings.{FindsCeiling, SaysCeiling}
+use Rattle.zk_cli.specs.declared.refusal.Refusal.{Refusal}
+use Rattle.zk_cli.specs.declared.refusal.Refusal.TheVariants.{JournalFailed, JournalShort, JournalHeader, JournalBody, NoMemory}
 
 -- the disk, before and after
 pub record DiskChange : Type 1 where
@@ -62,3 +66,19 @@ pub record KeepsCeiling (name id : List ℕ) (total base ceiling mark : ℕ) (di
   pub only : mark ≡ 0 → Only disk.new.content disk.new.images
   pub still : mark ≡ 0 → disk.new.faults ≡ disk.old.faults
   pub rose : mark ≢ 0 → Rose disk.old.faults disk.new.faults
+
+-- why a journal is not opened: a call of the disk failed, whose count is this now; or the bytes that stand there are refused by this fault
+abbrev pub JournalStop : (StartFault → Type 0) → DiskChange → Refusal → Type 0
+JournalStop Cause disk (JournalFailed count) = (count ≡ disk.new.faults) × Rose disk.old.faults disk.new.faults
+JournalStop Cause disk (JournalShort need got) = Cause (start.Short need got)
+JournalStop Cause disk (JournalHeader place) = Cause (start.BadHeader place)
+JournalStop Cause disk (JournalBody slot) = Cause (start.BadBody slot)
+JournalStop Cause disk NoMemory = Unit {0}
+JournalStop Cause disk stop = ⊥
+
+-- what a start that is refused stops a run by, where the disk's calls have failed so often
+abbrev pub start_refusal : StartFault → ℕ → Refusal
+start_refusal start.Device count = JournalFailed count
+start_refusal (start.Short need got) count = JournalShort need got
+start_refusal (start.BadHeader place) count = JournalHeader place
+start_refusal (start.BadBody slot) count = JournalBody slot

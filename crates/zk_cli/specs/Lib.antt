@@ -8,4 +8,6 @@ pub mod ServeRuns
 pub mod ServedNotes
 pub mod Stops
 pub mod Journals
+pub mod ClaimedUnits
+pub mod ProveRuns
 pub mod ServiceLogs

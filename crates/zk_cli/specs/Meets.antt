@@ -1,8 +1,9 @@
 -- What a run of the program does for what its words ask for.
 use Rattle.std.specs.Prelude.{◌≡◌, ℕ, List}
-use Rattle.command_words.specs.Words.{Ask, rehearse, eval, deal, serve}
+use Rattle.command_words.specs.Words.{Ask, rehearse, eval, deal, serve, prove}
 use Rattle.zk_cli.specs.DealRuns.{Deals}
 use Rattle.zk_cli.specs.EvalRuns.{Evaluates}
+use Rattle.zk_cli.specs.ProveRuns.{Proves}
 use Rattle.zk_cli.specs.RehearseRuns.{Rehearses}
 use Rattle.zk_cli.specs.Journals.{DiskChange}
 use Rattle.zk_cli.specs.Runs.{Run}
@@ -30,3 +31,4 @@ Meets (rehearse ask) seed disk run = Rehearses ask seed run.part run.effects × 
 Meets (eval ask) seed disk run = Evaluates ask run.effects × (run.part ≡ Plain) × IsLocal run
 Meets (deal ask) seed disk run = Deals ask seed run.effects × (run.part ≡ Plain) × IsLocal run
 Meets (serve ask) seed disk run = Serves run.link_tells ask run.part disk run.door run.effects
+Meets (prove ask) seed disk run = Proves run.link_tells ask run.part disk run.door run.effects

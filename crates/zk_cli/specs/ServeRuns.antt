@@ -1,13 +1,11 @@
 -- `serve ADDRESS FILE CIRCUIT OUTPUTS --sessions N ..`: what is served and said, and what its run promises.
 use Rattle.std.specs.Prelude.{◌≡◌, ◌≢◌, ◌⊎◌, ◌+◌, ◌-◌, ◌*◌, ◌≤◌, ℕ, List, All, AllPairs, length, Bool, true, false, Option, None, Some, IfSome}
 use Rattle.std.specs.List.Sorted.{IsNonDecreasingBy}
-use Rattle.sha2.specs.Sha256.{sha256}
-use Rattle.zk_model.specs.Bristol.{IsText}
 use Rattle.zk_model.specs.Circuit.{Circuit}
 use Rattle.zk_model.specs.FileBytes.{verifier_file_bytes}
 use Rattle.zk_model.specs.Files.{VerifierFile, IsVerifierFile}
 use Rattle.zk_model.specs.HonestProver.{ProverTask}
-use Rattle.zk_model.specs.Statement.{Statement, circuit_statement}
+use Rattle.zk_model.specs.Statement.{Statement}
 use Rattle.zk_model.specs.declared.Side.TheVariants.{Verifier}
 use Rattle.zk_model.specs.declared.limits.TheConstants.{MAX_UNITS}
 use Rattle.zk_model.specs.Journals.{Stands, ceiling_slots}
@@ -16,14 +14,11 @@ use Rattle.zk_port.specs.Counts.{Rose}
 use Rattle.zk_port.specs.Disks.{DiskState}
 use Rattle.lease_journal.specs.Causes.{StartCause}
 use Rattle.lease_journal.specs.declared.fault.StartFault.{StartFault}
-use Rattle.lease_journal.specs.declared.fault.StartFault.TheVariants as start
 use Rattle.lease_store.specs.Ceilings.{SaysCeiling}
-use Rattle.lease_store.specs.declared.fault.StoreFault.{StoreFault}
-use Rattle.lease_store.specs.declared.fault.StoreFault.TheVariants as store
 use Rattle.zk_port.specs.Doors.{RefusesListen, after_listen}
 use Rattle.zk_port.specs.Files.{Files}
 use Rattle.zk_port.specs.Links.{LinkState}
-use Rattle.dealer_files.specs.Faults.{IsDealtFile, IsFirstFault}
+use Rattle.dealer_files.specs.Faults.{IsDealtFile}
 use Rattle.session_core.specs.Jobs.{VerifierJob, IsTooLarge, units_of_job}
 use Rattle.session_pool.specs.Doors.{Takes}
 use Rattle.session_pool.specs.Notes.{AreApart, IsBetween, IsMarked, IsRefusedBy}
@@ -34,18 +29,17 @@ use Rattle.session_verifier.specs.declared.note.SessionNote.{SessionNote}
 use Rattle.session_verifier.specs.declared.note.VerifierOutcome.TheVariants.{Accepted}
 use Rattle.command_words.specs.Commands.{named_options}
 use Rattle.command_words.specs.Words.{ServeAsk, serve_ask}
-use Rattle.zk_cli.specs.Journals.{DiskChange, IsUntouched, KeepsCeiling, OnlyReads, journal_name}
+use Rattle.zk_cli.specs.Journals.{DiskChange, IsUntouched, JournalStop, KeepsCeiling, OnlyReads, journal_name}
 use Rattle.zk_cli.specs.NoteLines.{IsServedText, has_status, start_of}
 use Rattle.zk_cli.specs.Runs.{ShelfChange, DoorChange, SomeFailed, SinkFailed, Effects, HasFailed}
 use Rattle.zk_cli.specs.Runs.{OthersStay, OnlyAsks, IsDone, EachNote}
 use Rattle.zk_cli.specs.ServiceLogs.{IsLogName, KeepsLogs, SaysService}
 use Rattle.zk_cli.specs.Stops.{WritesAll, SaysStop, IsOfStop}
-use Rattle.zk_cli.specs.Stops.{IsLoaded, HasText, HasCircuit, LoadStop, CircuitStop}
+use Rattle.zk_cli.specs.Stops.{HasText, HasCircuit, IsClaim, CircuitStop, FileStop}
 use Rattle.zk_cli.specs.declared.finish.Part.{Part}
 use Rattle.zk_cli.specs.declared.finish.Part.TheVariants.{Plain, Served}
 use Rattle.zk_cli.specs.declared.refusal.Refusal.{Refusal}
-use Rattle.zk_cli.specs.declared.refusal.Refusal.TheVariants.{BadFile, WrongOutputs, TooLarge, DoorFailed, NoMemory}
-use Rattle.zk_cli.specs.declared.refusal.Refusal.TheVariants.{JournalFailed, JournalShort, JournalHeader, JournalBody}
+use Rattle.zk_cli.specs.declared.refusal.Refusal.TheVariants.{WrongOutputs, TooLarge, DoorFailed, NoMemory}
 use Rattle.zk_cli.specs.declared.serve_command.ServeWords.{ServeWords}
 
 -- what is asked for
@@ -60,15 +54,6 @@ IsLoadedName ask name = (name ≡ ask.circuit) ⊎ (name ≡ ask.file)
 abbrev pub IsServeName : ServeAsk → List ℕ → Type 0
 IsServeName ask name = IsLoadedName ask name ⊎ IsLogName ask.options.logs name
 
--- where a shelf tells, the text under the circuit's name says this circuit, which has as many outputs as are claimed;
--- and this is the statement that some inputs give them, with the digest of the text
-pub record IsClaim (told : Option Files) (ask : ServeAsk) (circuit : Circuit) (statement : Statement) : Type 0 where
-  pub text : List ℕ
-  pub loaded : IsLoaded told ask.circuit text
-  pub says : IsText circuit text
-  pub outputs : length ask.outputs ≡ circuit.outputs
-  pub statement_is : statement ≡ circuit_statement circuit (sha256 text) ask.outputs
-
 -- where a shelf tells, the bytes under the name are those of this verifier's file
 abbrev pub IsVerifierFileAt : Option Files → List ℕ → VerifierFile → Type 0
 IsVerifierFileAt told name file =
@@ -76,7 +61,7 @@ IsVerifierFileAt told name file =
 
 -- what a verifier is to do: the claim, over its file, in sections of the length that is named
 pub record IsServeJob (told : Option Files) (ask : ServeAsk) (circuit : Circuit) (job : VerifierJob) : Type 0 where
-  pub claim : IsClaim told ask circuit job.task.statement
+  pub claim : IsClaim told ask.circuit ask.outputs circuit job.task.statement
   pub file : IsVerifierFileAt told ask.file job.task.file
   pub section : job.section_length ≡ ask.options.section
 
@@ -88,38 +73,15 @@ ClaimStop ask shelf (WrongOutputs need got) = HasCircuit shelf.old.told ask.circ
     (λ circuit. (need ≡ circuit.outputs) × (got ≡ length ask.outputs) × (need ≢ got))
 ClaimStop ask shelf stop = CircuitStop ask.circuit shelf stop
 
--- why there is no verifier's file under the name: its bytes are none, and this is the first fault; or it can't be
--- loaded
-abbrev pub FileStop : List ℕ → ShelfChange → Refusal → Type 0
-FileStop name shelf (BadFile fault) = HasText shelf.old.told name (λ bytes. IsFirstFault Verifier bytes fault)
-FileStop name shelf stop = LoadStop name shelf stop
-
 -- there is a claim, but no file for it
 abbrev pub LacksFile : ServeAsk → ShelfChange → Refusal → Type 0
 LacksFile ask shelf stop =
-    (circuit : Circuit) × (statement : Statement) × IsClaim shelf.old.told ask circuit statement
-    × FileStop ask.file shelf stop
+    (circuit : Circuit) × (statement : Statement) × IsClaim shelf.old.told ask.circuit ask.outputs circuit statement
+    × FileStop Verifier ask.file shelf stop
 
 -- why the claim and the file can't be had, the first of these
 abbrev pub LacksFiles : ServeAsk → ShelfChange → Refusal → Type 0
 LacksFiles ask shelf stop = ClaimStop ask shelf stop ⊎ LacksFile ask shelf stop
-
--- why a journal is not opened: a call of the disk failed, whose count is this now; or the bytes that stand there are refused by this fault
-abbrev pub JournalStop : (StartFault → Type 0) → DiskChange → Refusal → Type 0
-JournalStop Cause disk (JournalFailed count) = (count ≡ disk.new.faults) × Rose disk.old.faults disk.new.faults
-JournalStop Cause disk (JournalShort need got) = Cause (start.Short need got)
-JournalStop Cause disk (JournalHeader place) = Cause (start.BadHeader place)
-JournalStop Cause disk (JournalBody slot) = Cause (start.BadBody slot)
-JournalStop Cause disk NoMemory = Unit {0}
-JournalStop Cause disk stop = ⊥
-
--- what a start that is refused stops a run by, where the disk's calls have failed so often
-abbrev pub start_refusal : StoreFault → ℕ → Refusal
-start_refusal store.NoMemory count = NoMemory
-start_refusal (store.Journal start.Device) count = JournalFailed count
-start_refusal (store.Journal (start.Short need got)) count = JournalShort need got
-start_refusal (store.Journal (start.BadHeader place)) count = JournalHeader place
-start_refusal (store.Journal (start.BadBody slot)) count = JournalBody slot
 
 -- the fault that a disk's content has as a journal of ceilings of this id and total, where it is known
 abbrev pub IsCeilingsFault : List ℕ → ℕ → DiskState → StartFault → Type 0

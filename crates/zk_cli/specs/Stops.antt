@@ -2,14 +2,18 @@
 use Rattle.std.specs.Prelude.{◌≡◌, ◌≢◌, ◌⊎◌, ◌≤◌, ℕ, List, length, ◌++◌, codes, Bool, Option, None}
 use Rattle.std.specs.Prelude.{nat_le, if◌then◌else◌}
 use Rattle.std.specs.Fmt.{decimal}
+use Rattle.sha2.specs.Sha256.{sha256}
 use Rattle.zk_model.specs.Bristol.{IsText}
 use Rattle.zk_model.specs.Circuit.{Circuit}
+use Rattle.zk_model.specs.Statement.{Statement, circuit_statement}
 use Rattle.zk_model.specs.declared.ReadFault.{ReadFault}
 use Rattle.zk_model.specs.declared.ReadFault.TheVariants as text
+use Rattle.zk_model.specs.declared.Side.{Side}
 use Rattle.zk_model.specs.declared.limits.TheConstants.{FILE_LIMIT}
 use Rattle.zk_port.specs.Files.{Files, StandsAs, StandsLonger}
 use Rattle.zk_port.specs.Logs.{appended, AppendsPart}
 use Rattle.bristol_reader.specs.Reads.{IsOnlyFault}
+use Rattle.dealer_files.specs.Faults.{IsFirstFault}
 use Rattle.dealer_files.specs.declared.fault.FileFault.{FileFault}
 use Rattle.dealer_files.specs.declared.fault.FileFault.TheVariants as file
 use Rattle.zk_cli.specs.Runs.{ShelfChange, SinkChange, NameFailed, SinkFailed, Effects, HasFailed}
@@ -75,6 +79,7 @@ stop_line (stop.BadFile fault) = file_line fault
 stop_line (stop.TooLong limit) = refused_line (codes "TooLong 0") limit
 stop_line (stop.WrongBits need got) = pair_line (codes "refused bits") need got
 stop_line (stop.WrongOutputs need got) = pair_line (codes "refused outputs") need got
+stop_line (stop.Unsatisfied output) = codes "unsatisfied " ++ decimal output ++ codes "\n"
 stop_line (stop.TooLarge need units) = pair_line (codes "too large") need units
 stop_line stop.ShelfFailed = codes "failed shelf\n"
 stop_line stop.DoorFailed = codes "failed door\n"
@@ -93,6 +98,7 @@ stop_status (stop.BadFile fault) = 3
 stop_status (stop.TooLong limit) = 3
 stop_status (stop.WrongBits need got) = 3
 stop_status (stop.WrongOutputs need got) = 3
+stop_status (stop.Unsatisfied output) = 1
 stop_status stop.ShelfFailed = 4
 stop_status stop.DoorFailed = 4
 stop_status (stop.JournalShort need got) = 3
@@ -162,8 +168,22 @@ abbrev pub CircuitStop : List ℕ → ShelfChange → Refusal → Type 0
 CircuitStop name shelf (stop.BadText fault) = HasText shelf.old.told name (λ text. IsOnlyFault text fault)
 CircuitStop name shelf other = LoadStop name shelf other
 
+-- why there is no dealt file of this side under the name: its bytes are none, and this is the first fault; or it can't be loaded
+abbrev pub FileStop : Side → List ℕ → ShelfChange → Refusal → Type 0
+FileStop side name shelf (stop.BadFile fault) = HasText shelf.old.told name (λ bytes. IsFirstFault side bytes fault)
+FileStop side name shelf other = LoadStop name shelf other
+
 -- a shelf that tells has this circuit under the name, and the bits fit it
 pub record IsReady (told : Option Files) (name : List ℕ) (bits : List Bool) (circuit : Circuit) : Type 0 where
   pub tells : told ≢ None
   pub file : IsCircuitFile told name circuit
   pub inputs : length bits ≡ circuit.inputs
+
+-- where a shelf tells, the text under the name says this circuit, which has as many outputs as are claimed; and this is the statement that
+-- some inputs give them, with the digest of the text
+pub record IsClaim (told : Option Files) (name : List ℕ) (outputs : List Bool) (circuit : Circuit) (statement : Statement) : Type 0 where
+  pub text : List ℕ
+  pub loaded : IsLoaded told name text
+  pub says : IsText circuit text
+  pub count : length outputs ≡ circuit.outputs
+  pub statement_is : statement ≡ circuit_statement circuit (sha256 text) outputs

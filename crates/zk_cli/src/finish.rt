@@ -1,4 +1,5 @@
 // What a run hands back.
+use session_prover::ProverNote;
 use session_rehearsal::Rehearsal;
 use session_verifier::SessionNote;
 use zk_port::Door;
@@ -10,6 +11,8 @@ pub enum Part<L> {
     Plain,
     /// What a rehearsal gave.
     Rehearsed(Rehearsal),
+    /// What came of a session with a verifier: exactly where the door connected.
+    Proved(ProverNote<L>),
     /// What came of the sessions with the peers that called, in order: exactly where the door listened.
     Served(Vec<SessionNote<L>>),
 }

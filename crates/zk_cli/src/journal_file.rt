@@ -1,17 +1,21 @@
 // The journal of a dealt file.
 ghost use Rattle.std.specs.Prelude.{◌≡◌, ◌≤◌, ℕ, List, All, IfOk, IfErr, length, string_bytes};
-ghost use Rattle.zk_model.specs.Journals.{HasHeader};
-ghost use Rattle.zk_model.specs.declared.JournalKind.TheVariants.{Ceilings};
+ghost use Rattle.zk_model.specs.Journals.{HasHeader, IsHeaded};
+ghost use Rattle.zk_model.specs.declared.JournalKind.TheVariants.{Ceilings, Claims};
 ghost use Rattle.zk_model.specs.declared.limits.TheConstants.{MAX_PASSES};
 ghost use Rattle.lease_store.specs.Ceilings.{SaysCeiling};
 ghost use Rattle.lease_store.specs.Desks.{Begins};
 ghost use Rattle.lease_store.specs.Leases.{IsPassAt};
 ghost use Rattle.session_pool.specs.Notes.{IsUnused};
-ghost use Rattle.zk_cli.specs.Journals.{IsJournalDisk, OpensJournal, OnlyReads, disk_change, journal_name};
-ghost use Rattle.zk_cli.specs.ServeRuns.{IsCeilingsFault, JournalStop, start_refusal};
+ghost use Rattle.zk_cli.specs.Journals.{IsJournalDisk, JournalStop, OpensJournal, OnlyReads, disk_change, journal_name, start_refusal};
+ghost use Rattle.zk_cli.specs.ProveRuns.{IsClaimsFault};
+ghost use Rattle.zk_cli.specs.ServeRuns.{IsCeilingsFault};
+ghost use Rattle.zk_port.specs.Images.{Only};
+ghost use Rattle.claim_store.specs.Claims.{AreClaims, AreDurable, SaysClaims};
 
 use crate::refusal::Refusal;
-use dealer_files::VerifierFile;
+use claim_store::ClaimStore;
+use dealer_files::{ProverFile, VerifierFile};
 use lease_journal::StartFault;
 use lease_store::{LeaseParts, StoreFault};
 use lease_words::Pass;
@@ -26,15 +30,14 @@ fn name_of(alloc: Global, file: &str) -> Result<String, AllocError>
 }
 
 /// Why a journal is not opened on a disk whose calls have failed so often.
-fn journal_stop(fault: StoreFault, count: u64) -> Refusal
+fn start_stop(fault: StartFault, count: u64) -> Refusal
     ensures { result ≡ start_refusal fault count }
 {
     match fault {
-        StoreFault::NoMemory => Refusal::NoMemory,
-        StoreFault::Journal(StartFault::Device) => Refusal::JournalFailed { count },
-        StoreFault::Journal(StartFault::Short { need, got }) => Refusal::JournalShort { need, got },
-        StoreFault::Journal(StartFault::BadHeader { place }) => Refusal::JournalHeader { place },
-        StoreFault::Journal(StartFault::BadBody { slot }) => Refusal::JournalBody { slot },
+        StartFault::Device => Refusal::JournalFailed { count },
+        StartFault::Short { need, got } => Refusal::JournalShort { need, got },
+        StartFault::BadHeader { place } => Refusal::JournalHeader { place },
+        StartFault::BadBody { slot } => Refusal::JournalBody { slot },
     }
 }
 
@@ -78,9 +81,53 @@ pub fn open_ceilings<B: Disk>(
     }
     match LeaseParts::start(alloc, journal, &file.id(), file.total(), passes) {
         Ok(opened) => Ok(opened),
-        Err((fault, disk)) => {
+        Err((StoreFault::NoMemory, disk)) => Err((Refusal::NoMemory, disk)),
+        Err((StoreFault::Journal(fault), disk)) => {
             let count = disk.faults();
-            Err((journal_stop(fault, count), disk))
+            Err((start_stop(fault, count), disk))
+        }
+    }
+}
+
+/// Opens the journal of claims that belongs to the prover's file of this name; or says why not, and gives the disk back.
+pub fn open_claims<B: Disk>(
+    alloc: Global,
+    mut journal: B,
+    name: &str,
+    file: &ProverFile,
+) -> Result<ClaimStore<B>, (Refusal, B)>
+    requires disk { IsJournalDisk (B.state journal) }
+    ensures opens { IfOk result (λ store. OpensJournal (journal_name name.now)
+        (disk_change (B.state journal) (B.state store.disk))) }
+    ensures since { IfOk result (λ _. (image : List ℕ)
+        → (B.state journal).images_since (B.state journal).moment image → (B.state journal).images image) }
+    ensures says { IfOk result (λ store. (bytes : List ℕ) → (B.state journal).content ≡ Some bytes
+        → IsHeaded Claims file.now.id file.now.params.total store.slots bytes
+        × SaysClaims store.slots store.claims bytes) }
+    ensures durable { IfOk result (λ store. AreDurable B.state store) }
+    ensures only { IfOk result (λ store. Only (B.state store.disk).content (B.state store.disk).images) }
+    ensures sound { IfOk result (λ store. AreClaims file.now.params.total store.claims) }
+    ensures total { IfOk result (λ store. store.total ≡ file.now.params.total) }
+    ensures whole { IfOk result (λ store. store.fault ≡ 0) }
+    ensures reads { IfErr result (λ e. OnlyReads (journal_name name.now)
+        (disk_change (B.state journal) (B.state e.1))) }
+    ensures stop { IfErr result (λ e. JournalStop
+        (IsClaimsFault file.now.id file.now.params.total (B.state journal))
+        (disk_change (B.state journal) (B.state e.1)) e.0) }
+{
+    let Ok(name) = name_of(alloc, name) else {
+        return Err((Refusal::NoMemory, journal));
+    };
+    if journal.choose(&name).is_err() {
+        let count = journal.faults();
+        return Err((Refusal::JournalFailed { count }, journal));
+    }
+    match ClaimStore::start(alloc, journal, &file.id(), file.total()) {
+        Ok(store) => Ok(store),
+        Err((claim_store::StoreFault::NoMemory, disk)) => Err((Refusal::NoMemory, disk)),
+        Err((claim_store::StoreFault::Journal(fault), disk)) => {
+            let count = disk.faults();
+            Err((start_stop(fault, count), disk))
         }
     }
 }

@@ -8,6 +8,8 @@ mod finish;
 mod journal_file;
 mod laws;
 mod note_lines;
+mod prove_command;
+mod proved_line;
 mod refusal;
 mod rehearse_command;
 mod run;
@@ -17,7 +19,7 @@ mod service_logs;
 mod service_said;
 
 pub use finish::{Finish, Part};
-pub use laws::{headline_is_of_accepted_log, runs_grant_once};
+pub use laws::{headline_is_of_accepted_log, runs_claim_once, runs_grant_once};
 pub use refusal::Refusal;
 pub use run::run_zk;
 pub use session_rehearsal::{Bits, Rehearsal, RehearseFault, Verdict};

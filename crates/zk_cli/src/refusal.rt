@@ -22,6 +22,8 @@ pub enum Refusal {
     WrongBits { need: u64, got: u64 },
     /// There are `got` claimed outputs in place of `need`.
     WrongOutputs { need: u64, got: u64 },
+    /// The circuit gives another bit than this claimed output.
+    Unsatisfied { output: u64 },
     /// The session needs so many correlations, and units of them above 4,096.
     TooLarge { need: u64, units: u64 },
     /// A call of the shelf failed.

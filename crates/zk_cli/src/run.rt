@@ -11,11 +11,13 @@ ghost use Rattle.zk_cli.specs.ServedNotes.{GrantsOnceIn, IsHeadline};
 use crate::deal_command::run_deal;
 use crate::eval_command::run_eval;
 use crate::finish::{Ending, Finish, Part};
+use crate::prove_command::{ProveWords, run_prove};
 use crate::refusal::Refusal;
 use crate::rehearse_command::run_rehearse;
 use crate::say::{say_memory, say_stop};
 use crate::serve_command::{ServeWords, run_serve};
 use bristol_reader::one_circuit;
+use claim_store::claims_start_again;
 use command_words::{Command, read_words};
 use lease_journal::starts_again;
 use std::alloc::Global;
@@ -34,7 +36,10 @@ use zk_port::{Disk, Door, Gate, Shelf, Sink};
 /// the output failed, and 7. `serve ADDRESS FILE CIRCUIT OUTPUTS --sessions N [--workers W] [--section G] [--logs PREFIX]`
 /// ends with 0 where each session is accepted, or no peer called; 1 where one is not; 3 where a file or the journal is
 /// refused, or the outputs for it; 4 where a load, the door, a link, a log or the output failed; 5 where the journal
-/// failed; 6 where units are missing; and with 7 and 9.
+/// failed; 6 where units are missing; and with 7 and 9. `prove ADDRESS FILE CIRCUIT BITS OUTPUTS` ends with 0 where it is
+/// accepted; 1 where it is rejected, or the circuit gives other outputs; 3 where a file or the journal is refused, or the
+/// bits or outputs for it; 4 where a load, the door, the link or the output failed; 5 where the journal failed or is full;
+/// 8 where the peer broke the protocol; and with 7.
 pub fn run_zk<R, F, D, B, O, G>(
     rt: &R,
     alloc: Global,
@@ -84,6 +89,7 @@ where
 {
     one_circuit();
     starts_again();
+    claims_start_again();
     let found = match read_words(alloc, words) {
         Ok(found) => found,
         Err(_) => {
@@ -148,6 +154,22 @@ where
                 options,
             };
             run_serve(rt, alloc, shelf, journal, door, gate, out, &named)
+        }
+        Command::Prove {
+            address,
+            file,
+            circuit,
+            bits,
+            outputs,
+        } => {
+            let named = ProveWords {
+                address,
+                file,
+                circuit,
+                bits: bits.as_slice(),
+                outputs: outputs.as_slice(),
+            };
+            run_prove(alloc, shelf, journal, door, out, &named)
         }
     }
 }

@@ -94,6 +94,7 @@ fn write_stop(alloc: Global, stop: Refusal) -> Result<String, AllocError>
         Refusal::TooLong { limit } => write_refused(alloc, "TooLong 0", limit),
         Refusal::WrongBits { need, got } => write_pair(alloc, "refused bits", need, got),
         Refusal::WrongOutputs { need, got } => write_pair(alloc, "refused outputs", need, got),
+        Refusal::Unsatisfied { output } => Ok(format!(in alloc; "unsatisfied {output}\n")?),
         Refusal::TooLarge { need, units } => write_pair(alloc, "too large", need, units),
         Refusal::ShelfFailed => String::from_str(alloc, "failed shelf\n"),
         Refusal::DoorFailed => String::from_str(alloc, "failed door\n"),
@@ -110,6 +111,7 @@ fn status_of(stop: Refusal) -> u8
     ensures { result ≡ stop_status stop }
 {
     match stop {
+        Refusal::Unsatisfied { .. } => 1,
         Refusal::Usage => 2,
         Refusal::NoMemory | Refusal::BadFile(FileFault::NoMemory) => 7,
         Refusal::BadText(_)

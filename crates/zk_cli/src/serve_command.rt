@@ -2,14 +2,16 @@
 ghost use Rattle.std.specs.Prelude.{◌≡◌, ◌≤◌, IfOk, IfErr, OnOk};
 ghost use Rattle.zk_model.specs.Circuit.{Circuit};
 ghost use Rattle.zk_port.specs.Changes.{change};
+ghost use Rattle.zk_model.specs.declared.Side.TheVariants.{Verifier};
 ghost use Rattle.zk_model.specs.declared.limits.TheConstants.{MAX_UNITS};
 ghost use Rattle.session_core.specs.Jobs.{units_of_job};
 ghost use Rattle.session_verifier.specs.declared.note.VerifierOutcome.TheVariants.{Accepted};
 ghost use Rattle.command_words.specs.Commands.{AreServeLimits, named_options};
 ghost use Rattle.zk_cli.specs.Journals.{IsJournalDisk, disk_change};
 ghost use Rattle.zk_cli.specs.Runs.{OnlyLoads, IsName, EachNote, effects};
-ghost use Rattle.zk_cli.specs.ServeRuns.{IsClaim, IsLoadedName, IsVerifierFileAt, LeadsFiles, LeadsJob, Serves, serve_words};
-ghost use Rattle.zk_cli.specs.ServeRuns.{ClaimStop, FileStop, LacksFiles, OpeningStop, ServeStop};
+ghost use Rattle.zk_cli.specs.ServeRuns.{IsLoadedName, IsVerifierFileAt, LeadsFiles, LeadsJob, Serves, serve_words};
+ghost use Rattle.zk_cli.specs.ServeRuns.{ClaimStop, LacksFiles, OpeningStop, ServeStop};
+ghost use Rattle.zk_cli.specs.Stops.{FileStop, IsClaim};
 ghost use Rattle.zk_cli.specs.ServedNotes.{GrantsOnceIn, IsHeadline};
 
 use crate::circuit_file::{load_file, read_circuit};
@@ -50,7 +52,7 @@ fn load_claim<F: Shelf>(
     words: &ServeWords<'_>,
 ) -> Result<CircuitClaim, Refusal>
     ensures claim { IfOk result (λ claim. (circuit : Circuit)
-        × IsClaim (F.state shelf.old).told (serve_words words.now) circuit claim) }
+        × IsClaim (F.state shelf.old).told words.now.circuit.now words.now.outputs.now circuit claim) }
     ensures stop { IfErr result (ClaimStop (serve_words words.now)
         (change (F.state shelf.old) (F.state shelf.new))) }
     ensures kept { OnlyLoads (IsName words.now.circuit.now) (change (F.state shelf.old) (F.state shelf.new)) }
@@ -76,7 +78,7 @@ fn load_verifier<F: Shelf>(
 ) -> Result<VerifierFile, Refusal>
     ensures file { IfOk result (IsVerifierFileAt (F.state shelf.old).told name.now) }
     ensures stop { IfErr result
-        (FileStop name.now (change (F.state shelf.old) (F.state shelf.new))) }
+        (FileStop Verifier name.now (change (F.state shelf.old) (F.state shelf.new))) }
     ensures kept { OnlyLoads (IsName name.now) (change (F.state shelf.old) (F.state shelf.new)) }
     ensures quiet { OnOk result (F.state shelf.new ≡ F.state shelf.old) }
 {
@@ -100,7 +102,7 @@ fn load_files<F: Shelf>(
     words: &ServeWords<'_>,
 ) -> Result<(CircuitClaim, VerifierFile), Refusal>
     ensures claim { IfOk result (λ r. (circuit : Circuit)
-        × IsClaim (F.state shelf.old).told (serve_words words.now) circuit r.0) }
+        × IsClaim (F.state shelf.old).told words.now.circuit.now words.now.outputs.now circuit r.0) }
     ensures file { IfOk result (λ r. IsVerifierFileAt (F.state shelf.old).told words.now.file.now r.1) }
     ensures stop { IfErr result (LacksFiles (serve_words words.now)
         (change (F.state shelf.old) (F.state shelf.new))) }

@@ -95,6 +95,5 @@ returns-clause-complete g c =
       products = subst (λ (p : Program). length p.products ≤ 2 ^ 20) (c.program.ensures.program ∙ ap (λ (s : Statement). s.program) c.statement.ensures.statement) c.opened-opened.ensures.held.products;
       opened = subst (λ (p : Program). length p.opened ≤ 2 ^ 20) (c.program.ensures.program ∙ ap (λ (s : Statement). s.program) c.statement.ensures.statement) c.opened-opened.ensures.held.opened;
     } in
-    completes c.args.job.now (course_of g c).claim c.run_session-held.new.granted c.end-link.result.1 _ result c.honest_verdict.ensures sound
-    c.run_session-held.ensures.granted
+    completes c.args.job.now (course_of g c).claim c.end-link.result.1 _ result c.honest_verdict.ensures sound
     (subst (λ (q : LinkSnapshot × LinkSnapshot). IsOutcome c.args.job.now (course_of g c).claim q.1.log (told_by q.0 q.1) result) (λ i. (first_is g c i, now_is g c i)) (ends_of g c).outcome_is)

@@ -11,7 +11,7 @@ pub returns-in_err-bytes-clause-stop : goal.returns-in_err-bytes-clause-stop
 returns-in_err-bytes-clause-stop g c =
     let shelf = change (g.F.Shelf.state c.args.shelf.now) (g.F.Shelf.state c.load_file.new.shelf) in
     fails_at _ c.from_residual.result c.in_err-bytes.field-0.0 c.from_residual.ensures.1
-    (file_of_load c.args.name.now shelf c.in_err-bytes.field-0.0 c.in_err-bytes.ensures.stop)
+    (file_of_load Verifier c.args.name.now shelf c.in_err-bytes.field-0.0 c.in_err-bytes.ensures.stop)
 
 pub returns-in_err-file-clause-stop : goal.returns-in_err-file-clause-stop
 returns-in_err-file-clause-stop g c =

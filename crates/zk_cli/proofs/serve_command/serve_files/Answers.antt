@@ -3,7 +3,8 @@ use Rattle.zk_model.specs.Statement.{Statement}
 use Rattle.zk_port.specs.Changes.{change}
 use Rattle.session_core.specs.Jobs.{verifier_of}
 use Rattle.zk_cli.specs.Journals.{disk_change}
-use Rattle.zk_cli.specs.ServeRuns.{IsClaim, ServeStop, serve_words}
+use Rattle.zk_cli.specs.ServeRuns.{ServeStop, serve_words}
+use Rattle.zk_cli.specs.Stops.{IsClaim}
 use Rattle.zk_cli.specs.declared.refusal.Refusal.{Refusal}
 use Rattle.zk_cli.proofs.Opening.{untouched}
 use Rattle.zk_cli.proofs.serve_command.serve_files.Goals as goal
@@ -21,7 +22,7 @@ returns-clause-stop g c =
       claim.0,
       verifier_of c.statement-statement.result c.in-Ok.files.1 c.args.words.now.options.section,
       record {
-        claim = subst (λ (s : Statement). IsClaim shelf.old.told ask claim.0 s) (sym c.statement-statement.ensures) claim.1;
+        claim = subst (λ (s : Statement). IsClaim shelf.old.told ask.circuit ask.outputs claim.0 s) (sym c.statement-statement.ensures) claim.1;
         file = c.in-Ok.ensures.file;
         section = refl;
       },

@@ -1,0 +1,242 @@
+-- What is said of a session of a prover gives what its record promises.
+use Rattle.std.proofs.Common.{◌≡◌, ◌⊎◌, ℕ, List, Bool, false, Option, None, Some, Result, Ok, Err, get_or, refl, ap, sym, ◌∙◌, subst, inl, inr, arith}
+use Rattle.std.specs.Prelude.{◌≢◌}
+use Rattle.zk_model.specs.Circuit.{Circuit}
+use Rattle.zk_model.specs.declared.Side.TheVariants.{Prover}
+use Rattle.zk_port.specs.Counts.{Rose}
+use Rattle.zk_port.specs.Disks.{DiskState}
+use Rattle.zk_port.specs.Files.{Files}
+use Rattle.zk_port.specs.Links.{LinkState}
+use Rattle.bristol_reader.specs.Laws.{OneCircuit}
+use Rattle.zk_model.specs.Transcript.{Grant}
+use Rattle.zk_model.specs.declared.Span.{Span}
+use Rattle.claim_store.specs.declared.ClaimFault.{ClaimFault}
+use Rattle.claim_store.specs.declared.ClaimFault.TheVariants as claim
+use Rattle.claim_store.specs.Causes.{ClaimsStartAgain}
+use Rattle.claim_store.specs.declared.fault.StoreFault.TheVariants as store
+use Rattle.lease_journal.specs.declared.fault.StartFault.{StartFault}
+use Rattle.lease_journal.specs.declared.fault.StartFault.TheVariants as start
+use Rattle.session_core.specs.Jobs.{ProverJob}
+use Rattle.session_prover.specs.Notes.{IsAskedRight, IsGrantRead}
+use Rattle.session_prover.specs.Outcomes.{claim_outcome}
+use Rattle.session_prover.specs.Sessions.{IsNote}
+use Rattle.session_prover.specs.declared.note.ProverNote.{ProverNote}
+use Rattle.session_prover.specs.declared.note.ProverOutcome.{ProverOutcome}
+use Rattle.session_prover.specs.declared.note.ProverOutcome.TheVariants as ended
+use Rattle.command_words.specs.Words.{ProveAsk}
+use Rattle.zk_cli.specs.ClaimedUnits.{AnswersClaim, KeepsClaims, MovesBy}
+use Rattle.zk_cli.specs.Journals.{DiskChange, JournalStop, journal_name}
+use Rattle.zk_cli.specs.ProveRuns.{AreFree, ConnectStop, HasClaims, HasProveFailed, HoldsAsked, IsClaimsFault, IsProvable, IsProveName, IsSatisfied, IsWithHonestPeer}
+use Rattle.zk_cli.specs.ProveRuns.{OfProved, ProveLines, ProveMeans, Proves, ProveStop, WiresStop, WitnessStop, proved_line, proved_status}
+use Rattle.zk_cli.specs.Runs.{ShelfChange, DoorChange, Effects, NameFailed, OnlyLoads, IsDone}
+use Rattle.zk_cli.specs.Stops.{PrintsMade, stop_line, stop_status}
+use Rattle.zk_cli.specs.declared.finish.Part.{Part}
+use Rattle.zk_cli.specs.declared.finish.Part.TheVariants.{Plain, Proved, Rehearsed, Served}
+use Rattle.zk_cli.specs.declared.refusal.Refusal.{Refusal}
+use Rattle.zk_cli.specs.declared.refusal.Refusal.TheVariants as stop
+use Rattle.zk_cli.proofs.Causes.{circuit_lacks, file_7, told_circuit}
+use Rattle.zk_cli.proofs.Means.{any_answers, zero_answers}
+
+-- ---- what the status says
+
+is_accepted : (outcome : ProverOutcome) → (outcome ≡ ended.Accepted) ⊎ (outcome ≢ ended.Accepted)
+is_accepted ended.Accepted = inl refl
+is_accepted (ended.Rejected code number) = inr (λ same. cc)
+is_accepted (ended.PeerEnded at) = inr (λ same. cc)
+is_accepted (ended.BadFrame place) = inr (λ same. cc)
+is_accepted ended.BadGrant = inr (λ same. cc)
+is_accepted (ended.PeerRefused code) = inr (λ same. cc)
+is_accepted (ended.Broken first) = inr (λ same. cc)
+is_accepted (ended.OutOfRange total) = inr (λ same. cc)
+is_accepted (ended.Overlap earlier) = inr (λ same. cc)
+is_accepted (ended.Full slots) = inr (λ same. cc)
+is_accepted ended.Device = inr (λ same. cc)
+is_accepted ended.Link = inr (λ same. cc)
+is_accepted ended.NoMemory = inr (λ same. cc)
+
+note_means : {L : Type 0} (ask : ProveAsk) (note : ProverNote L) (disk : DiskChange) (door : DoorChange) (run : Effects)
+    → PrintsMade (proved_status note.outcome) (proved_line note.granted disk.new.faults note.outcome) run.status run.sink
+    → ProveMeans ask (Proved note) disk door run
+note_means ask note disk door run prints = elim (is_accepted note.outcome) [
+  | inl same ↦ (elim (zero_answers (proved_line note.granted disk.new.faults note.outcome) run.status run.sink
+      (subst (λ (n : ℕ). PrintsMade n (proved_line note.granted disk.new.faults note.outcome) run.status run.sink) (ap proved_status same) prints)) [
+        | inl whole ↦ inl (whole.0, same, whole.1)
+        | inr other ↦ inr (inr other)
+      ])
+  | inr differs ↦ (elim (any_answers (proved_status note.outcome) (proved_line note.granted disk.new.faults note.outcome) run.status run.sink prints) [
+    | inl e ↦ inr (inl (e, differs))
+    | inr other ↦ inr (inr other)
+  ])
+]
+
+prove_means : {L : Type 0} (link_tells : L → LinkState) (ask : ProveAsk) (part : Part L) (disk : DiskChange) (door : DoorChange) (run : Effects)
+    → ProveLines link_tells ask part disk door run → ProveMeans ask part disk door run
+prove_means link_tells ask (Proved note) disk door run says = note_means ask note disk door run says.1
+prove_means link_tells ask Plain disk door run says = elim (any_answers (stop_status says.stop) (stop_line says.stop) run.status run.sink says.prints) [
+  | inl e ↦ inl (says.stop, says.cause, e)
+  | inr other ↦ inr other
+]
+prove_means link_tells ask (Rehearsed r) disk door run says = absurd says
+prove_means link_tells ask (Served notes) disk door run says = absurd says
+
+-- ---- why a run stops: for want of memory alone
+
+wires_lack : (ask : ProveAsk) (circuit : Circuit) → IsSatisfied ask circuit → (why : Refusal) → WiresStop circuit ask why → stop_status why ≡ 7
+wires_lack ask circuit ready (stop.WrongBits need got) cause = absurd (cause.2 (cause.0 ∙ sym ready.inputs ∙ sym cause.1))
+wires_lack ask circuit ready (stop.WrongOutputs need got) cause = absurd (cause.3 (cause.1 ∙ sym ready.outputs ∙ sym cause.2))
+wires_lack ask circuit ready (stop.Unsatisfied output) cause =
+    absurd (cause.differs.differs (ap (λ (bits : List Bool). get_or bits output false) (sym (cause.only ask.outputs ready.satisfied))))
+wires_lack ask circuit ready stop.NoMemory cause = refl
+wires_lack ask circuit ready other cause = absurd cause
+
+witness_7 : OneCircuit → (ask : ProveAsk) (shelf : ShelfChange) (disk : DiskState) → IsProvable shelf.old.told disk ask → ¬ NameFailed ask.circuit shelf
+    → (why : Refusal) → WitnessStop ask shelf why → stop_status why ≡ 7
+witness_7 one ask shelf disk ready calm why (inl cause) =
+    ap stop_status (circuit_lacks one ask.circuit shelf ready.circuit.circuit ready.tells ready.circuit.file calm why cause)
+witness_7 one ask shelf disk ready calm why (inr found) =
+    let same = told_circuit one shelf.old.told ask.circuit ready.circuit.circuit found.circuit ready.tells ready.circuit.file found.file in
+    wires_lack ask ready.circuit.circuit ready.circuit.is why (subst (λ (c : Circuit). WiresStop c ask why) same found.is)
+
+journal_7 : ClaimsStartAgain → (id : List ℕ) (total : ℕ) (disk : DiskChange) → HasClaims id total disk.old.content → ¬ Rose disk.old.faults disk.new.faults
+    → (why : Refusal) → JournalStop (IsClaimsFault id total disk.old) disk why → stop_status why ≡ 7
+journal_7 law id total disk has calm why cause = of_stop why cause
+  where
+    refused : (fault : StartFault) → fault ≢ start.Device → IsClaimsFault id total disk.old fault → ⊥
+    refused fault other cause =
+        elim (law id total has.slots has.claims has.bytes (store.Journal fault) has.stands has.says has.sound (cause has.bytes has.known)) [
+          | inl device ↦ other (cc)
+          | inr memory ↦ cc
+        ]
+
+    of_stop : (why : Refusal) → JournalStop (IsClaimsFault id total disk.old) disk why → stop_status why ≡ 7
+    of_stop (stop.JournalFailed count) cause = absurd (calm cause.1)
+    of_stop (stop.JournalShort need got) cause = absurd (refused (start.Short need got) (λ e. cc) cause)
+    of_stop (stop.JournalHeader place) cause = absurd (refused (start.BadHeader place) (λ e. cc) cause)
+    of_stop (stop.JournalBody slot) cause = absurd (refused (start.BadBody slot) (λ e. cc) cause)
+    of_stop stop.NoMemory cause = refl
+    of_stop other cause = absurd cause
+
+connect_7 : (address : List ℕ) (door : DoorChange) → ¬ Rose door.old.connect_faults door.new.connect_faults → (why : Refusal)
+    → ConnectStop address door why → stop_status why ≡ 7
+connect_7 address door calm stop.DoorFailed cause = absurd (calm cause.1)
+connect_7 address door calm stop.NoMemory cause = refl
+connect_7 address door calm other cause = absurd cause
+
+stop_7 : OneCircuit → ClaimsStartAgain → (ask : ProveAsk) (disk : DiskChange) (door : DoorChange) (run : Effects)
+    → IsProvable run.shelf.old.told disk.old ask → ¬ HasProveFailed ask disk door run → (why : Refusal) → ProveStop ask run.shelf disk door why
+    → stop_status why ≡ 7
+stop_7 one law ask disk door run ready calm why (inl (inl cause, unasked, unheard)) =
+    witness_7 one ask run.shelf disk.old ready (λ rose. calm (inl (inl (ask.circuit, inl refl, rose)))) why cause
+stop_7 one law ask disk door run ready calm why (inl (inr cause, unasked, unheard)) =
+    file_7 Prover ask.file run.shelf ready.tells ready.file (λ rose. calm (inl (inl (ask.file, inr refl, rose)))) why cause.4
+stop_7 one law ask disk door run ready calm why (inr lacks) = elim lacks.3.cause [
+  | inl journal ↦ journal_7 law lacks.1.file.id lacks.1.file.params.total disk (ready.journal lacks.0 lacks.1 lacks.2)
+      (λ rose. calm (inr (inl rose))) why journal.0
+  | inr unheard ↦ connect_7 ask.address door (λ rose. calm (inr (inr rose))) why unheard
+]
+
+-- ---- a session with an honest verifier
+
+some_is_none : {X : Type 0} {x : X} → Some x ≡ None → ⊥
+some_is_none same = cc
+
+ok_is_err : {span : Span} {fault : ClaimFault} → ◌≡◌ {A = Option (Result Span ClaimFault)} (Some (Ok span)) (Some (Err fault)) → ⊥
+ok_is_err same = cc
+
+-- a claim that was refused had no memory
+refused_memory : {L : Type 0} (link_tells : L → LinkState) (ask : ProveAsk) (note : ProverNote L) (told : Option Files) (disk : DiskChange)
+    (door : DoorChange) (asked : HoldsAsked link_tells ask note told disk door)
+    → HasClaims asked.job.file.id asked.job.file.params.total disk.old.content → IsWithHonestPeer link_tells told disk.old ask note
+    → ¬ Rose disk.old.faults disk.new.faults → (fault : ClaimFault) → asked.holds.claim.answer ≡ Some (Err fault) → fault ≡ claim.NoMemory
+refused_memory link_tells ask note told disk door asked has honest calm fault refused =
+    of_asked asked.holds.is_note.granted_is.asked
+  where
+    job : ProverJob
+    job = asked.job
+
+    kept : KeepsClaims (journal_name ask.file) job.file.id job.file.params.total asked.holds.claim disk
+    kept = asked.holds.kept
+
+    of_cause : (given : Grant) → AreFree job.file.params.total kept.slots kept.claims given → (fault : ClaimFault)
+        → AnswersClaim job.file.params.total kept.slots kept.claims (given.start, given.count) (Err fault) disk → fault ≡ claim.NoMemory
+    of_cause given free (claim.Broken first) cause = absurd cause
+    of_cause given free (claim.OutOfRange end) cause = let within = free.within in let beyond = cause.1 in absurd (omega (arith, within, beyond))
+    of_cause given free (claim.Overlap earlier) cause = absurd (some_is_none (sym cause.0 ∙ free.apart))
+    of_cause given free (claim.Full used) cause = let room = free.room in let full = cause.1 in absurd (omega (arith, room, full))
+    of_cause given free claim.Device cause = absurd (calm cause)
+    of_cause given free claim.NoMemory cause = refl
+
+    moved_by : (asked_for : Option (ℕ × ℕ)) (answer : Option (Result Span ClaimFault)) (units : ℕ × ℕ) (fault : ClaimFault)
+        → asked_for ≡ Some units → answer ≡ Some (Err fault)
+        → MovesBy job.file.id job.file.params.total kept.slots kept.claims asked_for answer disk
+        → AnswersClaim job.file.params.total kept.slots kept.claims units (Err fault) disk
+    moved_by asked_for answer units fault was answered moved =
+        (subst (λ (p : Option (ℕ × ℕ) × Option (Result Span ClaimFault)).
+        MovesBy job.file.id job.file.params.total kept.slots kept.claims p.0 p.1 disk) (λ i. (was i, answered i)) moved).cause
+
+    free_of : (given : Grant) → IsGrantRead job note.log given → AreFree job.file.params.total kept.slots kept.claims given
+    free_of given read =
+        let first = kept.recovered has.bytes has.known in
+        honest.free asked.circuit job asked.proved given read has.bytes has.known kept.slots kept.claims first.header.says first.says
+
+    of_asked : IsAskedRight job asked.holds.claim note.log → fault ≡ claim.NoMemory
+    of_asked (inl none) = absurd (some_is_none (sym refused ∙ none))
+    of_asked (inr (given, read, inl claimed)) = absurd (ok_is_err (sym claimed.answer ∙ refused))
+    of_asked (inr (given, read, inr other)) =
+        of_cause given (free_of given read) fault
+        (moved_by asked.holds.claim.asked asked.holds.claim.answer (given.start, given.count) fault other.1.asked refused kept.moved)
+
+note_done : {L : Type 0} (link_tells : L → LinkState) (ask : ProveAsk) (note : ProverNote L) (told : Option Files) (disk : DiskChange)
+    (door : DoorChange) (asked : HoldsAsked link_tells ask note told disk door)
+    → HasClaims asked.job.file.id asked.job.file.params.total disk.old.content → IsWithHonestPeer link_tells told disk.old ask note
+    → ¬ Rose disk.old.faults disk.new.faults → (note.outcome ≡ ended.Accepted) ⊎ (note.outcome ≡ ended.NoMemory)
+note_done {L} link_tells ask note told disk door asked has honest calm = of_answer asked.holds.claim.answer refl
+  where
+    held : IsNote link_tells asked.job asked.holds.claim note
+    held = asked.holds.is_note
+
+    completed : ((fault : ClaimFault) → asked.holds.claim.answer ≡ Some (Err fault) → ⊥) → (note.outcome ≡ ended.Accepted) ⊎ (note.outcome ≡ ended.NoMemory)
+    completed free =
+        let peer = honest.honest asked.circuit asked.job asked.proved in
+        held.complete _ peer.0 peer.1 free
+        (λ rose. honest.calm (subst (λ (n : ℕ). Rose n (link_tells note.link).faults) held.fresh.unfailed rose))
+
+    of_answer : (answer : Option (Result Span ClaimFault)) → asked.holds.claim.answer ≡ answer
+        → (note.outcome ≡ ended.Accepted) ⊎ (note.outcome ≡ ended.NoMemory)
+    of_answer None is = completed (λ fault refused. some_is_none (sym refused ∙ is))
+    of_answer (Some (Ok claimed)) is = completed (λ fault refused. ok_is_err (sym is ∙ refused))
+    of_answer (Some (Err fault)) is =
+        let memory = refused_memory link_tells ask note told disk door asked has honest calm fault is in
+        inr ((held.answers.refused fault is).0 ∙ ap claim_outcome memory)
+
+prove_is_done : {L : Type 0} (link_tells : L → LinkState) → OneCircuit → ClaimsStartAgain → (ask : ProveAsk) (part : Part L) (disk : DiskChange)
+    (door : DoorChange) (run : Effects) → ProveLines link_tells ask part disk door run → ProveMeans ask part disk door run
+    → IsProvable run.shelf.old.told disk.old ask → ¬ HasProveFailed ask disk door run
+    → OfProved part (IsWithHonestPeer link_tells run.shelf.old.told disk.old ask) → IsDone run.status
+prove_is_done {L} link_tells one law ask (Proved note) disk door run says means ready calm honest =
+    of_means means (note_done link_tells ask note run.shelf.old.told disk door says.0
+    (ready.journal says.0.circuit says.0.job says.0.proved) honest (λ rose. calm (inr (inl rose))))
+  where
+    of_means : ProveMeans ask (Proved note) disk door run → (note.outcome ≡ ended.Accepted) ⊎ (note.outcome ≡ ended.NoMemory) → IsDone run.status
+    of_means (inl whole) outcome = inl whole.0
+    of_means (inr (inl other)) (inl same) = absurd (other.1 same)
+    of_means (inr (inl other)) (inr same) = inr (other.0 ∙ ap proved_status same)
+    of_means (inr (inr (inl failed))) outcome = absurd (calm (inl (inr failed.1)))
+    of_means (inr (inr (inr seven))) outcome = inr seven
+prove_is_done link_tells one law ask Plain disk door run says means ready calm honest = elim means [
+  | inl stopped ↦ inr (stopped.2 ∙ stop_7 one law ask disk door run ready calm stopped.0 stopped.1)
+  | inr other ↦ (elim other [ inl failed ↦ absurd (calm (inl (inr failed.1))) | inr seven ↦ inr seven ])
+]
+prove_is_done link_tells one law ask (Rehearsed r) disk door run says means ready calm honest = absurd says
+prove_is_done link_tells one law ask (Served notes) disk door run says means ready calm honest = absurd says
+
+pub proves : {L : Type 0} (link_tells : L → LinkState) → OneCircuit → ClaimsStartAgain → (ask : ProveAsk) (part : Part L) (disk : DiskChange)
+    (door : DoorChange) (run : Effects) → ProveLines link_tells ask part disk door run → OnlyLoads (IsProveName ask) run.shelf
+    → Proves link_tells ask part disk door run
+proves link_tells one law ask part disk door run lines kept =
+    let means = prove_means link_tells ask part disk door run lines in record {
+      lines = lines;
+      means = means;
+      done = λ ready calm honest. prove_is_done link_tells one law ask part disk door run lines means ready calm honest;
+      kept = kept;
+    }

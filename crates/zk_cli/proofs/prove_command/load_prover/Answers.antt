@@ -1,0 +1,23 @@
+use Rattle.std.proofs.Common.{subst, ℕ, List}
+use Rattle.dealer_files.specs.Faults.{IsFirstFault}
+use Rattle.zk_model.specs.declared.Side.TheVariants.{Prover}
+use Rattle.frame_link.proofs.LineLemmas.{fails_at}
+use Rattle.zk_port.specs.Changes.{change}
+use Rattle.zk_cli.specs.declared.refusal.Refusal.TheVariants.{BadFile}
+use Rattle.zk_cli.proofs.Serving.{file_of_load}
+use Rattle.zk_cli.proofs.prove_command.load_prover.Goals as goal
+
+pub returns-in_err-bytes-clause-stop : goal.returns-in_err-bytes-clause-stop
+returns-in_err-bytes-clause-stop g c =
+    let shelf = change (g.F.Shelf.state c.args.shelf.now) (g.F.Shelf.state c.load_file.new.shelf) in
+    fails_at _ c.from_residual.result c.in_err-bytes.field-0.0 c.from_residual.ensures.1
+    (file_of_load Prover c.args.name.now shelf c.in_err-bytes.field-0.0 c.in_err-bytes.ensures.stop)
+
+pub returns-in_err-file-clause-stop : goal.returns-in_err-file-clause-stop
+returns-in_err-file-clause-stop g c =
+    fails_at _ c.from_residual-in_err-file.result (BadFile c.in_err-file.field-0.0) c.from_residual-in_err-file.ensures.1
+    (record {
+      text = c.in_ok-bytes.bytes.items;
+      loaded = c.in_ok-bytes.ensures.loaded;
+      says = subst (λ (bytes : List ℕ). IsFirstFault Prover bytes c.in_err-file.field-0.0) c.deref.ensures.value c.in_err-file.ensures.fault;
+    })

@@ -1,0 +1,51 @@
+use Rattle.std.proofs.Common.{◌≡◌, List, ℕ, map, sym, ap, ◌∙◌, subst}
+use Rattle.sha2.specs.Sha256.{sha256}
+use Rattle.sha2.proofs.Facts256.{length-sha256}
+use Rattle.frame_laws.proofs.Octets.{sha256_octets}
+use Rattle.zk_model.specs.Bits.{from_bit}
+use Rattle.zk_model.specs.Bristol.{IsText}
+use Rattle.zk_model.specs.Bytes.{AreBytes}
+use Rattle.zk_model.specs.HonestProver.{IsWitness}
+use Rattle.zk_model.specs.Statement.{Statement, circuit_statement}
+use Rattle.session_core.specs.Jobs.{AreValues, prover_of}
+use Rattle.session_rehearsal.proofs.Rehearsed.{witness_is}
+use Rattle.zk_cli.proofs.prove_command.load_witness.Given.{Over}
+use Rattle.zk_cli.proofs.prove_command.load_witness.Goals as goal
+
+pub new-requires-clause-digest : goal.new-requires-clause-digest
+new-requires-clause-digest g c = subst (AreBytes 32) (sym c.digest-digest.ensures) (length-sha256 _, sha256_octets _)
+
+stated : (g : Over) (c : goal.After-drop-text-2 g) → c.in_ok-claim.claim
+    ≡ circuit_statement c.in_ok-circuit.circuit (sha256 c.in_ok-text.text.items) c.args.words.now.outputs.now
+stated g c = c.in_ok-claim.ensures
+    ∙ ap (λ (digest : List ℕ). circuit_statement c.in_ok-circuit.circuit digest c.args.words.now.outputs.now) c.digest-digest.ensures
+
+pub returns-clause-witness : goal.returns-clause-witness
+returns-clause-witness g c =
+    let circuit = c.in_ok-circuit.circuit in
+    let text = c.in_ok-text.text.items in
+    let bits = c.args.words.now.bits.now in
+    let outputs = c.args.words.now.outputs.now in
+    let wires = c.in_ok-wires.wires.items in (
+      circuit,
+      record {
+        claim = record {
+          text = text;
+          loaded = c.in_ok-text.ensures.loaded;
+          says = subst (IsText circuit) c.deref.ensures.value c.in_ok-circuit.ensures.says;
+          count = c.in_ok-wires.ensures.count;
+          statement_is = stated g c;
+        };
+        wires_are = c.in_ok-wires.ensures.wires;
+        satisfied = (wires, c.in_ok-wires.ensures.wires, c.in_ok-wires.ensures.outputs);
+        witness = λ file.
+            subst (λ (s : Statement). IsWitness s (map from_bit bits) (map from_bit wires) (prover_of s wires file).given) (sym (stated g c))
+            (witness_is circuit (sha256 text) bits outputs wires c.bits_solve.ensures c.in_ok-circuit.ensures.says.well_formed c.in_ok-wires.ensures.wires);
+      },
+    )
+
+pub returns-clause-values : goal.returns-clause-values
+returns-clause-values g c =
+    subst (λ (s : Statement). AreValues s c.in_ok-wires.wires.items) (sym (stated g c))
+    (c.wire_bits_are_values.ensures c.in_ok-circuit.circuit (sha256 c.in_ok-text.text.items) c.args.words.now.outputs.now c.args.words.now.bits.now
+    c.in_ok-wires.wires.items c.in_ok-circuit.ensures.says.well_formed c.in_ok-wires.ensures.wires)

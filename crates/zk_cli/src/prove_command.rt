@@ -1,0 +1,264 @@
+// `prove ADDRESS FILE CIRCUIT BITS OUTPUTS`
+ghost use Rattle.std.specs.Prelude.{◌≡◌, IfOk, IfErr, OnOk, None, IfSome, drop, length};
+ghost use Rattle.zk_model.specs.Circuit.{Circuit, AreWireBits, output_wire};
+ghost use Rattle.zk_model.specs.declared.Side.TheVariants.{Prover};
+ghost use Rattle.zk_port.specs.Changes.{change};
+ghost use Rattle.session_core.specs.Jobs.{AreValues};
+ghost use Rattle.zk_cli.specs.Journals.{IsJournalDisk, disk_change};
+ghost use Rattle.zk_cli.specs.ProveRuns.{BeginningStop, HoldsAsked, HoldsSession, LacksProof, Proves, ProveStop, prove_words};
+ghost use Rattle.zk_cli.specs.ProveRuns.{DiffersFirst, IsProveName, IsProverFileAt, IsWitnessed, WiresStop, WitnessStop, connect_refusal};
+ghost use Rattle.zk_cli.specs.Runs.{OnlyLoads, IsName, effects};
+ghost use Rattle.zk_cli.specs.Stops.{FileStop};
+
+use crate::circuit_file::{load_file, read_circuit};
+use crate::finish::{Finish, Part};
+use crate::journal_file::open_claims;
+use crate::proved_line::say_proved;
+use crate::refusal::Refusal;
+use crate::say::say_stop;
+use bool_eval::{EvalFault, eval_wires, output_bits};
+use bristol_reader::{Circuit, one_circuit};
+use circuit_laws::{bits_solve, one_outcome};
+use claim_store::claims_start_again;
+use dealer_files::{ProverFile, decode_prover};
+use session_core::{CircuitClaim, ProverJob, wire_bits_are_values};
+use session_prover::{ProverNote, StoreClaimant, prove_session};
+use sha2::{Digest, Sha256};
+use std::alloc::Global;
+use zk_port::{Disk, Door, PortFault, Shelf, Sink};
+
+/// What the words of the command name.
+#[derive(Clone, Copy, Debug)]
+pub struct ProveWords<'a> {
+    pub address: &'a str,
+    pub file: &'a str,
+    pub circuit: &'a str,
+    pub bits: &'a [bool],
+    pub outputs: &'a [bool],
+}
+
+/// A claim, and the bits of all wires that prove it.
+#[derive(Drop)]
+struct Witness {
+    claim: CircuitClaim,
+    wires: Vec<bool>,
+}
+
+/// The first place where two lists of one length differ.
+fn first_difference(some: &[bool], others: &[bool]) -> Option<usize>
+    requires { length others.now ≡ length some.now }
+    ensures same { result ≡ None → some.now ≡ others.now }
+    ensures first { IfSome result (λ place. DiffersFirst place some.now others.now) }
+{
+    for place in 0..some.len() {
+        if some[place] != others[place] {
+            return Some(place);
+        }
+    }
+    None
+}
+
+/// The bits of all wires of a circuit that gives the claimed outputs.
+fn satisfying_wires(
+    alloc: Global,
+    circuit: &Circuit,
+    words: &ProveWords<'_>,
+) -> Result<Vec<bool>, Refusal>
+    ensures wires { IfOk result (λ wires. AreWireBits circuit.now words.now.bits.now wires.items) }
+    ensures outputs { IfOk result (λ wires.
+        drop (output_wire circuit.now 0) wires.items ≡ words.now.outputs.now) }
+    ensures count { IfOk result (λ _. length words.now.outputs.now ≡ circuit.now.outputs) }
+    ensures stop { IfErr result (WiresStop circuit.now (prove_words words.now)) }
+{
+    one_outcome();
+    let _wires = circuit.wires();
+    let wires = match eval_wires(alloc, circuit, words.bits) {
+        Ok(wires) => wires,
+        Err(EvalFault::WrongLength { need, got }) => {
+            return Err(Refusal::WrongBits {
+                need: need as u64,
+                got: got as u64,
+            });
+        }
+        Err(EvalFault::NoMemory) => return Err(Refusal::NoMemory),
+    };
+    if words.outputs.len() != circuit.outputs() {
+        return Err(Refusal::WrongOutputs {
+            need: circuit.outputs() as u64,
+            got: words.outputs.len() as u64,
+        });
+    }
+    match first_difference(output_bits(circuit, &wires), words.outputs) {
+        None => Ok(wires),
+        Some(output) => Err(Refusal::Unsatisfied {
+            output: output as u64,
+        }),
+    }
+}
+
+/// The claim that the words name, and the bits that prove it.
+fn load_witness<F: Shelf>(
+    alloc: Global,
+    shelf: &mut F,
+    words: &ProveWords<'_>,
+) -> Result<Witness, Refusal>
+    ensures witness { IfOk result (λ w. (circuit : Circuit)
+        × IsWitnessed (F.state shelf.old).told (prove_words words.now) circuit w.claim w.wires.items) }
+    ensures values { IfOk result (λ w. AreValues w.claim w.wires.items) }
+    ensures stop { IfErr result (WitnessStop (prove_words words.now)
+        (change (F.state shelf.old) (F.state shelf.new))) }
+    ensures kept { OnlyLoads (IsName words.now.circuit.now) (change (F.state shelf.old) (F.state shelf.new)) }
+    ensures quiet { OnOk result (F.state shelf.new ≡ F.state shelf.old) }
+{
+    bits_solve();
+    wire_bits_are_values();
+    let text = load_file(alloc, shelf, words.circuit)?;
+    let circuit = read_circuit(alloc, &text)?;
+    let wires = satisfying_wires(alloc, &circuit, words)?;
+    let digest = Sha256::digest(&text);
+    let claim = CircuitClaim::new(alloc, &circuit, digest, words.outputs)?;
+    Ok(Witness { claim, wires })
+}
+
+/// The prover's file of this name.
+fn load_prover<F: Shelf>(alloc: Global, shelf: &mut F, name: &str) -> Result<ProverFile, Refusal>
+    ensures file { IfOk result (IsProverFileAt (F.state shelf.old).told name.now) }
+    ensures stop { IfErr result
+        (FileStop Prover name.now (change (F.state shelf.old) (F.state shelf.new))) }
+    ensures kept { OnlyLoads (IsName name.now) (change (F.state shelf.old) (F.state shelf.new)) }
+    ensures quiet { OnOk result (F.state shelf.new ≡ F.state shelf.old) }
+{
+    let bytes = load_file(alloc, shelf, name)?;
+    let file = decode_prover(alloc, &bytes)?;
+    Ok(file)
+}
+
+/// Why there is no link.
+fn connect_stop(fault: PortFault) -> Refusal
+    ensures { result ≡ connect_refusal fault }
+{
+    match fault {
+        PortFault::Failed => Refusal::DoorFailed,
+        PortFault::NoMemory => Refusal::NoMemory,
+    }
+}
+
+/// Opens the file's journal, connects, and holds a session about a job with who listens at the address; and gives the disk back.
+fn prove_job<D: Door, B: Disk>(
+    alloc: Global,
+    job: &ProverJob<'_>,
+    words: &ProveWords<'_>,
+    journal: B,
+    door: &mut D,
+) -> Result<(ProverNote<D::Link>, B), (Refusal, B)>
+    requires disk { IsJournalDisk (B.state journal) }
+    ensures holds { IfOk result (λ r. HoldsSession D.Link.state (prove_words words.now) job.now r.0
+        (disk_change (B.state journal) (B.state r.1)) (change (D.state door.old) (D.state door.new))) }
+    ensures stop { IfErr result (λ r. BeginningStop (prove_words words.now) job.now
+        (disk_change (B.state journal) (B.state r.1)) (change (D.state door.old) (D.state door.new)) r.0) }
+{
+    let store = match open_claims(alloc, journal, words.file, job.file()) {
+        Ok(store) => store,
+        Err(stopped) => return Err(stopped),
+    };
+    let link = match door.connect(alloc, words.address) {
+        Ok(link) => link,
+        Err(fault) => return Err((connect_stop(fault), store.close())),
+    };
+    let mut claimant = StoreClaimant::new(alloc, store);
+    let note = prove_session(alloc, job, &mut claimant, link);
+    Ok((note, claimant.into_store().close()))
+}
+
+/// What the words name: the claim with its proof, and the prover's file.
+fn load_all<F: Shelf>(
+    alloc: Global,
+    shelf: &mut F,
+    words: &ProveWords<'_>,
+) -> Result<(Witness, ProverFile), Refusal>
+    ensures witness { IfOk result (λ r. (circuit : Circuit)
+        × IsWitnessed (F.state shelf.old).told (prove_words words.now) circuit r.0.claim r.0.wires.items) }
+    ensures values { IfOk result (λ r. AreValues r.0.claim r.0.wires.items) }
+    ensures file { IfOk result (λ r. IsProverFileAt (F.state shelf.old).told words.now.file.now r.1) }
+    ensures stop { IfErr result (λ stop. LacksProof (prove_words words.now)
+        (change (F.state shelf.old) (F.state shelf.new)) stop) }
+    ensures kept { OnlyLoads (IsProveName (prove_words words.now))
+        (change (F.state shelf.old) (F.state shelf.new)) }
+    ensures quiet { OnOk result (F.state shelf.new ≡ F.state shelf.old) }
+{
+    let witness = load_witness(alloc, shelf, words)?;
+    let file = load_prover(alloc, shelf, words.file)?;
+    Ok((witness, file))
+}
+
+/// Proves what the words name, or says why not.
+fn prove_files<F: Shelf, D: Door, B: Disk>(
+    alloc: Global,
+    shelf: &mut F,
+    words: &ProveWords<'_>,
+    journal: B,
+    door: &mut D,
+) -> Result<(ProverNote<D::Link>, B), (Refusal, B)>
+    requires disk { IsJournalDisk (B.state journal) }
+    ensures holds { IfOk result (λ r. HoldsAsked D.Link.state (prove_words words.now) r.0
+        (F.state shelf.old).told
+        (disk_change (B.state journal) (B.state r.1)) (change (D.state door.old) (D.state door.new))) }
+    ensures stop { IfErr result (λ r. ProveStop (prove_words words.now)
+        (change (F.state shelf.old) (F.state shelf.new))
+        (disk_change (B.state journal) (B.state r.1)) (change (D.state door.old) (D.state door.new)) r.0) }
+    ensures kept { OnlyLoads (IsProveName (prove_words words.now))
+        (change (F.state shelf.old) (F.state shelf.new)) }
+    ensures quiet { OnOk result (F.state shelf.new ≡ F.state shelf.old) }
+{
+    let (witness, file) = match load_all(alloc, shelf, words) {
+        Ok(loaded) => loaded,
+        Err(refusal) => return Err((refusal, journal)),
+    };
+    let statement = witness.claim.statement();
+    let job = ProverJob::new(&statement, &file, &witness.wires);
+    prove_job(alloc, &job, words, journal, door)
+}
+
+/// `prove ADDRESS FILE CIRCUIT BITS OUTPUTS`: proves to the verifier at the address what the words name, with units that are claimed in the
+/// file's journal, says what came of it and hands it back, or says why nothing is proved; with the status.
+pub fn run_prove<F, D, B, O>(
+    alloc: Global,
+    shelf: &mut F,
+    journal: B,
+    mut door: D,
+    out: &mut O,
+    words: &ProveWords<'_>,
+) -> Finish<B, D>
+where
+    F: Shelf,
+    D: Door + Drop,
+    D::Link: Drop,
+    B: Disk + Drop,
+    O: Sink,
+    requires disk { IsJournalDisk (B.state journal) }
+    ensures proves { Proves D.Link.state (prove_words words.now) result.part
+        (disk_change (B.state journal) (B.state result.journal)) (change (D.state door) (D.state result.door))
+        (effects result.status
+        (change (F.state shelf.old) (F.state shelf.new)) (change (O.state out.old) (O.state out.new))) }
+{
+    one_circuit();
+    claims_start_again();
+    match prove_files(alloc, shelf, words, journal, &mut door) {
+        Ok((note, journal)) => {
+            let count = journal.faults();
+            let status = say_proved(alloc, out, note.granted, count, &note.outcome);
+            Finish {
+                status,
+                journal,
+                door,
+                part: Part::Proved(note),
+            }
+        }
+        Err((refusal, journal)) => Finish {
+            status: say_stop(alloc, out, refusal),
+            journal,
+            door,
+            part: Part::Plain,
+        },
+    }
+}
