@@ -11,6 +11,7 @@ unasked_door = record {
   offers = λ _. 0;
   listened = Some [];
   connected = Some [];
+  made = 0;
   nexts = 0;
   listen_faults = 0;
   connect_faults = 0;

@@ -20,6 +20,7 @@ pub struct MemoryDoor<L: Link, P> {
     called: VecDeque<L>,
     listened: Vec<String>,
     connected: Vec<String>,
+    made: u64,
     nexts: u64,
     listen_faults: u64,
     connect_faults: u64,
@@ -53,6 +54,7 @@ impl<L: Link, P: FaultPlan> MemoryDoor<L, P> {
             called: VecDeque::new(alloc),
             listened: Vec::new(alloc),
             connected: Vec::new(alloc),
+            made: 0,
             nexts: 0,
             listen_faults: 0,
             connect_faults: 0,
@@ -101,6 +103,7 @@ impl<L: Link, P: FaultPlan> Door for MemoryDoor<L, P> {
       offers = λ _. deque_len d.waiting;
       listened = Some (map string_bytes d.listened.items);
       connected = Some (map string_bytes d.connected.items);
+      made = d.made;
       nexts = d.nexts;
       listen_faults = d.listen_faults;
       connect_faults = d.connect_faults;
@@ -120,6 +123,7 @@ impl<L: Link, P: FaultPlan> Door for MemoryDoor<L, P> {
         ensures connects { self.new.connect_faults ≡ self.old.connect_faults }
         ensures nexts { self.new.next_faults ≡ self.old.next_faults }
         ensures uncalled { self.new.nexts ≡ self.old.nexts }
+        ensures made { self.new.made ≡ self.old.made }
         ensures fails { is_failed result ≡ P.coming self.old.plan 0 }
         ensures onward { (n : ℕ) → P.coming self.new.plan n ≡ P.coming self.old.plan (n + 1) }
     {
@@ -147,6 +151,8 @@ impl<L: Link, P: FaultPlan> Door for MemoryDoor<L, P> {
         ensures listens { self.new.listen_faults ≡ self.old.listen_faults }
         ensures nexts { self.new.next_faults ≡ self.old.next_faults }
         ensures uncalled { self.new.nexts ≡ self.old.nexts }
+        ensures made { OnOk result (self.new.made ≡ counted true self.old.made) }
+        ensures unmade { OnErr result (self.new.made ≡ self.old.made) }
         ensures fails { P.coming self.old.plan 0 ≡ true → IsTrue (is_failed result) }
         ensures onward { (n : ℕ) → P.coming self.new.plan n ≡ P.coming self.old.plan (n + 1) }
     {
@@ -157,7 +163,10 @@ impl<L: Link, P: FaultPlan> Door for MemoryDoor<L, P> {
         }
         noted?;
         match self.called.pop_front() {
-            Some(link) => Ok(link),
+            Some(link) => {
+                self.made = self.made.saturating_add(1);
+                Ok(link)
+            }
             None => {
                 if self.plan.fails_without() {
                     self.connect_faults = self.connect_faults.saturating_add(1);
@@ -183,6 +192,7 @@ impl<L: Link, P: FaultPlan> Door for MemoryDoor<L, P> {
         ensures failed { self.new.next_faults ≡ counted (is_failed result) self.old.next_faults }
         ensures listens { self.new.listen_faults ≡ self.old.listen_faults }
         ensures connects { self.new.connect_faults ≡ self.old.connect_faults }
+        ensures made { self.new.made ≡ self.old.made }
         ensures fails { is_failed result ≡ P.coming self.old.plan 0 }
         ensures onward { (n : ℕ) → P.coming self.new.plan n ≡ P.coming self.old.plan (n + 1) }
     {

@@ -17,6 +17,7 @@ pub struct TcpDoor<R: Net> {
     rt: R,
     listener: Option<R::Listener>,
     left: u32,
+    made: u64,
     nexts: u64,
     listen_faults: u64,
     connect_faults: u64,
@@ -31,6 +32,7 @@ impl<R: Net> TcpDoor<R> {
           offers = λ n. n;
           listened = None;
           connected = None;
+          made = 0;
           nexts = 0;
           listen_faults = 0;
           connect_faults = 0;
@@ -41,6 +43,7 @@ impl<R: Net> TcpDoor<R> {
             rt,
             listener: None,
             left: 0,
+            made: 0,
             nexts: 0,
             listen_faults: 0,
             connect_faults: 0,
@@ -78,6 +81,7 @@ impl<R: Net> Door for TcpDoor<R> {
       offers = λ n. n;
       listened = None;
       connected = None;
+      made = d.made;
       nexts = d.nexts;
       listen_faults = d.listen_faults;
       connect_faults = d.connect_faults;
@@ -97,7 +101,10 @@ impl<R: Net> Door for TcpDoor<R> {
 
     fn connect(&mut self, _alloc: Global, address: &str) -> Result<Self::Link, PortFault> {
         match self.call(address) {
-            Ok(link) => Ok(link),
+            Ok(link) => {
+                self.made = self.made.saturating_add(1);
+                Ok(link)
+            }
             Err(error) => Err(refusal(error, &mut self.connect_faults)),
         }
     }

@@ -10,6 +10,7 @@ no_door = record {
   offers = λ _. 0;
   listened = None;
   connected = None;
+  made = 0;
   nexts = 0;
   listen_faults = 0;
   connect_faults = 0;

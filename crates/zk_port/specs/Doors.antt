@@ -5,13 +5,14 @@ use Rattle.zk_port.specs.Logs.{appended, NotesOnce}
 use Rattle.zk_port.specs.Links.{LinkState}
 
 -- how many links `next` can still give, and how many that will be after a listen for so many sessions; the addresses that were
--- listened at and connected to, in order, where the door tells them; how often `next` was called; and how often a call of each kind
--- has failed. A count at the end of its type stays there.
+-- listened at and connected to, in order, where the door tells them; how many links `connect` gave; how often `next` was called; and how
+-- often a call of each kind has failed. A count at the end of its type stays there.
 pub record DoorState : Type 0 where
   pub left : ℕ
   pub offers : ℕ → ℕ
   pub listened : Option (List (List ℕ))
   pub connected : Option (List (List ℕ))
+  pub made : ℕ
   pub nexts : ℕ
   pub listen_faults : ℕ
   pub connect_faults : ℕ
@@ -22,16 +23,17 @@ abbrev pub after_listen : List ℕ → ℕ → DoorState → DoorState
 after_listen address sessions old =
     record old { left = old.offers sessions; listened = appended (address ∷ []) old.listened }
 
--- after a connect to this address
+-- after a connect to this address, which gave a link
 abbrev pub after_connect : List ℕ → DoorState → DoorState
-after_connect address old = record old { connected = appended (address ∷ []) old.connected }
+after_connect address old =
+    record old { connected = appended (address ∷ []) old.connected; made = counted true old.made }
 
 -- after a listen that was refused
 pub record RefusesListen (address : List ℕ) (old new : DoorState) : Type 0 where
   pub noted : NotesOnce address old.listened new.listened
   pub rest : new ≡ record old { listened = new.listened; listen_faults = new.listen_faults }
 
--- after a connect that was refused
+-- after a connect that was refused: no link was given
 pub record RefusesConnect (address : List ℕ) (old new : DoorState) : Type 0 where
   pub noted : NotesOnce address old.connected new.connected
   pub rest : new ≡ record old { connected = new.connected; connect_faults = new.connect_faults }

@@ -1,0 +1,149 @@
+// Both ends of a session in one process, over a connection of this machine.
+ghost use Rattle.std.specs.Prelude.{IfOk};
+ghost use Rattle.zk_cli.specs.Journals.{IsJournalDisk};
+
+use crate::run_tests::{AND, SEED, words_of};
+use crate::vectors::FILE_ID;
+use lease_journal::{JournalKind, blank, blank_says_nothing};
+use memory_ports::{MemoryDoor, MemoryShelf, MemorySink, NoFault, ScriptedLink, SureDisk};
+use port_os::TcpDoor;
+use std::alloc::{AllocError, Global};
+use std::collections::BTreeMap;
+use std::net::{Net, OpenListener, TcpListener};
+use std::sync::Wait;
+use std::test::Fail;
+use std::thread::{self, Threads, join};
+use std::time::{Clock, Duration};
+use zk_cli::{Finish, run_zk};
+use zk_port::{Disk, QuietGate, Sink};
+
+/// How often the prover tries to connect, a millisecond apart.
+const TRIES: u32 = 2_000;
+
+type Files = MemoryShelf<NoFault>;
+
+/// How a run ended: its status, and what it wrote.
+#[derive(Drop)]
+struct Ended {
+    status: u8,
+    written: Vec<u8>,
+}
+
+/// A disk that never fails, with a new journal of one slot of the dealt files.
+fn new_journal(alloc: Global, kind: JournalKind) -> Result<SureDisk, AllocError>
+    ensures { IfOk result (λ disk. IsJournalDisk (⟦<SureDisk as Disk>⟧.state disk)) }
+{
+    blank_says_nothing();
+    let bytes = blank(alloc, kind, &FILE_ID, 4, 1)?;
+    let disk = SureDisk::new(bytes, 64 + 32)?;
+    Ok(disk)
+}
+
+/// The files that `deal x --units 4` gives, and the gate's text under `c`.
+fn dealt<R: Threads + Wait + Sync>(rt: &R, alloc: Global) -> Result<Files, Fail> {
+    let words = words_of(alloc, &["deal", "x", "--units", "4"])?;
+    let mut files = BTreeMap::new(alloc);
+    files.insert(String::from_str(alloc, "c")?, AND.as_bytes().to_vec(alloc)?)?;
+    let mut shelf = MemoryShelf::new(files, NoFault);
+    let mut out = MemorySink::new(alloc, NoFault);
+    let door: MemoryDoor<ScriptedLink<NoFault>, NoFault> = MemoryDoor::new(alloc, NoFault);
+    let disk = new_journal(alloc, JournalKind::Claims)?;
+    let finish = run_zk(
+        rt, alloc, &words, &mut shelf, disk, door, &QuietGate, &SEED, &mut out,
+    );
+    if finish.status != 0 {
+        return Err(Fail::new("not dealt"));
+    }
+    Ok(shelf)
+}
+
+/// An address of this machine at which nobody listens now.
+fn free_address<R: Net>(rt: &R, alloc: Global) -> Result<String, Fail> {
+    let listener = TcpListener::bind(rt, "127.0.0.1:0")?;
+    let address = listener.local_addr()?;
+    Ok(format!(in alloc; "{address}")?)
+}
+
+/// A run over these files, a new journal of this kind and connections of this machine.
+fn run_party<R>(
+    rt: &R,
+    alloc: Global,
+    words: &[String],
+    shelf: &mut Files,
+    kind: JournalKind,
+) -> Result<Ended, AllocError>
+where
+    R: Threads + Wait + Sync + Net,
+    R::Stream: Send,
+    R::Listener: Send,
+{
+    let mut out = MemorySink::new(alloc, NoFault);
+    let disk = new_journal(alloc, kind)?;
+    let Finish { status, .. } = run_zk(
+        rt,
+        alloc,
+        words,
+        shelf,
+        disk,
+        TcpDoor::new(rt),
+        &QuietGate,
+        &SEED,
+        &mut out,
+    );
+    Ok(Ended {
+        status,
+        written: out.bytes().to_vec(alloc)?,
+    })
+}
+
+/// The verifier's run: one session.
+fn serve<R>(rt: &R, alloc: Global, address: &str, mut shelf: Files) -> Result<Ended, AllocError>
+where
+    R: Threads + Wait + Sync + Net,
+    R::Stream: Send,
+    R::Listener: Send,
+{
+    let words = words_of(
+        alloc,
+        &["serve", address, "x.verifier", "c", "1", "--sessions", "1"],
+    )?;
+    run_party(rt, alloc, &words, &mut shelf, JournalKind::Ceilings)
+}
+
+/// The prover's run, once the verifier listens.
+fn prove<R>(rt: &R, alloc: Global, address: &str, mut shelf: Files) -> Result<Ended, AllocError>
+where
+    R: Threads + Wait + Sync + Net + Clock,
+    R::Stream: Send,
+    R::Listener: Send,
+{
+    let words = words_of(alloc, &["prove", address, "x.prover", "c", "11", "1"])?;
+    let mut ended = run_party(rt, alloc, &words, &mut shelf, JournalKind::Claims)?;
+    for _ in 0..TRIES {
+        if ended.written.as_slice() != b"failed door\n".as_slice() {
+            break;
+        }
+        thread::sleep(rt, Duration::from_millis(1));
+        ended = run_party(rt, alloc, &words, &mut shelf, JournalKind::Claims)?;
+    }
+    Ok(ended)
+}
+
+/// `serve` and `prove` on two threads: both say that the session was accepted.
+#[test]
+fn both_ends_agree(rt: HostRuntime) -> Result<(), Fail> {
+    let alloc: Global = rt.alloc();
+    let address = free_address(&rt, alloc)?;
+    let (verifiers, provers) = (dealt(&rt, alloc)?, dealt(&rt, alloc)?);
+    let (host, place) = (&rt, address.as_str());
+    let (served, proved) = join(
+        host,
+        move || serve(host, alloc, place, verifiers),
+        move || prove(host, alloc, place, provers),
+    );
+    for ended in [served?, proved?] {
+        assert!(rt; ended.status == 0);
+        assert!(rt; ended.written.as_slice() == b"units 0..1 accepted\n".as_slice());
+    }
+    Ok(())
+}
