@@ -16,8 +16,8 @@ CRATES = pathlib.Path(__file__).resolve().parent.parent / "crates"
 HEADLINE = [
     "zk_cli.specs.ServedNotes.IsHeadline",
     "zk_cli.specs.ServedNotes.GrantsOnceIn",
-    "zk_cli.specs.Journals.disk_change",
-    "zk_cli.specs.Journals.IsJournalDisk",
+    "file_commands.specs.Journals.disk_change",
+    "file_commands.specs.Journals.IsJournalDisk",
     "zk_cli.specs.Runs.EachNote",
     "command_words.specs.Words.asked",
     "command_words.specs.Words.texts",

@@ -66,7 +66,7 @@ def honest(address: Tuple[str, int]) -> Seen:
     """A prover that says what an honest one does."""
     end = Prover("p", Socket(address))
     try:
-        prove_steps(end, JOB, None)
+        prove_steps(end, JOB, lambda start, count: None)
     except Ended as ended:
         return seen(end, str(ended), "accepted")
     assert False

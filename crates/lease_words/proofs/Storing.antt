@@ -72,10 +72,10 @@ newest_last b next shown views seat v e m at pass mir u =
     ∙ last_pushed (map span_of u.before) (span_of e)
 
 -- what is_open wants
-opened : (o : Option Span) (s : Span) (spent : List Span) (test : Span → Bool) → o ≡ Some s → has_span s spent ≡ false → test s ≡ true → is_open o spent test ≡ true
+pub opened : (o : Option Span) (s : Span) (spent : List Span) (test : Span → Bool) → o ≡ Some s → has_span s spent ≡ false → test s ≡ true → is_open o spent test ≡ true
 opened o s spent test is new ok = ap (λ (x : Option Span). is_open x spent test) is ∙ and_from (not (has_span s spent)) (test s) (ap not new) ok
 
-same_self : (s : Span) → same_span s s ≡ true
+pub same_self : (s : Span) → same_span s s ≡ true
 same_self s = and_from (nat_eq s.start s.start) (nat_eq s.end s.end) (eq-eqb s.start s.start refl) (eq-eqb s.end s.end refl)
 
 pub spend_is_event : SpendIsEvent
@@ -104,7 +104,7 @@ none_had s (x ∷ xs) h = by_test (same_span x s) refl (none_had s xs (λ k d l.
   by_test false is e = ap (λ (b : Bool). b || has_span s xs) is ∙ e
 
 -- a span that is drawn next is none of those spent
-next_unspent : (m : Machine) (count : ℕ) → IsConsistent m → 0 < count → has_span (span m.next (m.next + count)) m.spent ≡ false
+pub next_unspent : (m : Machine) (count : ℕ) → IsConsistent m → 0 < count → has_span (span m.next (m.next + count)) m.spent ≡ false
 next_unspent m count c some_count = none_had (span m.next (m.next + count)) m.spent (λ k d l e. differs (get_or m.spent k d) e (c.spent_drawn k d l)) where
   differs : (s : Span) → s ≡ span m.next (m.next + count) → (Contains (spans_of m.drawn) s ⊎ (s.end ≤ m.base)) → ⊥
   differs s e (inl h) = let w = All-contains (IsWithin m.base m.next) (spans_of m.drawn) s c.drawn_within h in let at : s.end ≡ m.next + count = ap (λ (x : Span). x.end) e in let top = w.2 in absurd (omega arith)

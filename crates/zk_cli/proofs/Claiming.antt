@@ -12,8 +12,8 @@ use Rattle.claim_store.specs.Claims.{ClaimState, AreClaims, AreDurable, SaysClai
 use Rattle.claim_store.specs.declared.ClaimFault.{ClaimFault}
 use Rattle.claim_store.specs.declared.ClaimFault.TheVariants.{Broken, OutOfRange, Overlap, Full, Device, NoMemory}
 use Rattle.session_prover.specs.Stores.{Claims}
-use Rattle.zk_cli.specs.ClaimedUnits.{AllFind, AllMayFind, AnswersClaim, FindsClaims, KeepsClaims, LeavesAll, LeavesClaims, LeavesEither, LeavesWhole, MayFind, MovesClaims}
-use Rattle.zk_cli.specs.Journals.{OpensJournal, disk_change}
+use Rattle.file_commands.specs.ClaimedUnits.{AllFind, AllMayFind, AnswersClaim, FindsClaims, KeepsClaims, LeavesAll, LeavesClaims, LeavesEither, LeavesWhole, MayFind, MovesClaims}
+use Rattle.file_commands.specs.Journals.{OpensJournal, disk_change}
 
 some_of : {X : Type 0} (o : Option X) (x : X) (P : X → Type 0) → o ≡ Some x → IfSome o P → P x
 some_of None x P is if = cc
@@ -275,9 +275,9 @@ module _ {D : Type 0} (disk_state : D → DiskState) (old : DiskState) (store : 
       → (disk_state later.disk).images_since t image)
       (asked : Option (ℕ × ℕ)) (answer : Option (Result Span ClaimFault))
       → MatchOption answer (later ≡ store) (λ a. IsSomeAnd asked (λ units. Claims disk_state store units.0 units.1 a later))
-      → KeepsClaims name id total (record { asked = asked; answer = answer }) (disk_change old (disk_state later.disk))
+      → KeepsClaims name id total asked answer (disk_change old (disk_state later.disk))
   keeps_claims later whole total_is sound closed counts_now asked None same =
-      subst (λ (s : ClaimState D). KeepsClaims name id total (record { asked = asked; answer = None }) (disk_change old (disk_state s.disk))) (sym same)
+      subst (λ (s : ClaimState D). KeepsClaims name id total asked None (disk_change old (disk_state s.disk))) (sym same)
       (record {
         chosen = opens.chosen;
         room = opens.stays.room;

@@ -9,24 +9,25 @@ use Rattle.zk_port.specs.Doors.{DoorState}
 use Rattle.zk_port.specs.Links.{LinkState}
 use Rattle.zk_port.specs.Shelves.{ShelfState}
 use Rattle.command_words.specs.Words.{Ask, rehearse, eval, deal, serve, prove}
-use Rattle.zk_cli.specs.Journals.{disk_change}
+use Rattle.file_commands.specs.Journals.{disk_change}
 use Rattle.zk_cli.specs.Meets.{Meets}
-use Rattle.zk_cli.specs.Runs.{SinkChange, Effects, IsName, effects, run_of}
+use Rattle.file_commands.specs.Effects.{SinkChange, Effects, IsName, effects}
+use Rattle.zk_cli.specs.Runs.{run_of}
 use Rattle.zk_cli.specs.ProveRuns.{IsProveName}
 use Rattle.zk_cli.specs.ServeRuns.{IsServeName}
-use Rattle.zk_cli.specs.Stops.{Prints, SaysStop, stop_line, stop_status}
+use Rattle.file_commands.specs.Stops.{Prints, SaysStop, stop_line, stop_status}
 use Rattle.zk_cli.specs.declared.finish.Part.TheVariants.{Plain}
-use Rattle.zk_cli.specs.declared.refusal.Refusal.{Refusal}
-use Rattle.zk_cli.specs.declared.refusal.Refusal.TheVariants.{NoMemory}
-use Rattle.zk_cli.proofs.Asking.{asks_nothing, loads_nothing}
-use Rattle.zk_cli.proofs.DealOutcomes.{deals, stores_none}
-use Rattle.zk_cli.proofs.EvalOutcomes.{evaluates}
+use Rattle.file_commands.specs.declared.refusal.Refusal.{Refusal}
+use Rattle.file_commands.specs.declared.refusal.Refusal.TheVariants.{NoMemory}
+use Rattle.file_commands.proofs.Asking.{asks_nothing, loads_nothing}
+use Rattle.file_commands.proofs.DealOutcomes.{deals, stores_none}
+use Rattle.file_commands.proofs.EvalOutcomes.{evaluates}
 use Rattle.zk_cli.proofs.RehearseOutcomes.{rehearses}
 use Rattle.zk_cli.proofs.ProveOutcomes.{proves}
-use Rattle.zk_cli.proofs.Opening.{untouched}
+use Rattle.file_commands.proofs.Journals.{untouched}
 use Rattle.zk_cli.proofs.ServeDone.{serves}
 use Rattle.zk_cli.proofs.Serving.{others_same}
-use Rattle.zk_cli.proofs.Storing.{stores_nothing}
+use Rattle.file_commands.proofs.Storing.{stores_nothing}
 
 pub meets_memory : {F L B D : Type 0} (shelf_tells : F → ShelfState) (door_tells : D → DoorState) (link_tells : L → LinkState)
     → OneCircuit → StartsAgain → ClaimsStartAgain → (ask : Ask) (seed : List ℕ) (status : ℕ) (sink : SinkChange) (files : F) (journal : B) (links : D) (disk : DiskState)

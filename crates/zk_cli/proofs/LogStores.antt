@@ -8,12 +8,12 @@ use Rattle.zk_port.specs.Files.{Files, stored}
 use Rattle.zk_port.specs.Files as port
 use Rattle.zk_port.specs.Shelves.{ShelfState}
 use Rattle.session_verifier.specs.declared.note.SessionNote.{SessionNote}
-use Rattle.zk_cli.specs.DealRuns.{all_stored}
-use Rattle.zk_cli.specs.Runs.{CountsStay}
+use Rattle.file_commands.specs.DealRuns.{all_stored}
+use Rattle.file_commands.specs.Effects.{CountsStay}
 use Rattle.zk_cli.specs.ServiceLogs.{KeepsLogs, KeepsStores, log_name, log_store, log_stores}
-use Rattle.zk_cli.specs.declared.refusal.Refusal.{Refusal}
+use Rattle.file_commands.specs.declared.refusal.Refusal.{Refusal}
 use Rattle.std.proofs.lemmas.List.{take_all}
-use Rattle.zk_cli.proofs.Storing.{StopsAt, stops_behind, stops_first}
+use Rattle.file_commands.proofs.Storing.{StopsAt, stops_behind, stops_first}
 
 -- nothing is stored where nothing is to be
 pub keeps_nothing : (a : ShelfState) → KeepsStores [] (change a a) None

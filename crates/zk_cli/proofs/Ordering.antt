@@ -16,8 +16,8 @@ use Rattle.session_verifier.specs.Outcomes.{lease_fault}
 use Rattle.session_verifier.specs.Sessions.{IsNote}
 use Rattle.session_verifier.specs.declared.note.SessionNote.{SessionNote}
 use Rattle.command_words.specs.Words.{ServeAsk}
-use Rattle.zk_cli.specs.Journals.{DiskChange}
-use Rattle.zk_cli.specs.Runs.{DoorChange}
+use Rattle.file_commands.specs.Journals.{DiskChange}
+use Rattle.file_commands.specs.Effects.{DoorChange}
 use Rattle.zk_cli.specs.ServeRuns.{LeadsFiles, LeadsJob}
 
 apart_both : (a b : Option Span) → AreApart a b → AreApart b a

@@ -24,18 +24,18 @@ use Rattle.session_prover.specs.declared.note.ProverNote.{ProverNote}
 use Rattle.session_prover.specs.declared.note.ProverOutcome.{ProverOutcome}
 use Rattle.session_prover.specs.declared.note.ProverOutcome.TheVariants as ended
 use Rattle.command_words.specs.Words.{ProveAsk}
-use Rattle.zk_cli.specs.ClaimedUnits.{AnswersClaim, KeepsClaims, MovesBy}
-use Rattle.zk_cli.specs.Journals.{DiskChange, JournalStop, journal_name}
-use Rattle.zk_cli.specs.ProveRuns.{AreFree, ConnectStop, HasClaims, HasProveFailed, HoldsAsked, IsClaimsFault, IsProvable, IsProveName, IsSatisfied, IsWithHonestPeer}
+use Rattle.file_commands.specs.ClaimedUnits.{AnswersClaim, KeepsClaims, MovesBy}
+use Rattle.file_commands.specs.Journals.{DiskChange, JournalStop, journal_name, IsClaimsFault, HasClaims}
+use Rattle.zk_cli.specs.ProveRuns.{AreFree, HasProveFailed, HoldsAsked, IsProvable, IsProveName, IsSatisfied, IsWithHonestPeer}
+use Rattle.file_commands.specs.Stops.{ConnectStop, PrintsMade, stop_line, stop_status}
 use Rattle.zk_cli.specs.ProveRuns.{OfProved, ProveLines, ProveMeans, Proves, ProveStop, WiresStop, WitnessStop, proved_line, proved_status}
-use Rattle.zk_cli.specs.Runs.{ShelfChange, DoorChange, Effects, NameFailed, OnlyLoads, IsDone}
-use Rattle.zk_cli.specs.Stops.{PrintsMade, stop_line, stop_status}
+use Rattle.file_commands.specs.Effects.{ShelfChange, DoorChange, Effects, NameFailed, OnlyLoads, IsDone}
 use Rattle.zk_cli.specs.declared.finish.Part.{Part}
 use Rattle.zk_cli.specs.declared.finish.Part.TheVariants.{Plain, Proved, Rehearsed, Served}
-use Rattle.zk_cli.specs.declared.refusal.Refusal.{Refusal}
-use Rattle.zk_cli.specs.declared.refusal.Refusal.TheVariants as stop
-use Rattle.zk_cli.proofs.Causes.{circuit_lacks, file_7, told_circuit}
-use Rattle.zk_cli.proofs.Means.{any_answers, zero_answers}
+use Rattle.file_commands.specs.declared.refusal.Refusal.{Refusal}
+use Rattle.file_commands.specs.declared.refusal.Refusal.TheVariants as stop
+use Rattle.file_commands.proofs.Causes.{circuit_lacks, file_7, told_circuit}
+use Rattle.file_commands.proofs.Means.{any_answers, zero_answers}
 
 -- ---- what the status says
 
@@ -154,7 +154,7 @@ refused_memory link_tells ask note told disk door asked has honest calm fault re
     job : ProverJob
     job = asked.job
 
-    kept : KeepsClaims (journal_name ask.file) job.file.id job.file.params.total asked.holds.claim disk
+    kept : KeepsClaims (journal_name ask.file) job.file.id job.file.params.total asked.holds.claim.asked asked.holds.claim.answer disk
     kept = asked.holds.kept
 
     of_cause : (given : Grant) → AreFree job.file.params.total kept.slots kept.claims given → (fault : ClaimFault)

@@ -6,14 +6,14 @@ use Rattle.bristol_reader.specs.Laws.{OneCircuit}
 use Rattle.command_words.specs.Words.{RehearseAsk}
 use Rattle.session_rehearsal.specs.Rehearsals.{EndsWithVerdict, rehearsal_units}
 use Rattle.zk_cli.specs.RehearseRuns.{Rehearses, RehearseLines, RehearseStop, Accepts, AnswersFor, verdict_status, rehearsal_lines}
-use Rattle.zk_cli.specs.Runs.{ShelfChange, Effects, OnlyLoads, IsName, HasFailed, NameFailed}
-use Rattle.zk_cli.specs.Stops.{CircuitStop, IsOfStop, IsReady, PrintsMade, StatusMeans, stop_status}
+use Rattle.file_commands.specs.Effects.{ShelfChange, Effects, OnlyLoads, IsName, HasFailed, NameFailed}
+use Rattle.file_commands.specs.Stops.{CircuitStop, IsOfStop, IsReady, PrintsMade, StatusMeans, stop_status}
 use Rattle.zk_cli.specs.declared.finish.Part.{Part}
 use Rattle.zk_cli.specs.declared.finish.Part.TheVariants.{Plain, Proved, Rehearsed, Served}
-use Rattle.zk_cli.specs.declared.refusal.Refusal.{Refusal}
-use Rattle.zk_cli.specs.declared.refusal.Refusal.TheVariants as stop
-use Rattle.zk_cli.proofs.Causes.{told_circuit, circuit_lacks}
-use Rattle.zk_cli.proofs.Means.{made_means, stop_means}
+use Rattle.file_commands.specs.declared.refusal.Refusal.{Refusal}
+use Rattle.file_commands.specs.declared.refusal.Refusal.TheVariants as stop
+use Rattle.file_commands.proofs.Causes.{told_circuit, circuit_lacks}
+use Rattle.file_commands.proofs.Means.{made_means, stop_means}
 
 pub rehearse_of_circuit : (ask : RehearseAsk) (shelf : ShelfChange) (why : Refusal) → CircuitStop ask.circuit shelf why
     → RehearseStop ask shelf why

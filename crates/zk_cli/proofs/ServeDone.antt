@@ -21,18 +21,19 @@ use Rattle.session_verifier.specs.declared.note.SessionNote.{SessionNote}
 use Rattle.session_verifier.specs.declared.note.VerifierOutcome.{VerifierOutcome}
 use Rattle.session_verifier.specs.declared.note.VerifierOutcome.TheVariants.{Accepted, NoMemory}
 use Rattle.command_words.specs.Words.{ServeAsk}
-use Rattle.zk_cli.specs.Journals.{DiskChange, JournalStop}
+use Rattle.file_commands.specs.Journals.{DiskChange, JournalStop, IsCeilingsFault, LeavesUnits}
 use Rattle.zk_cli.specs.NoteLines.{has_status, outcome_status}
-use Rattle.zk_cli.specs.Runs.{ShelfChange, DoorChange, Effects, NameFailed, OthersStay, OnlyAsks, EachNote, IsDone}
-use Rattle.zk_cli.specs.ServeRuns.{IsServeName, ClaimStop, ListenStop, IsCeilingsFault, OpeningStop, ServeStop, LeadsFiles, ServeLines}
-use Rattle.zk_cli.specs.ServeRuns.{IsServable, LeavesUnits, HasServeFailed, IsWithHonestPeer, NotesMean, ServeMeans, Serves}
+use Rattle.file_commands.specs.Effects.{ShelfChange, DoorChange, Effects, NameFailed, OthersStay, OnlyAsks, IsDone}
+use Rattle.zk_cli.specs.Runs.{EachNote}
+use Rattle.zk_cli.specs.ServeRuns.{IsServeName, ClaimStop, OpeningStop, ServeStop, LeadsFiles, ServeLines}
+use Rattle.file_commands.specs.Stops.{ListenStop, stop_status}
+use Rattle.zk_cli.specs.ServeRuns.{IsServable, HasServeFailed, IsWithHonestPeer, NotesMean, ServeMeans, Serves}
 use Rattle.zk_cli.specs.ServiceLogs.{IsLogName}
-use Rattle.zk_cli.specs.Stops.{stop_status}
 use Rattle.zk_cli.specs.declared.finish.Part.{Part}
 use Rattle.zk_cli.specs.declared.finish.Part.TheVariants.{Plain, Proved, Rehearsed, Served}
-use Rattle.zk_cli.specs.declared.refusal.Refusal.{Refusal}
-use Rattle.zk_cli.specs.declared.refusal.Refusal.TheVariants as stop
-use Rattle.zk_cli.proofs.Causes.{told_circuit, circuit_lacks, file_7}
+use Rattle.file_commands.specs.declared.refusal.Refusal.{Refusal}
+use Rattle.file_commands.specs.declared.refusal.Refusal.TheVariants as stop
+use Rattle.file_commands.proofs.Causes.{told_circuit, circuit_lacks, file_7}
 use Rattle.zk_cli.proofs.LeaseCauses.{not_refused, refusal_is_told, says_one_ceiling}
 use Rattle.zk_cli.proofs.ServeOutcomes.{either_is, serve_means}
 

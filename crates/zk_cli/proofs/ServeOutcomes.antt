@@ -11,18 +11,18 @@ use Rattle.session_verifier.specs.declared.note.SessionNote.{SessionNote}
 use Rattle.session_verifier.specs.declared.note.VerifierOutcome.{VerifierOutcome}
 use Rattle.session_verifier.specs.declared.note.VerifierOutcome.TheVariants.{Accepted, RejectedSum, RejectedOpening, PeerEnded, BadFrame, BadHello, Exhausted, Device, Broken, Link, NoMemory}
 use Rattle.command_words.specs.Words.{ServeAsk}
-use Rattle.zk_cli.specs.DealRuns.{next_name}
-use Rattle.zk_cli.specs.Journals.{DiskChange}
+use Rattle.file_commands.specs.DealRuns.{next_name}
+use Rattle.file_commands.specs.Journals.{DiskChange}
 use Rattle.zk_cli.specs.NoteLines.{IsServedText, has_status, served_status, failures, outcome_status}
-use Rattle.zk_cli.specs.Runs.{ShelfChange, DoorChange, Effects, SomeFailed}
+use Rattle.file_commands.specs.Effects.{ShelfChange, DoorChange, Effects, SomeFailed}
 use Rattle.zk_cli.specs.ServeRuns.{ServeLines, ServeStop, NotesMean, ServeMeans, SaysNotes}
 use Rattle.zk_cli.specs.ServiceLogs.{IsLogName, KeepsLogs, log_store, log_stores, is_shelf_failed, is_memory_missing}
-use Rattle.zk_cli.specs.Stops.{Prints, after_sink_fault}
+use Rattle.file_commands.specs.Stops.{Prints, after_sink_fault}
 use Rattle.zk_cli.specs.declared.finish.Part.{Part}
 use Rattle.zk_cli.specs.declared.finish.Part.TheVariants.{Plain, Proved, Rehearsed, Served}
-use Rattle.zk_cli.specs.declared.refusal.Refusal.{Refusal}
-use Rattle.zk_cli.specs.declared.refusal.Refusal.TheVariants as stop
-use Rattle.zk_cli.proofs.Means.{IsHigh, stop_answers}
+use Rattle.file_commands.specs.declared.refusal.Refusal.{Refusal}
+use Rattle.file_commands.specs.declared.refusal.Refusal.TheVariants as stop
+use Rattle.file_commands.proofs.Means.{IsHigh, stop_answers}
 
 true_is_false : true ≡ false → ⊥
 true_is_false same = cc

@@ -1,12 +1,9 @@
 -- What a verifier that serves composes: its files, its notes, and what it says.
 use Rattle.std.proofs.Common.{◌≡◌, ◌≤◌, ℕ, Bool, List, All, Option, Some, None, get_or, sym, ap, subst, inl, inr, arith}
+use Rattle.std.specs.List.Sorted.{IsNonDecreasingBy}
 use Rattle.zk_model.specs.Circuit.{Circuit}
-use Rattle.zk_model.specs.Files.{ProverFile, VerifierFile, AreDealt}
-use Rattle.zk_model.specs.Transcript.{Transcript, IsCommitment, IsTranscript}
-use Rattle.zk_model.specs.declared.Params.{Params}
 use Rattle.sha2.specs.Sha256.{sha256}
-use Rattle.zk_laws.proofs.FindingShows.{claims_are}
-use Rattle.zk_laws.specs.Extraction.{IsExtracted, NoErrorSolves}
+use Rattle.zk_laws.specs.Extraction.{IsExtracted}
 use Rattle.session_laws.specs.Circuits.{ExtractedShowsOutputs}
 use Rattle.zk_model.specs.Headline.{ShowsOutputs}
 use Rattle.zk_model.specs.Statement.{Statement}
@@ -24,14 +21,15 @@ use Rattle.session_verifier.specs.declared.note.SessionNote.{SessionNote}
 use Rattle.session_verifier.specs.declared.note.VerifierOutcome.TheVariants.{Accepted}
 use Rattle.command_words.specs.Words.{ServeAsk}
 use Rattle.zk_model.specs.declared.limits.TheConstants.{FILE_LIMIT}
-use Rattle.zk_cli.specs.Runs.{ShelfChange, DoorChange, OnlyLoads, OthersStay, IsName}
-use Rattle.zk_cli.specs.Journals.{DiskChange}
+use Rattle.file_commands.specs.Effects.{ShelfChange, DoorChange, OnlyLoads, OthersStay, IsName}
+use Rattle.file_commands.specs.Journals.{DiskChange}
+use Rattle.zk_cli.specs.NoteLines.{start_of}
 use Rattle.zk_cli.specs.ServeRuns.{IsServeJob, IsLoadedName, LeadsFiles, ClaimStop}
-use Rattle.zk_cli.proofs.Asking.{loads_among, loads_both}
-use Rattle.zk_cli.specs.ServedNotes.{GrantsOnce, IsHeadline, HeadlineIsOfAcceptedLog}
-use Rattle.zk_cli.specs.Stops.{HasText, LoadStop, CircuitStop, FileStop}
-use Rattle.zk_cli.specs.declared.refusal.Refusal.{Refusal}
-use Rattle.zk_cli.specs.declared.refusal.Refusal.TheVariants as stop
+use Rattle.file_commands.proofs.Asking.{loads_among, loads_both}
+use Rattle.zk_cli.specs.ServedNotes.{GrantsOnce, IsHeadline}
+use Rattle.file_commands.specs.Stops.{HasText, LoadStop, CircuitStop, FileStop}
+use Rattle.file_commands.specs.declared.refusal.Refusal.{Refusal}
+use Rattle.file_commands.specs.declared.refusal.Refusal.TheVariants as stop
 
 -- a count that rose since a moment rose since any before
 rose_since : (first before now : ℕ) → first ≤ before → Rose before now → Rose first now
@@ -120,13 +118,16 @@ headlines link_tells law told ask notes disk door door_failed memory_failed file
 -- and of all of them
 pub grants_once : {L : Type 0} (link_tells : L → LinkState) (told : Option Files) (ask : ServeAsk) (notes : List (SessionNote L))
     (disk : DiskChange) (door : DoorChange) (door_failed memory_failed : Bool)
-    → LeadsFiles link_tells ask notes door_failed memory_failed told disk door → GrantsOnce told ask notes disk
-grants_once link_tells told ask notes disk door door_failed memory_failed files = record {
+    → LeadsFiles link_tells ask notes door_failed memory_failed told disk door
+    → IsNonDecreasingBy (λ note. start_of note.granted) notes → GrantsOnce told ask notes disk
+grants_once link_tells told ask notes disk door door_failed memory_failed files ordered = record {
   circuit = files.circuit;
   job = files.job;
   served = files.served;
   base = files.leads.base;
   recovered = files.leads.recovered;
+  few = files.leads.few;
+  ordered = ordered;
   apart = files.leads.apart;
   ceiling = files.leads.ceiling;
   grows = files.leads.kept.grows;
@@ -135,23 +136,3 @@ grants_once link_tells told ask notes disk door door_failed memory_failed files 
   durable = files.leads.kept.durable;
   any_moment = files.leads.kept.any_moment;
 }
-
--- ---- what the headline's record holds
-
--- files that are dealt as one have the same numbers
-of_commitment : (prover : ProverFile) (verifier : VerifierFile) (statement : Statement) (t : Transcript) → AreDealt prover verifier
-    → IsTranscript verifier.params statement.program t → IsCommitment prover.params statement.program t.commitment
-of_commitment prover verifier statement t dealt whole =
-    subst (λ (params : Params). IsCommitment params statement.program t.commitment) (sym dealt.params) whole.commitment
-
-pub of_accepted_log : NoErrorSolves → HeadlineIsOfAcceptedLog
-of_accepted_log solves told ask granted log shown = (
-  record { t = shown.t; in_order = shown.in_order; checks = shown.checks; said = shown.said },
-  λ prover valid dealt. record {
-    shows = shown.shows prover valid dealt;
-    solves = λ view seen right.
-        solves prover shown.job.task.statement shown.t.commitment view valid shown.in_order.stated
-        (of_commitment prover shown.job.task.file shown.job.task.statement shown.t dealt shown.in_order.transcript) seen right;
-    claims = λ view seen claimed. claims_are shown.job.task.statement view shown.in_order.stated claimed;
-  },
-)

@@ -1,13 +1,8 @@
-pub mod DealRuns
-pub mod EvalRuns
 pub mod Meets
 pub mod NoteLines
 pub mod RehearseRuns
 pub mod Runs
 pub mod ServeRuns
 pub mod ServedNotes
-pub mod Stops
-pub mod Journals
-pub mod ClaimedUnits
 pub mod ProveRuns
 pub mod ServiceLogs

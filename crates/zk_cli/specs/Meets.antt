@@ -1,16 +1,16 @@
 -- What a run of the program does for what its words ask for.
 use Rattle.std.specs.Prelude.{◌≡◌, ℕ, List}
 use Rattle.command_words.specs.Words.{Ask, rehearse, eval, deal, serve, prove}
-use Rattle.zk_cli.specs.DealRuns.{Deals}
-use Rattle.zk_cli.specs.EvalRuns.{Evaluates}
+use Rattle.file_commands.specs.DealRuns.{Deals}
+use Rattle.file_commands.specs.EvalRuns.{Evaluates}
 use Rattle.zk_cli.specs.ProveRuns.{Proves}
 use Rattle.zk_cli.specs.RehearseRuns.{Rehearses}
-use Rattle.zk_cli.specs.Journals.{DiskChange}
+use Rattle.file_commands.specs.Journals.{DiskChange}
 use Rattle.zk_cli.specs.Runs.{Run}
 use Rattle.zk_cli.specs.ServeRuns.{Serves}
-use Rattle.zk_cli.specs.Stops.{PrintsMade, stop_status, stop_line}
+use Rattle.file_commands.specs.Stops.{PrintsMade, stop_status, stop_line}
 use Rattle.zk_cli.specs.declared.finish.Part.TheVariants.{Plain}
-use Rattle.zk_cli.specs.declared.refusal.Refusal.TheVariants.{Usage}
+use Rattle.file_commands.specs.declared.refusal.Refusal.TheVariants.{Usage}
 
 -- the disk and the door come back as they were
 pub record IsLocal {F L B D : Type 0} (run : Run F L B D) : Type 0 where

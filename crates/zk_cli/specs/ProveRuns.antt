@@ -7,25 +7,19 @@ use Rattle.zk_model.specs.Circuit.{Circuit, AreWireBits, Satisfies}
 use Rattle.zk_model.specs.FileBytes.{prover_file_bytes}
 use Rattle.zk_model.specs.Files.{ProverFile, IsProverFile}
 use Rattle.zk_model.specs.HonestProver.{IsWitness}
-use Rattle.zk_model.specs.Journals.{Stands, slots_at}
+use Rattle.zk_model.specs.Journals.{slots_at}
 use Rattle.zk_model.specs.ServedVerifier.{VerifierTask}
 use Rattle.zk_model.specs.Statement.{Statement}
 use Rattle.zk_model.specs.Transcript.{Grant}
-use Rattle.zk_model.specs.declared.JournalKind.TheVariants as kind
 use Rattle.zk_model.specs.declared.Side.TheVariants.{Prover}
 use Rattle.zk_model.specs.declared.Span.{Span}
 use Rattle.zk_port.specs.Counts.{Rose}
 use Rattle.zk_port.specs.Disks.{DiskState}
-use Rattle.zk_port.specs.Doors.{RefusesConnect, after_connect}
+use Rattle.zk_port.specs.Doors.{after_connect}
 use Rattle.zk_port.specs.Files.{Files}
 use Rattle.zk_port.specs.Links.{LinkState}
-use Rattle.zk_port.specs.declared.fault.PortFault.{PortFault}
-use Rattle.zk_port.specs.declared.fault.PortFault.TheVariants as port
-use Rattle.lease_journal.specs.declared.fault.StartFault.{StartFault}
 use Rattle.lease_core.specs.Spans.{span}
-use Rattle.claim_store.specs.Causes.{StoreCause}
-use Rattle.claim_store.specs.Claims.{AreClaims, SaysClaims, first_met}
-use Rattle.claim_store.specs.declared.fault.StoreFault.TheVariants as store
+use Rattle.claim_store.specs.Claims.{SaysClaims, first_met}
 use Rattle.dealer_files.specs.Faults.{IsDealtFile}
 use Rattle.session_core.specs.Jobs.{ProverJob, prover_of}
 use Rattle.session_prover.specs.Completing.{HasHonestPeer}
@@ -36,15 +30,15 @@ use Rattle.session_prover.specs.declared.note.ProverNote.{ProverNote}
 use Rattle.session_prover.specs.declared.note.ProverOutcome.{ProverOutcome}
 use Rattle.session_prover.specs.declared.note.ProverOutcome.TheVariants as ended
 use Rattle.command_words.specs.Words.{ProveAsk, prove_ask}
-use Rattle.zk_cli.specs.ClaimedUnits.{KeepsClaims}
-use Rattle.zk_cli.specs.Journals.{DiskChange, IsUntouched, JournalStop, OnlyReads, journal_name}
-use Rattle.zk_cli.specs.Runs.{ShelfChange, DoorChange, SinkFailed, Effects, HasFailed, IsDone, OnlyLoads}
-use Rattle.zk_cli.specs.Stops.{PrintsMade, SaysStop, IsOfStop, WritesAll, HasCircuit, HasText, IsClaim, CircuitStop, FileStop}
+use Rattle.file_commands.specs.ClaimedUnits.{KeepsClaims}
+use Rattle.file_commands.specs.Journals.{IsClaimsFault, HasClaims, DiskChange, IsUntouched, JournalStop, OnlyReads, journal_name}
+use Rattle.file_commands.specs.Effects.{ShelfChange, DoorChange, SinkFailed, Effects, HasFailed, IsDone, OnlyLoads}
+use Rattle.file_commands.specs.Stops.{ConnectStop, PrintsMade, SaysStop, IsOfStop, WritesAll, HasCircuit, HasText, IsClaim, CircuitStop, FileStop}
 use Rattle.zk_cli.specs.declared.finish.Part.{Part}
 use Rattle.zk_cli.specs.declared.finish.Part.TheVariants.{Plain, Proved}
 use Rattle.zk_cli.specs.declared.prove_command.ProveWords.{ProveWords}
-use Rattle.zk_cli.specs.declared.refusal.Refusal.{Refusal}
-use Rattle.zk_cli.specs.declared.refusal.Refusal.TheVariants.{WrongBits, WrongOutputs, Unsatisfied, DoorFailed, NoMemory}
+use Rattle.file_commands.specs.declared.refusal.Refusal.{Refusal}
+use Rattle.file_commands.specs.declared.refusal.Refusal.TheVariants.{WrongBits, WrongOutputs, Unsatisfied, NoMemory}
 
 -- what is asked for
 abbrev pub prove_words : ProveWords → ProveAsk
@@ -111,24 +105,6 @@ LacksProof ask shelf stop = WitnessStop ask shelf stop
     ⊎ ((circuit : Circuit) × (statement : Statement) × (wires : List Bool)
     × IsWitnessed shelf.old.told ask circuit statement wires × FileStop Prover ask.file shelf stop)
 
--- the fault that a disk's content has as a journal of claims of this id and total, where it is known
-abbrev pub IsClaimsFault : List ℕ → ℕ → DiskState → StartFault → Type 0
-IsClaimsFault id total disk fault =
-    (bytes : List ℕ) → disk.content ≡ Some bytes → StoreCause id total bytes (store.Journal fault)
-
--- why the door does not connect to the address: it failed, or found no memory
-abbrev pub ConnectStop : List ℕ → DoorChange → Refusal → Type 0
-ConnectStop address door DoorFailed =
-    RefusesConnect address door.old door.new × Rose door.old.connect_faults door.new.connect_faults
-ConnectStop address door NoMemory =
-    RefusesConnect address door.old door.new × (door.new.connect_faults ≡ door.old.connect_faults)
-ConnectStop address door stop = ⊥
-
--- what a connect that is refused stops a run by
-abbrev pub connect_refusal : PortFault → Refusal
-connect_refusal port.Failed = DoorFailed
-connect_refusal port.NoMemory = NoMemory
-
 -- why no session of a job begins: its file's journal is not opened, and nothing is asked of the door; or the door does not connect. The
 -- journal is at most read.
 pub record BeginningStop (ask : ProveAsk) (job : ProverJob) (disk : DiskChange) (door : DoorChange) (stop : Refusal) : Type 0 where
@@ -156,7 +132,7 @@ pub record HoldsSession {L : Type 0} (link_tells : L → LinkState) (ask : Prove
   pub claim : Claim
   pub is_note : IsNote link_tells job claim note
   pub connected : door.new ≡ after_connect ask.address door.old
-  pub kept : KeepsClaims (journal_name ask.file) job.file.id job.file.params.total claim disk
+  pub kept : KeepsClaims (journal_name ask.file) job.file.id job.file.params.total claim.asked claim.answer disk
 
 -- and the job is what was asked
 pub record HoldsAsked {L : Type 0} (link_tells : L → LinkState) (ask : ProveAsk) (note : ProverNote L)
@@ -231,16 +207,6 @@ pub record IsSatisfied (ask : ProveAsk) (circuit : Circuit) : Type 0 where
   pub inputs : length ask.bits ≡ circuit.inputs
   pub outputs : length ask.outputs ≡ circuit.outputs
   pub satisfied : Satisfies circuit ask.bits ask.outputs
-
--- a journal of claims stands in the content, of this id and total
-pub record HasClaims (id : List ℕ) (total : ℕ) (content : Option (List ℕ)) : Type 0 where
-  pub bytes : List ℕ
-  pub known : content ≡ Some bytes
-  pub slots : ℕ
-  pub stands : Stands kind.Claims id total slots bytes
-  pub claims : List Span
-  pub says : SaysClaims slots claims bytes
-  pub sound : AreClaims total claims
 
 -- a shelf that tells has a circuit that gives the claimed outputs at the bits, and a prover's file; and the disk has its journal
 pub record IsProvable (told : Option Files) (disk : DiskState) (ask : ProveAsk) : Type 0 where

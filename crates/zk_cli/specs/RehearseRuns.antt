@@ -11,12 +11,12 @@ use Rattle.command_words.specs.Words.{RehearseAsk}
 use Rattle.session_rehearsal.specs.Rehearsals.{IsRehearsalOf, IsWrongLength, IsTooLarge, EndsWithVerdict}
 use Rattle.session_rehearsal.specs.Rehearsals.{rehearsal_units}
 use Rattle.session_rehearsal.specs.declared.rehearsal.Rehearsal.{Rehearsal}
-use Rattle.zk_cli.specs.Runs.{ShelfChange, SinkChange, Effects, OnlyLoads, IsName, HasFailed}
-use Rattle.zk_cli.specs.Stops.{PrintsMade, WritesAll, SaysStop, StatusMeans, HasCircuit, IsReady, CircuitStop}
+use Rattle.file_commands.specs.Effects.{ShelfChange, SinkChange, Effects, OnlyLoads, IsName, HasFailed}
+use Rattle.file_commands.specs.Stops.{PrintsMade, WritesAll, SaysStop, StatusMeans, HasCircuit, IsReady, CircuitStop}
 use Rattle.zk_cli.specs.declared.finish.Part.{Part}
 use Rattle.zk_cli.specs.declared.finish.Part.TheVariants.{Plain, Rehearsed}
-use Rattle.zk_cli.specs.declared.refusal.Refusal.{Refusal}
-use Rattle.zk_cli.specs.declared.refusal.Refusal.TheVariants.{WrongBits, TooLarge}
+use Rattle.file_commands.specs.declared.refusal.Refusal.{Refusal}
+use Rattle.file_commands.specs.declared.refusal.Refusal.TheVariants.{WrongBits, TooLarge}
 
 -- 0 where the verifier accepts
 abbrev pub verdict_status : Verdict → ℕ

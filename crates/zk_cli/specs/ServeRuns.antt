@@ -8,14 +8,10 @@ use Rattle.zk_model.specs.HonestProver.{ProverTask}
 use Rattle.zk_model.specs.Statement.{Statement}
 use Rattle.zk_model.specs.declared.Side.TheVariants.{Verifier}
 use Rattle.zk_model.specs.declared.limits.TheConstants.{MAX_UNITS}
-use Rattle.zk_model.specs.Journals.{Stands, ceiling_slots}
-use Rattle.zk_model.specs.declared.JournalKind.TheVariants.{Ceilings}
 use Rattle.zk_port.specs.Counts.{Rose}
 use Rattle.zk_port.specs.Disks.{DiskState}
-use Rattle.lease_journal.specs.Causes.{StartCause}
-use Rattle.lease_journal.specs.declared.fault.StartFault.{StartFault}
 use Rattle.lease_store.specs.Ceilings.{SaysCeiling}
-use Rattle.zk_port.specs.Doors.{RefusesListen, after_listen}
+use Rattle.zk_port.specs.Doors.{after_listen}
 use Rattle.zk_port.specs.Files.{Files}
 use Rattle.zk_port.specs.Links.{LinkState}
 use Rattle.dealer_files.specs.Faults.{IsDealtFile}
@@ -29,17 +25,16 @@ use Rattle.session_verifier.specs.declared.note.SessionNote.{SessionNote}
 use Rattle.session_verifier.specs.declared.note.VerifierOutcome.TheVariants.{Accepted}
 use Rattle.command_words.specs.Commands.{named_options}
 use Rattle.command_words.specs.Words.{ServeAsk, serve_ask}
-use Rattle.zk_cli.specs.Journals.{DiskChange, IsUntouched, JournalStop, KeepsCeiling, OnlyReads, journal_name}
+use Rattle.file_commands.specs.Journals.{IsCeilingsFault, LeavesUnits, DiskChange, IsUntouched, JournalStop, KeepsCeiling, OnlyReads, journal_name}
 use Rattle.zk_cli.specs.NoteLines.{IsServedText, has_status, start_of}
-use Rattle.zk_cli.specs.Runs.{ShelfChange, DoorChange, SomeFailed, SinkFailed, Effects, HasFailed}
-use Rattle.zk_cli.specs.Runs.{OthersStay, OnlyAsks, IsDone, EachNote}
+use Rattle.file_commands.specs.Effects.{ShelfChange, DoorChange, SomeFailed, SinkFailed, Effects, HasFailed, OthersStay, OnlyAsks, IsDone}
+use Rattle.zk_cli.specs.Runs.{EachNote}
 use Rattle.zk_cli.specs.ServiceLogs.{IsLogName, KeepsLogs, SaysService}
-use Rattle.zk_cli.specs.Stops.{WritesAll, SaysStop, IsOfStop}
-use Rattle.zk_cli.specs.Stops.{HasText, HasCircuit, IsClaim, CircuitStop, FileStop}
+use Rattle.file_commands.specs.Stops.{ListenStop, WritesAll, SaysStop, IsOfStop, HasText, HasCircuit, IsClaim, CircuitStop, FileStop}
 use Rattle.zk_cli.specs.declared.finish.Part.{Part}
 use Rattle.zk_cli.specs.declared.finish.Part.TheVariants.{Plain, Served}
-use Rattle.zk_cli.specs.declared.refusal.Refusal.{Refusal}
-use Rattle.zk_cli.specs.declared.refusal.Refusal.TheVariants.{WrongOutputs, TooLarge, DoorFailed, NoMemory}
+use Rattle.file_commands.specs.declared.refusal.Refusal.{Refusal}
+use Rattle.file_commands.specs.declared.refusal.Refusal.TheVariants.{WrongOutputs, TooLarge}
 use Rattle.zk_cli.specs.declared.serve_command.ServeWords.{ServeWords}
 
 -- what is asked for
@@ -82,18 +77,6 @@ LacksFile ask shelf stop =
 -- why the claim and the file can't be had, the first of these
 abbrev pub LacksFiles : ServeAsk → ShelfChange → Refusal → Type 0
 LacksFiles ask shelf stop = ClaimStop ask shelf stop ⊎ LacksFile ask shelf stop
-
--- the fault that a disk's content has as a journal of ceilings of this id and total, where it is known
-abbrev pub IsCeilingsFault : List ℕ → ℕ → DiskState → StartFault → Type 0
-IsCeilingsFault id total disk fault = (bytes : List ℕ) → disk.content ≡ Some bytes → StartCause Ceilings id total bytes fault
-
--- why the door does not listen at the address: it failed, or found no memory
-abbrev pub ListenStop : List ℕ → DoorChange → Refusal → Type 0
-ListenStop address door DoorFailed =
-    RefusesListen address door.old door.new × Rose door.old.listen_faults door.new.listen_faults
-ListenStop address door NoMemory =
-    RefusesListen address door.old door.new × (door.new.listen_faults ≡ door.old.listen_faults)
-ListenStop address door stop = ⊥
 
 -- Why no session of a job is opened: it takes too many units, and nothing is asked of the disk or the door; its file's journal is not
 -- opened, and nothing is asked of the door; or the door does not listen. The journal is at most read.
@@ -200,15 +183,6 @@ ServeMeans ask Plain disk door run = IsOfStop (ServeStop ask run.shelf disk door
 ServeMeans ask part disk door run = ⊥
 
 -- ---- where nothing is refused and nothing fails
-
--- a journal of ceilings stands in the content, of this id and total, that leaves so many units
-pub record LeavesUnits (id : List ℕ) (total units : ℕ) (content : Option (List ℕ)) : Type 0 where
-  pub bytes : List ℕ
-  pub known : content ≡ Some bytes
-  pub stands : Stands Ceilings id total (ceiling_slots total) bytes
-  pub base : ℕ
-  pub says : SaysCeiling id total base bytes
-  pub enough : base + units ≤ total
 
 -- a shelf that tells has a circuit with as many outputs as are claimed, and a verifier's file, about which a session takes few units; and
 -- the disk has its journal, which leaves as many units as all sessions take

@@ -5,12 +5,12 @@ use Rattle.std.specs.Option.{option_map}
 use Rattle.zk_model.specs.declared.Side.{Side}
 use Rattle.zk_model.specs.declared.Span.{Span}
 use Rattle.session_verifier.specs.declared.note.SessionNote.{SessionNote}
-use Rattle.zk_cli.specs.DealRuns.{StopsStoring, all_stored}
+use Rattle.file_commands.specs.DealRuns.{StopsStoring, all_stored}
 use Rattle.zk_cli.specs.NoteLines.{IsServedText, failures, served_status}
-use Rattle.zk_cli.specs.Runs.{ShelfChange, Effects, CountsStay, OnlyStores}
-use Rattle.zk_cli.specs.Stops.{Prints}
-use Rattle.zk_cli.specs.declared.refusal.Refusal.{Refusal}
-use Rattle.zk_cli.specs.declared.refusal.Refusal.TheVariants.{ShelfFailed, NoMemory}
+use Rattle.file_commands.specs.Effects.{ShelfChange, Effects, CountsStay, OnlyStores}
+use Rattle.file_commands.specs.Stops.{Prints}
+use Rattle.file_commands.specs.declared.refusal.Refusal.{Refusal}
+use Rattle.file_commands.specs.declared.refusal.Refusal.TheVariants.{ShelfFailed, NoMemory}
 
 -- the name of a log: what the words say that names begin with, a dot, and the first unit
 abbrev pub log_name : List ℕ → ℕ → List ℕ

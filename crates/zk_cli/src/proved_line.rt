@@ -3,9 +3,9 @@ ghost use Rattle.std.specs.Prelude.{◌≡◌, ◌++◌, IfOk, Some, codes, stri
 ghost use Rattle.std.specs.Fmt.{decimal};
 ghost use Rattle.zk_port.specs.Changes.{change};
 ghost use Rattle.zk_cli.specs.ProveRuns.{proved_line, proved_status, span_words, verdict_words};
-ghost use Rattle.zk_cli.specs.Stops.{PrintsMade};
+ghost use Rattle.file_commands.specs.Stops.{PrintsMade};
 
-use crate::say::{say, say_memory};
+use file_commands::{say, say_memory};
 use session_prover::ProverOutcome;
 use std::alloc::{AllocError, Global};
 use zk_model::Span;

@@ -3,17 +3,14 @@ ghost use Rattle.std.specs.Prelude.{◌≡◌, ◌≤◌, ◌^◌, IfOk, IfErr, 
 ghost use Rattle.zk_model.specs.declared.limits.TheConstants.{MAX_SECTION_LENGTH};
 ghost use Rattle.zk_port.specs.Changes.{change};
 ghost use Rattle.command_words.specs.Words.{rehearse_ask};
-ghost use Rattle.zk_cli.specs.RehearseRuns.{Rehearses, RehearseStop, IsRehearsed, counts_line, rehearsal_lines};
-ghost use Rattle.zk_cli.specs.RehearseRuns.{verdict_line, verdict_status};
-ghost use Rattle.zk_cli.specs.Runs.{OnlyLoads, IsName, effects};
-ghost use Rattle.zk_cli.specs.Stops.{PrintsMade};
+ghost use Rattle.zk_cli.specs.RehearseRuns.{Rehearses, RehearseStop, IsRehearsed, counts_line, rehearsal_lines, verdict_line, verdict_status};
+ghost use Rattle.file_commands.specs.Effects.{OnlyLoads, IsName, effects};
+ghost use Rattle.file_commands.specs.Stops.{PrintsMade};
 
-use crate::circuit_file::load_circuit;
 use crate::finish::{Ending, Part};
-use crate::refusal::Refusal;
-use crate::say::{say, say_memory, say_stop};
 use bristol_reader::one_circuit;
 use command_words::write_bits;
+use file_commands::{Refusal, load_circuit, say, say_memory, say_stop};
 use session_rehearsal::{Rehearsal, RehearseFault, Verdict, rehearse};
 use std::alloc::{AllocError, Global};
 use zk_model::Kind;

@@ -5,20 +5,17 @@ ghost use Rattle.session_verifier.specs.declared.note.VerifierOutcome.TheVariant
 ghost use Rattle.command_words.specs.Words.{Ask, ServeAsk, serve, texts, asked};
 ghost use Rattle.zk_cli.specs.Meets.{Meets, SaysUsage};
 ghost use Rattle.zk_cli.specs.Runs.{EachNote, run_of};
-ghost use Rattle.zk_cli.specs.Journals.{IsJournalDisk, disk_change};
+ghost use Rattle.file_commands.specs.Journals.{IsJournalDisk, disk_change};
 ghost use Rattle.zk_cli.specs.ServedNotes.{GrantsOnceIn, IsHeadline};
 
-use crate::deal_command::run_deal;
-use crate::eval_command::run_eval;
 use crate::finish::{Ending, Finish, Part};
 use crate::prove_command::{ProveWords, run_prove};
-use crate::refusal::Refusal;
 use crate::rehearse_command::run_rehearse;
-use crate::say::{say_memory, say_stop};
 use crate::serve_command::{ServeWords, run_serve};
 use bristol_reader::one_circuit;
 use claim_store::claims_start_again;
 use command_words::{Command, read_words};
+use file_commands::{Refusal, run_deal, run_eval, say_memory, say_stop};
 use lease_journal::starts_again;
 use std::alloc::Global;
 use std::sync::Wait;

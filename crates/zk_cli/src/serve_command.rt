@@ -7,25 +7,23 @@ ghost use Rattle.zk_model.specs.declared.limits.TheConstants.{MAX_UNITS};
 ghost use Rattle.session_core.specs.Jobs.{units_of_job};
 ghost use Rattle.session_verifier.specs.declared.note.VerifierOutcome.TheVariants.{Accepted};
 ghost use Rattle.command_words.specs.Commands.{AreServeLimits, named_options};
-ghost use Rattle.zk_cli.specs.Journals.{IsJournalDisk, disk_change};
-ghost use Rattle.zk_cli.specs.Runs.{OnlyLoads, IsName, EachNote, effects};
+ghost use Rattle.file_commands.specs.Journals.{IsJournalDisk, disk_change};
+ghost use Rattle.file_commands.specs.Effects.{OnlyLoads, IsName, effects};
+ghost use Rattle.zk_cli.specs.Runs.{EachNote};
 ghost use Rattle.zk_cli.specs.ServeRuns.{IsLoadedName, IsVerifierFileAt, LeadsFiles, LeadsJob, Serves, serve_words};
 ghost use Rattle.zk_cli.specs.ServeRuns.{ClaimStop, LacksFiles, OpeningStop, ServeStop};
-ghost use Rattle.zk_cli.specs.Stops.{FileStop, IsClaim};
+ghost use Rattle.file_commands.specs.Stops.{FileStop, IsClaim};
 ghost use Rattle.zk_cli.specs.ServedNotes.{GrantsOnceIn, IsHeadline};
 
-use crate::circuit_file::{load_file, read_circuit};
 use crate::finish::{Finish, Part};
-use crate::journal_file::open_ceilings;
 use crate::note_lines::order_notes;
-use crate::refusal::Refusal;
-use crate::say::say_stop;
 use crate::service_said::say_service;
 use bristol_reader::one_circuit;
 use command_words::ServedOptions;
 use dealer_files::{VerifierFile, decode_verifier};
+use file_commands::{Refusal, load_file, open_ceilings, read_circuit, say_stop};
 use lease_journal::starts_again;
-use session_core::{CircuitClaim, VerifierJob};
+use session_core::{CircuitClaim, TooLarge, VerifierJob};
 use session_laws::extracted_shows_outputs;
 use session_pool::{Served, serve_all};
 use session_verifier::{SessionNote, Verification};
@@ -223,8 +221,8 @@ where
     let statement = claim.statement();
     match VerifierJob::fit(&statement, &file, words.options.section) {
         Ok(job) => serve_job(rt, alloc, &job, &file, words, journal, door, gate),
-        Err(found) => Err(Stopped {
-            refusal: Refusal::from(found),
+        Err(TooLarge { need, units }) => Err(Stopped {
+            refusal: Refusal::TooLarge { need, units },
             journal,
             door,
         }),

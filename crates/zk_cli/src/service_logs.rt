@@ -3,11 +3,11 @@ ghost use Rattle.std.specs.Prelude.{◌≡◌, ◌⊎◌, None, Some, IfErr, IfO
 ghost use Rattle.std.specs.Option.{option_map};
 ghost use Rattle.zk_port.specs.Changes.{change};
 ghost use Rattle.zk_port.specs.Files.{OthersStay, stored};
-ghost use Rattle.zk_cli.specs.Runs.{CountsStay, NameFailed, OnlyStores};
+ghost use Rattle.file_commands.specs.Effects.{CountsStay, NameFailed, OnlyStores};
 ghost use Rattle.zk_cli.specs.ServiceLogs.{IsLogName, KeepsLogs, log_name};
-ghost use Rattle.zk_cli.specs.declared.refusal.Refusal.TheVariants as stops;
+ghost use Rattle.file_commands.specs.declared.refusal.Refusal.TheVariants as stops;
 
-use crate::refusal::Refusal;
+use file_commands::Refusal;
 use frame_link::Log;
 use session_verifier::SessionNote;
 use std::alloc::{AllocError, Global};

@@ -3,14 +3,13 @@ ghost use Rattle.std.specs.Prelude.{◌≡◌, ◌||◌};
 ghost use Rattle.std.specs.Option.{option_map};
 ghost use Rattle.std.specs.Result.{result_err};
 ghost use Rattle.zk_port.specs.Changes.{change};
-ghost use Rattle.zk_cli.specs.Runs.{effects};
+ghost use Rattle.file_commands.specs.Effects.{effects};
 ghost use Rattle.zk_cli.specs.NoteLines.{failures};
 ghost use Rattle.zk_cli.specs.ServiceLogs.{SaysService, is_memory_missing, is_shelf_failed};
 
 use crate::note_lines::{Failures, served_status, write_served};
-use crate::refusal::Refusal;
-use crate::say::say;
 use crate::service_logs::store_logs;
+use file_commands::{Refusal, say};
 use session_verifier::SessionNote;
 use std::alloc::Global;
 use zk_port::{Shelf, Sink};

@@ -3,7 +3,7 @@ use Rattle.dealer_files.specs.Faults.{IsFirstFault}
 use Rattle.zk_model.specs.declared.Side.TheVariants.{Prover}
 use Rattle.frame_link.proofs.LineLemmas.{fails_at}
 use Rattle.zk_port.specs.Changes.{change}
-use Rattle.zk_cli.specs.declared.refusal.Refusal.TheVariants.{BadFile}
+use Rattle.file_commands.specs.declared.refusal.Refusal.TheVariants.{BadFile}
 use Rattle.zk_cli.proofs.Serving.{file_of_load}
 use Rattle.zk_cli.proofs.prove_command.load_prover.Goals as goal
 

@@ -1,5 +1,5 @@
 use Rattle.std.proofs.Common.{inl, refl}
-use Rattle.zk_cli.proofs.Opening.{untouched}
+use Rattle.file_commands.proofs.Journals.{untouched}
 use Rattle.zk_cli.proofs.prove_command.prove_files.Goals as goal
 
 pub returns-in-Err-clause-stop : goal.returns-in-Err-clause-stop

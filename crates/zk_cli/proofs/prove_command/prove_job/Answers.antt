@@ -3,8 +3,8 @@ use Rattle.zk_model.specs.Files.{ProverFile}
 use Rattle.zk_model.specs.Journals.{IsHeaded}
 use Rattle.zk_model.specs.declared.JournalKind.TheVariants as kind
 use Rattle.claim_store.specs.Claims.{AreClaims, SaysClaims}
-use Rattle.zk_cli.specs.ClaimedUnits.{KeepsClaims}
-use Rattle.zk_cli.specs.Journals.{disk_change, journal_name}
+use Rattle.file_commands.specs.ClaimedUnits.{KeepsClaims}
+use Rattle.file_commands.specs.Journals.{disk_change, journal_name}
 use Rattle.zk_cli.proofs.Claiming.{by_store, keeps_claims}
 use Rattle.zk_cli.proofs.prove_command.prove_job.Goals as goal
 
@@ -40,7 +40,7 @@ returns-clause-holds g c =
         complete = held.complete;
       };
       connected = c.in-Ok-connect.ensures.connects;
-      kept = subst (λ (d : g.row.B.Denot). KeepsClaims name file.id file.params.total (record { asked = claimant.asked; answer = claimant.answer })
+      kept = subst (λ (d : g.row.B.Denot). KeepsClaims name file.id file.params.total claimant.asked claimant.answer
           (disk_change old (g.B.Disk.state d))) (sym c.close-2.ensures.disk)
           (keeps_claims g.B.Disk.state old store name file.id file.params.total opened.since opened.opens
           (subst (λ (f : ProverFile). (bytes : List ℕ) → old.content ≡ Some bytes

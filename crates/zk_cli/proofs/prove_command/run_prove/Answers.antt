@@ -1,7 +1,7 @@
 use Rattle.std.proofs.Common.{ℕ, subst}
 use Rattle.zk_port.specs.Changes.{change}
 use Rattle.zk_cli.specs.ProveRuns.{proved_line, proved_status, prove_words}
-use Rattle.zk_cli.specs.Stops.{PrintsMade}
+use Rattle.file_commands.specs.Stops.{PrintsMade}
 use Rattle.zk_cli.proofs.ProveOutcomes.{proves}
 use Rattle.zk_cli.proofs.prove_command.run_prove.Goals as goal
 

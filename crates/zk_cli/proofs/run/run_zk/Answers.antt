@@ -3,7 +3,7 @@ use Rattle.command_words.specs.Commands.{named_options}
 use Rattle.command_words.specs.Words.{ServeAsk, serve_ask}
 use Rattle.session_verifier.specs.declared.note.SessionNote.{SessionNote}
 use Rattle.session_verifier.specs.declared.note.VerifierOutcome.TheVariants.{Accepted}
-use Rattle.zk_cli.specs.Journals.{disk_change}
+use Rattle.file_commands.specs.Journals.{disk_change}
 use Rattle.zk_cli.specs.Runs.{EachNote}
 use Rattle.zk_cli.specs.ServedNotes.{GrantsOnceIn, IsHeadline}
 use Rattle.zk_cli.proofs.Lacking.{meets_memory}

@@ -5,8 +5,8 @@ use Rattle.frame_link.proofs.LineLemmas.{fails_at}
 use Rattle.zk_model.specs.Bytes.{AreBytes}
 use Rattle.zk_port.specs.Changes.{change}
 use Rattle.zk_cli.specs.ServeRuns.{serve_words}
-use Rattle.zk_cli.specs.Stops.{IsLoaded}
-use Rattle.zk_cli.proofs.Causes.{circuit_of_load, circuit_of_text}
+use Rattle.file_commands.specs.Stops.{IsLoaded}
+use Rattle.file_commands.proofs.Causes.{circuit_of_load, circuit_of_text}
 use Rattle.zk_cli.proofs.Serving.{claim_of_circuit}
 use Rattle.zk_cli.proofs.serve_command.load_claim.Goals as goal
 

@@ -2,11 +2,11 @@ use Rattle.std.proofs.Common.{List, inl, inr, subst}
 use Rattle.zk_port.specs.Changes.{change}
 use Rattle.zk_port.specs.Shelves.{ShelfState}
 use Rattle.session_verifier.specs.declared.note.SessionNote.{SessionNote}
-use Rattle.zk_cli.specs.Journals.{disk_change}
-use Rattle.zk_cli.specs.Runs.{effects}
+use Rattle.file_commands.specs.Journals.{disk_change}
+use Rattle.file_commands.specs.Effects.{effects}
 use Rattle.zk_cli.specs.ServeRuns.{IsLoadedName, IsServeName, LeadsFiles, serve_words}
 use Rattle.zk_cli.specs.ServiceLogs.{IsLogName, SaysService}
-use Rattle.zk_cli.proofs.Asking.{asks_among}
+use Rattle.file_commands.proofs.Asking.{asks_among}
 use Rattle.zk_cli.proofs.Ordering.{files_permuted}
 use Rattle.zk_cli.proofs.ServeDone.{serves}
 use Rattle.zk_cli.proofs.Serving.{grants_once, headlines, others_same}
@@ -50,7 +50,7 @@ returns-in-Ok-clause-headline g c =
     headlines g.D.Link.Link.state c.extracted_shows_outputs.ensures _ _ _ _ _ _ _ (leads g c)
 
 pub returns-in-Ok-clause-once : goal.returns-in-Ok-clause-once
-returns-in-Ok-clause-once g c = grants_once g.D.Link.Link.state _ _ _ _ _ _ _ (leads g c)
+returns-in-Ok-clause-once g c = grants_once g.D.Link.Link.state _ _ _ _ _ _ _ (leads g c) c.order_notes.ensures.ordered
 
 pub returns-in-Err-clause-serves : goal.returns-in-Err-clause-serves
 returns-in-Err-clause-serves g c =

@@ -10,8 +10,8 @@ use Rattle.session_pool.specs.Doors.{Takes}
 use Rattle.session_pool.specs.Notes.{IsLeft, IsNoteOf, IsRefusedBy}
 use Rattle.session_verifier.specs.Outcomes.{lease_fault}
 use Rattle.session_verifier.specs.Sessions.{IsAnsweredNote}
-use Rattle.zk_cli.specs.Journals.{JournalStop, disk_change}
-use Rattle.zk_cli.specs.ServeRuns.{IsCeilingsFault, serve_words}
+use Rattle.file_commands.specs.Journals.{JournalStop, disk_change, IsCeilingsFault}
+use Rattle.zk_cli.specs.ServeRuns.{serve_words}
 use Rattle.zk_cli.proofs.Opening.{lacks_journal, leads_job}
 use Rattle.zk_cli.proofs.serve_command.serve_job.Goals as goal
 

@@ -1,6 +1,6 @@
 use Rattle.frame_link.proofs.LineLemmas.{fails_at}
 use Rattle.zk_cli.proofs.LogStores.{leaves_less, leaves_none, leaves_stop}
-use Rattle.zk_cli.proofs.Storing.{only_stores}
+use Rattle.file_commands.proofs.Storing.{only_stores}
 use Rattle.zk_cli.proofs.service_logs.store_each.Goals as goal
 
 pub loop-rest-preserved : goal.loop-rest-preserved

@@ -1,6 +1,6 @@
 use Rattle.std.proofs.Common.{length, Some}
 use Rattle.zk_port.specs.Changes.{change}
-use Rattle.zk_cli.specs.Runs.{OnlyStores}
+use Rattle.file_commands.specs.Effects.{OnlyStores}
 use Rattle.zk_cli.specs.ServiceLogs.{IsLogName}
 use Rattle.zk_cli.proofs.LogStores.{LeavesRest}
 use Rattle.zk_cli.proofs.service_logs.store_each.Given as goal

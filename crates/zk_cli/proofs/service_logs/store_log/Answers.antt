@@ -1,6 +1,6 @@
 use Rattle.std.proofs.Common.{rules}
 use Rattle.zk_port.specs.Counts.{is_failed}
-use Rattle.zk_cli.proofs.Storing.{refused_of}
+use Rattle.file_commands.proofs.Storing.{refused_of}
 use Rattle.zk_cli.proofs.service_logs.store_log.Goals as goal
 
 pub returns-in-Err-Failed-clause-kept : goal.returns-in-Err-Failed-clause-kept

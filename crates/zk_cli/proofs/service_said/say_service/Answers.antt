@@ -2,7 +2,7 @@ use Rattle.std.proofs.Common.{ℕ, List, string_bytes, ap, subst, inl, inr, refl
 use Rattle.std.specs.Result.{result_err}
 use Rattle.zk_port.specs.Changes.{change}
 use Rattle.zk_cli.specs.NoteLines.{served_status}
-use Rattle.zk_cli.specs.Stops.{Prints}
+use Rattle.file_commands.specs.Stops.{Prints}
 use Rattle.zk_cli.proofs.LogStores.{keeps_result}
 use Rattle.zk_cli.proofs.service_said.say_service.Goals as goal
 

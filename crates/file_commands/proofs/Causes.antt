@@ -1,0 +1,91 @@
+-- What causes a stop, and what does not where a shelf tells what is wanted.
+use Rattle.std.proofs.Common.{◌≡◌, ◌⊎◌, ◌<◌, ℕ, List, length, Option, Some, None, IsSomeAnd, refl, sym, ap, subst, inl, inr, arith}
+use Rattle.std.specs.Prelude.{◌≢◌}
+use Rattle.zk_model.specs.Bristol.{IsText}
+use Rattle.zk_model.specs.Circuit.{Circuit}
+use Rattle.zk_model.specs.declared.ReadFault.{ReadFault}
+use Rattle.zk_model.specs.declared.Side.{Side}
+use Rattle.zk_model.specs.declared.limits.TheConstants.{FILE_LIMIT}
+use Rattle.zk_port.specs.Files.{Files, StandsAs, StandsLonger}
+use Rattle.bristol_reader.specs.Laws.{OneCircuit}
+use Rattle.bristol_reader.specs.Reads.{IsOnlyFault}
+use Rattle.dealer_files.specs.Faults.{IsDealtFile, IsFirstFault}
+use Rattle.dealer_files.specs.declared.fault.FileFault.{FileFault}
+use Rattle.dealer_files.specs.declared.fault.FileFault.TheVariants as file
+use Rattle.file_commands.specs.Effects.{ShelfChange, NameFailed}
+use Rattle.file_commands.specs.Stops.{IsLoaded, IsCircuitFile, HasText, LoadStop, CircuitStop, FileStop, stop_status}
+use Rattle.file_commands.specs.declared.refusal.Refusal.{Refusal}
+use Rattle.file_commands.specs.declared.refusal.Refusal.TheVariants as stop
+
+-- ---- a circuit that can't be had
+
+pub circuit_of_load : (name : List ℕ) (shelf : ShelfChange) (why : Refusal) → LoadStop name shelf why → CircuitStop name shelf why
+circuit_of_load name shelf (stop.BadText fault) cause = absurd cause
+circuit_of_load name shelf other cause = cause
+
+pub circuit_of_text : (name : List ℕ) (shelf : ShelfChange) (text : List ℕ) (why : Refusal) → IsLoaded shelf.old.told name text
+    → (why ≡ stop.NoMemory) ⊎ ((fault : ReadFault) × IsOnlyFault text fault × (why ≡ stop.BadText fault))
+    → CircuitStop name shelf why
+circuit_of_text name shelf text why loaded (inl e) = subst (CircuitStop name shelf) (sym e) tt
+circuit_of_text name shelf text why loaded (inr unread) =
+    subst (CircuitStop name shelf) (sym unread.2) (record { text = text; loaded = loaded; says = unread.1 })
+
+-- ---- where a shelf tells, nothing else stands under a name than what is told
+
+pub told_text : (told : Option Files) (name : List ℕ) (some other : List ℕ) → told ≢ None → StandsAs told name some
+    → StandsAs told name other → other ≡ some
+told_text None name some other tells is_told stands = absurd (tells refl)
+told_text (Some files) name some other tells is_told stands = cc
+
+pub told_circuit : OneCircuit → (told : Option Files) (name : List ℕ) (circuit other : Circuit) → told ≢ None
+    → IsCircuitFile told name circuit → IsCircuitFile told name other → other ≡ circuit
+told_circuit one told name circuit other tells is_told file =
+    let same = told_text told name is_told.text file.text tells is_told.loaded.stands file.loaded.stands in
+    one is_told.text other circuit (subst (IsText other) same file.says) is_told.says
+
+no_longer : (told : Option Files) (name text : List ℕ) → told ≢ None → IsLoaded told name text → StandsLonger told name FILE_LIMIT → ⊥
+no_longer None name text tells loaded longer = tells refl
+no_longer (Some files) name text tells loaded longer =
+    let lt : FILE_LIMIT < length text =
+    subst (λ o. IsSomeAnd o (λ bytes. FILE_LIMIT < length bytes)) loaded.stands longer in
+    let fits = loaded.fits in omega (arith, lt, fits)
+
+-- ---- where what is wanted stands there, and no call failed, only memory can be wanting
+
+pub load_lacks : (name : List ℕ) (shelf : ShelfChange) (text : List ℕ) → shelf.old.told ≢ None
+    → IsLoaded shelf.old.told name text → ¬ NameFailed name shelf → (why : Refusal) → LoadStop name shelf why → why ≡ stop.NoMemory
+load_lacks name shelf text tells loaded calm stop.ShelfFailed cause = absurd (calm cause)
+load_lacks name shelf text tells loaded calm (stop.TooLong limit) cause =
+    absurd (no_longer shelf.old.told name text tells loaded cause.1)
+load_lacks name shelf text tells loaded calm stop.NoMemory cause = refl
+load_lacks name shelf text tells loaded calm other cause = absurd cause
+
+pub circuit_lacks : OneCircuit → (name : List ℕ) (shelf : ShelfChange) (circuit : Circuit) → shelf.old.told ≢ None
+    → IsCircuitFile shelf.old.told name circuit → ¬ NameFailed name shelf → (why : Refusal) → CircuitStop name shelf why
+    → why ≡ stop.NoMemory
+circuit_lacks one name shelf circuit tells file calm (stop.BadText fault) cause =
+    let same = told_text shelf.old.told name file.text cause.text tells file.loaded.stands cause.loaded.stands in
+    absurd (cause.says.no_circuit circuit (subst (IsText circuit) (sym same) file.says))
+circuit_lacks one name shelf circuit tells file calm other cause =
+    load_lacks name shelf file.text tells file.loaded calm other cause
+
+undecoded_7 : (side : Side) (bytes : List ℕ) (fault : FileFault) → IsDealtFile side bytes → IsFirstFault side bytes fault
+    → stop_status (stop.BadFile fault) ≡ 7
+undecoded_7 side bytes file.BadMagic dealt first = absurd (first dealt.body.head.magic)
+undecoded_7 side bytes file.BadKind dealt first = absurd (first.2 dealt.body.head.of_side)
+undecoded_7 side bytes file.BadParam dealt first = absurd (first.3 dealt.body.head.params)
+undecoded_7 side bytes (file.Length need got) dealt first =
+    elim first.1 [ inl short ↦ absurd (short.1 dealt.body.head.header) | inr other ↦ absurd (other.1 dealt.body.length) ]
+undecoded_7 side bytes (file.BadElement place) dealt first = absurd (dealt.in_range place first.1.bad)
+undecoded_7 side bytes file.ZeroKey dealt first = absurd (first.2 dealt.key)
+undecoded_7 side bytes file.BadDigest dealt first = absurd (first.3 dealt.digest)
+undecoded_7 side bytes file.NoMemory dealt first = refl
+
+-- a dealt file of this side stands there
+pub file_7 : (side : Side) (name : List ℕ) (shelf : ShelfChange) → shelf.old.told ≢ None → (dealt : HasText shelf.old.told name (IsDealtFile side))
+    → ¬ NameFailed name shelf → (why : Refusal) → FileStop side name shelf why → stop_status why ≡ 7
+file_7 side name shelf tells dealt calm (stop.BadFile fault) cause =
+    let same = told_text shelf.old.told name dealt.text cause.text tells dealt.loaded.stands cause.loaded.stands in
+    undecoded_7 side dealt.text fault dealt.says (subst (λ (b : List ℕ). IsFirstFault side b fault) same cause.says)
+file_7 side name shelf tells dealt calm other cause =
+    ap stop_status (load_lacks name shelf dealt.text tells dealt.loaded calm other cause)

@@ -1,0 +1,6 @@
+pub mod ClaimedUnits
+pub mod DealRuns
+pub mod Effects
+pub mod EvalRuns
+pub mod Journals
+pub mod Stops

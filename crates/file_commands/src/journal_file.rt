@@ -1,0 +1,133 @@
+// The journal of a dealt file.
+ghost use Rattle.std.specs.Prelude.{◌≡◌, ◌≤◌, ℕ, List, All, IfOk, IfErr, length, string_bytes};
+ghost use Rattle.zk_model.specs.Journals.{HasHeader, IsHeaded};
+ghost use Rattle.zk_model.specs.declared.JournalKind.TheVariants.{Ceilings, Claims};
+ghost use Rattle.zk_model.specs.declared.limits.TheConstants.{MAX_PASSES};
+ghost use Rattle.lease_store.specs.Ceilings.{SaysCeiling};
+ghost use Rattle.lease_store.specs.Desks.{Begins};
+ghost use Rattle.lease_store.specs.Leases.{IsPassAt};
+ghost use Rattle.session_pool.specs.Notes.{IsUnused};
+ghost use Rattle.file_commands.specs.Journals.{IsJournalDisk, JournalStop, OpensJournal, OnlyReads, disk_change, journal_name, start_refusal};
+ghost use Rattle.file_commands.specs.Journals.{IsClaimsFault};
+ghost use Rattle.file_commands.specs.Journals.{IsCeilingsFault};
+ghost use Rattle.zk_port.specs.Images.{Only};
+ghost use Rattle.claim_store.specs.Claims.{AreClaims, AreDurable, SaysClaims};
+
+use crate::refusal::Refusal;
+use claim_store::ClaimStore;
+use dealer_files::{ProverFile, VerifierFile};
+use lease_journal::StartFault;
+use lease_store::{LeaseParts, StoreFault};
+use lease_words::Pass;
+use std::alloc::{AllocError, Global};
+use zk_port::Disk;
+
+/// The name of a file's journal.
+fn name_of(alloc: Global, file: &str) -> Result<String, AllocError>
+    ensures { IfOk result (λ name. string_bytes name ≡ journal_name file.now) }
+{
+    Ok(format!(in alloc; "{file}.journal")?)
+}
+
+/// Why a journal is not opened on a disk whose calls have failed so often.
+fn start_stop(fault: StartFault, count: u64) -> Refusal
+    ensures { result ≡ start_refusal fault count }
+{
+    match fault {
+        StartFault::Device => Refusal::JournalFailed { count },
+        StartFault::Short { need, got } => Refusal::JournalShort { need, got },
+        StartFault::BadHeader { place } => Refusal::JournalHeader { place },
+        StartFault::BadBody { slot } => Refusal::JournalBody { slot },
+    }
+}
+
+/// Opens the journal of ceilings that belongs to the verifier's file of this name, with as many passes; or says why not, and gives the
+/// disk back.
+pub fn open_ceilings<B: Disk>(
+    alloc: Global,
+    mut journal: B,
+    name: &str,
+    file: &VerifierFile,
+    passes: u32,
+) -> Result<(LeaseParts<B>, Vec<Pass>), (Refusal, B)>
+    requires disk { IsJournalDisk (B.state journal) }
+    requires passes { (1 ≤ passes) × (passes ≤ MAX_PASSES) }
+    ensures opens { IfOk result (λ r. OpensJournal (journal_name name.now)
+        (disk_change (B.state journal) (B.state r.0.disk))) }
+    ensures since { IfOk result (λ _. (image : List ℕ)
+        → (B.state journal).images_since (B.state journal).moment image → (B.state journal).images image) }
+    ensures base { IfOk result (λ r. (bytes : List ℕ) → (B.state journal).content ≡ Some bytes
+        → SaysCeiling file.now.id file.now.params.total r.0.base bytes) }
+    ensures total { IfOk result (λ r. r.0.total ≡ file.now.params.total) }
+    ensures header { IfOk result (λ r. (bytes : List ℕ) → (B.state r.0.disk).content ≡ Some bytes
+        → HasHeader Ceilings file.now.id r.0.total bytes) }
+    ensures begins { IfOk result (λ r. Begins (B.state r.0.disk) (B.state r.0.disk)) }
+    ensures passes { IfOk result (λ r. All (IsPassAt r.0.table r.0.total) r.1.items) }
+    ensures unused { IfOk result (λ r. All IsUnused r.1.items) }
+    ensures made { IfOk result (λ r. length r.1.items ≡ r.0.passes) }
+    ensures some { IfOk result (λ r. 1 ≤ length r.1.items) }
+    ensures reads { IfErr result (λ e. OnlyReads (journal_name name.now)
+        (disk_change (B.state journal) (B.state e.1))) }
+    ensures stop { IfErr result (λ e. JournalStop
+        (IsCeilingsFault file.now.id file.now.params.total (B.state journal))
+        (disk_change (B.state journal) (B.state e.1)) e.0) }
+{
+    let Ok(name) = name_of(alloc, name) else {
+        return Err((Refusal::NoMemory, journal));
+    };
+    if journal.choose(&name).is_err() {
+        let count = journal.faults();
+        return Err((Refusal::JournalFailed { count }, journal));
+    }
+    match LeaseParts::start(alloc, journal, &file.id(), file.total(), passes) {
+        Ok(opened) => Ok(opened),
+        Err((StoreFault::NoMemory, disk)) => Err((Refusal::NoMemory, disk)),
+        Err((StoreFault::Journal(fault), disk)) => {
+            let count = disk.faults();
+            Err((start_stop(fault, count), disk))
+        }
+    }
+}
+
+/// Opens the journal of claims that belongs to the prover's file of this name; or says why not, and gives the disk back.
+pub fn open_claims<B: Disk>(
+    alloc: Global,
+    mut journal: B,
+    name: &str,
+    file: &ProverFile,
+) -> Result<ClaimStore<B>, (Refusal, B)>
+    requires disk { IsJournalDisk (B.state journal) }
+    ensures opens { IfOk result (λ store. OpensJournal (journal_name name.now)
+        (disk_change (B.state journal) (B.state store.disk))) }
+    ensures since { IfOk result (λ _. (image : List ℕ)
+        → (B.state journal).images_since (B.state journal).moment image → (B.state journal).images image) }
+    ensures says { IfOk result (λ store. (bytes : List ℕ) → (B.state journal).content ≡ Some bytes
+        → IsHeaded Claims file.now.id file.now.params.total store.slots bytes
+        × SaysClaims store.slots store.claims bytes) }
+    ensures durable { IfOk result (λ store. AreDurable B.state store) }
+    ensures only { IfOk result (λ store. Only (B.state store.disk).content (B.state store.disk).images) }
+    ensures sound { IfOk result (λ store. AreClaims file.now.params.total store.claims) }
+    ensures total { IfOk result (λ store. store.total ≡ file.now.params.total) }
+    ensures whole { IfOk result (λ store. store.fault ≡ 0) }
+    ensures reads { IfErr result (λ e. OnlyReads (journal_name name.now)
+        (disk_change (B.state journal) (B.state e.1))) }
+    ensures stop { IfErr result (λ e. JournalStop
+        (IsClaimsFault file.now.id file.now.params.total (B.state journal))
+        (disk_change (B.state journal) (B.state e.1)) e.0) }
+{
+    let Ok(name) = name_of(alloc, name) else {
+        return Err((Refusal::NoMemory, journal));
+    };
+    if journal.choose(&name).is_err() {
+        let count = journal.faults();
+        return Err((Refusal::JournalFailed { count }, journal));
+    }
+    match ClaimStore::start(alloc, journal, &file.id(), file.total()) {
+        Ok(store) => Ok(store),
+        Err((claim_store::StoreFault::NoMemory, disk)) => Err((Refusal::NoMemory, disk)),
+        Err((claim_store::StoreFault::Journal(fault), disk)) => {
+            let count = disk.faults();
+            Err((start_stop(fault, count), disk))
+        }
+    }
+}

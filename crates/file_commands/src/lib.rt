@@ -1,0 +1,18 @@
+//! What commands load, open, say and stop by; and the commands that hold no session: `deal` and `eval`.
+//!
+//! `zk_cli` has the other commands and the top call.
+#![tactic(auto)]
+
+mod circuit_file;
+mod deal_command;
+mod eval_command;
+mod journal_file;
+mod refusal;
+mod saying;
+
+pub use circuit_file::{load_circuit, load_file, read_circuit};
+pub use deal_command::run_deal;
+pub use eval_command::run_eval;
+pub use journal_file::{open_ceilings, open_claims};
+pub use refusal::Refusal;
+pub use saying::{say, say_memory, say_stop};

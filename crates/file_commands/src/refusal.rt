@@ -1,0 +1,58 @@
+// Why a run stops before its work is done.
+ghost use Rattle.std.specs.Prelude.{◌≡◌};
+ghost use Rattle.file_commands.specs.declared.refusal.Refusal.TheVariants as stop;
+
+use bristol_reader::ReadFault;
+use dealer_files::FileFault;
+use std::alloc::AllocError;
+
+/// Why a run stops before its work is done; each has its status and its line.
+#[derive(Clone, Copy, Debug, PartialEq, Eq)]
+pub enum Refusal {
+    /// The words ask for nothing.
+    Usage,
+    /// A circuit's text is refused.
+    BadText(ReadFault),
+    /// A verifier's file is refused, or memory was missing to read it.
+    BadFile(FileFault),
+    /// A file has more bytes than this.
+    TooLong { limit: u64 },
+    /// There are `got` bits in place of `need`.
+    WrongBits { need: u64, got: u64 },
+    /// There are `got` claimed outputs in place of `need`.
+    WrongOutputs { need: u64, got: u64 },
+    /// The circuit gives another bit than this claimed output.
+    Unsatisfied { output: u64 },
+    /// The session needs so many correlations, and units of them above 4,096.
+    TooLarge { need: u64, units: u64 },
+    /// A call of the shelf failed.
+    ShelfFailed,
+    /// The door does not listen.
+    DoorFailed,
+    /// A journal ends at `got`, before its header is whole or inside a slot that is read, where `need` bytes are needed.
+    JournalShort { need: u64, got: u64 },
+    /// This byte of a journal's header is another.
+    JournalHeader { place: u64 },
+    /// The body of this slot of a journal breaks its rule.
+    JournalBody { slot: u64 },
+    /// A call of the disk failed, which has failed so often now.
+    JournalFailed { count: u64 },
+    /// Memory was missing.
+    NoMemory,
+}
+
+impl From<AllocError> for Refusal {
+    ghost from_gives = { λ _ e. e ≡ stop.NoMemory };
+
+    fn from(_: AllocError) -> Self {
+        Refusal::NoMemory
+    }
+}
+
+impl From<FileFault> for Refusal {
+    ghost from_gives = { λ fault e. e ≡ stop.BadFile fault };
+
+    fn from(fault: FileFault) -> Self {
+        Refusal::BadFile(fault)
+    }
+}

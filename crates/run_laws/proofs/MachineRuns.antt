@@ -1,0 +1,308 @@
+-- Runs over one file's journals, as events of the lease machine.
+use Rattle.std.proofs.Common.{◌≡◌, ◌⊎◌, inl, inr, ℕ, zero, suc, ◌+◌, ◌<◌, ◌≤◌, true, false, cond, ◌&&◌, List, [], ◌∷◌, ◌++◌, length, get_or, refl, sym, ap, ◌∙◌, subst, arith, Option, None, Some, nat_eq, nat_le, nat_lt, All, append_assoc}
+use Rattle.std.specs.Prelude.{AllPairs, ◌%◌}
+use Rattle.std.specs.List.Sorted.{IsNonDecreasingBy}
+use Rattle.std.proofs.Math.ListN.{get_or-append}
+use Rattle.std.proofs.Math.Seq.{get_or-append_seam}
+use Rattle.std.proofs.lemmas.Bool.{and_from, le-leb, lt-ltb, not_from_false}
+use Rattle.std.proofs.lemmas.Bool.Decides.{nat_tests}
+use Rattle.std.proofs.lemmas.List.{length-append}
+use Rattle.std.proofs.lemmas.List.Folds.{list_any_none}
+use Rattle.zk_model.specs.Journals.{AreSound, body_before, keeps_rule}
+use Rattle.zk_model.specs.declared.JournalKind.TheVariants.{Ceilings}
+use Rattle.zk_model.specs.declared.Span.{Span}
+use Rattle.lease_core.specs.Kept.{IsReached}
+use Rattle.lease_core.specs.Machine.{Machine, after_all, durable, is_possible, last_of, machine_at_first}
+use Rattle.lease_core.specs.Spans.{IsApart, meets, meets_any}
+use Rattle.lease_core.specs.declared.event.Event.TheVariants.{Begin, Claim, Crash}
+use Rattle.lease_core.proofs.Reached.{is_consistent, reached_first, reached_goes_on, reached_inv}
+use Rattle.lease_store.specs.Ceilings.{FindsCeiling, SaysCeiling, last_ceiling}
+use Rattle.claim_store.specs.Claims.{AreClaims}
+use Rattle.session_pool.specs.Notes.{AreApart, IsBetween}
+use Rattle.zk_cli.specs.NoteLines.{start_of}
+use Rattle.run_laws.specs.MachineRuns.{AreInTurn, ClaimsAreEvents, EventsLead, HasClaimed, IsMachineOf, PastRun, RunLeaves, RunsAreEvents, RunsLeave, all_granted, granted_spans}
+use Rattle.run_laws.proofs.Eras.{IsCeiling, Serves, ServesBelow, at_once, by_event, grant, raise_to, then}
+use Rattle.run_laws.proofs.ClaimsInTurn.{nothing_more}
+use Rattle.run_laws.proofs.RunsInTurn.{one_ceiling, says_found}
+
+-- ---- the ceilings that journals say
+
+of_rule : (total before : ℕ) (body : ℕ × ℕ) → keeps_rule Ceilings total before body ≡ true → (body.0 ≤ total) × ((body.0 % 16 ≡ 0) ⊎ (body.0 ≡ total))
+of_rule total before body keeps = grind (arith, nat_tests, keeps)
+
+of_bodies : (total : ℕ) (bodies : List (ℕ × ℕ)) (n : ℕ) → length bodies ≡ n → AreSound Ceilings total bodies → IsCeiling total (body_before bodies n).0
+of_bodies total bodies zero size sound = record { within = omega arith; round = inl refl }
+of_bodies total bodies (suc n) size sound =
+    let keeps = of_rule total (body_before bodies n).0 (get_or bodies n (0, 0)) (sound n (omega (arith, size))) in
+    record { within = keeps.0; round = keeps.1 }
+
+is_ceiling : (id : List ℕ) (total ceiling : ℕ) (bytes : List ℕ) → SaysCeiling id total ceiling bytes → IsCeiling total ceiling
+is_ceiling id total ceiling bytes said =
+    subst (IsCeiling total) said.last (of_bodies total said.bodies (length said.bodies) refl said.says.sound)
+
+-- ---- what a run was granted
+
+-- what comes after a span among those of a run
+after_it : (units low ceiling : ℕ) (s : Span) (o : Option Span) → 0 < units → s.end ≡ s.start + units → s.start ≤ start_of o → AreApart (Some s) o
+    → IsBetween units low ceiling o → IsBetween units s.end ceiling o
+after_it units low ceiling s None some size later apart between = tt
+after_it units low ceiling s (Some t) some size later (inl apart) between = (apart, between.1, between.2)
+after_it units low ceiling s (Some t) some size later (inr apart) between = let ends = between.1 in absurd (omega (arith, some, ends, later, apart))
+
+in_turn : (units low ceiling : ℕ) (granted : List (Option Span)) → 0 < units → units ≤ 4096 → low ≤ ceiling → IsNonDecreasingBy start_of granted
+    → AllPairs AreApart granted → All (IsBetween units low ceiling) granted → AreInTurn low (granted_spans granted) ceiling
+in_turn units low ceiling [] some few rises ordered apart between = rises
+in_turn units low ceiling (None ∷ granted) some few rises ordered apart between =
+    in_turn units low ceiling granted some few rises
+    (λ i j d less within. ordered (suc i) (suc j) d (omega (arith, less)) (omega (arith, within)))
+    (λ i j d less within. apart (suc i) (suc j) d (omega (arith, less)) (omega (arith, within)))
+    (λ k d within. between (suc k) d (omega (arith, within)))
+in_turn units low ceiling (Some s ∷ granted) some few rises ordered apart between =
+    let first = between 0 None (omega arith) in
+    let size = first.1 in (
+      first.0,
+      omega (arith, size, some),
+      omega (arith, size, few),
+      in_turn units s.end ceiling granted some few first.2
+          (λ i j d less within. ordered (suc i) (suc j) d (omega (arith, less)) (omega (arith, within)))
+          (λ i j d less within. apart (suc i) (suc j) d (omega (arith, less)) (omega (arith, within)))
+          (λ k d within. after_it units low ceiling s (get_or granted k d) some size (ordered 0 (suc k) d (omega arith) (omega (arith, within)))
+          (apart 0 (suc k) d (omega arith) (omega (arith, within))) (between (suc k) d (omega (arith, within)))),
+    )
+
+turn_rises : (low high : ℕ) (spans : List Span) → AreInTurn low spans high → low ≤ high
+turn_rises low high [] stand = stand
+turn_rises low high (s ∷ spans) stand = let rest = turn_rises s.end high spans stand.3 in let a = stand.0 in let b = stand.1 in omega (arith, a, b, rest)
+
+of_run : (id : List ℕ) (total units base ceiling : ℕ) (granted : List (Option Span)) (first later : List ℕ) → 0 < units → units ≤ 4096
+    → SaysCeiling id total base first → base ≤ ceiling → FindsCeiling id total ceiling first later → IsNonDecreasingBy start_of granted
+    → AllPairs AreApart granted → All (IsBetween units base ceiling) granted → RunLeaves id total first (granted_spans granted) later
+of_run id total units base ceiling granted first later some few began rises found ordered apart between = record {
+  base = base;
+  ceiling = last_ceiling found.bodies;
+  began = began;
+  left = says_found id total ceiling first later found;
+  stand = higher base ceiling (last_ceiling found.bodies) (granted_spans granted) found.reaches
+      (in_turn units base ceiling granted some few rises ordered apart between);
+} where
+  higher : (low high above : ℕ) (spans : List Span) → high ≤ above → AreInTurn low spans high → AreInTurn low spans above
+  higher low high above [] more stand = omega (arith, more, stand)
+  higher low high above (s ∷ spans) more stand = (stand.0, stand.1, stand.2, higher s.end high above spans more stand.3)
+
+of_stop : (id : List ℕ) (total base : ℕ) (first later : List ℕ) → SaysCeiling id total base first → FindsCeiling id total base first later
+    → RunLeaves id total first [] later
+of_stop id total base first later began found = record {
+  base = base;
+  ceiling = last_ceiling found.bodies;
+  began = began;
+  left = says_found id total base first later found;
+  stand = found.reaches;
+}
+
+-- ---- an era
+
+-- a machine that is not up, with this durable ceiling
+record IsDown (total : ℕ) (spent : List Span) (ceiling : ℕ) (m : Machine) : Type 0 where
+  pub reached : IsReached m
+  pub down : m.up ≡ false
+  pub has_pass : 0 < m.passes
+  pub total_is : m.total ≡ total
+  pub durable_is : durable m ≡ ceiling
+  pub spent_is : m.spent ≡ spent
+
+-- a machine serves below a ceiling, wherever it is
+abbrev ServesTo : ℕ → List Span → ℕ → Machine → Type 0
+ServesTo total spent ceiling m = (next : ℕ) × ServesBelow total spent next ceiling m
+
+begins : (total : ℕ) (spent : List Span) (base ceiling : ℕ) (m : Machine) → IsDown total spent base m → base ≤ ceiling
+    → EventsLead m (ServesBelow total spent base ceiling)
+begins total spent base ceiling m d rises = by_event m Begin may (record {
+  shown = base;
+  serves = record {
+    reached = (reached_goes_on m Begin d.reached may).0;
+    up = refl;
+    has_pass = d.has_pass;
+    total_is = d.total_is;
+    stage_is = refl;
+    next_is = d.durable_is;
+    shown_is = d.durable_is;
+    spent_is = d.spent_is;
+    free = refl;
+  };
+  low = omega arith;
+  high = rises;
+}) where
+  may : is_possible m Begin ≡ true
+  may = not_from_false m.up d.down
+
+grants : (total : ℕ) (spent spans : List Span) (next ceiling : ℕ) (m : Machine) → IsCeiling total ceiling → ServesBelow total spent next ceiling m
+    → AreInTurn next spans ceiling → EventsLead m (ServesTo total (spent ++ spans) ceiling)
+grants total spent [] next ceiling m is below stand =
+    at_once m (next, subst (λ (all : List Span). ServesBelow total all next ceiling m) (nothing_more spent) below)
+grants total spent (s ∷ spans) next ceiling m is below stand =
+    then m (grant total spent next ceiling s m is below stand.0 stand.1 stand.2 (turn_rises s.end ceiling spans stand.3)) (λ n served.
+    then n (grants total (spent ++ s ∷ []) spans s.end ceiling n is served stand.3) (λ l done.
+    at_once l (subst (λ (all : List Span). ServesTo total all ceiling l) (append_assoc spent (s ∷ []) spans) done)))
+
+stops : (total : ℕ) (spent : List Span) (ceiling : ℕ) (m : Machine) → ServesBelow total spent ceiling ceiling m → EventsLead m (IsDown total spent ceiling)
+stops total spent ceiling m below = by_event m (Crash [] 0) s.up (record {
+  reached = (reached_goes_on m (Crash [] 0) s.reached s.up).0;
+  down = refl;
+  has_pass = s.has_pass;
+  total_is = s.total_is;
+  durable_is = ap last_of (no_put m.stage (m.slots ++ m.ceiling ∷ []) m.slots s.stage_is) ∙ shows;
+  spent_is = s.spent_is;
+}) where
+  s : Serves total spent ceiling below.shown m
+  s = below.serves
+
+  no_put : (stage : ℕ) (more slots : List ℕ) → stage ≡ 0 → cond (nat_eq stage 3 && nat_eq 0 90) more slots ≡ slots
+  no_put stage more slots none = ap (λ (n : ℕ). cond (nat_eq n 3 && nat_eq 0 90) more slots) none
+
+  shows : durable m ≡ ceiling
+  shows =
+      let at = s.stage_is in
+      let is = s.shown_is in
+      let low = below.low in
+      let high = below.high in
+      let same = (is_consistent m (reached_inv m s.reached)).durable_before s.up (omega (arith, at)) in
+      omega (arith, same, is, low, high)
+
+-- an era in which these spans are granted, and which leaves this ceiling
+era : (total : ℕ) (spent spans : List Span) (base ceiling : ℕ) (m : Machine) → IsCeiling total ceiling → IsDown total spent base m
+    → AreInTurn base spans ceiling → EventsLead m (IsDown total (spent ++ spans) ceiling)
+era total spent spans base ceiling m is down stand =
+    then m (begins total spent base ceiling m down (turn_rises base ceiling spans stand)) (λ n began.
+    then n (grants total spent spans base ceiling n is began stand) (λ l served.
+    then l (raise_to total (spent ++ spans) served.0 ceiling l is served.1) (λ k shown.
+    stops total (spent ++ spans) ceiling k shown)))
+
+-- ---- journals
+
+machine_of : (id : List ℕ) (total ceiling : ℕ) (bytes : List ℕ) (spent : List Span) (m : Machine) → SaysCeiling id total ceiling bytes
+    → IsDown total spent ceiling m → IsMachineOf id total bytes spent m
+machine_of id total ceiling bytes spent m said d = record {
+  reached = d.reached;
+  down = d.down;
+  has_pass = d.has_pass;
+  total_is = d.total_is;
+  durable_is = subst (λ (c : ℕ). SaysCeiling id total c bytes) (sym d.durable_is) said;
+  spent_is = d.spent_is;
+}
+
+first_machine : (id : List ℕ) (total ceiling : ℕ) (first : List ℕ) → SaysCeiling id total ceiling first
+    → (m : Machine) × IsMachineOf id total first [] m
+first_machine id total ceiling first said =
+    let m : Machine = machine_at_first total 1 in
+    let is = is_ceiling id total ceiling first said in
+    let none : IsDown total [] 0 m = record {
+      reached = reached_first total 1;
+      down = refl;
+      has_pass = omega arith;
+      total_is = refl;
+      durable_is = refl;
+      spent_is = refl;
+    } in
+    let led = era total [] [] 0 ceiling m is none (omega arith) in
+    (after_all m led.events, machine_of id total ceiling first [] (after_all m led.events) said led.led)
+
+one_run : (id : List ℕ) (total : ℕ) (first : List ℕ) (before granted : List Span) (later : List ℕ) (m : Machine)
+    → IsMachineOf id total first before m → RunLeaves id total first granted later → EventsLead m (IsMachineOf id total later (before ++ granted))
+one_run id total first before granted later m of run =
+    let is = is_ceiling id total run.ceiling later run.left in
+    let down : IsDown total before run.base m = record {
+      reached = of.reached;
+      down = of.down;
+      has_pass = of.has_pass;
+      total_is = of.total_is;
+      durable_is = one_ceiling id total (durable m) run.base first of.durable_is run.began;
+      spent_is = of.spent_is;
+    } in
+    then m (era total before granted run.base run.ceiling m is down run.stand) (λ n led.
+    at_once n (machine_of id total run.ceiling later (before ++ granted) n run.left led))
+
+all_runs : (id : List ℕ) (total : ℕ) (first : List ℕ) (before : List Span) (runs : List PastRun) (later : List ℕ) (m : Machine)
+    → IsMachineOf id total first before m → RunsLeave id total first runs later
+    → EventsLead m (IsMachineOf id total later (before ++ all_granted runs))
+all_runs id total first before [] later m of same =
+    at_once m (subst (λ (p : List ℕ × List Span). IsMachineOf id total p.0 p.1 m) (λ i. (same i, nothing_more before i)) of)
+all_runs id total first before (run ∷ runs) later m of leave =
+    then m (one_run id total first before run.granted run.left m of leave.0) (λ n one.
+    then n (all_runs id total run.left (before ++ run.granted) runs later n one leave.1) (λ l all.
+    at_once l (subst (λ (spans : List Span). IsMachineOf id total later spans l) (append_assoc before run.granted (all_granted runs)) all)))
+
+pub runs_are_events : RunsAreEvents
+runs_are_events = record {
+  of_run = of_run;
+  of_stop = of_stop;
+  begins = first_machine;
+  one_run = one_run;
+  all_runs = all_runs;
+  apart = λ id total ceiling first runs later said leave.
+      let began = first_machine id total ceiling first said in
+      let led = all_runs id total first [] runs later began.0 began.1 leave in
+      subst AreSpansApart led.led.spent_is (is_consistent _ (reached_inv _ led.led.reached)).spent_apart;
+} where
+  AreSpansApart : List Span → Type 0
+  AreSpansApart spans = AllPairs IsApart spans
+
+-- ---- claims
+
+-- a claim that may stand after these
+claim : (total : ℕ) (claims more : List Span) (s : Span) (m : Machine) → HasClaimed total claims m → AreClaims total (claims ++ s ∷ more)
+    → EventsLead m (HasClaimed total (claims ++ s ∷ []))
+claim total claims more s m has sound = by_event m (Claim s) may (record {
+  reached = (reached_goes_on m (Claim s) has.reached may).0;
+  total_is = has.total_is;
+  claims_are = ap (λ (spans : List Span). spans ++ s ∷ []) has.claims_are;
+}) where
+  size : length (claims ++ s ∷ more) ≡ length claims + suc (length more)
+  size = length-append claims (s ∷ more)
+
+  here : get_or (claims ++ s ∷ more) (length claims) s ≡ s
+  here = get_or-append_seam claims s more s
+
+  apart : (k : ℕ) (d : Span) → k < length claims → IsApart (get_or claims k d) s
+  apart k d within = subst (λ (p : Span × Span). IsApart p.0 p.1)
+      (λ i. (get_or-append claims (s ∷ more) d k within i, get_or-append_seam claims s more d i))
+      (sound.apart k (length claims) d within (omega (arith, size)))
+
+  none : meets_any s m.claims ≡ false
+  none = ap (meets_any s) has.claims_are ∙ list_any_none (λ (c : Span). meets c s) claims (λ k d within. not_met (get_or claims k d) (apart k d within))
+    where
+      not_met : (c : Span) → IsApart c s → meets c s ≡ false
+      not_met c (inl before) = grind (arith, nat_tests, before)
+      not_met c (inr behind) = grind (arith, nat_tests, behind)
+
+  may : is_possible m (Claim s) ≡ true
+  may =
+      let rule = subst (λ (t : Span). (t.start < t.end) × (t.end ≤ total)) here (sound.within (length claims) s (omega (arith, size))) in
+      let all = has.total_is in
+      let ends = rule.1 in
+      and_from (nat_lt s.start s.end && nat_le s.end m.total) _
+      (and_from (nat_lt s.start s.end) (nat_le s.end m.total) (lt-ltb s.start s.end rule.0) (le-leb s.end m.total (omega (arith, all, ends))))
+      (not_from_false (meets_any s m.claims) none)
+
+claims_on : (total : ℕ) (claims more : List Span) (m : Machine) → HasClaimed total claims m → AreClaims total (claims ++ more)
+    → EventsLead m (HasClaimed total (claims ++ more))
+claims_on total claims [] m has sound = at_once m (subst (λ (spans : List Span). HasClaimed total spans m) (nothing_more claims) has)
+claims_on total claims (s ∷ more) m has sound =
+    let together = append_assoc claims (s ∷ []) more in
+    then m (claim total claims more s m has sound) (λ n one.
+    then n (claims_on total (claims ++ s ∷ []) more n one (subst (AreClaims total) (sym together) sound)) (λ l all.
+    at_once l (subst (λ (spans : List Span). HasClaimed total spans l) together all)))
+
+pub claims_are_events : ClaimsAreEvents
+claims_are_events = record {
+  begins = λ total claims sound.
+      let led = claims_on total [] claims (machine_at_first total 1)
+      (record { reached = reached_first total 1; total_is = refl; claims_are = refl }) sound in
+      (_, led.led);
+  one_run = next;
+} where
+  next : (total : ℕ) (claims later : List Span) (claimed : Span) (m : Machine) → HasClaimed total claims m
+      → (later ≡ claims) ⊎ (later ≡ claims ++ claimed ∷ []) → AreClaims total later → EventsLead m (HasClaimed total later)
+  next total claims later claimed m has (inl same) sound = at_once m (subst (λ (spans : List Span). HasClaimed total spans m) (sym same) has)
+  next total claims later claimed m has (inr one) sound =
+      then m (claim total claims [] claimed m has (subst (AreClaims total) one sound)) (λ n led.
+      at_once n (subst (λ (spans : List Span). HasClaimed total spans n) (sym one) led))

@@ -1,0 +1,85 @@
+-- Runs over one file's journal, one after the other.
+use Rattle.std.proofs.Common.{◌≡◌, ◌≤◌, ℕ, List, get_or, true, Option, None, Some, refl, inl, sym, ap, ◌∙◌, arith}
+use Rattle.std.proofs.lemmas.Bool.Decides.{nat_tests}
+use Rattle.zk_model.specs.Journals.{body_before, ceiling_slots, keeps_rule}
+use Rattle.zk_model.specs.declared.JournalKind.TheVariants.{Ceilings}
+use Rattle.zk_model.specs.declared.Span.{Span}
+use Rattle.lease_journal.proofs.Sound.{recovers_same}
+use Rattle.lease_store.specs.Ceilings.{FindsCeiling, SaysCeiling, last_ceiling}
+use Rattle.session_pool.specs.Notes.{AreApart, IsBetween}
+use Rattle.run_laws.specs.RunsInTurn.{KeepsUp, RunsGrantOnce}
+
+-- a journal says one ceiling at most
+pub one_ceiling : (id : List ℕ) (total a b : ℕ) (bytes : List ℕ) → SaysCeiling id total a bytes → SaysCeiling id total b bytes → a ≡ b
+one_ceiling id total a b bytes one other =
+    sym one.last
+    ∙ ap last_ceiling (recovers_same 64 (ceiling_slots total) bytes one.bodies other.bodies one.says.recovered other.says.recovered)
+    ∙ other.last
+
+-- the second number of a ceiling that keeps the rule
+second : (total before : ℕ) (body : ℕ × ℕ) → keeps_rule Ceilings total before body ≡ true → body.1 ≡ 0
+second total before body keeps = grind (arith, nat_tests)
+
+-- bytes in which a ceiling is found say one, which is no lower
+pub says_found : (id : List ℕ) (total ceiling : ℕ) (first bytes : List ℕ) (found : FindsCeiling id total ceiling first bytes)
+    → SaysCeiling id total (last_ceiling found.bodies) bytes
+says_found id total ceiling first bytes found = record {
+  bodies = found.bodies;
+  says = found.says;
+  last = refl;
+  seconds = λ place below.
+      second total (body_before found.bodies place).0 (get_or found.bodies place (0, 0)) (found.says.sound place below);
+}
+
+keeps_up : (id : List ℕ) (total base ceiling : ℕ) (first image : List ℕ) → SaysCeiling id total base first → base ≤ ceiling
+    → FindsCeiling id total ceiling first image → KeepsUp id total first image
+keeps_up id total base ceiling first image said grows found = record {
+  low = base;
+  high = last_ceiling found.bodies;
+  says = said;
+  finds = says_found id total ceiling first image found;
+  grows = let more = found.reaches in omega (arith, grows, more);
+}
+
+in_turn : (id : List ℕ) (total : ℕ) (first middle last : List ℕ) → KeepsUp id total first middle → KeepsUp id total middle last
+    → KeepsUp id total first last
+in_turn id total first middle last one other = record {
+  low = one.low;
+  high = other.high;
+  says = one.says;
+  finds = other.finds;
+  grows = let same = one_ceiling id total one.high other.low middle one.finds other.says in
+      let a = one.grows in
+      let b = other.grows in
+      omega (arith, same, a, b);
+}
+
+-- a span below a ceiling and one above it are apart
+apart_at : (units base ceiling later_units later_base later_ceiling : ℕ) (one other : Option Span) → ceiling ≤ later_base
+    → IsBetween units base ceiling one → IsBetween later_units later_base later_ceiling other → AreApart one other
+apart_at units base ceiling later_units later_base later_ceiling None other low below above = tt
+apart_at units base ceiling later_units later_base later_ceiling (Some s) None low below above = tt
+apart_at units base ceiling later_units later_base later_ceiling (Some s) (Some t) low below above =
+    let ends = below.2 in
+    let starts = above.0 in
+    inl (omega (arith, low, ends, starts))
+
+-- where an earlier run left a ceiling, a later one begins at or above it
+begins_above : (id : List ℕ) (total ceiling base : ℕ) (first image later : List ℕ) → FindsCeiling id total ceiling first image
+    → KeepsUp id total image later → SaysCeiling id total base later → ceiling ≤ base
+begins_above id total ceiling base first image later found kept said =
+    let same = one_ceiling id total kept.low (last_ceiling found.bodies) image kept.says (says_found id total ceiling first image found) in
+    let next = one_ceiling id total kept.high base later kept.finds said in
+    let reaches = found.reaches in
+    let grows = kept.grows in
+    omega (arith, same, next, reaches, grows)
+
+pub runs_grant_once : RunsGrantOnce
+runs_grant_once = record {
+  keeps_up = keeps_up;
+  in_turn = in_turn;
+  apart = λ id total units base ceiling granted first image later_units later_base later_ceiling later_granted later below found kept said above.
+      let low = begins_above id total ceiling later_base first image later found kept said in
+      λ k default within other_k other_default other_within.
+      apart_at units base ceiling later_units later_base later_ceiling _ _ low (below k default within) (above other_k other_default other_within);
+}

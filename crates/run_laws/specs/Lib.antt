@@ -1,0 +1,3 @@
+pub mod AcceptedLogs
+pub mod MachineRuns
+pub mod RunsInTurn

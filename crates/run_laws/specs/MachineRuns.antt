@@ -1,0 +1,109 @@
+-- Runs over one file's journals, one after the other, as events of the lease machine.
+use Rattle.std.specs.Prelude.{◌≡◌, ◌⊎◌, ℕ, ◌+◌, ◌<◌, ◌≤◌, true, false, List, [], ◌∷◌, ◌++◌, Option, None, Some, All, AllPairs}
+use Rattle.std.specs.List.Sorted.{IsNonDecreasingBy}
+use Rattle.zk_model.specs.declared.Span.{Span}
+use Rattle.zk_model.specs.declared.limits.TheConstants.{MAX_UNITS}
+use Rattle.lease_core.specs.Kept.{IsReached}
+use Rattle.lease_core.specs.Machine.{Machine, after_all, are_possible, durable}
+use Rattle.lease_core.specs.Spans.{AreApart}
+use Rattle.lease_core.specs.declared.event.Event.{Event}
+use Rattle.lease_store.specs.Ceilings.{FindsCeiling, SaysCeiling}
+use Rattle.claim_store.specs.Claims.{AreClaims}
+use Rattle.session_pool.specs.Notes as note
+use Rattle.session_pool.specs.Notes.{IsBetween}
+use Rattle.zk_cli.specs.NoteLines.{start_of}
+
+-- ---- runs of `serve`
+
+-- the spans among these answers
+abbrev pub granted_spans : List (Option Span) → List Span
+granted_spans [] = []
+granted_spans (None ∷ granted) = granted_spans granted
+granted_spans (Some s ∷ granted) = s ∷ granted_spans granted
+
+-- from low up to high, each after the ones before, and of 1 to 4,096 units
+abbrev pub AreInTurn : ℕ → List Span → ℕ → Type 0
+AreInTurn low [] high = low ≤ high
+AreInTurn low (s ∷ spans) high =
+    (low ≤ s.start) × (s.start < s.end) × (s.end ≤ s.start + MAX_UNITS) × AreInTurn s.end spans high
+
+-- A run began with these bytes of a journal of ceilings and was granted these spans; the next one finds these bytes. The spans lie between
+-- the ceilings that the two say.
+pub record RunLeaves (id : List ℕ) (total : ℕ) (first : List ℕ) (granted : List Span) (later : List ℕ) : Type 0 where
+  pub base : ℕ
+  pub ceiling : ℕ
+  pub began : SaysCeiling id total base first
+  pub left : SaysCeiling id total ceiling later
+  pub stand : AreInTurn base granted ceiling
+
+-- what a run was granted, and the bytes that the next one found
+pub record PastRun : Type 0 where
+  pub granted : List Span
+  pub left : List ℕ
+
+-- many runs, each of which began with what the one before had left
+abbrev pub RunsLeave : List ℕ → ℕ → List ℕ → List PastRun → List ℕ → Type 0
+RunsLeave id total first [] later = first ≡ later
+RunsLeave id total first (run ∷ runs) later =
+    RunLeaves id total first run.granted run.left × RunsLeave id total run.left runs later
+
+-- what they were granted, in order
+abbrev pub all_granted : List PastRun → List Span
+all_granted [] = []
+all_granted (run ∷ runs) = run.granted ++ all_granted runs
+
+-- A machine that possible events lead to, and that is not up: its durable ceiling is the one that these bytes say, and it spent these spans.
+pub record IsMachineOf (id : List ℕ) (total : ℕ) (bytes : List ℕ) (granted : List Span) (m : Machine) : Type 0 where
+  pub reached : IsReached m
+  pub down : m.up ≡ false
+  pub has_pass : 0 < m.passes
+  pub total_is : m.total ≡ total
+  pub durable_is : SaysCeiling id total (durable m) bytes
+  pub spent_is : m.spent ≡ granted
+
+-- events that are possible in their order lead from a machine to such a one
+pub record EventsLead (m : Machine) (IsSuch : Machine → Type 0) : Type 0 where
+  pub events : List Event
+  pub possible : are_possible m events ≡ true
+  pub led : IsSuch (after_all m events)
+
+-- Runs over one file's journal of ceilings are events of the lease machine: what a run is granted is what the machine spends in their order,
+-- and the ceiling that the journal says, whatever a crash leaves, is the machine's durable one. So for any number of runs there is a
+-- machine that was granted the same, and no two of these spans have a unit in common.
+pub record RunsAreEvents : Type 0 where
+  -- a run that handed its sessions back, from its record `GrantsOnce`
+  pub of_run : (id : List ℕ) (total units base ceiling : ℕ) (granted : List (Option Span)) (first later : List ℕ)
+      → 0 < units → units ≤ MAX_UNITS → SaysCeiling id total base first → base ≤ ceiling → FindsCeiling id total ceiling first later
+      → IsNonDecreasingBy start_of granted → AllPairs note.AreApart granted → All (IsBetween units base ceiling) granted
+      → RunLeaves id total first (granted_spans granted) later
+  -- a run that was stopped: nobody was told what it had granted
+  pub of_stop : (id : List ℕ) (total base : ℕ) (first later : List ℕ)
+      → SaysCeiling id total base first → FindsCeiling id total base first later → RunLeaves id total first [] later
+  -- whatever ceiling a journal says at first, a machine has it
+  pub begins : (id : List ℕ) (total ceiling : ℕ) (first : List ℕ) → SaysCeiling id total ceiling first
+      → (m : Machine) × IsMachineOf id total first [] m
+  -- a run is events of the machine
+  pub one_run : (id : List ℕ) (total : ℕ) (first : List ℕ) (before granted : List Span) (later : List ℕ) (m : Machine)
+      → IsMachineOf id total first before m → RunLeaves id total first granted later
+      → EventsLead m (IsMachineOf id total later (before ++ granted))
+  -- and so are many
+  pub all_runs : (id : List ℕ) (total : ℕ) (first : List ℕ) (before : List Span) (runs : List PastRun) (later : List ℕ) (m : Machine)
+      → IsMachineOf id total first before m → RunsLeave id total first runs later
+      → EventsLead m (IsMachineOf id total later (before ++ all_granted runs))
+  pub apart : (id : List ℕ) (total ceiling : ℕ) (first : List ℕ) (runs : List PastRun) (later : List ℕ)
+      → SaysCeiling id total ceiling first → RunsLeave id total first runs later → AreApart (all_granted runs)
+
+-- ---- runs of `prove`
+
+-- a machine that possible events lead to, which claimed these spans
+pub record HasClaimed (total : ℕ) (claims : List Span) (m : Machine) : Type 0 where
+  pub reached : IsReached m
+  pub total_is : m.total ≡ total
+  pub claims_are : m.claims ≡ claims
+
+-- A run of `prove` is the machine's event `Claim`, or none: where a journal says claims of which no two have a unit in common, a machine
+-- has these; and where the next run finds the same, or one more, events lead to a machine that has them.
+pub record ClaimsAreEvents : Type 0 where
+  pub begins : (total : ℕ) (claims : List Span) → AreClaims total claims → (m : Machine) × HasClaimed total claims m
+  pub one_run : (total : ℕ) (claims later : List Span) (claimed : Span) (m : Machine) → HasClaimed total claims m
+      → (later ≡ claims) ⊎ (later ≡ claims ++ claimed ∷ []) → AreClaims total later → EventsLead m (HasClaimed total later)

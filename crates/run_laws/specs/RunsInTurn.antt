@@ -1,0 +1,54 @@
+-- Runs over one file's journals, one after the other.
+use Rattle.std.specs.Prelude.{ℕ, ◌≤◌, ◌∷◌, [], ◌++◌, List, All, Option}
+use Rattle.zk_model.specs.declared.Span.{Span}
+use Rattle.lease_core.specs.Spans.{IsApart}
+use Rattle.lease_store.specs.Ceilings.{FindsCeiling, SaysCeiling}
+use Rattle.claim_store.specs.Claims.{AreClaims, SaysClaims, SaysOldOrNew}
+use Rattle.session_pool.specs.Notes.{AreApart, IsBetween}
+
+-- ---- journals of ceilings
+
+-- a journal's bytes say a ceiling, and later ones the same or a higher one
+pub record KeepsUp (id : List ℕ) (total : ℕ) (first later : List ℕ) : Type 0 where
+  pub low : ℕ
+  pub high : ℕ
+  pub says : SaysCeiling id total low first
+  pub finds : SaysCeiling id total high later
+  pub grows : low ≤ high
+
+-- What follows for runs over one file's journal, one after the other, from `GrantsOnce` of each. A run's journal keeps up with what it
+-- began with, whatever a crash leaves; so does what many of them leave. And where a run begins with bytes that keep up with what an
+-- earlier one left, no unit is granted by both.
+pub record RunsGrantOnce : Type 0 where
+  pub keeps_up : (id : List ℕ) (total base ceiling : ℕ) (first image : List ℕ) → SaysCeiling id total base first → base ≤ ceiling
+      → FindsCeiling id total ceiling first image → KeepsUp id total first image
+  pub in_turn : (id : List ℕ) (total : ℕ) (first middle last : List ℕ) → KeepsUp id total first middle → KeepsUp id total middle last
+      → KeepsUp id total first last
+  pub apart : (id : List ℕ) (total units base ceiling : ℕ) (granted : List (Option Span)) (first image : List ℕ)
+      (later_units later_base later_ceiling : ℕ) (later_granted : List (Option Span)) (later : List ℕ)
+      → All (IsBetween units base ceiling) granted → FindsCeiling id total ceiling first image
+      → KeepsUp id total image later → SaysCeiling id total later_base later
+      → All (IsBetween later_units later_base later_ceiling) later_granted
+      → All (λ one. All (AreApart one) later_granted) granted
+
+-- ---- journals of claims
+
+-- bytes say claims, and later ones the same, and maybe more behind them
+pub record ClaimsUp (slots : ℕ) (first later : List ℕ) : Type 0 where
+  pub claims : List Span
+  pub more : List Span
+  pub says : SaysClaims slots claims first
+  pub finds : SaysClaims slots (claims ++ more) later
+
+-- What follows for runs over one file's journal of claims, one after the other, from `KeepsClaims` of each. A run's journal keeps up with
+-- what it began with, whatever a crash leaves; so does what many of them leave. And where a run begins with bytes that keep up with what
+-- an earlier one left once its units were claimed, no unit is claimed by both.
+pub record RunsClaimOnce : Type 0 where
+  pub keeps_up : (slots : ℕ) (claims : List Span) (s : Span) (first image : List ℕ)
+      → SaysClaims slots claims first → SaysOldOrNew slots claims s image → ClaimsUp slots first image
+  pub in_turn : (slots : ℕ) (first middle last : List ℕ)
+      → ClaimsUp slots first middle → ClaimsUp slots middle last → ClaimsUp slots first last
+  pub apart : (total slots : ℕ) (claims later_claims : List Span) (claimed later_claimed : Span) (image later : List ℕ)
+      → SaysClaims slots (claims ++ claimed ∷ []) image → ClaimsUp slots image later
+      → SaysClaims slots later_claims later → AreClaims total (later_claims ++ later_claimed ∷ [])
+      → IsApart claimed later_claimed

@@ -1,0 +1,11 @@
+//! Laws on runs of the program: each function takes nothing, does nothing, and ensures a statement.
+//!
+//! They are about records that the contract of `run_zk` promises: what an accepted log shows, and what many runs over
+//! one file's journals grant and claim, whatever crashes leave.
+#![tactic(auto)]
+
+mod accepted_logs;
+mod runs_in_turn;
+
+pub use accepted_logs::headline_is_of_accepted_log;
+pub use runs_in_turn::{claims_are_events, runs_are_events, runs_claim_once, runs_grant_once};
