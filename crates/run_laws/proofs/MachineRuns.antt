@@ -11,7 +11,6 @@ use Rattle.std.proofs.lemmas.List.Folds.{list_any_none}
 use Rattle.zk_model.specs.Journals.{AreSound, body_before, keeps_rule}
 use Rattle.zk_model.specs.declared.JournalKind.TheVariants.{Ceilings}
 use Rattle.zk_model.specs.declared.Span.{Span}
-use Rattle.lease_core.specs.Kept.{IsReached}
 use Rattle.lease_core.specs.Machine.{Machine, after_all, durable, is_possible, last_of, machine_at_first}
 use Rattle.lease_core.specs.Spans.{IsApart, meets, meets_any}
 use Rattle.lease_core.specs.declared.event.Event.TheVariants.{Begin, Claim, Crash}
@@ -20,7 +19,7 @@ use Rattle.lease_store.specs.Ceilings.{FindsCeiling, SaysCeiling, last_ceiling}
 use Rattle.claim_store.specs.Claims.{AreClaims}
 use Rattle.session_pool.specs.Notes.{AreApart, IsBetween}
 use Rattle.zk_cli.specs.NoteLines.{start_of}
-use Rattle.run_laws.specs.MachineRuns.{AreInTurn, ClaimsAreEvents, EventsLead, HasClaimed, IsMachineOf, PastRun, RunLeaves, RunsAreEvents, RunsLeave, all_granted, granted_spans}
+use Rattle.run_laws.specs.MachineRuns.{AreInTurn, ClaimsAreEvents, EventsLead, HasClaimed, IsDown, IsMachineOf, PastRun, RunLeaves, RunsAreEvents, RunsLeave, all_granted, granted_spans}
 use Rattle.run_laws.proofs.Eras.{IsCeiling, Serves, ServesBelow, at_once, by_event, grant, raise_to, then}
 use Rattle.run_laws.proofs.ClaimsInTurn.{nothing_more}
 use Rattle.run_laws.proofs.RunsInTurn.{one_ceiling, says_found}
@@ -101,15 +100,6 @@ of_stop id total base first later began found = record {
 
 -- ---- an era
 
--- a machine that is not up, with this durable ceiling
-record IsDown (total : ℕ) (spent : List Span) (ceiling : ℕ) (m : Machine) : Type 0 where
-  pub reached : IsReached m
-  pub down : m.up ≡ false
-  pub has_pass : 0 < m.passes
-  pub total_is : m.total ≡ total
-  pub durable_is : durable m ≡ ceiling
-  pub spent_is : m.spent ≡ spent
-
 -- a machine serves below a ceiling, wherever it is
 abbrev ServesTo : ℕ → List Span → ℕ → Machine → Type 0
 ServesTo total spent ceiling m = (next : ℕ) × ServesBelow total spent next ceiling m
@@ -179,47 +169,22 @@ era total spent spans base ceiling m is down stand =
 
 -- ---- journals
 
-machine_of : (id : List ℕ) (total ceiling : ℕ) (bytes : List ℕ) (spent : List Span) (m : Machine) → SaysCeiling id total ceiling bytes
-    → IsDown total spent ceiling m → IsMachineOf id total bytes spent m
-machine_of id total ceiling bytes spent m said d = record {
-  reached = d.reached;
-  down = d.down;
-  has_pass = d.has_pass;
-  total_is = d.total_is;
-  durable_is = subst (λ (c : ℕ). SaysCeiling id total c bytes) (sym d.durable_is) said;
-  spent_is = d.spent_is;
-}
-
 first_machine : (id : List ℕ) (total ceiling : ℕ) (first : List ℕ) → SaysCeiling id total ceiling first
     → (m : Machine) × IsMachineOf id total first [] m
 first_machine id total ceiling first said =
     let m : Machine = machine_at_first total 1 in
-    let is = is_ceiling id total ceiling first said in
-    let none : IsDown total [] 0 m = record {
-      reached = reached_first total 1;
-      down = refl;
-      has_pass = omega arith;
-      total_is = refl;
-      durable_is = refl;
-      spent_is = refl;
-    } in
-    let led = era total [] [] 0 ceiling m is none (omega arith) in
-    (after_all m led.events, machine_of id total ceiling first [] (after_all m led.events) said led.led)
+    let led = era total [] [] 0 ceiling m (is_ceiling id total ceiling first said)
+    (record { reached = reached_first total 1; down = refl; has_pass = omega arith; total_is = refl; durable_is = refl; spent_is = refl })
+    (omega arith) in
+    (after_all m led.events, record { ceiling = ceiling; says = said; is = led.led })
 
 one_run : (id : List ℕ) (total : ℕ) (first : List ℕ) (before granted : List Span) (later : List ℕ) (m : Machine)
     → IsMachineOf id total first before m → RunLeaves id total first granted later → EventsLead m (IsMachineOf id total later (before ++ granted))
 one_run id total first before granted later m of run =
-    let is = is_ceiling id total run.ceiling later run.left in
-    let down : IsDown total before run.base m = record {
-      reached = of.reached;
-      down = of.down;
-      has_pass = of.has_pass;
-      total_is = of.total_is;
-      durable_is = one_ceiling id total (durable m) run.base first of.durable_is run.began;
-      spent_is = of.spent_is;
-    } in
-    then m (era total before granted run.base run.ceiling m is down run.stand) (λ n led.
-    at_once n (machine_of id total run.ceiling later (before ++ granted) n run.left led))
+    let began = one_ceiling id total of.ceiling run.base first of.says run.began in
+    then m (era total before granted run.base run.ceiling m (is_ceiling id total run.ceiling later run.left)
+    (subst (λ (c : ℕ). IsDown total before c m) began of.is) run.stand) (λ n led.
+    at_once n (record { ceiling = run.ceiling; says = run.left; is = led }))
 
 all_runs : (id : List ℕ) (total : ℕ) (first : List ℕ) (before : List Span) (runs : List PastRun) (later : List ℕ) (m : Machine)
     → IsMachineOf id total first before m → RunsLeave id total first runs later
@@ -241,7 +206,7 @@ runs_are_events = record {
   apart = λ id total ceiling first runs later said leave.
       let began = first_machine id total ceiling first said in
       let led = all_runs id total first [] runs later began.0 began.1 leave in
-      subst AreSpansApart led.led.spent_is (is_consistent _ (reached_inv _ led.led.reached)).spent_apart;
+      subst AreSpansApart led.led.is.spent_is (is_consistent _ (reached_inv _ led.led.is.reached)).spent_apart;
 } where
   AreSpansApart : List Span → Type 0
   AreSpansApart spans = AllPairs IsApart spans

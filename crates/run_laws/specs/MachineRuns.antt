@@ -52,14 +52,20 @@ abbrev pub all_granted : List PastRun → List Span
 all_granted [] = []
 all_granted (run ∷ runs) = run.granted ++ all_granted runs
 
--- A machine that possible events lead to, and that is not up: its durable ceiling is the one that these bytes say, and it spent these spans.
-pub record IsMachineOf (id : List ℕ) (total : ℕ) (bytes : List ℕ) (granted : List Span) (m : Machine) : Type 0 where
+-- a machine that possible events lead to, and that is not up, with this durable ceiling, which spent these spans
+pub record IsDown (total : ℕ) (spent : List Span) (ceiling : ℕ) (m : Machine) : Type 0 where
   pub reached : IsReached m
   pub down : m.up ≡ false
   pub has_pass : 0 < m.passes
   pub total_is : m.total ≡ total
-  pub durable_is : SaysCeiling id total (durable m) bytes
-  pub spent_is : m.spent ≡ granted
+  pub durable_is : durable m ≡ ceiling
+  pub spent_is : m.spent ≡ spent
+
+-- one whose durable ceiling is what these bytes say
+pub record IsMachineOf (id : List ℕ) (total : ℕ) (bytes : List ℕ) (granted : List Span) (m : Machine) : Type 0 where
+  pub ceiling : ℕ
+  pub says : SaysCeiling id total ceiling bytes
+  pub is : IsDown total granted ceiling m
 
 -- events that are possible in their order lead from a machine to such a one
 pub record EventsLead (m : Machine) (IsSuch : Machine → Type 0) : Type 0 where
