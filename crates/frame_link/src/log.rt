@@ -41,8 +41,8 @@ fn note_run(runs: &mut Vec<Run>, run: Run)
     requires room { vec_len runs.old < vec_capacity runs.old }
     requires fits { sum_by run_count runs.old.items + run.count < 2 ^ 63 }
     ensures noted { (bytes more : List ℕ) → sum_by run_count runs.old.items ≡ length bytes
-        → run.count ≡ length more
-        → entries runs.new.items (bytes ++ more) ≡ entries runs.old.items bytes ++ bytes_from run.side more }
+        → run.count ≡ length more → entries runs.new.items (bytes ++ more)
+        ≡ entries runs.old.items bytes ++ bytes_from run.side more }
     ensures counted { sum_by run_count runs.new.items ≡ sum_by run_count runs.old.items + run.count }
     ensures len { vec_len runs.new ≤ vec_len runs.old + 1 }
     ensures capacity { vec_capacity runs.new ≡ vec_capacity runs.old }

@@ -1,4 +1,4 @@
-use Rattle.std.proofs.Common.{◌≡◌, ◌<◌, take, length, ap, sym, ◌∙◌, subst, Some, None, Err, arith, ◌++◌, ◌≤◌}
+use Rattle.std.proofs.Common.{◌≡◌, ◌+◌, ◌<◌, ℕ, List, take, length, ap, sym, ◌∙◌, subst, Some, None, Err, arith, ◌++◌, ◌≤◌}
 use Rattle.std.proofs.lemmas.List.{length-take}
 use Rattle.zk_model.specs.Transcript.{bytes_from}
 use Rattle.zk_port.specs.Links.{LinkState}
@@ -10,6 +10,7 @@ use Rattle.frame_link.specs.Lines.{LineState, line_state, Came, PieceComes, Piec
 use Rattle.frame_link.specs.declared.fault.LineFault.TheVariants as fault
 use Rattle.frame_link.proofs.LineLemmas.{comes_by, done_as, done_not, unreceived, fails_at, fails_as, fails_not, wanted_is, fed_badly, frame_most}
 use Rattle.frame_link.proofs.SideLemmas.{came_by, untaken_by, counted_receive}
+use Rattle.frame_link.proofs.line.Line.take_piece.Given.{Over}
 use Rattle.frame_link.proofs.line.Line.take_piece.Goals.{in-Ok, in-Err}
 use Rattle.frame_link.proofs.line.Line.take_piece.Goals as goal
 
@@ -36,59 +37,72 @@ returns-in_err-count-clause-fails g c =
     (unreceived place earlier later c.in_err-count.field-0.0 (untaken_by inside.side inside.log.entries inside.decoder inside.log.room old new refused)
     (sound.goes_on place expected) (omega (arith, most, few)) (omega (arith, wanting)) refused.receives causes.later (λ is. causes.failed (ap Err is)) (λ is. causes.unserved (ap Err is)))))
 
-pub returns-clause-fails : goal.returns-clause-fails
-returns-clause-fails g c =
-    let place = c.args._place in
+-- the line before the piece came, the piece, the log behind it, and the line once the piece is fed
+abbrev earlier_of : (g : Over) (c : goal.Joined-feed g) → LineState
+earlier_of g c = line_state c.self.inside.side c.self.inside.log.entries c.self.inside.decoder c.self.inside.log.room (g.L.Link.state c.self.inside.link)
+
+abbrev piece_of : (g : Over) (c : goal.Joined-feed g) → List ℕ
+piece_of g c = take c.in_ok-count.count c.receive.new.buffer
+
+abbrev log_of : (g : Over) (c : goal.Joined-feed g) → WrittenLog
+log_of g c = record { entries = c.self.inside.log.entries ++ bytes_from (peer_of c.self.inside.side) (piece_of g c); room = c.self.inside.log.room }
+
+abbrev line_with : (g : Over) (c : goal.Joined-feed g) → WrittenLog → LineState
+line_with g c log = line_state c.self.inside.side log.entries c.feed.new.self log.room (g.L.Link.state c.receive.new.link)
+
+abbrev later_of : (g : Over) (c : goal.Joined-feed g) → LineState
+later_of g c = line_with g c (log_of g c)
+
+-- what is known of them
+record IsFed (g : Over) (c : goal.Joined-feed g) : Type 0 where
+  expected : (earlier_of g c).reading.expected ≡ Some c.args._place
+  fine : (earlier_of g c).reading.bad ≡ None
+  came : Came (piece_of g c) (earlier_of g c) (later_of g c)
+  noted : c.receive.new.self ≡ log_of g c
+  few : length (piece_of g c) ≤ bytes_wanted c.args._place (earlier_of g c).reading.taken
+  received : (later_of g c).receives ≤ (earlier_of g c).receives + 1
+
+is_fed : (g : Over) (c : goal.Joined-feed g) → IsFed g c
+is_fed g c =
     let inside = c.self.inside in
     let old = g.L.Link.state inside.link in
     let new = g.L.Link.state c.receive.new.link in
-    let earlier = line_state inside.side inside.log.entries inside.decoder inside.log.room old in
-    let piece = take c.in_ok-count.count c.receive.new.buffer in
-    let sound = c.wants.ensures.sound in
     let ok = c.in_ok-count.ensures in
-    let expected : earlier.reading.expected ≡ Some place = ap (λ (s : LineState). s.reading.expected) c.self.view_is ∙ c.requires.expected in
-    let fine : earlier.reading.bad ≡ None = ap (λ (s : LineState). s.reading.bad) c.self.view_is ∙ c.requires.fine in
-    let later = line_state inside.side (inside.log.entries ++ bytes_from (peer_of inside.side) piece) c.feed.new.self inside.log.room new in
-    let came : Came piece earlier later =
-    came_by inside.side inside.log.entries inside.decoder c.feed.new.self inside.log.room c.min-most.result c.in_ok-count.count piece old new ok.taken in
-    let noted : c.receive.new.self ≡ record { entries = inside.log.entries ++ bytes_from (peer_of inside.side) piece; room = inside.log.room } =
-    ok.noted ∙ ap (λ side. record { entries = inside.log.entries ++ bytes_from side piece; room = inside.log.room }) c.peer.ensures in
-    let few : length piece ≤ bytes_wanted place earlier.reading.taken =
-    omega (arith, length-take c.in_ok-count.count c.receive.new.buffer, ok.within, c.min-most.ensures, c.wants.ensures.count, wanted_is earlier.reading place fine expected) in
+    let expected : (earlier_of g c).reading.expected ≡ Some c.args._place = ap (λ (s : LineState). s.reading.expected) c.self.view_is ∙ c.requires.expected in
+    let fine : (earlier_of g c).reading.bad ≡ None = ap (λ (s : LineState). s.reading.bad) c.self.view_is ∙ c.requires.fine in
+    record {
+      expected = expected;
+      fine = fine;
+      came = came_by inside.side inside.log.entries inside.decoder c.feed.new.self inside.log.room c.min-most.result c.in_ok-count.count (piece_of g c) old new ok.taken;
+      noted = ok.noted ∙ (λ i. record { entries = inside.log.entries ++ bytes_from (c.peer.ensures i) (piece_of g c); room = inside.log.room });
+      few = omega (arith, length-take c.in_ok-count.count c.receive.new.buffer, ok.within, c.min-most.ensures, c.wants.ensures.count, wanted_is (earlier_of g c).reading c.args._place fine expected);
+      received = counted_receive old.receives new.receives (ap (λ (l : LinkState). l.receives) ok.taken.taken);
+    }
+
+pub returns-clause-fails : goal.returns-clause-fails
+returns-clause-fails g c =
+    let place = c.args._place in
+    let fed = is_fed g c in
     elim c.match-feed.branch [
       | in-Ok w ↦ fails_not _ c.match-feed.result _ w.result-is
       | in-Err w ↦ fails_as _ c.match-feed.result _ w.result-is
-          (subst (λ (l : WrittenLog). PieceFails place (fault.BadFrame w.in-Err.bad.place) c.args.self.now (line_state inside.side l.entries c.feed.new.self l.room new)) (sym noted)
-          (subst (λ (s : LineState). PieceFails place (fault.BadFrame w.in-Err.bad.place) s later) c.self.view_is
-          (fed_badly place earlier later piece w.in-Err.bad came fine expected few (sound.within place expected) w.in-Err.ensures.bad
-          (counted_receive old.receives new.receives (ap (λ (l : LinkState). l.receives) ok.taken.taken)) ok.cause.done)))
+          (subst (λ (l : WrittenLog). PieceFails place (fault.BadFrame w.in-Err.bad.place) c.args.self.now (line_with g c l)) (sym fed.noted)
+          (subst (λ (s : LineState). PieceFails place (fault.BadFrame w.in-Err.bad.place) s (later_of g c)) c.self.view_is
+          (fed_badly place (earlier_of g c) (later_of g c) (piece_of g c) w.in-Err.bad fed.came fed.fine fed.expected fed.few (c.wants.ensures.sound.within place fed.expected) w.in-Err.ensures.bad
+          fed.received c.in_ok-count.ensures.cause.done)))
     ]
 
 pub returns-clause-comes : goal.returns-clause-comes
 returns-clause-comes g c =
     let place = c.args._place in
-    let inside = c.self.inside in
-    let old = g.L.Link.state inside.link in
-    let new = g.L.Link.state c.receive.new.link in
-    let earlier = line_state inside.side inside.log.entries inside.decoder inside.log.room old in
-    let piece = take c.in_ok-count.count c.receive.new.buffer in
-    let sound = c.wants.ensures.sound in
+    let fed = is_fed g c in
     let ok = c.in_ok-count.ensures in
-    let expected : earlier.reading.expected ≡ Some place = ap (λ (s : LineState). s.reading.expected) c.self.view_is ∙ c.requires.expected in
-    let fine : earlier.reading.bad ≡ None = ap (λ (s : LineState). s.reading.bad) c.self.view_is ∙ c.requires.fine in
-    let later = line_state inside.side (inside.log.entries ++ bytes_from (peer_of inside.side) piece) c.feed.new.self inside.log.room new in
-    let came : Came piece earlier later =
-    came_by inside.side inside.log.entries inside.decoder c.feed.new.self inside.log.room c.min-most.result c.in_ok-count.count piece old new ok.taken in
-    let noted : c.receive.new.self ≡ record { entries = inside.log.entries ++ bytes_from (peer_of inside.side) piece; room = inside.log.room } =
-    ok.noted ∙ ap (λ side. record { entries = inside.log.entries ++ bytes_from side piece; room = inside.log.room }) c.peer.ensures in
-    let few : length piece ≤ bytes_wanted place earlier.reading.taken =
-    omega (arith, length-take c.in_ok-count.count c.receive.new.buffer, ok.within, c.min-most.ensures, c.wants.ensures.count, wanted_is earlier.reading place fine expected) in
-    let some : 1 ≤ length piece = omega (arith, length-take c.in_ok-count.count c.receive.new.buffer, ok.within, ok.length, c.if-count-eq0.false, c.min-most.ensures) in
+    let some : 1 ≤ length (piece_of g c) = omega (arith, length-take c.in_ok-count.count c.receive.new.buffer, ok.within, ok.length, c.if-count-eq0.false, c.min-most.ensures) in
     elim c.match-feed.branch [
       | in-Ok w ↦ done_as _ c.match-feed.result _ w.result-is
-          (subst (λ (l : WrittenLog). PieceComes place c.args.self.now (line_state inside.side l.entries c.feed.new.self l.room new)) (sym noted)
-          (subst (λ (s : LineState). PieceComes place s later) c.self.view_is
-          (comes_by place earlier later piece _ came some expected (omega (arith, few, wanted_is earlier.reading place fine expected)) w.in-Ok.ensures.takes
-          (counted_receive old.receives new.receives (ap (λ (l : LinkState). l.receives) ok.taken.taken)) ok.cause.done)))
+          (subst (λ (l : WrittenLog). PieceComes place c.args.self.now (line_with g c l)) (sym fed.noted)
+          (subst (λ (s : LineState). PieceComes place s (later_of g c)) c.self.view_is
+          (comes_by place (earlier_of g c) (later_of g c) (piece_of g c) _ fed.came some fed.expected
+          (omega (arith, fed.few, wanted_is (earlier_of g c).reading place fed.fine fed.expected)) w.in-Ok.ensures.takes fed.received ok.cause.done)))
       | in-Err w ↦ done_not _ c.match-feed.result _ w.result-is
     ]
