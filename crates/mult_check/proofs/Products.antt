@@ -1,5 +1,5 @@
 -- Products of a section, block by block.
-use Rattle.std.proofs.Common.{◌≡◌, ℕ, ◌+◌, ◌-◌, ◌<◌, ◌≤◌, List, [], ◌∷◌, ◌++◌, length, map, take, drop, get_or, set, ap, sym, ◌∙◌, arith, length-drop, length-set, get_or-set_same, refl}
+use Rattle.std.proofs.Common.{◌≡◌, ℕ, ◌+◌, ◌-◌, ◌<◌, ◌≤◌, List, [], ◌∷◌, ◌++◌, length, map, take, drop, get_or, set, ap, sym, ◌∙◌, arith, length-drop, length-set, get_or-set_same, refl, subst}
 use Rattle.std.specs.Prelude.{Some, slice_get}
 use Rattle.std.proofs.Math.Seq.{take-add}
 use Rattle.std.proofs.lemmas.List.{get_or-drop, drop-drop, map-append, take_more, take-set}
@@ -35,7 +35,7 @@ block_filled f products first i count items item below within gives far =
     (length-set items i item ∙ far.0, filled_more f products first i items item below within gives far.1)
 
 -- the items from one number up to another, and those of a block after them
-pub block_joined : {T : Type 0} (f : Product → T) (products : List Product) (first at count : ℕ) → first ≤ at
+block_joined : {T : Type 0} (f : Product → T) (products : List Product) (first at count : ℕ) → first ≤ at
     → map f (take (at - first) (drop first products)) ++ map f (take (at + count - at) (drop at products))
     ≡ map f (take (at + count - first) (drop first products))
 block_joined f products first at count low =
@@ -48,9 +48,22 @@ block_joined f products first at count low =
     (drop-drop (at - first) first products ∙ ap (λ n. drop n products) place))
 
 -- none yet
-pub none_between : {T : Type 0} (f : Product → T) (products : List Product) (first : ℕ) → map f (take (first - first) (drop first products)) ≡ []
+none_between : {T : Type 0} (f : Product → T) (products : List Product) (first : ℕ) → map f (take (first - first) (drop first products)) ≡ []
 none_between f products first = let none : first - first ≡ 0 = omega arith in ap (λ n. map f (take n (drop first products))) none ∙ ap (map f) (no_item (drop first products))
   where
     no_item : {T : Type 0} (l : List T) → take 0 l ≡ []
     no_item [] = refl
     no_item (x ∷ l) = refl
+
+-- ---- what holds of the items from one number up to another
+
+-- of none yet
+pub holds_of_none : {T : Type 0} (P : List T → Type 0) (f : Product → T) (products : List Product) (first : ℕ) → P [] → P (map f (take (first - first) (drop first products)))
+holds_of_none P f products first none = subst P (sym (none_between f products first)) none
+
+-- and of a block more, that was read into a list
+pub holds_of_more : {T : Type 0} (P : List T → Type 0) (f : Product → T) (products : List Product) (first at count : ℕ) (block : List T) → first ≤ at
+    → block ≡ map f (take (at + count - at) (drop at products)) → P (map f (take (at - first) (drop first products)) ++ block)
+    → P (map f (take (at + count - first) (drop first products)))
+holds_of_more P f products first at count block low read = subst P
+    (ap (λ l. map f (take (at - first) (drop first products)) ++ l) read ∙ block_joined f products first at count low)

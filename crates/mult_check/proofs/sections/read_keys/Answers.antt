@@ -1,4 +1,4 @@
-use Rattle.std.proofs.Common.{◌<◌, ◌+◌, length, arith}
+use Rattle.std.proofs.Common.{arith}
 use Rattle.zk_model.specs.Check.{key_triple}
 use Rattle.mult_check.proofs.Products.{block_filled}
 use Rattle.mult_check.proofs.sections.read_keys.Goals as goal
