@@ -36,6 +36,8 @@ pub outputs_wanted : (start now : Place) (is_pair : Bool) (fault : ReadFault) �
 outputs_wanted start now is_pair fault takes is =
     fault_here GateWants (number (inputs_of is_pair) ∷ []) output_number start now fault takes (second (inputs_of is_pair) (inputs_are is_pair) refl refl) is
 
+pub ruleset numbers_wanted = (inputs_wanted, outputs_wanted)
+
 -- a gate's first tokens, its numbers of inputs and of outputs and some wires
 abbrev TakesWires : ℕ → List ℕ → Place → Place → Type 0
 TakesWires n wires start now = Takes (number n ∷ number 1 ∷ map number wires) start now
@@ -69,15 +71,10 @@ placed_at n k part start before after a one takes long = record { number_is = on
 -- ---- a gate with two inputs
 
 -- its numbers, one after another
-pub record TakesThree (p0 p1 p2 p3 : Place) (a b c : Placed) : Type 0 where
-  pub one : TakesNumber p0 p1 a
-  pub two : TakesNumber p1 p2 b
-  pub three : TakesNumber p2 p3 c
-
-pub all_three : (p0 p1 p2 p3 : Place) (a b c : Placed) (three : TakesThree p0 p1 p2 p3 a b c) (start : Place) → Takes (number 2 ∷ number 1 ∷ []) start p0
-    → TakesWires 2 (three.one.exact ∷ three.two.exact ∷ three.three.exact ∷ []) start p3
-all_three p0 p1 p2 p3 a b c three start takes =
-    three_wires 2 three.one.exact three.two.exact start p2 p3 c three.three (two_wires 2 three.one.exact start p1 p2 b three.two (one_wire 2 start p0 p1 a three.one takes))
+all_three : (p0 p1 p2 p3 : Place) (a b c : Placed) (one : TakesNumber p0 p1 a) (two : TakesNumber p1 p2 b) (three : TakesNumber p2 p3 c) (start : Place)
+    → Takes (number 2 ∷ number 1 ∷ []) start p0 → TakesWires 2 (one.exact ∷ two.exact ∷ three.exact ∷ []) start p3
+all_three p0 p1 p2 p3 a b c one two three start takes =
+    three_wires 2 one.exact two.exact start p2 p3 c three (two_wires 2 one.exact start p1 p2 b two (one_wire 2 start p0 p1 a one takes))
 
 pub first_wanted : (flags : List Bool) (n : ℕ) (p0 : Place) (fault : ReadFault) → IsInputs n → next_fault a_wire p0 ≡ Some fault → BehindNumbers n p0 (λ start. IsGateFault flags start fault)
 first_wanted flags n p0 fault inputs is = λ start takes. wire_wanted flags n [] start p0 fault inputs (omega arith) takes is
@@ -91,35 +88,42 @@ second_wanted flags n p0 p1 a fault inputs one is = λ start takes.
     some (inl is) = omega arith
     some (inr is) = omega arith
 
+pub first_of_two : (flags : List Bool) (p0 : Place) (fault : ReadFault) → next_fault a_wire p0 ≡ Some fault → BehindNumbers 2 p0 (λ start. IsGateFault flags start fault)
+first_of_two flags p0 fault is = first_wanted flags 2 p0 fault (inr refl) is
+
+pub second_of_two : (flags : List Bool) (p0 p1 : Place) (a : Placed) (fault : ReadFault) → TakesNumber p0 p1 a → next_fault a_wire p1 ≡ Some fault
+    → BehindNumbers 2 p0 (λ start. IsGateFault flags start fault)
+second_of_two flags p0 p1 a fault one is = second_wanted flags 2 p0 p1 a fault (inr refl) one is
+
 pub third_wanted : (flags : List Bool) (p0 p1 p2 : Place) (a b : Placed) (fault : ReadFault) → TakesNumber p0 p1 a → TakesNumber p1 p2 b → next_fault a_wire p2 ≡ Some fault
     → BehindNumbers 2 p0 (λ start. IsGateFault flags start fault)
 third_wanted flags p0 p1 p2 a b fault one two is = λ start takes.
     wire_wanted flags 2 (one.exact ∷ two.exact ∷ []) start p2 fault (inr refl) (omega arith) (two_wires 2 one.exact start p1 p2 b two (one_wire 2 start p0 p1 a one takes)) is
 
-pub pair_wanted : (flags : List Bool) (p0 p1 p2 p3 : Place) (a b c : Placed) (fault : ReadFault) → TakesThree p0 p1 p2 p3 a b c → next_fault (a_name 2) p3 ≡ Some fault
+pub pair_wanted : (flags : List Bool) (p0 p1 p2 p3 : Place) (a b c : Placed) (fault : ReadFault) → TakesNumber p0 p1 a → TakesNumber p1 p2 b → TakesNumber p2 p3 c → next_fault (a_name 2) p3 ≡ Some fault
     → BehindNumbers 2 p0 (λ start. IsGateFault flags start fault)
-pair_wanted flags p0 p1 p2 p3 a b c fault three is = λ start takes.
-    name_wanted flags 2 (three.one.exact ∷ three.two.exact ∷ three.three.exact ∷ []) start p3 fault (inr refl) refl (all_three p0 p1 p2 p3 a b c three start takes) is
+pair_wanted flags p0 p1 p2 p3 a b c fault one two three is = λ start takes.
+    name_wanted flags 2 (one.exact ∷ two.exact ∷ three.exact ∷ []) start p3 fault (inr refl) refl (all_three p0 p1 p2 p3 a b c one two three start takes) is
 
 -- a number below the number of flags is exact
 exact_below : (flags : List Bool) (shown exact : ℕ) → length flags ≤ 2 ^ 20 → shown ≡ min exact greatest → shown < length flags → exact ≡ shown
 exact_below flags shown exact few is below = omega arith
 
 -- its tokens are those of its gate
-pub pair_taken : (flags : List Bool) (p0 p1 p2 p3 p4 : Place) (a b c : Placed) (text : BinaryGate) (gate : GateRow) → length flags ≤ 2 ^ 20 → TakesThree p0 p1 p2 p3 a b c
+pub pair_taken : (flags : List Bool) (p0 p1 p2 p3 p4 : Place) (a b c : Placed) (text : BinaryGate) (gate : GateRow) → length flags ≤ 2 ^ 20 → TakesNumber p0 p1 a → TakesNumber p1 p2 b → TakesNumber p2 p3 c
     → Takes (name (pair_text text) ∷ []) p3 p4 → gate ≡ pair_gate text a.number b.number c.number → FitsFlags flags gate
     → BehindNumbers 2 p0 (λ start. Takes (gate_lexemes gate) start p4)
-pair_taken flags p0 p1 p2 p3 p4 a b c text gate few three named is fits = λ start takes.
-    let x : ℕ = three.one.exact in
-    let y : ℕ = three.two.exact in
-    let z : ℕ = three.three.exact in
+pair_taken flags p0 p1 p2 p3 p4 a b c text gate few one two three named is fits = λ start takes.
+    let x : ℕ = one.exact in
+    let y : ℕ = two.exact in
+    let z : ℕ = three.exact in
     let whole : Takes (number 2 ∷ number 1 ∷ number x ∷ number y ∷ number z ∷ name (pair_text text) ∷ []) start p4 =
-    takes_both (number 2 ∷ number 1 ∷ number x ∷ number y ∷ number z ∷ []) (name (pair_text text) ∷ []) start p3 p4 (all_three p0 p1 p2 p3 a b c three start takes) named in
+    takes_both (number 2 ∷ number 1 ∷ number x ∷ number y ∷ number z ∷ []) (name (pair_text text) ∷ []) start p3 p4 (all_three p0 p1 p2 p3 a b c one two three start takes) named in
     let same : FitsFlags flags (pair_gate text a.number b.number c.number) = subst (λ (g : GateRow). FitsFlags flags g) is fits in
     let ends = ends_of text same in
-    let ex : x ≡ a.number = exact_below flags a.number x few three.one.is.number_is ends.0 in
-    let ey : y ≡ b.number = exact_below flags b.number y few three.two.is.number_is ends.1 in
-    let ez : z ≡ c.number = exact_below flags c.number z few three.three.is.number_is ends.2 in
+    let ex : x ≡ a.number = exact_below flags a.number x few one.is.number_is ends.0 in
+    let ey : y ≡ b.number = exact_below flags b.number y few two.is.number_is ends.1 in
+    let ez : z ≡ c.number = exact_below flags c.number z few three.is.number_is ends.2 in
     takes_same (number 2 ∷ number 1 ∷ number x ∷ number y ∷ number z ∷ name (pair_text text) ∷ []) (gate_lexemes gate) start p4
     ((λ i. number 2 ∷ number 1 ∷ number (ex i) ∷ number (ey i) ∷ number (ez i) ∷ name (pair_text text) ∷ []) ∙ spelled text ∙ ap gate_lexemes (sym is)) whole
   where
@@ -137,25 +141,27 @@ pair_taken flags p0 p1 p2 p3 p4 a b c text gate few three named is fits = λ sta
     ends_of pair.And fits = let both = on flags a.number b.number fits.reads in (both.0, both.1, fits.within)
     ends_of pair.Xor fits = let both = on flags a.number b.number fits.reads in (both.0, both.1, fits.within)
 
+pub ruleset tokens_of_two = (first_of_two, second_of_two, third_wanted, pair_wanted)
+
 -- its tokens are right, and its wires are not
-pub pair_wrong : (flags : List Bool) (p0 p1 p2 p3 p4 : Place) (a b c : Placed) (text : BinaryGate) (fault : ReadFault) → TakesThree p0 p1 p2 p3 a b c
+pub pair_wrong : (flags : List Bool) (p0 p1 p2 p3 p4 : Place) (a b c : Placed) (text : BinaryGate) (fault : ReadFault) → TakesNumber p0 p1 a → TakesNumber p1 p2 b → TakesNumber p2 p3 c
     → Takes (name (pair_text text) ∷ []) p3 p4 → IsWrongPair flags text a b c fault → BehindNumbers 2 p0 (λ start. IsGateFault flags start fault)
-pair_wrong flags p0 p1 p2 p3 p4 a b c text fault three named wrong = λ start takes.
-    let x : ℕ = three.one.exact in
-    let y : ℕ = three.two.exact in
-    let z : ℕ = three.three.exact in
+pair_wrong flags p0 p1 p2 p3 p4 a b c text fault one two three named wrong = λ start takes.
+    let x : ℕ = one.exact in
+    let y : ℕ = two.exact in
+    let z : ℕ = three.exact in
     let whole : Takes (number 2 ∷ number 1 ∷ number x ∷ number y ∷ number z ∷ name (pair_text text) ∷ []) start p4 =
-    takes_both (number 2 ∷ number 1 ∷ number x ∷ number y ∷ number z ∷ []) (name (pair_text text) ∷ []) start p3 p4 (all_three p0 p1 p2 p3 a b c three start takes) named in
-    let one = one_wire 2 start p0 p1 a three.one takes in
-    let two = two_wires 2 x start p1 p2 b three.two one in
+    takes_both (number 2 ∷ number 1 ∷ number x ∷ number y ∷ number z ∷ []) (name (pair_text text) ∷ []) start p3 p4 (all_three p0 p1 p2 p3 a b c one two three start takes) named in
+    let first = one_wire 2 start p0 p1 a one takes in
+    let second = two_wires 2 x start p1 p2 b two first in
     inr (record {
       said = record { reads = x ∷ y ∷ []; sets = z; text = pair_text text };
       is_said = record { reads = inr refl; text = has_name text };
       behind = p4.left;
       left = whole.left;
-      wrong = wrong start.taken x y z (placed_at 2 2 (number 2 ∷ number 1 ∷ []) start p0 p1 a three.one takes refl)
-          (placed_at 2 3 (number 2 ∷ number 1 ∷ number x ∷ []) start p1 p2 b three.two one refl)
-          (placed_at 2 4 (number 2 ∷ number 1 ∷ number x ∷ number y ∷ []) start p2 p3 c three.three two refl);
+      wrong = wrong start.taken x y z (placed_at 2 2 (number 2 ∷ number 1 ∷ []) start p0 p1 a one takes refl)
+          (placed_at 2 3 (number 2 ∷ number 1 ∷ number x ∷ []) start p1 p2 b two first refl)
+          (placed_at 2 4 (number 2 ∷ number 1 ∷ number x ∷ number y ∷ []) start p2 p3 c three second refl);
     })
   where
     has_name : (text : BinaryGate) → is_gate_name 2 (pair_text text) ≡ true
@@ -163,6 +169,13 @@ pair_wrong flags p0 p1 p2 p3 p4 a b c text fault three named wrong = λ start ta
     has_name pair.Xor = refl
 
 -- ---- a gate with one input
+
+pub first_of_one : (flags : List Bool) (p0 : Place) (fault : ReadFault) → next_fault a_wire p0 ≡ Some fault → BehindNumbers 1 p0 (λ start. IsGateFault flags start fault)
+first_of_one flags p0 fault is = first_wanted flags 1 p0 fault (inl refl) is
+
+pub second_of_one : (flags : List Bool) (p0 p1 : Place) (a : Placed) (fault : ReadFault) → TakesNumber p0 p1 a → next_fault a_wire p1 ≡ Some fault
+    → BehindNumbers 1 p0 (λ start. IsGateFault flags start fault)
+second_of_one flags p0 p1 a fault one is = second_wanted flags 1 p0 p1 a fault (inl refl) one is
 
 pub single_wanted : (flags : List Bool) (p0 p1 p2 : Place) (a c : Placed) (fault : ReadFault) → TakesNumber p0 p1 a → TakesNumber p1 p2 c → next_fault (a_name 1) p2 ≡ Some fault
     → BehindNumbers 1 p0 (λ start. IsGateFault flags start fault)
@@ -202,6 +215,8 @@ single_taken flags p0 p1 p2 p3 a c text gate few one two named may is fits = λ 
     out_below single.Inv fits = fits.within
     out_below single.Eqw fits = fits.within
     out_below single.Eq fits = fits.within
+
+pub ruleset tokens_of_one = (first_of_one, second_of_one, single_wanted, single_taken)
 
 pub single_wrong : (flags : List Bool) (p0 p1 p2 p3 : Place) (a c : Placed) (text : UnaryGate) (fault : ReadFault) → TakesNumber p0 p1 a → TakesNumber p1 p2 c
     → Takes (name (single_text text) ∷ []) p2 p3 → IsWrongSingle flags text a c fault → BehindNumbers 1 p0 (λ start. IsGateFault flags start fault)

@@ -177,23 +177,25 @@ takes_single before after (Name n) p is takes =
     let said = said_name takes.lexeme n takes.word_is in
     subst (λ (l : Lexeme). Takes (l ∷ []) before after) (said.1 ∙ ap name (named_single n said.0 said.2 p (sym is))) takes.takes
 
-pub no_pair : (before after : Place) (word : Word) (token : ℕ) → token ≡ before.taken → None ≡ pair_of word → TakesWord before after word → next_fault (a_name 2) before ≡ Some (BadGate token)
-no_pair before after (Number n) token taken none takes =
+-- a word that names no gate of so many inputs
+bad_name : (inputs : ℕ) (before after : Place) (word : Word) (token : ℕ) → token ≡ before.taken → TakesWord before after word
+    → ((n : GateName) (text : List ℕ) → word ≡ Name n → IsNamed n text → name_fault (a_name inputs) text token ≡ Some (BadGate token))
+    → next_fault (a_name inputs) before ≡ Some (BadGate token)
+bad_name inputs before after (Number n) token taken takes wrong =
     let said = said_number takes.lexeme n takes.word_is in
-    next_is (a_name 2) before takes.lexeme after.left token (BadGate token) takes.takes.left taken (ap (λ l. lexeme_fault (a_name 2) l token) said.1)
-no_pair before after (Name n) token taken none takes =
+    next_is (a_name inputs) before takes.lexeme after.left token (BadGate token) takes.takes.left taken (ap (λ l. lexeme_fault (a_name inputs) l token) said.1)
+bad_name inputs before after (Name n) token taken takes wrong =
     let said = said_name takes.lexeme n takes.word_is in
-    next_is (a_name 2) before takes.lexeme after.left token (BadGate token) takes.takes.left taken
-    (ap (λ l. lexeme_fault (a_name 2) l token) said.1 ∙ ap (λ b. if b then None else Some (BadGate token)) (no_pair_name n said.0 said.2 (sym none)))
+    next_is (a_name inputs) before takes.lexeme after.left token (BadGate token) takes.takes.left taken
+    (ap (λ l. lexeme_fault (a_name inputs) l token) said.1 ∙ wrong n said.0 refl said.2)
+
+pub no_pair : (before after : Place) (word : Word) (token : ℕ) → token ≡ before.taken → None ≡ pair_of word → TakesWord before after word → next_fault (a_name 2) before ≡ Some (BadGate token)
+no_pair before after word token taken none takes = bad_name 2 before after word token taken takes
+    (λ n text is named. ap (λ b. if b then None else Some (BadGate token)) (no_pair_name n text named (ap pair_of (sym is) ∙ sym none)))
 
 pub no_single : (before after : Place) (word : Word) (token : ℕ) → token ≡ before.taken → None ≡ single_of word → TakesWord before after word → next_fault (a_name 1) before ≡ Some (BadGate token)
-no_single before after (Number n) token taken none takes =
-    let said = said_number takes.lexeme n takes.word_is in
-    next_is (a_name 1) before takes.lexeme after.left token (BadGate token) takes.takes.left taken (ap (λ l. lexeme_fault (a_name 1) l token) said.1)
-no_single before after (Name n) token taken none takes =
-    let said = said_name takes.lexeme n takes.word_is in
-    next_is (a_name 1) before takes.lexeme after.left token (BadGate token) takes.takes.left taken
-    (ap (λ l. lexeme_fault (a_name 1) l token) said.1 ∙ ap (λ b. if b then None else Some (BadGate token)) (no_single_name n said.0 said.2 (sym none)))
+no_single before after word token taken none takes = bad_name 1 before after word token taken takes
+    (λ n text is named. ap (λ b. if b then None else Some (BadGate token)) (no_single_name n text named (ap single_of (sym is) ∙ sym none)))
 
 -- ---- the end
 

@@ -1,5 +1,5 @@
 -- What the tokens of a header say.
-use Rattle.std.specs.Prelude.{◌≡◌, ℕ, ◌-◌, ◌<◌, ◌≤◌, ◌^◌, List, [], ◌∷◌, map, length, sum}
+use Rattle.std.specs.Prelude.{◌≡◌, ℕ, ◌-◌, ◌<◌, ◌≤◌, List, [], ◌∷◌, map, length, sum}
 use Rattle.zk_model.specs.Bristol.{Lexeme, number, Values, counted_lexemes, header_lexemes}
 use Rattle.zk_model.specs.TextFaults.{Want, a_count, a_size}
 use Rattle.bristol_reader.specs.declared.header.Header.{Header}

@@ -3,9 +3,9 @@ use Rattle.std.specs.Prelude.{◌≡◌, ℕ, ◌+◌, Bool, if◌then◌else◌
 use Rattle.zk_model.specs.Bristol.{Lexeme, number}
 use Rattle.zk_model.specs.TextFaults.{Want, first_lexeme_fault}
 use Rattle.zk_model.specs.declared.ReadFault.{ReadFault}
-use Rattle.bristol_reader.specs.declared.tokens.GateName.TheVariants.{And, Xor, Inv, Eq, Eqw, Other}
+use Rattle.bristol_reader.specs.declared.tokens.GateName.TheVariants.{And, Xor, Inv, Eq, Eqw}
 use Rattle.bristol_reader.specs.declared.tokens.Word.{Word}
-use Rattle.bristol_reader.specs.declared.tokens.Word.TheVariants.{Number, Name}
+use Rattle.bristol_reader.specs.declared.tokens.Word.TheVariants.{Name}
 use Rattle.bristol_reader.specs.declared.wants.BinaryGate.{BinaryGate}
 use Rattle.bristol_reader.specs.declared.wants.BinaryGate.TheVariants as pair
 use Rattle.bristol_reader.specs.declared.wants.UnaryGate.{UnaryGate}
@@ -53,20 +53,13 @@ numbers_of is_pair = number (inputs_of is_pair) ∷ number 1 ∷ []
 abbrev pub pair_of : Word → Option BinaryGate
 pair_of (Name And) = Some pair.And
 pair_of (Name Xor) = Some pair.Xor
-pair_of (Name Inv) = None
-pair_of (Name Eq) = None
-pair_of (Name Eqw) = None
-pair_of (Name Other) = None
-pair_of (Number n) = None
+pair_of other = None
 
 abbrev pub single_of : Word → Option UnaryGate
 single_of (Name Inv) = Some single.Inv
 single_of (Name Eq) = Some single.Eq
 single_of (Name Eqw) = Some single.Eqw
-single_of (Name And) = None
-single_of (Name Xor) = None
-single_of (Name Other) = None
-single_of (Number n) = None
+single_of other = None
 
 -- the names of gates
 abbrev pub pair_text : BinaryGate → List ℕ

@@ -133,6 +133,7 @@ fn single_row(
 }
 
 /// Takes the tokens of a gate with two inputs after their numbers of inputs and of outputs.
+#[tactic(auto, using(crate::proofs::GateTokens::tokens_of_two))]
 fn read_pair(tokens: &mut Tokens, set: &SetWires) -> Result<GateRow, ReadFault>
     requires { length set.now ≤ MAX_WIRES }
     ensures gate { IfOk result (IsGateBehind 2 tokens.old tokens.new) }
@@ -148,6 +149,7 @@ fn read_pair(tokens: &mut Tokens, set: &SetWires) -> Result<GateRow, ReadFault>
 }
 
 /// Takes the tokens of a gate with one input.
+#[tactic(auto, using(crate::proofs::GateTokens::tokens_of_one))]
 fn read_single(tokens: &mut Tokens, set: &SetWires) -> Result<GateRow, ReadFault>
     requires { length set.now ≤ MAX_WIRES }
     ensures gate { IfOk result (IsGateBehind 1 tokens.old tokens.new) }
@@ -162,6 +164,7 @@ fn read_single(tokens: &mut Tokens, set: &SetWires) -> Result<GateRow, ReadFault
 }
 
 /// Takes a gate's numbers of inputs and of outputs, and says whether there are 2 inputs.
+#[tactic(auto, using(crate::proofs::GateTokens::numbers_wanted))]
 fn read_numbers(tokens: &mut Tokens) -> Result<bool, ReadFault>
     ensures numbers { IfOk result (λ two. Takes (numbers_of two) tokens.old tokens.new) }
     ensures fault { IfErr result (IsFaultBehind GateWants tokens.old) }
