@@ -3,12 +3,11 @@ use Rattle.std.proofs.Common.{◌≡◌, ℕ, ◌+◌, ◌*◌, ◌/◌, ◌%◌
 use Rattle.std.specs.List.{range_with_len}
 use Rattle.std.specs.Int.{w64, to_le_bytes}
 use Rattle.std.proofs.lemmas.List.FromFn.{map-range_with_len_more, get_or-map-range_with_len, length-map-range_with_len}
-use Rattle.zk_model.specs.Bytes.{LeftRight}
 use Rattle.zk_model.specs.Field.{from_word}
 use Rattle.zk_model.specs.Mac.{Pair}
 use Rattle.zk_model.specs.Coins.{coin_word}
 use Rattle.zk_model.specs.Extension.{choice_of}
-use Rattle.zk_model.specs.Files.{Transfer, dealt_per_unit}
+use Rattle.zk_model.specs.Files.{dealt_per_unit}
 use Rattle.zk_model.specs.Dealing.{dealt_pair, dealt_pairs, dealt_pads, dealt_transfer}
 use Rattle.zk_model.specs.declared.Params.{Params}
 use Rattle.dealer_files.specs.Flat.{transfers_per_unit}

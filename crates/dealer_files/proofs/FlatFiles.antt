@@ -6,11 +6,12 @@ use Rattle.std.proofs.lemmas.List.{length-map}
 use Rattle.std.proofs.lemmas.List.FromFn.{length-map-range_with_len}
 use Rattle.zk_model.specs.Bytes.{LeftRight}
 use Rattle.zk_model.specs.Mac.{Pair, fitting_key}
-use Rattle.zk_model.specs.Files.{Transfer, ProverUnit, VerifierUnit, span_pairs, span_dealt_keys, dealt_per_unit}
+use Rattle.zk_model.specs.Files.{Transfer, ProverUnit, VerifierUnit, span_pairs, span_dealt_keys, prover_unit, verifier_unit, unit_transfers, unit_pads, dealt_per_unit}
 use Rattle.zk_model.specs.Dealing.{by_transfer, dealt_pair, dealt_pairs, dealt_pads, dealt_transfer, dealt_key, dealt_code_seed, stream_bytes, dealt_prover_unit, dealt_verifier_unit, dealt_prover, dealt_verifier}
 use Rattle.zk_model.specs.declared.Params.{Params}
 use Rattle.zk_model.specs.declared.Span.{Span}
 use Rattle.dealer_files.specs.Flat.{piece, transfers_per_unit, unit_by_unit, trees_of, flat_prover_unit, flat_verifier_unit, flat_prover, flat_verifier, AreWhole}
+use Rattle.dealer_files.proofs.ByteLists.{unit_items_are}
 use Rattle.dealer_files.proofs.Pieces.{map_range_same, piece_at, piece_of_range, length_joined, joined_parts}
 
 -- ---- units
@@ -135,6 +136,23 @@ span_keys_are params id coin_key code_seed key keys pads span order within =
     sym (joined_parts {A = ℕ} {U = VerifierUnit} (λ unit. unit.keys) (flat_verifier_unit params keys pads) (record { keys = []; trees = [] })
     (dealt_per_unit params) params.total keys span.start span.end (λ u. refl) order within)
 
+-- the transfers of a unit are a range of the flat list, and so are both pads
+pub unit_transfers_are : (params : Params) (id coin_key code_seed : List ℕ) (pairs : List Pair) (transfers : List Transfer) (unit : ℕ) → AreWhole params pairs transfers
+    → unit < params.total
+    → slice_range transfers (transfers_per_unit params * unit) (transfers_per_unit params * (unit + 1))
+    ≡ unit_transfers (prover_unit (flat_prover params id coin_key code_seed pairs transfers) unit)
+unit_transfers_are params id coin_key code_seed pairs transfers unit whole below =
+    unit_items_are {A = Transfer} {U = ProverUnit} params (λ unit. unit.trees) (flat_prover_unit params pairs transfers)
+    (record { pairs = []; trees = [] }) transfers unit whole.transfers below (λ u. refl)
+
+pub unit_pads_are : (params : Params) (id coin_key code_seed : List ℕ) (key : ℕ) (keys : List ℕ) (pads : List LeftRight) (unit : ℕ) → AreWhole params keys pads
+    → unit < params.total
+    → slice_range pads (transfers_per_unit params * unit) (transfers_per_unit params * (unit + 1))
+    ≡ unit_pads (verifier_unit (flat_verifier params id coin_key code_seed key keys pads) unit)
+unit_pads_are params id coin_key code_seed key keys pads unit whole below =
+    unit_items_are {A = LeftRight} {U = VerifierUnit} params (λ unit. unit.trees) (flat_verifier_unit params keys pads)
+    (record { keys = []; trees = [] }) pads unit whole.transfers below (λ u. refl)
+
 -- and as long as its units say
 pub range_length : {A : Type 0} (items : List A) (each start end total : ℕ) → length items ≡ each * total → start ≤ end → end ≤ total
     → length (slice_range items (each * start) (each * end)) ≡ each * (end - start)
@@ -146,3 +164,24 @@ range_length items each start end total whole order within =
   where
     apart : (each a b n : ℕ) → a + n ≡ b → each * b - each * a ≡ each * n
     apart each a b n at = rw (sym at) (omega arith)
+
+-- what is read from one place of a flat list up to another
+pub range_read : {A : Type 0} (items read : List A) (each start end first last : ℕ) → read ≡ items → first ≡ each * start → last ≡ each * end
+    → take (last - first) (drop first read) ≡ slice_range items (each * start) (each * end)
+range_read items read each start end first last is s e = λ i. take (e i - s i) (drop (s i) (is i))
+
+-- of a span, the items of its units
+pub span_read : {A : Type 0} (params : Params) (span : Span) (items read : List A) (first last : ℕ) → read ≡ items
+    → first ≡ dealt_per_unit params * span.start → last ≡ dealt_per_unit params * span.end
+    → take (last - first) (drop first read) ≡ slice_range items (dealt_per_unit params * span.start) (dealt_per_unit params * span.end)
+span_read params span items read = range_read items read (dealt_per_unit params) span.start span.end
+
+-- and how many there are
+pub span_count : {A : Type 0} (params held : Params) (span : Span) (items read : List A) (first last : ℕ) → read ≡ items
+    → first ≡ dealt_per_unit params * span.start → last ≡ dealt_per_unit params * span.end
+    → params ≡ held → length items ≡ dealt_per_unit params * params.total → span.start ≤ span.end → span.end ≤ held.total
+    → length (take (last - first) (drop first read)) ≡ dealt_per_unit held * (span.end - span.start)
+span_count params held span items read first last is s e same whole order within =
+    ap length (span_read params span items read first last is s e)
+    ∙ range_length items (dealt_per_unit params) span.start span.end params.total whole order (omega (arith, within, ap (λ (p : Params). p.total) same))
+    ∙ ap (λ (p : Params). dealt_per_unit p * (span.end - span.start)) same

@@ -12,7 +12,7 @@ use Rattle.zk_model.specs.declared.Side.{Side}
 use Rattle.zk_model.specs.declared.Side.TheVariants.{Prover, Verifier}
 use Rattle.dealer_files.specs.Flat.{piece, transfers_per_unit}
 use Rattle.dealer_files.specs.Faults.{HasBody, IsFirstFault}
-use Rattle.dealer_files.specs.Reading.{Spelled, AreAppended, AreElements, AreBits, IsElementFault, IsElementFaultOr, IsBitFaultOr, IsUnitInRange, AreBlocks}
+use Rattle.dealer_files.specs.Reading.{Spelled, a_pair, a_transfer, AreAppended, AreElements, AreBits, IsElementFault, IsElementFaultOr, IsBitFaultOr, IsUnitInRange, AreBlocks}
 use Rattle.dealer_files.specs.declared.fault.FileFault.{FileFault}
 use Rattle.dealer_files.specs.declared.fault.FileFault.TheVariants.{BadMagic, BadKind, BadParam, Length, BadElement, ZeroKey, BadDigest, NoMemory}
 use Rattle.dealer_files.proofs.ReadItems.{le_or_more}
@@ -56,17 +56,23 @@ no_blocks form other side params bytes = record {
   in_range = λ unit below. absurd (omega arith);
 }
 
+-- where a block and its second part stand, and how many items each part has
+pub record StandsAt {A B : Type 0} (form : Spelled A) (other : Spelled B) (side : Side) (params : Params) (n start behind dealt each : ℕ) : Type 0 where
+  pub start_is : start ≡ block_start side params n
+  pub behind_is : behind ≡ start + form.size * dealt
+  pub dealt_is : dealt ≡ dealt_per_unit params
+  pub each_is : each ≡ transfers_per_unit params
+  pub whole : form.size * dealt + other.size * each ≡ block_length side params
+
 pub one_block : {A B : Type 0} (form : Spelled A) (other : Spelled B) (side : Side) (params : Params) (bytes : List ℕ) (n start behind dealt each : ℕ)
     (items now : List A) (others then : List B)
-    → start ≡ block_start side params n → behind ≡ start + form.size * dealt
-    → dealt ≡ dealt_per_unit params → each ≡ transfers_per_unit params
-    → form.size * dealt + other.size * each ≡ block_length side params
+    → StandsAt form other side params n start behind dealt each
     → AreAppended form items now dealt bytes start → AreAppended other others then each bytes behind
     → IsUnitInRange side params bytes n
     → AreBlocks form other side params bytes n items others → AreBlocks form other side params bytes (n + 1) now then
-one_block form other side params bytes n start behind dealt each items now others then s b d e whole read reads good far = record {
-  dealt = ap length read.whole ∙ length-append items read.items ∙ omega (arith, far.dealt, read.counted, d);
-  transfers = ap length reads.whole ∙ length-append others reads.items ∙ omega (arith, far.transfers, reads.counted, e);
+one_block form other side params bytes n start behind dealt each items now others then at read reads good far = record {
+  dealt = ap length read.whole ∙ length-append items read.items ∙ omega (arith, far.dealt, read.counted, at.dealt_is);
+  transfers = ap length reads.whole ∙ length-append others reads.items ∙ omega (arith, far.transfers, reads.counted, at.each_is);
   spelled = λ unit below. by_cases unit (le_or_more unit n (omega (arith, below)));
   hold = subst (All form.Holds) (sym read.whole) (All-append form.Holds items read.items far.hold read.hold);
   hold_other = subst (All other.Holds) (sym reads.whole) (All-append other.Holds others reads.items far.hold_other reads.hold);
@@ -86,11 +92,11 @@ one_block form other side params bytes n start behind dealt each items now other
       where
         last : Spells n
         last =
-            (λ i. flat_map form.spell ((ap (λ l. piece (dealt_per_unit params) l n) read.whole ∙ piece_last (dealt_per_unit params) n items read.items far.dealt (read.counted ∙ d)) i)
-            ++ flat_map other.spell ((ap (λ l. piece (transfers_per_unit params) l n) reads.whole ∙ piece_last (transfers_per_unit params) n others reads.items far.transfers (reads.counted ∙ e)) i))
-            ∙ (λ i. read.spelled i ++ (reads.spelled ∙ ap (λ k. take (other.size * each) (drop k bytes)) b ∙ ap (take (other.size * each)) (sym (drop-drop (form.size * dealt) start bytes))) i)
+            (λ i. flat_map form.spell ((ap (λ l. piece (dealt_per_unit params) l n) read.whole ∙ piece_last (dealt_per_unit params) n items read.items far.dealt (read.counted ∙ at.dealt_is)) i)
+            ++ flat_map other.spell ((ap (λ l. piece (transfers_per_unit params) l n) reads.whole ∙ piece_last (transfers_per_unit params) n others reads.items far.transfers (reads.counted ∙ at.each_is)) i))
+            ∙ (λ i. read.spelled i ++ (reads.spelled ∙ ap (λ k. take (other.size * each) (drop k bytes)) at.behind_is ∙ ap (take (other.size * each)) (sym (drop-drop (form.size * dealt) start bytes))) i)
             ∙ sym (take-add (form.size * dealt) (other.size * each) (drop start bytes))
-            ∙ (λ i. take (whole i) (drop (s i) bytes))
+            ∙ (λ i. take (at.whole i) (drop (at.start_is i) bytes))
 
     ranged : (unit : ℕ) → (unit < n) ⊎ (unit ≡ n) → IsUnitInRange side params bytes unit
     ranged unit (inl less) = far.in_range unit less
@@ -219,25 +225,38 @@ element_fault_first side bytes start count (Length need got) body first is = abs
 element_fault_first side bytes start count ZeroKey body first is = absurd is
 element_fault_first side bytes start count BadDigest body first is = absurd is
 
--- the first fault of a file whose elements are read up to one
+-- the first fault of a file whose elements are read up to one, where that one stands at a bad place and none is before it
+element_first : (side : Side) (bytes : List ℕ) (params : Params) (unit start count : ℕ) (reason : FileFault) → params ≡ params_at bytes → HasBody side bytes
+    → ((place : ℕ) → IsUnitElement side (params_at bytes) place → prime ≤ word64_at bytes place → IsBadPlace side bytes place)
+    → ((place number : ℕ) → ((u : ℕ) → u < unit → IsUnitInRange side (params_at bytes) bytes u)
+    → number < elements_per_unit side (params_at bytes) → place ≡ block_start side (params_at bytes) unit + 8 * number
+    → AreElements bytes (block_start side (params_at bytes) unit) number
+    → (other : ℕ) → other < place → ¬ IsBadPlace side bytes other)
+    → unit < params.total → start ≡ block_start side params unit → count ≡ elements_per_unit side params
+    → ((u : ℕ) → u < unit → IsUnitInRange side params bytes u)
+    → IsElementFaultOr bytes start count reason → IsFirstFault side bytes reason
+element_first side bytes params unit start count reason same body bad first = subst (λ (p : Params). unit < p.total → start ≡ block_start side p unit
+    → count ≡ elements_per_unit side p → ((u : ℕ) → u < unit → IsUnitInRange side p bytes u)
+    → IsElementFaultOr bytes start count reason → IsFirstFault side bytes reason) (sym same) at
+  where
+    at : unit < (params_at bytes).total → start ≡ block_start side (params_at bytes) unit
+        → count ≡ elements_per_unit side (params_at bytes) → ((u : ℕ) → u < unit → IsUnitInRange side (params_at bytes) bytes u)
+        → IsElementFaultOr bytes start count reason → IsFirstFault side bytes reason
+    at below s n all = element_fault_first side bytes start count reason body (λ place is.
+        let stands = is.stands ∙ ap (λ k. k + 8 * is.number) s in record {
+          bad = bad place (record { unit = unit; number = is.number; unit_within = below; number_within = omega (arith, is.within, n); stands = stands }) is.bad;
+          first = first place is.number all (omega (arith, is.within, n)) stands (subst (λ (k : ℕ). AreElements bytes k is.number) s is.before);
+        })
+
+-- of a prover's file
 pub prover_element_first : (bytes : List ℕ) (params : Params) (unit start count : ℕ) (reason : FileFault) → params ≡ params_at bytes
     → HasBody Prover bytes → unit < params.total → start ≡ block_start Prover params unit → count ≡ elements_per_unit Prover params
     → ((u : ℕ) → u < unit → IsUnitInRange Prover params bytes u)
     → IsElementFaultOr bytes start count reason → IsFirstFault Prover bytes reason
-prover_element_first bytes params unit start count reason same body = subst (λ (p : Params). unit < p.total → start ≡ block_start Prover p unit
-    → count ≡ elements_per_unit Prover p → ((u : ℕ) → u < unit → IsUnitInRange Prover p bytes u)
-    → IsElementFaultOr bytes start count reason → IsFirstFault Prover bytes reason) (sym same) (at reason)
-  where
-    at : (r : FileFault) → unit < (params_at bytes).total → start ≡ block_start Prover (params_at bytes) unit
-        → count ≡ elements_per_unit Prover (params_at bytes) → ((u : ℕ) → u < unit → IsUnitInRange Prover (params_at bytes) bytes u)
-        → IsElementFaultOr bytes start count r → IsFirstFault Prover bytes r
-    at r below s n all = element_fault_first Prover bytes start count r body (λ place is. record {
-      bad = inl (record { unit = unit; number = is.number; unit_within = below; number_within = omega (arith, is.within, n); stands = is.stands ∙ ap (λ k. k + 8 * is.number) s }, is.bad);
-      first = prover_first_element bytes unit place is.number all (omega (arith, is.within, n)) (is.stands ∙ ap (λ k. k + 8 * is.number) s)
-          (subst (λ (k : ℕ). AreElements bytes k is.number) s is.before);
-    })
+prover_element_first bytes params unit start count reason same body =
+    element_first Prover bytes params unit start count reason same body (λ place at bad. inl (at, bad)) (prover_first_element bytes unit)
 
--- and of one whose bits are
+-- and of one whose bits are read up to one
 pub prover_bit_first : (bytes : List ℕ) (params : Params) (unit start behind count dealt : ℕ) (reason : FileFault) → params ≡ params_at bytes
     → HasBody Prover bytes → unit < params.total → start ≡ block_start Prover params unit → behind ≡ start + 16 * dealt
     → dealt ≡ dealt_per_unit params → count ≡ transfers_per_unit params
@@ -278,19 +297,20 @@ block_within side bytes params unit same body below =
     omega (arith, later_block side params unit params.total below, body.length, ap (file_length side) same)
 
 -- both parts of a block stand within the bytes
-pub parts_within : (side : Side) (bytes : List ℕ) (params : Params) (unit start first second : ℕ) → params ≡ params_at bytes → HasBody side bytes
-    → unit < params.total → start ≡ block_start side params unit → first + second ≡ block_length side params
-    → (start + first ≤ length bytes) × (start + first + second ≤ length bytes)
-parts_within side bytes params unit start first second same body below starts whole =
-    let within = block_within side bytes params unit same body below in (omega (arith, within, starts, whole), omega (arith, within, starts, whole))
+pub parts_within : {A B : Type 0} (form : Spelled A) (other : Spelled B) (side : Side) (bytes : List ℕ) (params : Params) (unit start behind dealt each : ℕ) → params ≡ params_at bytes
+    → HasBody side bytes → unit < params.total → StandsAt form other side params unit start behind dealt each
+    → (start + form.size * dealt ≤ length bytes) × (behind + other.size * each ≤ length bytes)
+parts_within form other side bytes params unit start behind dealt each same body below at =
+    let within = block_within side bytes params unit same body below in
+    (omega (arith, within, at.start_is, at.whole), omega (arith, within, at.start_is, at.behind_is, at.whole))
 
 -- a prover's unit whose elements and bits are read
-pub prover_unit_read : (params : Params) (bytes : List ℕ) (unit start dealt each : ℕ) → start ≡ block_start Prover params unit
-    → dealt ≡ dealt_per_unit params → each ≡ transfers_per_unit params
+pub prover_unit_read : (params : Params) (bytes : List ℕ) (unit start dealt each : ℕ) → StandsAt a_pair a_transfer Prover params unit start (start + 16 * dealt) dealt each
     → AreElements bytes start (2 * dealt) → AreBits bytes (start + 16 * dealt) each → IsUnitInRange Prover params bytes unit
-prover_unit_read params bytes unit start dealt each s d e elements bits = (
-  subst (λ (n : ℕ). AreElements bytes n (2 * dealt_per_unit params)) s (subst (λ (n : ℕ). AreElements bytes start (2 * n)) d elements),
-  subst (λ (n : ℕ). AreBits bytes n (transfers_per_unit params)) (λ i. s i + 16 * d i) (subst (λ (n : ℕ). AreBits bytes (start + 16 * dealt) n) e bits),
+prover_unit_read params bytes unit start dealt each at elements bits = (
+  subst (λ (n : ℕ). AreElements bytes n (2 * dealt_per_unit params)) at.start_is (subst (λ (n : ℕ). AreElements bytes start (2 * n)) at.dealt_is elements),
+  subst (λ (n : ℕ). AreBits bytes n (transfers_per_unit params)) (λ i. at.start_is i + 16 * at.dealt_is i)
+      (subst (λ (n : ℕ). AreBits bytes (start + 16 * dealt) n) at.each_is bits),
 )
 
 -- ---- the verifier's file
@@ -337,18 +357,9 @@ pub verifier_element_first : (bytes : List ℕ) (params : Params) (unit start co
     → HasBody Verifier bytes → word64_at bytes 128 < prime → unit < params.total → start ≡ block_start Verifier params unit
     → count ≡ elements_per_unit Verifier params → ((u : ℕ) → u < unit → IsUnitInRange Verifier params bytes u)
     → IsElementFaultOr bytes start count reason → IsFirstFault Verifier bytes reason
-verifier_element_first bytes params unit start count reason same body key = subst (λ (p : Params). unit < p.total → start ≡ block_start Verifier p unit
-    → count ≡ elements_per_unit Verifier p → ((u : ℕ) → u < unit → IsUnitInRange Verifier p bytes u)
-    → IsElementFaultOr bytes start count reason → IsFirstFault Verifier bytes reason) (sym same) (at reason)
-  where
-    at : (r : FileFault) → unit < (params_at bytes).total → start ≡ block_start Verifier (params_at bytes) unit
-        → count ≡ elements_per_unit Verifier (params_at bytes) → ((u : ℕ) → u < unit → IsUnitInRange Verifier (params_at bytes) bytes u)
-        → IsElementFaultOr bytes start count r → IsFirstFault Verifier bytes r
-    at r below s n all = element_fault_first Verifier bytes start count r body (λ place is. record {
-      bad = inl (inr (record { unit = unit; number = is.number; unit_within = below; number_within = omega (arith, is.within, n); stands = is.stands ∙ ap (λ k. k + 8 * is.number) s }), is.bad);
-      first = verifier_first_element bytes unit place is.number key all (omega (arith, is.within, n)) (is.stands ∙ ap (λ k. k + 8 * is.number) s)
-          (subst (λ (k : ℕ). AreElements bytes k is.number) s is.before);
-    })
+verifier_element_first bytes params unit start count reason same body key =
+    element_first Verifier bytes params unit start count reason same body (λ place at bad. inl (inr at, bad))
+    (λ place number. verifier_first_element bytes unit place number key)
 
 -- a verifier's unit whose keys are read
 pub verifier_unit_read : (params : Params) (bytes : List ℕ) (unit start dealt : ℕ) → start ≡ block_start Verifier params unit

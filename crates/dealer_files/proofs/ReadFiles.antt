@@ -7,12 +7,12 @@ use Rattle.std.proofs.lemmas.List.Folds.{flat_map-map}
 use Rattle.std.proofs.lemmas.List.FromFn.{get_or-map-range_with_len, length-map-range_with_len}
 use Rattle.std.proofs.Math.Seq.{take-add}
 use Rattle.sha2.specs.Sha256.{sha256}
-use Rattle.zk_model.specs.Field.{prime, IsElement}
+use Rattle.zk_model.specs.Field.{IsElement}
 use Rattle.zk_model.specs.Bytes.{LeftRight, AreBytes, element_bytes}
 use Rattle.zk_model.specs.Mac.{Pair}
 use Rattle.zk_model.specs.Files.{Transfer, AreParams, AreTransfers, IsCodeSeed, IsProverUnit, IsVerifierUnit, IsProverFile, IsVerifierFile, dealt_per_unit}
 use Rattle.zk_model.specs.FileBytes.{kind_code, params_bytes, header_bytes, pair_bytes, transfer_bytes, pads_bytes, prover_unit_bytes, verifier_unit_bytes, prover_file_bytes, verifier_file_bytes, sealed}
-use Rattle.zk_model.specs.FileFaults.{side_code, kind_of, params_at, word64_at, block_length, block_start, HasDigest, IsInRange}
+use Rattle.zk_model.specs.FileFaults.{side_code, kind_of, params_at, block_length, block_start, HasDigest}
 use Rattle.zk_model.specs.declared.Params.{Params}
 use Rattle.zk_model.specs.declared.Side.{Side}
 use Rattle.zk_model.specs.declared.Side.TheVariants.{Prover, Verifier}
@@ -20,7 +20,6 @@ use Rattle.dealer_files.specs.Flat.{piece, transfers_per_unit, trees_of, flat_pr
 use Rattle.dealer_files.specs.Faults.{HasHead, HasBody, SpellsNumbers}
 use Rattle.dealer_files.specs.Reading.{Spelled, a_pair, an_element, a_transfer, both_pads, IsUnitInRange, AreBlocks}
 use Rattle.dealer_files.proofs.Pieces.{flat_map_range_same, joined_pieces}
-use Rattle.dealer_files.proofs.ReadBlocks.{prover_in_range, verifier_in_range}
 
 -- ---- the header
 
@@ -139,6 +138,32 @@ pub blocks_whole : {A B : Type 0} (form : Spelled A) (other : Spelled B) (side :
     → AreBlocks form other side params bytes params.total items others → AreWhole params items others
 blocks_whole form other side params bytes items others blocks = record { dealt = blocks.dealt; transfers = blocks.transfers }
 
+-- and so is each unit
+units_whole : {A B : Type 0} (form : Spelled A) (other : Spelled B) (side : Side) (params : Params) (bytes : List ℕ) (items : List A) (others : List B)
+    → AreBlocks form other side params bytes params.total items others → (unit : ℕ) → unit < params.total
+    → (length (piece (dealt_per_unit params) items unit) ≡ dealt_per_unit params) × All form.Holds (piece (dealt_per_unit params) items unit)
+    × AreTransfers params other.Holds (trees_of params others unit)
+units_whole form other side params bytes items others blocks unit below = (
+  piece_sized (dealt_per_unit params) params.total unit items blocks.dealt below,
+  all_piece form.Holds (dealt_per_unit params) params.total unit items blocks.dealt below blocks.hold,
+  trees_are params other.Holds others params.total unit blocks.transfers below blocks.hold_other,
+)
+
+-- all units are in range, by the parameters that the bytes have
+pub units_in_range : {A B : Type 0} (form : Spelled A) (other : Spelled B) (side : Side) (params : Params) (bytes : List ℕ) (items : List A) (others : List B)
+    → params ≡ params_at bytes → AreBlocks form other side params bytes params.total items others
+    → (unit : ℕ) → unit < (params_at bytes).total → IsUnitInRange side (params_at bytes) bytes unit
+units_in_range form other side params bytes items others same blocks =
+    subst (λ (p : Params). (unit : ℕ) → unit < p.total → IsUnitInRange side p bytes unit) same blocks.in_range
+
+-- the parameters and the seed of the code, as they are read
+head_read : (side : Side) (bytes : List ℕ) (params : Params) (code_seed : List ℕ) → HasBody side bytes → params ≡ params_at bytes → code_seed ≡ take 32 (drop 96 bytes)
+    → AreParams params × IsCodeSeed params.kind code_seed
+head_read side bytes params code_seed body same seed = (
+  subst AreParams (sym same) body.head.params.params,
+  subst (IsCodeSeed params.kind) (sym seed) (subst (λ (p : Params). IsCodeSeed p.kind (take 32 (drop 96 bytes))) (sym same) body.head.params.code_seed),
+)
+
 -- the blocks and the digest after the header
 sealed_is : (side : Side) (bytes front : List ℕ) → HasBody side bytes → HasDigest bytes
     → front ≡ take (block_start side (params_at bytes) (params_at bytes).total) bytes → sealed front ≡ bytes
@@ -186,21 +211,16 @@ pub prover_is_read : (bytes : List ℕ) (params : Params) (id coin_key code_seed
     → HasBody Prover bytes → params ≡ params_at bytes → AreBytes 32 id → AreBytes 32 coin_key → code_seed ≡ take 32 (drop 96 bytes)
     → AreBlocks a_pair a_transfer Prover params bytes params.total pairs transfers
     → IsProverFile (flat_prover params id coin_key code_seed pairs transfers)
-prover_is_read bytes params id coin_key code_seed pairs transfers body same is_id is_key seed blocks = record {
-  params = subst AreParams (sym same) body.head.params.params;
-  id = is_id;
-  coin_key = is_key;
-  code_seed = subst (IsCodeSeed params.kind) (sym seed) (subst (λ (p : Params). IsCodeSeed p.kind (take 32 (drop 96 bytes))) (sym same) body.head.params.code_seed);
-  count = length-map-range_with_len (flat_prover_unit params pairs transfers) 0 params.total;
-  units = all_made_within (IsProverUnit params) (flat_prover_unit params pairs transfers) params.total (λ unit below.
-      record { count = piece_sized (dealt_per_unit params) params.total unit pairs blocks.dealt below; elements = all_piece a_pair.Holds (dealt_per_unit params) params.total unit pairs blocks.dealt below blocks.hold; trees = trees_are params a_transfer.Holds transfers params.total unit blocks.transfers below blocks.hold_other });
-}
-
--- no fault applies
-pub prover_in_range_read : (bytes : List ℕ) (params : Params) (pairs : List Pair) (transfers : List Transfer) → params ≡ params_at bytes
-    → AreBlocks a_pair a_transfer Prover params bytes params.total pairs transfers → IsInRange Prover bytes
-prover_in_range_read bytes params pairs transfers same blocks =
-    prover_in_range bytes (subst (λ (p : Params). (unit : ℕ) → unit < p.total → IsUnitInRange Prover p bytes unit) same blocks.in_range)
+prover_is_read bytes params id coin_key code_seed pairs transfers body same is_id is_key seed blocks =
+    let head = head_read Prover bytes params code_seed body same seed in record {
+      params = head.0;
+      id = is_id;
+      coin_key = is_key;
+      code_seed = head.1;
+      count = length-map-range_with_len (flat_prover_unit params pairs transfers) 0 params.total;
+      units = all_made_within (IsProverUnit params) (flat_prover_unit params pairs transfers) params.total (λ unit below.
+          let whole = units_whole a_pair a_transfer Prover params bytes pairs transfers blocks unit below in record { count = whole.0; elements = whole.1; trees = whole.2 });
+    }
 
 -- ---- the verifier's file
 
@@ -228,24 +248,18 @@ pub verifier_is_read : (bytes : List ℕ) (params : Params) (id coin_key code_se
     → HasBody Verifier bytes → params ≡ params_at bytes → AreBytes 32 id → AreBytes 32 coin_key → code_seed ≡ take 32 (drop 96 bytes)
     → IsElement key → key ≢ 0 → AreBlocks an_element both_pads Verifier params bytes params.total keys pads
     → IsVerifierFile (flat_verifier params id coin_key code_seed key keys pads)
-verifier_is_read bytes params id coin_key code_seed key keys pads body same is_id is_key seed element set blocks = record {
-  params = subst AreParams (sym same) body.head.params.params;
-  id = is_id;
-  coin_key = is_key;
-  key = element;
-  key_set = set;
-  code_seed = subst (IsCodeSeed params.kind) (sym seed) (subst (λ (p : Params). IsCodeSeed p.kind (take 32 (drop 96 bytes))) (sym same) body.head.params.code_seed);
-  count = length-map-range_with_len (flat_verifier_unit params keys pads) 0 params.total;
-  units = all_made_within (IsVerifierUnit params) (flat_verifier_unit params keys pads) params.total (λ unit below.
-      record { count = piece_sized (dealt_per_unit params) params.total unit keys blocks.dealt below; elements = all_piece an_element.Holds (dealt_per_unit params) params.total unit keys blocks.dealt below blocks.hold; trees = trees_are params both_pads.Holds pads params.total unit blocks.transfers below blocks.hold_other });
-}
-
--- its elements are in range
-pub verifier_in_range_read : (bytes : List ℕ) (params : Params) (keys : List ℕ) (pads : List LeftRight) → params ≡ params_at bytes
-    → word64_at bytes 128 < prime
-    → AreBlocks an_element both_pads Verifier params bytes params.total keys pads → IsInRange Verifier bytes
-verifier_in_range_read bytes params keys pads same key blocks =
-    verifier_in_range bytes key (subst (λ (p : Params). (unit : ℕ) → unit < p.total → IsUnitInRange Verifier p bytes unit) same blocks.in_range)
+verifier_is_read bytes params id coin_key code_seed key keys pads body same is_id is_key seed element set blocks =
+    let head = head_read Verifier bytes params code_seed body same seed in record {
+      params = head.0;
+      id = is_id;
+      coin_key = is_key;
+      key = element;
+      key_set = set;
+      code_seed = head.1;
+      count = length-map-range_with_len (flat_verifier_unit params keys pads) 0 params.total;
+      units = all_made_within (IsVerifierUnit params) (flat_verifier_unit params keys pads) params.total (λ unit below.
+          let whole = units_whole an_element both_pads Verifier params bytes keys pads blocks unit below in record { count = whole.0; elements = whole.1; trees = whole.2 });
+    }
 
 -- the key that is read is 0, or is not
 pub not_set : (key value : ℕ) → key ≡ value → key ≡ 0 → ¬ (value ≢ 0)

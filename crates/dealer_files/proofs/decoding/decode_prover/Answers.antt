@@ -1,13 +1,14 @@
 use Rattle.std.proofs.Common.{refl, ap, ◌∙◌}
 use Rattle.zk_model.specs.FileBytes.{prover_file_bytes}
-use Rattle.dealer_files.proofs.ReadFiles.{header_is, prover_spelled, prover_is_read, prover_in_range_read}
+use Rattle.dealer_files.proofs.ReadFiles.{header_is, prover_spelled, prover_is_read, units_in_range}
+use Rattle.dealer_files.proofs.ReadBlocks.{prover_in_range}
 use Rattle.zk_model.specs.declared.Side.TheVariants.{Prover}
 use Rattle.dealer_files.proofs.decoding.decode_prover.Goals as goal
 
 pub returns-then-not-has_digest-clause-fault : goal.returns-then-not-has_digest-clause-fault
 returns-then-not-has_digest-clause-fault c = (
   c.in_ok-head.ensures.head,
-  prover_in_range_read c.args.bytes.now c.in_ok-head.head.params c.in_ok-blocks.blocks.pairs.items c.in_ok-blocks.blocks.transfers.items c.in_ok-head.ensures.params c.in_ok-blocks.ensures.blocks,
+  prover_in_range c.args.bytes.now (units_in_range _ _ _ _ _ _ _ c.in_ok-head.ensures.params c.in_ok-blocks.ensures.blocks),
   tt,
   λ is. let no = c.if-not-has_digest.ensures.1 is in cc,
 )
@@ -29,7 +30,7 @@ returns-clause-encoded c =
 pub returns-clause-dealt : goal.returns-clause-dealt
 returns-clause-dealt c = record {
   body = c.in_ok-head.ensures.head;
-  in_range = prover_in_range_read c.args.bytes.now c.in_ok-head.head.params c.in_ok-blocks.blocks.pairs.items c.in_ok-blocks.blocks.transfers.items c.in_ok-head.ensures.params c.in_ok-blocks.ensures.blocks;
+  in_range = prover_in_range c.args.bytes.now (units_in_range _ _ _ _ _ _ _ c.in_ok-head.ensures.params c.in_ok-blocks.ensures.blocks);
   key = tt;
   digest = c.if-not-has_digest.ensures.0 refl;
 }

@@ -1,6 +1,7 @@
 use Rattle.std.proofs.Common.{refl, rules, ap, ◌∙◌, ◌≡◌, ◌≢◌}
 use Rattle.zk_model.specs.FileBytes.{verifier_file_bytes}
-use Rattle.dealer_files.proofs.ReadFiles.{header_is, verifier_spelled, verifier_is_read, verifier_in_range_read, not_set, is_set}
+use Rattle.dealer_files.proofs.ReadFiles.{header_is, verifier_spelled, verifier_is_read, units_in_range, not_set, is_set}
+use Rattle.dealer_files.proofs.ReadBlocks.{verifier_in_range}
 use Rattle.zk_model.specs.declared.Side.TheVariants.{Verifier}
 use Rattle.dealer_files.proofs.decoding.decode_verifier.Goals as goal
 
@@ -23,8 +24,7 @@ pub returns-then-eq-clause-fault : goal.returns-then-eq-clause-fault
 returns-then-eq-clause-fault c =
     let unset : c.in_ok-key.key ≡ 0 = search rules in (
       c.in_ok-head.ensures.head,
-      verifier_in_range_read c.args.bytes.now c.in_ok-head.head.params c.in_ok-blocks.blocks.keys.items c.in_ok-blocks.blocks.pads.items c.in_ok-head.ensures.params
-          c.in_ok-key.ensures.good c.in_ok-blocks.ensures.blocks,
+      verifier_in_range c.args.bytes.now c.in_ok-key.ensures.good (units_in_range _ _ _ _ _ _ _ c.in_ok-head.ensures.params c.in_ok-blocks.ensures.blocks),
       not_set c.in_ok-key.key _ c.in_ok-key.ensures.value unset,
     )
 
@@ -32,8 +32,7 @@ pub returns-then-not-has_digest-clause-fault : goal.returns-then-not-has_digest-
 returns-then-not-has_digest-clause-fault c =
     let set : c.in_ok-key.key ≢ 0 = search rules in (
       c.in_ok-head.ensures.head,
-      verifier_in_range_read c.args.bytes.now c.in_ok-head.head.params c.in_ok-blocks.blocks.keys.items c.in_ok-blocks.blocks.pads.items c.in_ok-head.ensures.params
-          c.in_ok-key.ensures.good c.in_ok-blocks.ensures.blocks,
+      verifier_in_range c.args.bytes.now c.in_ok-key.ensures.good (units_in_range _ _ _ _ _ _ _ c.in_ok-head.ensures.params c.in_ok-blocks.ensures.blocks),
       is_set c.in_ok-key.key _ c.in_ok-key.ensures.value set,
       λ is. let no = c.if-not-has_digest.ensures.1 is in cc,
     )
@@ -42,8 +41,7 @@ pub returns-clause-dealt : goal.returns-clause-dealt
 returns-clause-dealt c =
     let set : c.in_ok-key.key ≢ 0 = search rules in record {
       body = c.in_ok-head.ensures.head;
-      in_range = verifier_in_range_read c.args.bytes.now c.in_ok-head.head.params c.in_ok-blocks.blocks.keys.items c.in_ok-blocks.blocks.pads.items c.in_ok-head.ensures.params
-          c.in_ok-key.ensures.good c.in_ok-blocks.ensures.blocks;
+      in_range = verifier_in_range c.args.bytes.now c.in_ok-key.ensures.good (units_in_range _ _ _ _ _ _ _ c.in_ok-head.ensures.params c.in_ok-blocks.ensures.blocks);
       key = is_set c.in_ok-key.key _ c.in_ok-key.ensures.value set;
       digest = c.if-not-has_digest.ensures.0 refl;
     }

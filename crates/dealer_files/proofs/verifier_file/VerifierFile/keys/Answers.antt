@@ -1,22 +1,16 @@
-use Rattle.std.proofs.Common.{◌≡◌, ◌-◌, ◌*◌, ◌≤◌, length, take, drop, ◌∙◌, ap, arith, rules}
-use Rattle.zk_model.specs.Files.{span_dealt_keys, dealt_per_unit}
-use Rattle.dealer_files.proofs.FlatFiles.{span_keys_are, range_length}
+use Rattle.std.proofs.Common.{◌∙◌, ap, arith, rules}
+use Rattle.zk_model.specs.Files.{span_dealt_keys}
+use Rattle.dealer_files.proofs.FlatFiles.{span_keys_are, span_read, span_count}
 use Rattle.dealer_files.proofs.verifier_file.VerifierFile.keys.Goals as goal
 
 pub returns-clause-keys : goal.returns-clause-keys
 returns-clause-keys c =
     let f = c.self.inside in
-    let value : c.deref.result.now ≡ f.keys.items = search rules in
-    let within : c.args.span.end ≤ f.params.total = omega (arith, ap (λ file. file.params.total) c.self.view_is) in
-    (λ i. take (c.first_dealt-end.ensures i - c.first_dealt-start.ensures i) (drop (c.first_dealt-start.ensures i) (value i)))
-    ∙ span_keys_are f.params f.id f.coin_key f.code_seed f.key f.keys.items f.pads.items c.args.span c.requires.order within
+    span_read f.params c.args.span f.keys.items _ _ _ (search rules) c.first_dealt-start.ensures c.first_dealt-end.ensures
+    ∙ span_keys_are f.params f.id f.coin_key f.code_seed f.key f.keys.items f.pads.items c.args.span c.requires.order (omega (arith, ap (λ file. file.params.total) c.self.view_is))
     ∙ ap (λ file. span_dealt_keys file c.args.span) c.self.view_is
 
 pub returns-clause-count : goal.returns-clause-count
 returns-clause-count c =
-    let f = c.self.inside in
-    let value : c.deref.result.now ≡ f.keys.items = search rules in
-    let within : c.args.span.end ≤ f.params.total = omega (arith, ap (λ file. file.params.total) c.self.view_is) in
-    (λ i. length (take (c.first_dealt-end.ensures i - c.first_dealt-start.ensures i) (drop (c.first_dealt-start.ensures i) (value i))))
-    ∙ range_length f.keys.items (dealt_per_unit f.params) c.args.span.start c.args.span.end f.params.total c.self.invariant.1.dealt c.requires.order within
-    ∙ ap (λ file. dealt_per_unit file.params * (c.args.span.end - c.args.span.start)) c.self.view_is
+    span_count c.self.inside.params c.args.self.now.params c.args.span c.self.inside.keys.items _ _ _ (search rules) c.first_dealt-start.ensures c.first_dealt-end.ensures
+    (ap (λ file. file.params) c.self.view_is) c.self.invariant.1.dealt c.requires.order c.requires.within
