@@ -1,6 +1,6 @@
 -- What is held begins some frame at its place.
 use Rattle.std.proofs.Common.{◌≡◌, ℕ, ◌+◌, ◌-◌, ◌<◌, ◌≤◌, ◌⊎◌, inl, inr, List, [], ◌∷◌, ◌++◌, flat_map, length, take, drop, get_or, replicate, refl, sym, ◌∙◌, ap, arith, length-append, append_assoc, append-nil, subst, take-append-drop, length-drop}
-use Rattle.std.specs.Prelude.{All, Bool, true, false, nat_eq}
+use Rattle.std.specs.Prelude.{All}
 use Rattle.std.proofs.lemmas.Bool.{cases_lt}
 use Rattle.std.proofs.lemmas.List.{take_all, nil_from_length, length-replicate, get_or-drop, get_or_append_left}
 use Rattle.std.proofs.lemmas.List.Elements.{All-nil, All-append, All-cons, All-drop, All-replicate}
@@ -9,13 +9,13 @@ use Rattle.zk_model.specs.Bytes.{element_bytes}
 use Rattle.zk_model.specs.Transcript.{BeginsWith}
 use Rattle.zk_model.specs.Frames.{CanGoOn}
 use Rattle.zk_model.specs.declared.Expect.{Expect}
-use Rattle.zk_model.specs.declared.Expect.TheVariants as expect
 use Rattle.zk_model.specs.declared.FrameKind.{FrameKind}
 use Rattle.proof_frames.specs.declared.shape.Level.{Level}
 use Rattle.proof_frames.specs.declared.shape.Payload.{Payload}
 use Rattle.proof_frames.specs.declared.shape.Payload.TheVariants as payload
 use Rattle.proof_frames.specs.declared.shape.Shape.{Shape}
 use Rattle.proof_frames.specs.Shapes.{HoldsPayload, HoldsBytes, HoldsElements, HoldsTrees, IsHeld, level_width, level_most, shape_of, header, spelled}
+use Rattle.proof_frames.proofs.EveryShape.{every_shape}
 use Rattle.proof_frames.proofs.Octets.{IsByte, part_of_element}
 use Rattle.proof_frames.proofs.TreeLemmas.{Complete, no_trees, trees_go_on}
 use Rattle.proof_frames.proofs.Words.{FitsPayload, IsWord, IsWordAt, word_whole}
@@ -27,35 +27,13 @@ IsSound (payload.Elements count) = Unit {0}
 IsSound (payload.Trees trees height level) = Unit {0}
 
 pub shapes_are_sound : (place : Expect) (first : ℕ) → IsSound (shape_of place first).payload
-shapes_are_sound expect.Hello first = (omega arith, omega arith, omega arith, omega arith)
-shapes_are_sound expect.Grant first = by_first (nat_eq first 10) refl
-  where
-    by_first : (b : Bool) → nat_eq first 10 ≡ b → IsSound (shape_of expect.Grant first).payload
-    by_first true e = rw e (omega arith, omega arith, omega arith, omega arith)
-    by_first false e = rw e (omega arith, omega arith, omega arith, omega arith)
-shapes_are_sound (expect.Ask height trees left) first = tt
-shapes_are_sound (expect.Reply height trees left) first = tt
-shapes_are_sound (expect.Corrections count) first = tt
-shapes_are_sound expect.Challenge first = tt
-shapes_are_sound (expect.Sums sections) first = tt
-shapes_are_sound (expect.Openings count) first = tt
-shapes_are_sound expect.Verdict first = (omega arith, omega arith, omega arith, omega arith)
+shapes_are_sound = every_shape (λ place shape. IsSound shape.payload) (omega arith, omega arith, omega arith, omega arith) (omega arith, omega arith, omega arith, omega arith) (omega arith, omega arith, omega arith, omega arith)
+    (λ height trees left. tt) (λ height trees left. tt) (λ count. tt) tt (λ sections. tt) (λ count. tt) (omega arith, omega arith, omega arith, omega arith)
 
 -- the first byte of a header tells its shape
 same_shape : (place : Expect) (first : ℕ) → shape_of place (get_or (header (shape_of place first)) 0 0) ≡ shape_of place first
-same_shape expect.Hello first = refl
-same_shape expect.Grant first = by_first (nat_eq first 10) refl
-  where
-    by_first : (b : Bool) → nat_eq first 10 ≡ b → shape_of expect.Grant (get_or (header (shape_of expect.Grant first)) 0 0) ≡ shape_of expect.Grant first
-    by_first true e = rw e refl
-    by_first false e = rw e refl
-same_shape (expect.Ask height trees left) first = refl
-same_shape (expect.Reply height trees left) first = refl
-same_shape (expect.Corrections count) first = refl
-same_shape expect.Challenge first = refl
-same_shape (expect.Sums sections) first = refl
-same_shape (expect.Openings count) first = refl
-same_shape expect.Verdict first = refl
+same_shape = every_shape (λ place shape. shape_of place (get_or (header shape) 0 0) ≡ shape) refl refl refl
+    (λ height trees left. refl) (λ height trees left. refl) (λ count. refl) refl (λ sections. refl) (λ count. refl) refl
 
 -- a header and a payload of its shape are a word
 word_of : (place : Expect) (first : ℕ) (bytes : List ℕ) → FitsPayload (shape_of place first).payload bytes

@@ -4,6 +4,7 @@ use Rattle.std.specs.Prelude.{All}
 use Rattle.std.proofs.lemmas.List.Elements.{All-more, All-take}
 use Rattle.std.specs.Int.{w32, to_le_bytes}
 use Rattle.std.proofs.lemmas.List.{flat_map_more, take_more}
+use Rattle.zk_model.specs.Field.{IsElement}
 use Rattle.zk_model.specs.Bytes.{element_bytes}
 use Rattle.zk_model.specs.Transcript.{kind_number, frame_bytes}
 use Rattle.zk_model.specs.declared.FrameKind.{FrameKind}
@@ -67,6 +68,19 @@ pub items_more : {A : Type 0} (f : A → List ℕ) (items : List A) (i : ℕ) (i
 items_more f items i item old before now within at far pushed =
     let last : take i items ++ item ∷ [] ≡ take (i + 1) items = ap (λ q. take i items ++ q ∷ []) at ∙ sym (take_more items i item within) in
     pushed ∙ ap (λ l. l ++ f item) far ∙ flat_map_more f old (take i items) item ∙ ap (λ l. old ++ flat_map f l) last
+
+-- what is said of one tree more: the bytes of its levels, and an element
+pub tree_more : {A T : Type 0} (f : A → List ℕ) (of : List T → List ℕ) (element_of : A → ℕ) (items : List A) (i : ℕ) (item : A) (old before between now tail : List ℕ) (read levels : List T) (element : ℕ)
+    → i < length items → item ≡ get_or items i item
+    → (before ≡ old ++ flat_map f (take i items)) × All (λ a. IsElement (element_of a)) (take i items)
+    → between ≡ before ++ of read → read ≡ levels → now ≡ between ++ tail → tail ≡ element_bytes element
+    → of levels ++ element_bytes element ≡ f item → element ≡ element_of item → IsElement element
+    → (now ≡ old ++ flat_map f (take (i + 1) items)) × All (λ a. IsElement (element_of a)) (take (i + 1) items)
+tree_more f of element_of items i item old before between now tail read levels element within at far begun given ended is whole same ranged = (
+  items_more f items i item old before now within at far.0
+      (ended ∙ (λ j. (begun ∙ ap (λ l. before ++ of l) given) j ++ is j) ∙ append_assoc before (of levels) (element_bytes element) ∙ ap (λ l. before ++ l) whole),
+  all_more (λ a. IsElement (element_of a)) items i item within at far.1 (subst IsElement same ranged),
+)
 
 -- the bytes of one item more, which were the front of the rest
 pub item_taken : {A : Type 0} (f : A → List ℕ) (items now : List A) (item : A) (front behind rest all : List ℕ) (n : ℕ) → now ≡ items ++ item ∷ []

@@ -14,6 +14,7 @@ use Rattle.proof_frames.specs.declared.shape.Shape.{Shape}
 use Rattle.proof_frames.specs.Holding.{elements_at}
 use Rattle.proof_frames.specs.Readings.{IsShortPlace}
 use Rattle.proof_frames.specs.Shapes.{HoldsPayload, IsHeld, level_width, level_most, shape_of, header, payload_length, spelled}
+use Rattle.proof_frames.proofs.EveryShape.{every_shape}
 use Rattle.proof_frames.proofs.FrameLemmas.{length-elements}
 use Rattle.proof_frames.proofs.Steps.{early_empty, elements_held}
 use Rattle.proof_frames.proofs.TreeLemmas.{length-trees}
@@ -61,19 +62,9 @@ kind_told expect.Verdict bytes = refl
 
 -- a short frame has a short payload
 pub short_payload : (place : Expect) (first : ℕ) → IsShortPlace place → payload_length (shape_of place first).payload ≤ 2 ^ 24
-short_payload expect.Hello first short = omega arith
-short_payload expect.Grant first short = by_first (nat_eq first 10) refl
-  where
-    by_first : (b : Bool) → nat_eq first 10 ≡ b → payload_length (shape_of expect.Grant first).payload ≤ 2 ^ 24
-    by_first true e = rw e (omega arith)
-    by_first false e = rw e (omega arith)
-short_payload (expect.Ask height trees left) first short = omega arith
-short_payload (expect.Reply height trees left) first short = omega arith
-short_payload (expect.Corrections count) first short = omega arith
-short_payload expect.Challenge first short = omega arith
-short_payload (expect.Sums sections) first short = omega arith
-short_payload (expect.Openings count) first short = omega arith
-short_payload expect.Verdict first short = omega arith
+short_payload = every_shape (λ place shape. IsShortPlace place → payload_length shape.payload ≤ 2 ^ 24) (λ short. omega arith) (λ short. omega arith) (λ short. omega arith)
+    (λ height trees left short. omega arith) (λ height trees left short. omega arith) (λ count short. omega arith) (λ short. omega arith) (λ sections short. omega arith) (λ count short. omega arith)
+    (λ short. omega arith)
 
 -- the first byte of what is held and of more
 pub first_held : (start elements part rest : List ℕ) → 0 < length start → get_or (spelled start elements part ++ rest) 0 0 ≡ get_or start 0 0
@@ -189,16 +180,5 @@ whole_length place bytes frame whole =
 
 -- as many elements as a place allows
 pub elements_counted : (place : Expect) (first count : ℕ) → (shape_of place first).payload ≡ payload.Elements count → elements_at place ≡ count
-elements_counted expect.Hello first count is = cc
-elements_counted expect.Grant first count is = by_first (nat_eq first 10) refl
-  where
-    by_first : (b : Bool) → nat_eq first 10 ≡ b → 0 ≡ count
-    by_first true e = let none : payload.Bytes 1 1 4 ≡ payload.Elements count = rw e at is in cc
-    by_first false e = let none : payload.Bytes 16 0 255 ≡ payload.Elements count = rw e at is in cc
-elements_counted (expect.Ask height trees left) first count is = cc
-elements_counted (expect.Reply height trees left) first count is = cc
-elements_counted (expect.Corrections sized) first count is = cc
-elements_counted expect.Challenge first count is = cc
-elements_counted (expect.Sums sections) first count is = cc
-elements_counted (expect.Openings sized) first count is = cc
-elements_counted expect.Verdict first count is = cc
+elements_counted = every_shape (λ place shape. (count : ℕ) → shape.payload ≡ payload.Elements count → elements_at place ≡ count) (λ count is. cc) (λ count is. cc) (λ count is. cc)
+    (λ height trees left count is. cc) (λ height trees left count is. cc) (λ sized count is. cc) (λ count is. cc) (λ sections count is. cc) (λ sized count is. cc) (λ count is. cc)

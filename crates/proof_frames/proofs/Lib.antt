@@ -4,6 +4,7 @@ pub mod Sums
 pub mod TreeLemmas
 pub mod TreeFrames
 pub mod Words
+pub mod EveryShape
 pub mod Begun
 pub mod Ends
 pub mod Steps

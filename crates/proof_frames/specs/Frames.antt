@@ -1,5 +1,5 @@
 -- Frames of the program, and what they say.
-use Rattle.std.specs.Prelude.{ℕ, ◌+◌, ◌^◌, ◌≤◌, if◌then◌else◌, nat_eq, List, [], ◌∷◌, ◌++◌, map, flat_map, length, take, drop, get_or, All}
+use Rattle.std.specs.Prelude.{ℕ, ◌+◌, ◌≤◌, if◌then◌else◌, nat_eq, List, [], ◌∷◌, ◌++◌, map, flat_map, length, take, drop, get_or, All}
 use Rattle.std.specs.Int.{w32, w64, from_le_bytes}
 use Rattle.zk_model.specs.Bits.{from_bit}
 use Rattle.zk_model.specs.Bytes.{LeftRight, element_bytes}

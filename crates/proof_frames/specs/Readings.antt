@@ -1,5 +1,5 @@
 -- What a decoder has received, and what its calls do.
-use Rattle.std.specs.Prelude.{◌≡◌, ◌≢◌, ◌⊎◌, ℕ, ◌+◌, ◌^◌, ◌≤◌, min, Option, Some, None, List, [], ◌++◌, length, take}
+use Rattle.std.specs.Prelude.{◌≡◌, ◌≢◌, ◌⊎◌, ℕ, ◌+◌, ◌≤◌, min, Option, Some, None, List, [], ◌++◌, length, take}
 use Rattle.zk_model.specs.Frames.{Frame, CanGoOn, IsWhole, IsFirstBad, bytes_wanted, frame_length, expected_kind}
 use Rattle.zk_model.specs.declared.Expect.{Expect}
 use Rattle.proof_frames.specs.declared.decoder.BadFrame.{BadFrame}
