@@ -58,37 +58,32 @@ all_replies : (params : Params) (grant : Grant) (units : List (List TreeReply)) 
     → All (AreReplies params.height params.trees) units
 all_replies params grant units each k none below = record { counted = (each.1 k none below).0; each = (each.1 k none below).1 }
 
--- frames of asks for all units
-pub record AreAskFrames (params : Params) (count : ℕ) (frames : List Frame) : Type 0 where
+-- a short frame for each unit, and units that are as they are to be
+pub record AreUnitFrames {T : Type 0} (Each : List T → Type 0) (units_of : List Frame → List (List T)) (count : ℕ) (frames : List Frame) : Type 0 where
   pub short : All IsShort (map frame_value frames)
   pub counted : length frames ≡ count
-  pub each : All (AreAsks params.height params.trees) (asks_of frames)
+  pub each : All Each (units_of frames)
 
-pub ask_frames : (params : Params) (grant : Grant) (units : List (List TreeAsk)) (frames : List Frame) → AreWithinLimits Extended params
-    → ForEachTree params grant (IsTreeAsk params.height) units → map frame_value frames ≡ map model.asks units → AreAskFrames params grant.count frames
-ask_frames params grant units frames limits each are =
-    let all = all_asks params grant units each in
-    record {
-      short = subst (All IsShort) (sym are) (All-map IsShort model.asks units (λ k none below. asks_short params _ limits (all k none below)));
-      counted = sym (length-map frames frame_value) ∙ ap length are ∙ length-map units model.asks ∙ each.0;
-      each = subst (All (AreAsks params.height params.trees)) (sym (asks_are frames units are)) all;
-    }
+unit_frames : {T : Type 0} (Each : List T → Type 0) (frame : List T → model.Frame) (units_of : List Frame → List (List T)) (count : ℕ) (units : List (List T)) (frames : List Frame)
+    → ((unit : List T) → Each unit → IsShort (frame unit)) → All Each units → length units ≡ count
+    → map frame_value frames ≡ map frame units → units_of frames ≡ units → AreUnitFrames Each units_of count frames
+unit_frames Each frame units_of count units frames short all counted are same = record {
+  short = subst (All IsShort) (sym are) (All-map IsShort frame units (λ k none below. short _ (all k none below)));
+  counted = sym (length-map frames frame_value) ∙ ap length are ∙ length-map units frame ∙ counted;
+  each = subst (All Each) (sym same) all;
+}
 
--- frames of replies for all units
-pub record AreReplyFrames (params : Params) (count : ℕ) (frames : List Frame) : Type 0 where
-  pub short : All IsShort (map frame_value frames)
-  pub counted : length frames ≡ count
-  pub each : All (AreReplies params.height params.trees) (replies_of frames)
+ask_frames : (params : Params) (grant : Grant) (units : List (List TreeAsk)) (frames : List Frame) → AreWithinLimits Extended params
+    → ForEachTree params grant (IsTreeAsk params.height) units → map frame_value frames ≡ map model.asks units
+    → AreUnitFrames (AreAsks params.height params.trees) asks_of grant.count frames
+ask_frames params grant units frames limits each are = unit_frames (AreAsks params.height params.trees) model.asks asks_of grant.count units frames
+    (λ trees. asks_short params trees limits) (all_asks params grant units each) each.0 are (asks_are frames units are)
 
-pub reply_frames : (params : Params) (grant : Grant) (units : List (List TreeReply)) (frames : List Frame) → AreWithinLimits Extended params
-    → ForEachTree params grant (IsTreeReply params.height) units → map frame_value frames ≡ map model.replies units → AreReplyFrames params grant.count frames
-reply_frames params grant units frames limits each are =
-    let all = all_replies params grant units each in
-    record {
-      short = subst (All IsShort) (sym are) (All-map IsShort model.replies units (λ k none below. replies_short params _ limits (all k none below)));
-      counted = sym (length-map frames frame_value) ∙ ap length are ∙ length-map units model.replies ∙ each.0;
-      each = subst (All (AreReplies params.height params.trees)) (sym (replies_are frames units are)) all;
-    }
+reply_frames : (params : Params) (grant : Grant) (units : List (List TreeReply)) (frames : List Frame) → AreWithinLimits Extended params
+    → ForEachTree params grant (IsTreeReply params.height) units → map frame_value frames ≡ map model.replies units
+    → AreUnitFrames (AreReplies params.height params.trees) replies_of grant.count frames
+reply_frames params grant units frames limits each are = unit_frames (AreReplies params.height params.trees) model.replies replies_of grant.count units frames
+    (λ trees. replies_short params trees limits) (all_replies params grant units each) each.0 are (replies_are frames units are)
 
 -- ---- the round
 
@@ -164,14 +159,14 @@ knows_round prover verifier grant asks_law replies_law is file same extended wit
 }
 
 pub asked_are : (prover : ProverFile) (verifier : VerifierFile) (grant : Grant) (asked frames : List Frame) → KnowsRound prover verifier grant
-    → frames ≡ asked → map frame_value asked ≡ map model.asks (round_asks prover grant) → AreAskFrames verifier.params grant.count frames
+    → frames ≡ asked → map frame_value asked ≡ map model.asks (round_asks prover grant) → AreUnitFrames (AreAsks verifier.params.height verifier.params.trees) asks_of grant.count frames
 asked_are prover verifier grant asked frames knows same are =
-    subst (AreAskFrames verifier.params grant.count) (sym same) (ask_frames verifier.params grant (round_asks prover grant) asked knows.limits knows.ranged.asks are)
+    subst (AreUnitFrames (AreAsks verifier.params.height verifier.params.trees) asks_of grant.count) (sym same) (ask_frames verifier.params grant (round_asks prover grant) asked knows.limits knows.ranged.asks are)
 
 pub replied_are : (prover : ProverFile) (verifier : VerifierFile) (grant : Grant) (asked replied known frames : List Frame) → KnowsRound prover verifier grant
     → frames ≡ replied → known ≡ asked → map frame_value asked ≡ map model.asks (round_asks prover grant)
-    → map frame_value replied ≡ map model.replies (round_replies verifier grant (asks_of known)) → AreReplyFrames verifier.params grant.count frames
+    → map frame_value replied ≡ map model.replies (round_replies verifier grant (asks_of known)) → AreUnitFrames (AreReplies verifier.params.height verifier.params.trees) replies_of grant.count frames
 replied_are prover verifier grant asked replied known frames knows same k asks are =
-    subst (AreReplyFrames verifier.params grant.count) (sym same)
+    subst (AreUnitFrames (AreReplies verifier.params.height verifier.params.trees) replies_of grant.count) (sym same)
     (reply_frames verifier.params grant (round_replies verifier grant (round_asks prover grant)) replied knows.limits knows.ranged.replies
     (are ∙ ap (λ l. map model.replies (round_replies verifier grant l)) (ap asks_of k ∙ asks_are asked (round_asks prover grant) asks)))
