@@ -1,6 +1,6 @@
 -- What a doorway keeps behind each answer of the door.
 use Rattle.std.proofs.Common.{◌≡◌, ℕ, ◌+◌, ◌<◌, ◌≤◌, Bool, true, false, refl, sym, ap, ◌∙◌, subst, arith, add-one}
-use Rattle.std.specs.Prelude.{◌||◌, nat_eq}
+use Rattle.std.specs.Prelude.{◌||◌, cond, nat_eq}
 use Rattle.std.proofs.lemmas.Bool.Decides.{nat_tests}
 use Rattle.zk_port.specs.Counts.{Rose, counted}
 use Rattle.zk_port.specs.Doors.{DoorState, OnlyTakes, after_refused_next}
@@ -37,36 +37,29 @@ module _ (first old new : DoorState) (wanted total taken sessions : ℕ) (w : Is
     later = let a = w.later in omega (arith, a, calm);
   }
 
-  fails : taken < sessions → new ≡ after_refused_next new.next_faults old → Rose old.next_faults new.next_faults → old.next_faults ≤ new.next_faults
-      → IsDoorway first wanted new total taken sessions false true false
-  fails some is rose more = record {
+  -- the call was refused
+  refused : (failed unserved : Bool) → (failed || unserved) ≡ true → taken < sessions → new ≡ after_refused_next new.next_faults old → (failed ≡ true → Rose old.next_faults new.next_faults)
+      → (failed ≡ false → new.next_faults ≡ old.next_faults) → old.next_faults ≤ new.next_faults → IsDoorway first wanted new total taken sessions false failed unserved
+  refused failed unserved one some is rose calm more = record {
     counted = w.counted;
     sessions_are = w.sessions_are;
     most = w.most;
     left_is = let a = w.left_is in let b : new.left ≡ old.left = ap (λ d. d.left) is in omega (arith, a, b);
     none = λ x. (cc);
     rest = rest_goes first old new _ w.rest is refl;
-    asked = asked_more (ap (λ d. d.nexts) is);
+    asked = subst (λ b. new.nexts ≡ called (cond b (taken + 1) taken) first.nexts) (sym one) (asked_more (ap (λ d. d.nexts) is));
     short = λ x. some;
-    failed = λ x. subst (λ (n : ℕ). Rose n new.next_faults) (w.calm refl) rose;
-    calm = λ x. (cc);
+    failed = λ x. subst (λ (n : ℕ). Rose n new.next_faults) (w.calm refl) (rose x);
+    calm = λ x. calm x ∙ w.calm refl;
     later = let a = w.later in omega (arith, a, more);
   }
 
+  fails : taken < sessions → new ≡ after_refused_next new.next_faults old → Rose old.next_faults new.next_faults → old.next_faults ≤ new.next_faults
+      → IsDoorway first wanted new total taken sessions false true false
+  fails some is rose more = refused true false refl some is (λ x. rose) (λ x. absurd cc) more
+
   is_unserved : taken < sessions → new ≡ after_refused_next new.next_faults old → new.next_faults ≡ old.next_faults → IsDoorway first wanted new total taken sessions false false true
-  is_unserved some is calm = record {
-    counted = w.counted;
-    sessions_are = w.sessions_are;
-    most = w.most;
-    left_is = let a = w.left_is in let b : new.left ≡ old.left = ap (λ d. d.left) is in omega (arith, a, b);
-    none = λ x. (cc);
-    rest = rest_goes first old new _ w.rest is refl;
-    asked = asked_more (ap (λ d. d.nexts) is);
-    short = λ x. some;
-    failed = λ x. (cc);
-    calm = λ x. calm ∙ w.calm refl;
-    later = let a = w.later in omega (arith, a, calm);
-  }
+  is_unserved some is calm = refused false true refl some is (λ x. absurd cc) (λ x. calm) (omega (arith, calm))
 
 -- ---- where it is not done
 

@@ -123,15 +123,21 @@ module _ (start disk : DiskState) (id : List ℕ) (total : ℕ) (ps : List Pass)
 
 -- ---- all of it
 
+pub record IsRun {M : Type 0} (granted : M → Option Span) (refused : M → Option LeaseFault) (fresh : Type 0) (units : ℕ) (notes : List M)
+    (start disk : DiskState) (id : List ℕ) (base total : ℕ) : Type 0 where
+  pub apart : AllPairs (λ m n. AreApart (granted m) (granted n)) notes
+  pub left : IsLeft start disk id base total units granted refused notes
+  pub refusals : fresh → All (λ m. IsRefusedBy units total (base + units * (length notes - 1)) (refused m)) notes
+
 module _ {M : Type 0} (granted : M → Option Span) (refused : M → Option LeaseFault) (is_note : M → Type 0) (fresh : Type 0) (units : ℕ) (notes : List M) (ps : List Pass)
     (start disk : DiskState) (id : List ℕ) (base total : ℕ)
     (w : IsWork granted refused is_note fresh units total (all_entries ps) (most_known ps) (λ mark. All (λ p. AllowsMark p mark) ps) notes) (closed : IsClosed start disk id base total ps) where
-  pub all_apart : AllPairs (λ m n. AreApart (granted m) (granted n)) notes
+  all_apart : AllPairs (λ m n. AreApart (granted m) (granted n)) notes
   all_apart i j d h l =
       apart_two units total (most_known ps) (granted (get_or notes i d)) (granted (get_or notes j d)) (w.upto i d (omega (arith, h, l))) (w.upto j d l)
       (λ unit. let two = two_le (λ (m : M). has_unit (granted m) unit) notes i j d h l in let a = w.once unit in let b = apart_once unit (all_entries ps) closed.gathered.apart in omega (arith, two, a, b))
 
-  pub all_left : IsLeft start disk id base total units granted refused notes
+  all_left : IsLeft start disk id base total units granted refused notes
   all_left = record {
     passes = ps;
     closed = closed;
@@ -142,7 +148,11 @@ module _ {M : Type 0} (granted : M → Option Span) (refused : M → Option Leas
     told = λ k d l. (w.marked closed.mark closed.gathered.marks k d l).1;
   }
 
-  pub all_refused : fresh → All (λ m. IsRefusedBy units total (base + units * (length notes - 1)) (refused m)) notes
+  all_refused : fresh → All (λ m. IsRefusedBy units total (base + units * (length notes - 1)) (refused m)) notes
   all_refused f k d l =
       let a = greatest_base base (all_entries ps) in let b = closed.gathered.tile in let c = w.drawn f in
       refused_by units total (greatest_end 0 (all_entries ps)) base (length notes) (refused (get_or notes k d)) (omega (arith, l)) (omega (arith, a, b, c)) (w.reached f k d l)
+
+  -- all of that together
+  pub is_run : IsRun granted refused fresh units notes start disk id base total
+  is_run = record { apart = all_apart; left = all_left; refusals = all_refused }

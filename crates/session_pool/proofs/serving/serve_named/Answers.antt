@@ -1,4 +1,5 @@
-use Rattle.session_pool.proofs.Runs.{all_apart, all_left, all_refused, same_closed, none_left}
+use Rattle.session_pool.proofs.Runs.{IsRun, is_run, same_closed, none_left}
+use Rattle.session_pool.proofs.serving.serve_named.Given.{Over}
 use Rattle.session_pool.proofs.serving.serve_named.Goals as goal
 
 pub returns-then-is_err-clause-left : goal.returns-then-is_err-clause-left
@@ -10,29 +11,20 @@ returns-then-is_err-clause-left g c =
     (same_closed g.N.LeaseName.start (g.B.Disk.state c.close-disk.result) g.N.LeaseName.id g.N.LeaseName.total c.args.passes.items
     c.named-store.result.base c.args.parts.base c.named-store.ensures.base c.close-disk.ensures))
 
+-- what the notes of all workers say
+run_of : (g : Over) (c : goal.After-close-2 g) → IsRun g.W.Shift.granted g.W.Shift.refused g.W.Shift.fresh g.W.Shift.units c.take_all_back.new.notes.items
+    g.N.LeaseName.start (g.B.Disk.state c.close-disk-2.result) g.N.LeaseName.id c.args.parts.base g.N.LeaseName.total
+run_of g c =
+    is_run g.W.Shift.granted g.W.Shift.refused g.W.Shift.is_note g.W.Shift.fresh g.W.Shift.units c.take_all_back.new.notes.items c.take_all_back.new.passes.items
+    g.N.LeaseName.start (g.B.Disk.state c.close-disk-2.result) g.N.LeaseName.id c.args.parts.base g.N.LeaseName.total c.take_all_back.ensures.back.work
+    (same_closed g.N.LeaseName.start (g.B.Disk.state c.close-disk-2.result) g.N.LeaseName.id g.N.LeaseName.total c.take_all_back.new.passes.items
+    c.named-store.result.base c.args.parts.base c.named-store.ensures.base c.close-disk-2.ensures)
+
 pub returns-clause-apart : goal.returns-clause-apart
-returns-clause-apart g c =
-    let back = c.take_all_back.ensures.back.work in
-    let closed = same_closed g.N.LeaseName.start (g.B.Disk.state c.close-disk-2.result) g.N.LeaseName.id g.N.LeaseName.total c.take_all_back.new.passes.items
-    c.named-store.result.base c.args.parts.base c.named-store.ensures.base c.close-disk-2.ensures in
-    rw c.close-2.ensures.notes
-    (all_apart g.W.Shift.granted g.W.Shift.refused g.W.Shift.is_note g.W.Shift.fresh g.W.Shift.units c.take_all_back.new.notes.items c.take_all_back.new.passes.items
-    g.N.LeaseName.start (g.B.Disk.state c.close-disk-2.result) g.N.LeaseName.id c.args.parts.base g.N.LeaseName.total back closed)
+returns-clause-apart g c = rw c.close-2.ensures.notes (run_of g c).apart
 
 pub returns-clause-left : goal.returns-clause-left
-returns-clause-left g c =
-    let back = c.take_all_back.ensures.back.work in
-    let closed = same_closed g.N.LeaseName.start (g.B.Disk.state c.close-disk-2.result) g.N.LeaseName.id g.N.LeaseName.total c.take_all_back.new.passes.items
-    c.named-store.result.base c.args.parts.base c.named-store.ensures.base c.close-disk-2.ensures in
-    rw (c.close-2.ensures.notes, c.close-2.ensures.disk)
-    (all_left g.W.Shift.granted g.W.Shift.refused g.W.Shift.is_note g.W.Shift.fresh g.W.Shift.units c.take_all_back.new.notes.items c.take_all_back.new.passes.items
-    g.N.LeaseName.start (g.B.Disk.state c.close-disk-2.result) g.N.LeaseName.id c.args.parts.base g.N.LeaseName.total back closed)
+returns-clause-left g c = rw (c.close-2.ensures.notes, c.close-2.ensures.disk) (run_of g c).left
 
 pub returns-clause-refused : goal.returns-clause-refused
-returns-clause-refused g c =
-    let back = c.take_all_back.ensures.back.work in
-    let closed = same_closed g.N.LeaseName.start (g.B.Disk.state c.close-disk-2.result) g.N.LeaseName.id g.N.LeaseName.total c.take_all_back.new.passes.items
-    c.named-store.result.base c.args.parts.base c.named-store.ensures.base c.close-disk-2.ensures in
-    rw c.close-2.ensures.notes
-    (all_refused g.W.Shift.granted g.W.Shift.refused g.W.Shift.is_note g.W.Shift.fresh g.W.Shift.units c.take_all_back.new.notes.items c.take_all_back.new.passes.items
-    g.N.LeaseName.start (g.B.Disk.state c.close-disk-2.result) g.N.LeaseName.id c.args.parts.base g.N.LeaseName.total back closed)
+returns-clause-refused g c = rw c.close-2.ensures.notes (run_of g c).refusals
