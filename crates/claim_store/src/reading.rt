@@ -45,8 +45,8 @@ pub fn may_follow(claims: &[Span], total: u64, span: Span) -> bool
 fn read_claim<B: Disk>(journal: &mut Journal<B>, slot: u64) -> Result<Span, StoreFault>
     requires whole { journal.old.fault ≡ 0 }
     requires used { slot < journal.old.used }
-    ensures claim { IfOk result (λ claim. (bytes : List ℕ) → (B.state journal.old.disk).content ≡ Some bytes
-        → claim ≡ claim_at bytes slot) }
+    ensures claim { IfOk result (λ claim. (bytes : List ℕ)
+        → (B.state journal.old.disk).content ≡ Some bytes → claim ≡ claim_at bytes slot) }
     ensures stays { Stays (B.state journal.old.disk) (B.state journal.new.disk) }
     ensures used { journal.new.used ≡ journal.old.used }
     ensures slots { journal.new.slots ≡ journal.old.slots }
@@ -74,13 +74,15 @@ pub fn read_claims<B: Disk>(
     requires { journal.old.fault ≡ 0 }
     ensures sound { IfOk result (λ claims. AreClaims total claims.items) }
     ensures count { IfOk result (λ claims. length claims.items ≡ journal.old.used) }
-    ensures read { IfOk result (λ claims. (bytes : List ℕ) → (B.state journal.old.disk).content ≡ Some bytes
+    ensures read { IfOk result (λ claims. (bytes : List ℕ)
+        → (B.state journal.old.disk).content ≡ Some bytes
         → claims.items ≡ first_claims journal.old.used bytes) }
     ensures stays { Stays (B.state journal.old.disk) (B.state journal.new.disk) }
     ensures used { journal.new.used ≡ journal.old.used }
     ensures slots { journal.new.slots ≡ journal.old.slots }
     ensures fault { OnOk result (journal.new.fault ≡ 0) }
-    ensures cause { IfErr result (λ e. (bytes : List ℕ) → (B.state journal.old.disk).content ≡ Some bytes
+    ensures cause { IfErr result (λ e. (bytes : List ℕ)
+        → (B.state journal.old.disk).content ≡ Some bytes
         → ReadCause total journal.old.used bytes e) }
     ensures faults { HasReadCause (B.state journal.old.disk).faults (B.state journal.new.disk).faults result }
 {

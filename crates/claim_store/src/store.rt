@@ -62,8 +62,8 @@ impl<B: Disk> ClaimStore<B> {
             → HasHeader Claims id.now total bytes) }
         ensures slots { IfOk result (λ store. (bytes : List ℕ) → (B.state disk).content ≡ Some bytes
             → store.slots ≡ slots_at bytes) }
-        ensures recovered { IfOk result (λ store. (bytes : List ℕ) → (B.state disk).content ≡ Some bytes
-            → SaysClaims store.slots store.claims bytes) }
+        ensures recovered { IfOk result (λ store. (bytes : List ℕ)
+            → (B.state disk).content ≡ Some bytes → SaysClaims store.slots store.claims bytes) }
         ensures durable { IfOk result (λ store. AreDurable B.state store) }
         ensures only { IfOk result (λ store. Only (B.state store.disk).content (B.state store.disk).images) }
         ensures sound { IfOk result (λ store. AreClaims total store.claims) }
@@ -163,7 +163,8 @@ impl<B: Disk> ClaimStore<B> {
         ensures header { (id : List ℕ) (total slots : ℕ)
             → Keeps (IsHeaded Claims id total slots) (B.state self.old.disk) (B.state self.new.disk) }
         ensures stands { (id : List ℕ) (total : ℕ)
-            → Keeps (Stands Claims id total self.old.slots) (B.state self.old.disk) (B.state self.new.disk) }
+            → Keeps (Stands Claims id total self.old.slots)
+            (B.state self.old.disk) (B.state self.new.disk) }
         ensures cause { IfErr result (ClaimCause self.old start count self.new
             (B.state self.old.disk).faults (B.state self.new.disk).faults) }
         ensures kept { OnErr result (self.new.claims ≡ self.old.claims) }
