@@ -147,6 +147,12 @@ single_line text0 text1 text2 text3 text4 taken before line view begins input ou
 
 -- ---- gates
 
+-- three numbers, one after another
+record TakesThree (p0 p1 p2 p3 : Place) (a b c : Placed) : Type 0 where
+  one : TakesNumber p0 p1 a
+  two : TakesNumber p1 p2 b
+  three : TakesNumber p2 p3 c
+
 -- the places between the tokens of a line
 record ArePairPlaces (before after : Place) (line : PairLine) : Type 0 where
   p0 : Place
@@ -154,9 +160,7 @@ record ArePairPlaces (before after : Place) (line : PairLine) : Type 0 where
   p2 : Place
   p3 : Place
   begins : Takes (number 2 ∷ number 1 ∷ []) before p0
-  one : TakesNumber p0 p1 line.a
-  two : TakesNumber p1 p2 line.b
-  three : TakesNumber p2 p3 line.out
+  three : TakesThree p0 p1 p2 p3 line.a line.b line.out
   named : Takes (name (pair_text line.name) ∷ []) p3 after
 
 pair_places : (before after : Place) (line : PairLine) → IsPairLine before after line → ArePairPlaces before after line
@@ -170,9 +174,11 @@ pair_places before after line is =
       p2 = record { left = l2; taken = before.taken + 4 };
       p3 = record { left = l3; taken = before.taken + 5 };
       begins = record { left = is.takes.left; taken = refl };
-      one = record { exact = line.a.number; is = is.a; takes = record { left = refl; taken = omega arith } };
-      two = record { exact = line.b.number; is = is.b; takes = record { left = refl; taken = omega arith } };
-      three = record { exact = line.out.number; is = is.out; takes = record { left = refl; taken = omega arith } };
+      three = record {
+        one = record { exact = line.a.number; is = is.a; takes = record { left = refl; taken = omega arith } };
+        two = record { exact = line.b.number; is = is.b; takes = record { left = refl; taken = omega arith } };
+        three = record { exact = line.out.number; is = is.out; takes = record { left = refl; taken = omega arith } };
+      };
       named = record { left = refl; taken = omega (arith, is.takes.taken) };
     }
 
@@ -181,14 +187,14 @@ pub pair_line_taken : (flags : List Bool) (before after : Place) (line : PairLin
     → gate ≡ pair_gate line.name line.a.number line.b.number line.out.number → FitsFlags flags gate → Takes (gate_lexemes gate) before after
 pair_line_taken flags before after line gate few is row fits =
     let at = pair_places before after line is in
-    pair_taken flags at.p0 at.p1 at.p2 at.p3 after line.a line.b line.out line.name gate few at.one at.two at.three at.named row fits before at.begins
+    pair_taken flags at.p0 at.p1 at.p2 at.p3 after line.a line.b line.out line.name gate few at.three.one at.three.two at.three.three at.named row fits before at.begins
 
 -- its wires are wrong
 pub pair_line_wrong : (flags : List Bool) (before after : Place) (line : PairLine) (fault : ReadFault) → IsPairLine before after line
     → IsWrongPair flags line.name line.a line.b line.out fault → IsGateFault flags before fault
 pair_line_wrong flags before after line fault is wrong =
     let at = pair_places before after line is in
-    pair_wrong flags at.p0 at.p1 at.p2 at.p3 after line.a line.b line.out line.name fault at.one at.two at.three at.named wrong before at.begins
+    pair_wrong flags at.p0 at.p1 at.p2 at.p3 after line.a line.b line.out line.name fault at.three.one at.three.two at.three.three at.named wrong before at.begins
 
 -- the same of a gate with one input
 record AreSinglePlaces (before after : Place) (line : SingleLine) : Type 0 where
