@@ -1,5 +1,5 @@
 // The functions of FIPS 180-4, 4.1.2, and one round, on four messages side by side. Each is the standard's in each lane.
-ghost use Rattle.std.specs.Prelude.{◌≡◌, ℕ, ◌/◌, ◌^◌, ◌<◌, bit_and, bit_xor, slice_index};
+ghost use Rattle.std.specs.Prelude.{◌≡◌, ℕ, ◌+◌, ◌/◌, ◌^◌, ◌<◌, bit_and, bit_xor, slice_index};
 ghost use Rattle.std.specs.Int.{bit_not, rotate_right, w32};
 ghost use Rattle.sha2.specs.Sha256.{add32, add_state, big_sigma0, big_sigma1, ch, maj, round, small_sigma0, small_sigma1};
 ghost use Rattle.sha_lanes.specs.Lanes.{lane};
@@ -82,15 +82,28 @@ fn maj(x: u32x4, y: u32x4, z: u32x4) -> u32x4
     xor(y, and(upper, lower))
 }
 
-/// The upper case sigma 0. Its rotations, and those of the three below, stand one inside the other: that takes fewer
-/// copies of `x` than to rotate it anew each time.
+/// A word turned by `first` bits, by `second` more and by `third` more, added without carries. The rotations stand one
+/// inside the other, as those of the lower case functions do: that takes fewer copies of `x` than to rotate it anew.
+#[inline(always)]
+fn turned(x: u32x4, first: u32, second: u32, third: u32) -> u32x4
+    requires at_least_one { (0 < first) × (0 < second) × (0 < third) }
+    requires bounded { first + second + third < 32 }
+    ensures { (j : ℕ) → j < 4 → slice_index result j
+        ≡ bit_xor (bit_xor (rotate_right w32 (slice_index x j) first)
+        (rotate_right w32 (slice_index x j) (first + second)))
+        (rotate_right w32 (slice_index x j) (first + second + third)) }
+{
+    let inner = xor(x, rotate_right(x, third));
+    let outer = xor(x, rotate_right(inner, second));
+    rotate_right(outer, first)
+}
+
+/// The upper case sigma 0.
 #[inline(always)]
 fn big_sigma0(x: u32x4) -> u32x4
     ensures { (j : ℕ) → j < 4 → slice_index result j ≡ big_sigma0 (slice_index x j) }
 {
-    let inner = xor(x, rotate_right(x, 9));
-    let outer = xor(x, rotate_right(inner, 11));
-    rotate_right(outer, 2)
+    turned(x, 2, 11, 9)
 }
 
 /// The upper case sigma 1.
@@ -98,9 +111,7 @@ fn big_sigma0(x: u32x4) -> u32x4
 fn big_sigma1(x: u32x4) -> u32x4
     ensures { (j : ℕ) → j < 4 → slice_index result j ≡ big_sigma1 (slice_index x j) }
 {
-    let inner = xor(x, rotate_right(x, 14));
-    let outer = xor(x, rotate_right(inner, 5));
-    rotate_right(outer, 6)
+    turned(x, 6, 5, 14)
 }
 
 /// The lower case sigma 0.
