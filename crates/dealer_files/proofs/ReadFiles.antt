@@ -206,6 +206,12 @@ prover_spelled bytes params id coin_key code_seed pairs transfers body digest sa
         (λ unit below. ap (λ l. flat_map pair_bytes (piece (dealt_per_unit params) pairs unit) ++ flat_map transfer_bytes l)
         (trees_joined params transfers params.total unit blocks.transfers below) ∙ blocks.spelled unit below)
 
+-- its units are a prover's
+prover_unit_is : (params : Params) (bytes : List ℕ) (pairs : List Pair) (transfers : List Transfer) → AreBlocks a_pair a_transfer Prover params bytes params.total pairs transfers
+    → (unit : ℕ) → unit < params.total → IsProverUnit params (flat_prover_unit params pairs transfers unit)
+prover_unit_is params bytes pairs transfers blocks unit below =
+    let whole = units_whole a_pair a_transfer Prover params bytes pairs transfers blocks unit below in record { count = whole.0; elements = whole.1; trees = whole.2 }
+
 -- and is a prover's file
 pub prover_is_read : (bytes : List ℕ) (params : Params) (id coin_key code_seed : List ℕ) (pairs : List Pair) (transfers : List Transfer)
     → HasBody Prover bytes → params ≡ params_at bytes → AreBytes 32 id → AreBytes 32 coin_key → code_seed ≡ take 32 (drop 96 bytes)
@@ -218,8 +224,7 @@ prover_is_read bytes params id coin_key code_seed pairs transfers body same is_i
       coin_key = is_key;
       code_seed = head.1;
       count = length-map-range_with_len (flat_prover_unit params pairs transfers) 0 params.total;
-      units = all_made_within (IsProverUnit params) (flat_prover_unit params pairs transfers) params.total (λ unit below.
-          let whole = units_whole a_pair a_transfer Prover params bytes pairs transfers blocks unit below in record { count = whole.0; elements = whole.1; trees = whole.2 });
+      units = all_made_within (IsProverUnit params) (flat_prover_unit params pairs transfers) params.total (prover_unit_is params bytes pairs transfers blocks);
     }
 
 -- ---- the verifier's file
@@ -243,6 +248,12 @@ verifier_spelled bytes params id coin_key code_seed key keys pads body digest sa
         (λ unit below. ap (λ l. flat_map element_bytes (piece (dealt_per_unit params) keys unit) ++ flat_map pads_bytes l)
         (trees_joined params pads params.total unit blocks.transfers below) ∙ blocks.spelled unit below)
 
+-- its units are a verifier's
+verifier_unit_is : (params : Params) (bytes : List ℕ) (keys : List ℕ) (pads : List LeftRight) → AreBlocks an_element both_pads Verifier params bytes params.total keys pads
+    → (unit : ℕ) → unit < params.total → IsVerifierUnit params (flat_verifier_unit params keys pads unit)
+verifier_unit_is params bytes keys pads blocks unit below =
+    let whole = units_whole an_element both_pads Verifier params bytes keys pads blocks unit below in record { count = whole.0; elements = whole.1; trees = whole.2 }
+
 -- and is a verifier's file
 pub verifier_is_read : (bytes : List ℕ) (params : Params) (id coin_key code_seed : List ℕ) (key : ℕ) (keys : List ℕ) (pads : List LeftRight)
     → HasBody Verifier bytes → params ≡ params_at bytes → AreBytes 32 id → AreBytes 32 coin_key → code_seed ≡ take 32 (drop 96 bytes)
@@ -257,8 +268,7 @@ verifier_is_read bytes params id coin_key code_seed key keys pads body same is_i
       key_set = set;
       code_seed = head.1;
       count = length-map-range_with_len (flat_verifier_unit params keys pads) 0 params.total;
-      units = all_made_within (IsVerifierUnit params) (flat_verifier_unit params keys pads) params.total (λ unit below.
-          let whole = units_whole an_element both_pads Verifier params bytes keys pads blocks unit below in record { count = whole.0; elements = whole.1; trees = whole.2 });
+      units = all_made_within (IsVerifierUnit params) (flat_verifier_unit params keys pads) params.total (verifier_unit_is params bytes keys pads blocks);
     }
 
 -- the key that is read is 0, or is not
