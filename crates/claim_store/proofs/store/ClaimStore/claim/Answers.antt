@@ -37,8 +37,7 @@ returns-in-Ok-put-clause-durable g c =
 
 pub returns-in-Ok-put-clause-any_moment : goal.returns-in-Ok-put-clause-any_moment
 returns-in-Ok-put-clause-any_moment g c = rw (← c.self.view_is, ← c.in-Ok.ensures.free.0) (λ whole bytes is.
-    leaves g.B.Disk.state c.self.inside.journal.used c.self.inside.total c.self.inside.journal.slots c.self.inside.journal.fault c.self.inside.claims.items c.in-Ok.span c.self.inside.journal.disk c.put.new.self.disk
-    c.self.invariant whole c.in-Ok-put.ensures.changes.content bytes is (c.in-Ok-put.ensures.any_moment bytes is whole c.in-Ok-put.ensures.served.1))
+    leaves g.B.Disk.state _ _ _ _ _ c.in-Ok.span _ _ c.self.invariant whole c.in-Ok-put.ensures.changes.content bytes is (c.in-Ok-put.ensures.any_moment bytes is whole c.in-Ok-put.ensures.served.1))
 
 pub invariant_of-self-in-Err-put : goal.invariant_of-self-in-Err-put
 invariant_of-self-in-Err-put g c =
@@ -56,8 +55,7 @@ invariant_of-self-in-Err-put g c =
 pub returns-in-Err-put-clause-any_moment : goal.returns-in-Err-put-clause-any_moment
 returns-in-Err-put-clause-any_moment g c = rw (← c.self.view_is, ← c.in-Ok.ensures.free.0) (λ whole bytes is.
     let room = room_left c.self.inside.claims.items c.self.inside.journal.used c.self.inside.journal.slots c.self.invariant.count (free_of g (goal.at.returns-in-Err-put-clause-any_moment g c).In-Ok).room in
-    leaves g.B.Disk.state c.self.inside.journal.used c.self.inside.total c.self.inside.journal.slots c.self.inside.journal.fault c.self.inside.claims.items c.in-Ok.span c.self.inside.journal.disk c.put.new.self.disk
-    c.self.invariant whole c.in-Err-put.ensures.changes.content bytes is (c.in-Err-put.ensures.any_moment bytes is whole room))
+    leaves g.B.Disk.state _ _ _ _ _ c.in-Ok.span _ _ c.self.invariant whole c.in-Err-put.ensures.changes.content bytes is (c.in-Err-put.ensures.any_moment bytes is whole room))
 
 pub returns-then-is_err-clause-changes : goal.returns-then-is_err-clause-changes
 returns-then-is_err-clause-changes g c = rw (← c.self.view_is)
@@ -65,14 +63,12 @@ returns-then-is_err-clause-changes g c = rw (← c.self.view_is)
 
 pub returns-in-Ok-put-clause-read : goal.returns-in-Ok-put-clause-read
 returns-in-Ok-put-clause-read g c = rw (← c.self.view_is, ← c.in-Ok.ensures.free.0) (λ whole bytes is.
-    reads g.B.Disk.state c.self.inside.journal.used c.self.inside.total c.self.inside.journal.slots c.self.inside.journal.fault c.self.inside.claims.items c.in-Ok.span c.self.inside.journal.disk c.put.new.self.disk
-    c.self.invariant whole c.in-Ok-put.ensures.changes.content bytes is (c.in-Ok-put.ensures.read bytes is whole c.in-Ok-put.ensures.served.1))
+    reads g.B.Disk.state _ _ _ _ _ c.in-Ok.span _ _ c.self.invariant whole c.in-Ok-put.ensures.changes.content bytes is (c.in-Ok-put.ensures.read bytes is whole c.in-Ok-put.ensures.served.1))
 
 pub returns-in-Err-put-clause-read : goal.returns-in-Err-put-clause-read
 returns-in-Err-put-clause-read g c = rw (← c.self.view_is, ← c.in-Ok.ensures.free.0) (λ whole bytes is.
     let room = room_left c.self.inside.claims.items c.self.inside.journal.used c.self.inside.journal.slots c.self.invariant.count (free_of g (goal.at.returns-in-Err-put-clause-read g c).In-Ok).room in
-    reads g.B.Disk.state c.self.inside.journal.used c.self.inside.total c.self.inside.journal.slots c.self.inside.journal.fault c.self.inside.claims.items c.in-Ok.span c.self.inside.journal.disk c.put.new.self.disk
-    c.self.invariant whole c.in-Err-put.ensures.changes.content bytes is (c.in-Err-put.ensures.read bytes is whole room))
+    reads g.B.Disk.state _ _ _ _ _ c.in-Ok.span _ _ c.self.invariant whole c.in-Err-put.ensures.changes.content bytes is (c.in-Err-put.ensures.read bytes is whole room))
 
 pub returns-in-Err-clause-read : goal.returns-in-Err-clause-read
 returns-in-Err-clause-read g c = rw (← c.self.view_is) (reads_still g.B.Disk.state c.self.inside.journal.used _ _ c.self.invariant)
