@@ -4,7 +4,7 @@ use Rattle.std.proofs.lemmas.List.{take_all}
 use Rattle.session_laws.proofs.Turns.{answered, fewer_answered}
 use Rattle.session_laws.proofs.Sizes.{count_is}
 use Rattle.zk_model.specs.Files.{rounds_of}
-use Rattle.zk_model.specs.Transcript.{Grant, Transcript, IsTranscript, bytes_from, sent_by, session_turns, refuse_frame}
+use Rattle.zk_model.specs.Transcript.{Transcript, IsTranscript, bytes_from, sent_by, session_turns, refuse_frame}
 use Rattle.zk_model.specs.Frames.{IsFirstBad, frame_length, frame_spelling}
 use Rattle.zk_model.specs.Program.{Program}
 use Rattle.zk_model.specs.Statement.{Statement}

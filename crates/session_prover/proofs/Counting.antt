@@ -64,24 +64,21 @@ pub answers_first : (said : List ℕ) → 1 ≤ length said → answers_in (byte
 answers_first said some = said_first said some
 
 -- every frame has a byte
-frame_some : (frame : Frame) → 1 ≤ length (frame_spelling frame)
-frame_some (hello x) = omega arith
-frame_some (grant x) = omega arith
-frame_some (asks x) = omega arith
-frame_some (replies x) = omega arith
-frame_some (corrections x) = omega arith
-frame_some (challenge x) = omega arith
-frame_some (sums x) = omega arith
-frame_some (openings x) = omega arith
-frame_some (verdict x y) = omega arith
-frame_some (refuse x) = omega arith
-
 pub frame_is_some : (frame : Frame) → 1 ≤ length (frame_spelling frame)
-frame_is_some frame = frame_some frame
+frame_is_some (hello x) = omega arith
+frame_is_some (grant x) = omega arith
+frame_is_some (asks x) = omega arith
+frame_is_some (replies x) = omega arith
+frame_is_some (corrections x) = omega arith
+frame_is_some (challenge x) = omega arith
+frame_is_some (sums x) = omega arith
+frame_is_some (openings x) = omega arith
+frame_is_some (verdict x y) = omega arith
+frame_is_some (refuse x) = omega arith
 
 pub frames_some : (frames : List Frame) → 1 ≤ length frames → 1 ≤ length (flat_map frame_spelling frames)
 frames_some [] some = absurd (omega (arith, some))
 frames_some (frame ∷ frames) some =
-    let first = frame_some frame in
+    let first = frame_is_some frame in
     let both = length-append (frame_spelling frame) (flat_map frame_spelling frames) in
     omega (arith, first, both)

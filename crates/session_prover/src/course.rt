@@ -102,6 +102,7 @@ fn grant_in(job: &ProverJob<'_>, frame: Frame) -> Result<Grant, ProverOutcome>
 }
 
 /// Takes a grant that suits the job.
+#[tactic(auto, using(crate::proofs::Taking::expects_grant))]
 pub(crate) fn take_grant<L: Link>(
     alloc: Global,
     job: &ProverJob<'_>,
@@ -224,6 +225,7 @@ fn accepted_in(frame: Frame) -> Result<(), ProverOutcome>
 }
 
 /// Takes the verdict: that every check holds, or that one does not.
+#[tactic(auto, using(crate::proofs::Taking::expects_verdict))]
 fn take_verdict<L: Link>(
     alloc: Global,
     core: &ProverCore<'_>,
