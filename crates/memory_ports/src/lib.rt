@@ -3,7 +3,8 @@
 //!
 //! `memory_shelf`, `memory_sink`, `memory_door` and `scripted_link` have the objects of those names, and `plan` the plans.
 //! `memory_disk` has a disk that a crash may tear (`epoch` says what it may leave), `quiet_disk` the same with nothing told,
-//! `sure_disk` one that never fails and `closed_disk` one that always does; `file_bytes` reads and writes what they hold.
+//! `sure_disk` one that never fails and `closed_disk` one that always does; `file_bytes` reads and writes what they hold. `together` has
+//! a gate that holds sessions until they are together.
 //!
 //! A sink whose second call fails, as a test makes it:
 //!
@@ -21,6 +22,7 @@ mod plan;
 mod quiet_disk;
 mod scripted_link;
 mod sure_disk;
+mod together;
 
 pub use closed_disk::ClosedDisk;
 pub use epoch::Leftover;
@@ -32,3 +34,4 @@ pub use plan::{FailAt, FaultPlan, NoFault, StopAt};
 pub use quiet_disk::QuietDisk;
 pub use scripted_link::ScriptedLink;
 pub use sure_disk::SureDisk;
+pub use together::Together;
