@@ -1,20 +1,23 @@
 // Journals over disks in memory.
-use lease_journal::{Journal, JournalFault, JournalKind, StartFault, blank, ceiling_slots};
-use memory_ports::{FailAt, Leftover, MemoryDisk, StopAt};
+ghost use Rattle.std.specs.Prelude.{◌≡◌, false};
+
+use crate::disks::{ID, STOPS, failing, new_journal, write_over};
+use lease_journal::{Journal, JournalFault, JournalKind, StartFault, ceiling_slots};
+use memory_ports::{FaultPlan, MemoryDisk, StopAt};
 use std::alloc::Global;
 use std::test::Fail;
 
-const ID: [u8; 32] = [7; 32];
-
-/// A new journal of ceilings up to 100.
-fn new_journal(alloc: Global) -> Result<Vec<u8>, Fail> {
-    let slots = ceiling_slots(100).min(7);
-    Ok(blank(alloc, JournalKind::Ceilings, &ID, 100, slots)?)
+/// A disk with a new journal of ceilings up to 100.
+fn new_disk<P: FaultPlan + Drop>(alloc: Global, plan: P) -> Result<MemoryDisk<P>, Fail>
+    requires { P.forgiving ≡ false }
+{
+    let bytes = new_journal(alloc, JournalKind::Ceilings, 100, 7)?;
+    Ok(MemoryDisk::new(alloc, bytes, 0, 20, plan)?)
 }
 
 /// What a start says of these bytes: the last ceiling, or the fault.
 fn started(alloc: Global, bytes: Vec<u8>) -> Result<Result<u64, StartFault>, Fail> {
-    let disk = MemoryDisk::new(alloc, bytes, 288, 20, FailAt::new(Vec::new(alloc)))?;
+    let disk = MemoryDisk::new(alloc, bytes, 288, 20, failing(alloc, &[])?)?;
     Ok(
         match Journal::start(disk, JournalKind::Ceilings, &ID, 100) {
             Ok(journal) => Ok(journal.last().0),
@@ -25,8 +28,7 @@ fn started(alloc: Global, bytes: Vec<u8>) -> Result<Result<u64, StartFault>, Fai
 
 /// The disk after a put of a ceiling of 16 in whose call of this number, from 1, the run stopped.
 fn stopped(alloc: Global, call: u64) -> Result<MemoryDisk<StopAt>, Fail> {
-    let plan = StopAt::new(call.saturating_add(3));
-    let disk = MemoryDisk::new(alloc, new_journal(alloc)?, 288, 20, plan)?;
+    let disk = new_disk(alloc, StopAt::new(call.saturating_add(3)))?;
     let Ok(mut journal) = Journal::start(disk, JournalKind::Ceilings, &ID, 100) else {
         return Err(Fail::new("a new journal is not opened"));
     };
@@ -42,25 +44,14 @@ fn stopped(alloc: Global, call: u64) -> Result<MemoryDisk<StopAt>, Fail> {
 #[test]
 fn a_stop_leaves_the_old_ceiling_or_the_new(rt: HostRuntime) -> Result<(), Fail> {
     let alloc: Global = rt.alloc();
-    let rows = [
-        (1, Leftover::Old, 0),
-        (1, Leftover::New, 0),
-        (1, Leftover::Filled(0x5A), 0),
-        (2, Leftover::Old, 0),
-        (2, Leftover::New, 0),
-        (2, Leftover::Filled(0x5A), 0),
-        (3, Leftover::Old, 0),
-        (3, Leftover::New, 0),
-        (3, Leftover::Filled(0x5A), 16),
-        (4, Leftover::Old, 0),
-        (4, Leftover::New, 16),
-        (4, Leftover::Filled(0), 0),
-    ];
-    for (call, leftover, ceiling) in rows {
+    for (call, leftovers) in STOPS {
         let disk = stopped(alloc, call)?;
         assert!(rt; disk.pending() == 1);
-        let image = disk.image(alloc, &[leftover])?;
-        assert!(rt; started(alloc, image)? == Ok(ceiling));
+        for (leftover, is_written) in leftovers {
+            let image = disk.image(alloc, &[leftover])?;
+            let ceiling = if is_written { 16 } else { 0 };
+            assert!(rt; started(alloc, image)? == Ok(ceiling));
+        }
     }
     Ok(())
 }
@@ -68,9 +59,9 @@ fn a_stop_leaves_the_old_ceiling_or_the_new(rt: HostRuntime) -> Result<(), Fail>
 #[test]
 fn a_put_writes_its_slot(rt: HostRuntime) -> Result<(), Fail> {
     let alloc: Global = rt.alloc();
-    let bytes = new_journal(alloc)?;
-    assert!(rt; bytes.len() == 288);
-    let disk = MemoryDisk::new(alloc, bytes, 288, 20, FailAt::new(Vec::new(alloc)))?;
+    assert!(rt; ceiling_slots(100) == 7);
+    let disk = new_disk(alloc, failing(alloc, &[])?)?;
+    assert!(rt; disk.bytes().len() == 288);
     let Ok(mut journal) = Journal::start(disk, JournalKind::Ceilings, &ID, 100) else {
         return Err(Fail::new("a new journal is not opened"));
     };
@@ -152,13 +143,9 @@ const DAMAGED: &[Damage] = &[
 fn the_first_damage_is_told(rt: HostRuntime) -> Result<(), Fail> {
     let alloc: Global = rt.alloc();
     for (edits, length, wanted) in DAMAGED {
-        let mut bytes = new_journal(alloc)?;
+        let mut bytes = new_journal(alloc, JournalKind::Ceilings, 100, 7)?;
         bytes.resize(*length, 0)?;
-        for (place, byte) in *edits {
-            if let Some(changed) = bytes.get_mut(*place) {
-                *changed = *byte;
-            }
-        }
+        write_over(&mut bytes, edits);
         assert!(rt; started(alloc, bytes)? == *wanted);
     }
     Ok(())

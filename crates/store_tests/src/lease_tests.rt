@@ -7,10 +7,11 @@ ghost use Rattle.lease_journal.specs.Causes.{SaysSlots};
 ghost use Rattle.lease_store.specs.Desks.{Begins};
 ghost use Rattle.lease_store.specs.Leases.{IsClosed, IsPassAt};
 
-use lease_journal::{JournalKind, StartFault, blank, blank_says_nothing};
+use crate::disks::{ID, STOPS, failing, new_journal, quiet_disk, sure_disk, telling_disk};
+use lease_journal::{JournalKind, StartFault};
 use lease_store::{LeaseFault, LeaseName, LeaseParts, LeaseStore, StoreFault, TryFault};
 use lease_words::Pass;
-use memory_ports::{FailAt, FaultPlan, Leftover, MemoryDisk, QuietDisk, StopAt, SureDisk};
+use memory_ports::{FaultPlan, MemoryDisk, StopAt};
 use std::alloc::{AllocError, Global};
 use std::marker::Brand;
 use std::sync::Wait;
@@ -18,8 +19,6 @@ use std::test::Fail;
 use std::thread::{Threads, join};
 use zk_model::Span;
 use zk_port::{Disk, Failed};
-
-const ID: [u8; 32] = [7; 32];
 
 /// A call of a store.
 #[derive(Clone, Copy)]
@@ -91,16 +90,6 @@ fn answers_of<N: LeaseName, B: Disk + Drop, R: Wait>(
     Ok((answers, store.close(passes)))
 }
 
-/// A new journal of ceilings up to 100.
-fn new_journal(alloc: Global) -> Result<Vec<u8>, Fail> {
-    Ok(blank(alloc, JournalKind::Ceilings, &ID, 100, 7)?)
-}
-
-/// A plan by which the calls of these numbers fail.
-fn failing(alloc: Global, numbers: &[u64]) -> Result<FailAt, Fail> {
-    Ok(FailAt::new(numbers.to_vec(alloc)?))
-}
-
 /// A store that starts on this disk.
 fn started<B: Disk + Drop>(
     alloc: Global,
@@ -161,11 +150,22 @@ fn played<P: FaultPlan + Drop, R: Wait>(
 ) -> Result<(Vec<Answer>, MemoryDisk<P>), Fail>
     requires { P.forgiving ≡ false }
 {
-    let disk = QuietDisk {
-        disk: MemoryDisk::new(alloc, bytes, 0, 60, plan)?,
-    };
+    let disk = quiet_disk(alloc, bytes, plan)?;
     let (answers, disk) = played_on(rt, alloc, disk, calls)?;
     Ok((answers, disk.disk))
+}
+
+/// The same over a new journal.
+fn played_anew<P: FaultPlan + Drop, R: Wait>(
+    rt: &R,
+    alloc: Global,
+    plan: P,
+    calls: &[Call],
+) -> Result<(Vec<Answer>, MemoryDisk<P>), Fail>
+    requires { P.forgiving ≡ false }
+{
+    let bytes = new_journal(alloc, JournalKind::Ceilings, 100, 7)?;
+    played(rt, alloc, bytes, plan, calls)
 }
 
 #[test]
@@ -189,13 +189,7 @@ fn leases_and_tries_are_answered(rt: HostRuntime) -> Result<(), Fail> {
         count: 1,
         total: 100,
     };
-    let (answers, _disk) = played(
-        &rt,
-        alloc,
-        new_journal(alloc)?,
-        failing(alloc, &[])?,
-        &calls,
-    )?;
+    let (answers, _disk) = played_anew(&rt, alloc, failing(alloc, &[])?, &calls)?;
     assert!(rt;
         answers.as_slice()
             == [
@@ -217,8 +211,7 @@ fn a_disk_that_fails_breaks_the_store(rt: HostRuntime) -> Result<(), Fail> {
     let calls = [Call::Lease(3), Call::Lease(1), Call::Try(1)];
     // A start on a new journal makes three calls, and a put four.
     for call in [4, 5, 6, 7] {
-        let plan = failing(alloc, &[call])?;
-        let (answers, disk) = played(&rt, alloc, new_journal(alloc)?, plan, &calls)?;
+        let (answers, disk) = played_anew(&rt, alloc, failing(alloc, &[call])?, &calls)?;
         assert!(rt;
             answers.as_slice()
                 == [
@@ -238,7 +231,7 @@ fn a_close_makes_no_call_of_the_disk(rt: HostRuntime) -> Result<(), Fail> {
     let alloc: Global = rt.alloc();
     // After the three calls of the start and the four of the put the next one fails.
     let plan = failing(alloc, &[8])?;
-    let (answers, mut disk) = played(&rt, alloc, new_journal(alloc)?, plan, &[Call::Lease(3)])?;
+    let (answers, mut disk) = played_anew(&rt, alloc, plan, &[Call::Lease(3)])?;
     assert!(rt; answers.as_slice() == [leased(0, 3)].as_slice());
     assert!(rt; disk.faults() == 0);
     assert!(rt; disk.bytes().get(80..95) == Some([0; 15].as_slice()));
@@ -249,30 +242,22 @@ fn a_close_makes_no_call_of_the_disk(rt: HostRuntime) -> Result<(), Fail> {
 #[test]
 fn a_stop_leaves_the_old_ceiling_or_the_new(rt: HostRuntime) -> Result<(), Fail> {
     let alloc: Global = rt.alloc();
-    // A stop in this call, after the three of the start, what the crash leaves, and what is leased then.
-    let rows = [
-        (4, Leftover::Old, leased(0, 3)),
-        (4, Leftover::New, leased(0, 3)),
-        (4, Leftover::Filled(0x5A), leased(0, 3)),
-        (5, Leftover::Old, leased(0, 3)),
-        (5, Leftover::New, leased(0, 3)),
-        (5, Leftover::Filled(0x5A), leased(0, 3)),
-        (6, Leftover::Old, leased(0, 3)),
-        (6, Leftover::New, leased(0, 3)),
-        (6, Leftover::Filled(0x5A), leased(16, 19)),
-        (7, Leftover::Old, leased(0, 3)),
-        (7, Leftover::New, leased(16, 19)),
-        (7, Leftover::Filled(0), leased(0, 3)),
-    ];
-    for (call, leftover, wanted) in rows {
-        let plan = StopAt::new(call);
-        let bytes = new_journal(alloc)?;
-        let (answers, disk) = played(&rt, alloc, bytes, plan, &[Call::Lease(3)])?;
-        assert!(rt; answers.as_slice() == [Answer::Refused(LeaseFault::Device)].as_slice());
-        let image = disk.image(alloc, &[leftover])?;
-        let plan = failing(alloc, &[])?;
-        let (answers, _disk) = played(&rt, alloc, image, plan, &[Call::Lease(3)])?;
-        assert!(rt; answers.as_slice() == [wanted].as_slice());
+    let calls = [Call::Lease(3)];
+    for (call, leftovers) in STOPS {
+        for (leftover, is_written) in leftovers {
+            // The start makes three calls.
+            let plan = StopAt::new(call.saturating_add(3));
+            let (answers, disk) = played_anew(&rt, alloc, plan, &calls)?;
+            assert!(rt; answers.as_slice() == [Answer::Refused(LeaseFault::Device)].as_slice());
+            let image = disk.image(alloc, &[leftover])?;
+            let (answers, _disk) = played(&rt, alloc, image, failing(alloc, &[])?, &calls)?;
+            let wanted = if is_written {
+                leased(16, 19)
+            } else {
+                leased(0, 3)
+            };
+            assert!(rt; answers.as_slice() == [wanted].as_slice());
+        }
     }
     Ok(())
 }
@@ -280,32 +265,20 @@ fn a_stop_leaves_the_old_ceiling_or_the_new(rt: HostRuntime) -> Result<(), Fail>
 #[test]
 fn the_next_start_leases_above_the_ceiling(rt: HostRuntime) -> Result<(), Fail> {
     let alloc: Global = rt.alloc();
-    let plan = failing(alloc, &[])?;
-    let (answers, disk) = played(&rt, alloc, new_journal(alloc)?, plan, &[Call::Lease(3)])?;
+    let calls = [Call::Lease(3)];
+    let (answers, disk) = played_anew(&rt, alloc, failing(alloc, &[])?, &calls)?;
     assert!(rt; answers.as_slice() == [leased(0, 3)].as_slice());
     let image = disk.image(alloc, &[])?;
-    let plan = failing(alloc, &[])?;
-    let (answers, _disk) = played(&rt, alloc, image, plan, &[Call::Lease(3)])?;
+    let (answers, _disk) = played(&rt, alloc, image, failing(alloc, &[])?, &calls)?;
     assert!(rt; answers.as_slice() == [leased(16, 19)].as_slice());
     Ok(())
-}
-
-/// A disk in memory that tells, with a new journal.
-fn new_disk(alloc: Global) -> Result<MemoryDisk<FailAt>, Fail>
-    ensures room { IfOk result (λ disk. (⟦<MemoryDisk<FailAt> as Disk>⟧.state disk).room ≡ None) }
-    ensures tidy { IfOk result (λ disk. (bytes : List ℕ)
-        → (⟦<MemoryDisk<FailAt> as Disk>⟧.state disk).content ≡ Some bytes
-        → IsTidy 64 (slots_at bytes) bytes) }
-{
-    blank_says_nothing();
-    let bytes = blank(alloc, JournalKind::Ceilings, &ID, 100, 7)?;
-    Ok(MemoryDisk::new(alloc, bytes, 288, 60, failing(alloc, &[])?)?)
 }
 
 #[test]
 fn a_store_starts_where_the_last_one_closed(rt: HostRuntime) -> Result<(), Fail> {
     let alloc: Global = rt.alloc();
-    let (answers, disk) = played_on(&rt, alloc, new_disk(alloc)?, &[Call::Lease(3)])?;
+    let disk = telling_disk(alloc, JournalKind::Ceilings, 100, 7)?;
+    let (answers, disk) = played_on(&rt, alloc, disk, &[Call::Lease(3)])?;
     assert!(rt; answers.as_slice() == [leased(0, 3)].as_slice());
     // The ceiling is 16, and its second number is 0.
     assert!(rt; disk.bytes().get(64..72) == Some([16, 0, 0, 0, 0, 0, 0, 0].as_slice()));
@@ -314,7 +287,7 @@ fn a_store_starts_where_the_last_one_closed(rt: HostRuntime) -> Result<(), Fail>
     assert!(rt; answers.as_slice() == [leased(16, 19), leased(19, 39)].as_slice());
     // After a crash the same as after a close.
     let image = disk.image(alloc, &[])?;
-    let disk = MemoryDisk::new(alloc, image, 288, 60, failing(alloc, &[])?)?;
+    let disk = MemoryDisk::new(alloc, image, 0, 60, failing(alloc, &[])?)?;
     let (answers, _disk) = played_on(&rt, alloc, disk, &[Call::Lease(1)])?;
     assert!(rt; answers.as_slice() == [leased(48, 49)].as_slice());
     Ok(())
@@ -323,15 +296,8 @@ fn a_store_starts_where_the_last_one_closed(rt: HostRuntime) -> Result<(), Fail>
 #[test]
 fn a_journal_of_another_kind_is_refused(rt: HostRuntime) -> Result<(), Fail> {
     let alloc: Global = rt.alloc();
-    let disk = QuietDisk {
-        disk: MemoryDisk::new(
-            alloc,
-            blank(alloc, JournalKind::Claims, &ID, 100, 7)?,
-            0,
-            60,
-            failing(alloc, &[])?,
-        )?,
-    };
+    let bytes = new_journal(alloc, JournalKind::Claims, 100, 7)?;
+    let disk = quiet_disk(alloc, bytes, failing(alloc, &[])?)?;
     match LeaseParts::start(alloc, disk, &ID, 100, 1) {
         Ok(_) => Err(Fail::new("claims are read as ceilings")),
         Err((fault, _disk)) => {
@@ -438,22 +404,11 @@ fn leased_by_two<B: Disk + Drop + Send, R: Threads + Wait + Sync>(
     Ok(lease_by_two::<Brand, B, _>(rt, alloc, parts, first, second)?)
 }
 
-/// A disk that never fails, with a new journal of 4,000 units.
-fn sure_disk(alloc: Global) -> Result<SureDisk, Fail>
-    ensures room { IfOk result (λ disk. (size : ℕ) → (⟦<SureDisk as Disk>⟧.state disk).room ≡ Some size
-        → (slots : ℕ) → SaysSlots (⟦<SureDisk as Disk>⟧.state disk).content slots → 64 + 32 * slots ≤ size) }
-    ensures tidy { IfOk result (λ disk. (bytes : List ℕ)
-        → (⟦<SureDisk as Disk>⟧.state disk).content ≡ Some bytes → IsTidy 64 (slots_at bytes) bytes) }
-{
-    blank_says_nothing();
-    let bytes = blank(alloc, JournalKind::Ceilings, &ID, 4000, 250)?;
-    Ok(SureDisk::new(bytes, 64 + 32 * 250)?)
-}
-
 #[test]
 fn what_two_threads_lease_tiles(rt: HostRuntime) -> Result<(), Fail> {
     let alloc: Global = rt.alloc();
-    let mut spans = leased_by_two(&rt, alloc, sure_disk(alloc)?)?;
+    let disk = sure_disk(alloc, JournalKind::Ceilings, 4000, 250)?;
+    let mut spans = leased_by_two(&rt, alloc, disk)?;
     assert!(rt; spans.len() == 1000);
     spans.sort_by_key(|span| span.start)?;
     let mut at = 0;

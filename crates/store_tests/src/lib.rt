@@ -2,11 +2,13 @@
 //! starts after them, damaged journals, and threads that lease and serve at once.
 //!
 //! `journal_tests` has those of `lease_journal`, `lease_tests` those of `lease_store`, `claim_tests` those of `claim_store` and
-//! `pool_tests` those of `session_pool`.
+//! `pool_tests` those of `session_pool`. `disks` has the journals and disks that they start on, and what a crash may leave of them.
 #![tactic(auto)]
 
 #[cfg(test)]
 mod claim_tests;
+#[cfg(test)]
+mod disks;
 #[cfg(test)]
 mod journal_tests;
 #[cfg(test)]

@@ -6,10 +6,11 @@ ghost use Rattle.lease_journal.specs.Causes.{SaysSlots};
 ghost use Rattle.lease_store.specs.Desks.{Begins};
 ghost use Rattle.lease_store.specs.Leases.{IsPassAt};
 
-use lease_journal::{JournalKind, blank, blank_says_nothing};
+use crate::disks::{ID, failing, new_journal, quiet_disk, sure_disk};
+use lease_journal::JournalKind;
 use lease_store::{Grantor, LeaseFault, LeaseParts};
 use lease_words::Pass;
-use memory_ports::{FailAt, MemoryDisk, MemoryDoor, NoFault, QuietDisk, ScriptedLink, SureDisk};
+use memory_ports::{MemoryDoor, NoFault, ScriptedLink, SureDisk, Together};
 use session_pool::{Served, Session, serve_all};
 use std::alloc::{AllocError, Global};
 use std::sync::{Barrier, Wait};
@@ -17,8 +18,6 @@ use std::test::Fail;
 use std::thread::Threads;
 use zk_model::Span;
 use zk_port::{Disk, Gate, Link, Phase, QuietGate};
-
-const ID: [u8; 32] = [7; 32];
 
 /// Units of the store, and of a session.
 const TOTAL: u64 = 64;
@@ -38,7 +37,8 @@ struct Note {
 impl<L: Link + Drop> Session<L> for Asks {
     ghost use Rattle.std.specs.Prelude.{◌≡◌};
     ghost use Rattle.session_pool.specs.Notes.{granted_by};
-    ghost use Rattle.store_tests.specs.declared.pool_tests.TheConstants.{ID, TOTAL, UNITS};
+    ghost use Rattle.store_tests.specs.declared.disks.TheConstants.{ID};
+    ghost use Rattle.store_tests.specs.declared.pool_tests.TheConstants.{TOTAL, UNITS};
 
     type Note = Note;
 
@@ -87,26 +87,6 @@ impl<L: Link + Drop> Session<L> for Asks {
 }
 
 type Peers = MemoryDoor<ScriptedLink<NoFault>, NoFault>;
-
-/// Holds each granted session until as many are granted as the barrier has places.
-struct Together<'a, R: Wait> {
-    rt: &'a R,
-    barrier: &'a Barrier,
-}
-
-impl<'a, R: Wait> Drop for Together<'a, R> {
-    fn drop(self) {
-        let Together { rt: _, barrier: _ } = self;
-    }
-}
-
-impl<'a, R: Wait> Gate for Together<'a, R> {
-    fn phase(&self, phase: Phase) {
-        if let Phase::Granted { .. } = phase {
-            self.barrier.wait(self.rt);
-        }
-    }
-}
 
 /// A store on this disk with so many passes.
 fn started<B: Disk + Drop>(
@@ -165,19 +145,7 @@ fn run_on<B: Disk + Drop + Send, G: Gate + Sync, R: Threads + Wait + Sync>(
     Ok(serve_all(rt, alloc, &Asks, parts, passes, door, sessions, gate))
 }
 
-/// A disk that never fails, with a new journal.
-fn sure_disk(alloc: Global) -> Result<SureDisk, Fail>
-    ensures room { IfOk result (λ disk. (size : ℕ) → (⟦<SureDisk as Disk>⟧.state disk).room ≡ Some size
-        → (slots : ℕ) → SaysSlots (⟦<SureDisk as Disk>⟧.state disk).content slots → 64 + 32 * slots ≤ size) }
-    ensures tidy { IfOk result (λ disk. (bytes : List ℕ)
-        → (⟦<SureDisk as Disk>⟧.state disk).content ≡ Some bytes → IsTidy 64 (slots_at bytes) bytes) }
-{
-    blank_says_nothing();
-    let bytes = blank(alloc, JournalKind::Ceilings, &ID, 64, 4)?;
-    Ok(SureDisk::new(bytes, 64 + 32 * 4)?)
-}
-
-/// The same over such a disk.
+/// The same over a disk that never fails.
 fn run<G: Gate + Sync, R: Threads + Wait + Sync>(
     rt: &R,
     alloc: Global,
@@ -188,7 +156,8 @@ fn run<G: Gate + Sync, R: Threads + Wait + Sync>(
 ) -> Result<Served<Note, Peers, SureDisk>, Fail>
     requires { (1 ≤ passes) × (passes ≤ 1024) }
 {
-    run_on(rt, alloc, sure_disk(alloc)?, passes, sessions, bytes, gate)
+    let disk = sure_disk(alloc, JournalKind::Ceilings, TOTAL, 4)?;
+    run_on(rt, alloc, disk, passes, sessions, bytes, gate)
 }
 
 /// The starts of the spans that were granted, in order, and how many sessions were refused.
@@ -209,10 +178,7 @@ fn sessions_run_at_once(rt: HostRuntime) -> Result<(), Fail> {
     let alloc: Global = rt.alloc();
     for passes in [2u32, 4] {
         let barrier = Barrier::new(passes as usize);
-        let gate = Together {
-            rt: &rt,
-            barrier: &barrier,
-        };
+        let gate = Together::new(&rt, &barrier);
         let peers: &[u8] = if passes == 2 { b"hh" } else { b"hhhh" };
         let served = run(&rt, alloc, passes, passes, peers, &gate)?;
         assert!(rt; !served.door_failed && !served.memory_failed);
@@ -222,32 +188,26 @@ fn sessions_run_at_once(rt: HostRuntime) -> Result<(), Fail> {
     Ok(())
 }
 
-#[test]
-fn all_that_the_door_had_are_served(rt: HostRuntime) -> Result<(), Fail> {
-    let alloc: Global = rt.alloc();
-    let served = run(&rt, alloc, 3, 9, b"hxhhxhhh", &QuietGate)?;
-    assert!(rt; served.notes.len() == 8 && !served.door_failed && !served.memory_failed);
-    let (starts, refused) = starts_of(alloc, &served.notes)?;
-    assert!(rt; starts.as_slice() == [0, 16, 32, 48].as_slice() && refused == 2);
-    Ok(())
-}
+/// How many passes there are and how many sessions are wanted, the bytes of the peers, how many are served, where those that are
+/// granted units begin, and how many are refused.
+type Service = (u32, u32, &'static [u8], usize, &'static [u64], usize);
+
+/// All that the door had, as many as are wanted, and thousands.
+const SERVICES: &[Service] = &[
+    (3, 9, b"hxhhxhhh", 8, &[0, 16, 32, 48], 2),
+    (1, 3, b"xhxxx", 3, &[0], 0),
+    (1, 3000, &[b'h'; 3000], 3000, &[0, 16, 32, 48], 2996),
+    (4, 3000, &[b'h'; 3000], 3000, &[0, 16, 32, 48], 2996),
+];
 
 #[test]
-fn as_many_as_are_wanted_are_served(rt: HostRuntime) -> Result<(), Fail> {
+fn as_many_as_come_and_are_wanted_are_served(rt: HostRuntime) -> Result<(), Fail> {
     let alloc: Global = rt.alloc();
-    let served = run(&rt, alloc, 1, 3, b"xhxxx", &QuietGate)?;
-    assert!(rt; served.notes.len() == 3 && !served.door_failed && !served.memory_failed);
-    Ok(())
-}
-
-#[test]
-fn thousands_are_served(rt: HostRuntime) -> Result<(), Fail> {
-    let alloc: Global = rt.alloc();
-    for passes in [1, 4] {
-        let served = run(&rt, alloc, passes, 3000, &[b'h'; 3000], &QuietGate)?;
-        assert!(rt; served.notes.len() == 3000 && !served.door_failed && !served.memory_failed);
-        let (starts, refused) = starts_of(alloc, &served.notes)?;
-        assert!(rt; starts.as_slice() == [0, 16, 32, 48].as_slice() && refused == 2996);
+    for (passes, sessions, peers, count, granted, refused) in SERVICES {
+        let served = run(&rt, alloc, *passes, *sessions, peers, &QuietGate)?;
+        assert!(rt; served.notes.len() == *count && !served.door_failed && !served.memory_failed);
+        let (starts, others) = starts_of(alloc, &served.notes)?;
+        assert!(rt; starts.as_slice() == *granted && others == *refused);
     }
     Ok(())
 }
@@ -256,11 +216,8 @@ fn thousands_are_served(rt: HostRuntime) -> Result<(), Fail> {
 fn a_disk_that_fails_is_told(rt: HostRuntime) -> Result<(), Fail> {
     let alloc: Global = rt.alloc();
     // A start on a new journal makes three calls.
-    let plan = FailAt::new([4].to_vec(alloc)?);
-    let bytes = blank(alloc, JournalKind::Ceilings, &ID, 64, 4)?;
-    let disk = QuietDisk {
-        disk: MemoryDisk::new(alloc, bytes, 0, 60, plan)?,
-    };
+    let bytes = new_journal(alloc, JournalKind::Ceilings, TOTAL, 4)?;
+    let disk = quiet_disk(alloc, bytes, failing(alloc, &[4])?)?;
     let served = run_on(&rt, alloc, disk, 1, 3, b"hxh", &QuietGate)?;
     let mut told = Vec::new(alloc);
     for note in &served.notes {

@@ -3,7 +3,7 @@ use Rattle.zk_port.specs.Images.{Only}
 use Rattle.zk_model.specs.declared.JournalKind.TheVariants.{Claims}
 use Rattle.zk_model.specs.Journals.{IsHeaded, IsTidy, slots_at}
 use Rattle.claim_store.specs.Claims.{SaysClaims}
-use Rattle.store_tests.specs.declared.claim_tests.TheConstants.{ID}
+use Rattle.store_tests.specs.declared.disks.TheConstants.{ID}
 use Rattle.store_tests.proofs.claim_tests.claimed_on.Goals as goal
 
 pub returns-clause-tidy : goal.returns-clause-tidy

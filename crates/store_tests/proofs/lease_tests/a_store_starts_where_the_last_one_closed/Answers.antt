@@ -7,7 +7,7 @@ played_on-requires-2-clause-tidy g c = c.in_ok-answers.ensures.tidy
 
 pub played_on-requires-3-clause-tidy : goal.played_on-requires-3-clause-tidy
 played_on-requires-3-clause-tidy g c = λ bytes is.
-    let told : Some bytes ≡ Some c.in_ok-image.image.items = sym is ∙ c.in_ok-disk.ensures.content in
+    let told : Some bytes ≡ Some c.in_ok-image.image.items = sym is ∙ c.in_ok-disk-2.ensures.content in
     let same : bytes ≡ c.in_ok-image.image.items = cc in
     subst (λ b. IsTidy 64 (slots_at b) b) (sym same)
     (c.in_ok-answers-2.ensures.images c.in_ok-answers-2.disk.bytes.items refl c.in_ok-image.image.items c.in_ok-image.ensures.image)

@@ -1,4 +1,4 @@
-use Rattle.store_tests.specs.declared.lease_tests.TheConstants.{ID}
+use Rattle.store_tests.specs.declared.disks.TheConstants.{ID}
 use Rattle.store_tests.proofs.lease_tests.leased_by_two.Given as goal
 
 abbrev pub ghosts-lease_by_two : goal.ghosts-lease_by_two

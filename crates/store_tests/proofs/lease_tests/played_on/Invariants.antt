@@ -1,4 +1,4 @@
-use Rattle.store_tests.specs.declared.lease_tests.TheConstants.{ID}
+use Rattle.store_tests.specs.declared.disks.TheConstants.{ID}
 use Rattle.store_tests.proofs.lease_tests.played_on.Given as goal
 
 abbrev pub ghosts-answers_of : goal.ghosts-answers_of
