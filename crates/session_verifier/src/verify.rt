@@ -3,7 +3,6 @@ ghost use Rattle.std.specs.Prelude.{◌≡◌, ◌≤◌, None, Some, [], false,
 ghost use Rattle.zk_model.specs.declared.Side.TheVariants.{Verifier};
 ghost use Rattle.frame_link.specs.Lines.{snapshot};
 ghost use Rattle.session_core.specs.Jobs.{units_of_job};
-ghost use Rattle.session_verifier.specs.Stages.{IsCourse};
 ghost use Rattle.session_pool.specs.Notes.{granted_by};
 ghost use Rattle.session_verifier.specs.Notes.{AnswersLease, JudgesRightly, AcceptsExactly, IsShown, SendsRightly, KeepsKeys, EndsBecause, LeasesBehindHello, IsTold, CountsFaults, ReceivesFew, Completes};
 ghost use Rattle.session_verifier.specs.declared.note.VerifierOutcome.TheVariants.{Accepted};
@@ -22,37 +21,6 @@ use std::alloc::Global;
 use zk_laws::{extraction_holds, keys_fit};
 use zk_model::Side;
 use zk_port::{Gate, Link};
-
-/// The session over a line, from its first call of the link to its last.
-fn verify_over_link<L: Link, R: Grantor, G: Gate>(
-    alloc: Global,
-    job: &VerifierJob<'_>,
-    grantor: &mut R,
-    link: L,
-    gate: &G,
-) -> SessionNote<L>
-    requires open { IsTrue (L.state link).is_open }
-    requires once { R.answer grantor.old ≡ None }
-    requires total { R.total grantor.old ≤ job.now.task.file.params.total }
-    requires may { R.may grantor.old (units_of_job job.now) }
-    ensures total_kept { R.total grantor.new ≡ R.total grantor.old }
-    ensures asked { IfSome (R.answer grantor.new) (λ _. R.asked grantor.new ≡ Some (units_of_job job.now)) }
-    ensures moved { MatchOption (R.answer grantor.new) (grantor.new ≡ grantor.old)
-        (λ answer. R.moves grantor.old (units_of_job job.now) answer grantor.new) }
-    ensures course { IsCourse job.now (R.answer grantor.new) result.granted result.outcome
-        (snapshot Verifier [] (L.state link)) (snapshot Verifier result.log (L.state result.link)) }
-    ensures ended { (L.state result.link).is_open ≡ false }
-{
-    let mut line = Line::new(alloc, link, Side::Verifier);
-    let course = serve(alloc, job, grantor, gate, &mut line);
-    let (link, log) = line.end();
-    SessionNote {
-        granted: course.granted,
-        outcome: course.outcome,
-        log,
-        link,
-    }
-}
 
 /// Leads a session with a peer that may send anything: meets its hello, leases the units that the session takes, grants them,
 /// replies in kind extended to the asks for all of them, challenges, and judges (Weng, Yang, Katz and Wang, Wolverine, IEEE S&P
@@ -107,6 +75,13 @@ pub fn verify_session<L: Link, R: Grantor, G: Gate>(
     keys_fit();
     let _opened = job.statement().program().opened();
     let _total = job.file().total();
-    let note = verify_over_link(alloc, job, grantor, link, gate);
-    note
+    let mut line = Line::new(alloc, link, Side::Verifier);
+    let course = serve(alloc, job, grantor, gate, &mut line);
+    let (link, log) = line.end();
+    SessionNote {
+        granted: course.granted,
+        outcome: course.outcome,
+        log,
+        link,
+    }
 }

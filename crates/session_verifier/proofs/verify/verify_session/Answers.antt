@@ -1,9 +1,11 @@
-use Rattle.std.proofs.Common.{◌^◌, ◌≤◌, [], ap, ◌∙◌, subst, length}
+use Rattle.std.proofs.Common.{◌^◌, ◌≤◌, [], ap, sym, ◌∙◌, subst, length}
 use Rattle.zk_model.specs.Statement.{Statement, IsStatement}
 use Rattle.zk_model.specs.Files.{IsVerifierFile}
 use Rattle.zk_model.specs.Program.{Program}
 use Rattle.zk_model.specs.declared.Side.TheVariants.{Verifier}
-use Rattle.frame_link.specs.Lines.{LinkSnapshot, snapshot}
+use Rattle.frame_link.specs.Lines.{LineState, LinkSnapshot, snapshot, snapshot_of}
+use Rattle.session_verifier.specs.Stages.{IsCourse}
+use Rattle.session_verifier.proofs.StageLemmas.{line_begins, ends_for}
 use Rattle.session_verifier.proofs.CourseLemmas.{IsKnown, answers_lease, granted_is, judges_rightly, receives_few, counts_faults, leases_behind, ends_because, is_shown}
 use Rattle.session_verifier.proofs.HonestLemmas.{AreLaws, completes}
 use Rattle.session_verifier.proofs.ServedLemmas.{sends_rightly, accepts_exactly}
@@ -13,7 +15,7 @@ use Rattle.session_verifier.proofs.verify.verify_session.Given.{Over}
 use Rattle.session_verifier.proofs.verify.verify_session.Goals as goal
 
 -- what is known of the job
-known_of : (g : Over) (c : goal.After-verify_over_link-note g) → IsKnown c.args.job.now
+known_of : (g : Over) (c : goal.After-end-link g) → IsKnown c.args.job.now
 known_of g c = record {
   stated = subst IsStatement c.statement.ensures.statement c.program.ensures.stated;
   file = subst IsVerifierFile c.file.ensures.file c.total-total.ensures.file;
@@ -23,53 +25,64 @@ known_of g c = record {
 }
 
 -- the moments before and after it
-abbrev first_of : (g : Over) (c : goal.After-verify_over_link-note g) → LinkSnapshot
+abbrev first_of : (g : Over) (c : goal.After-end-link g) → LinkSnapshot
 first_of g c = snapshot Verifier [] (g.L.Link.state c.args.link)
 
-abbrev now_of : (g : Over) (c : goal.After-verify_over_link-note g) → LinkSnapshot
-now_of g c = snapshot Verifier c.verify_over_link-note.result.log (g.L.Link.state c.verify_over_link-note.result.link)
+abbrev now_of : (g : Over) (c : goal.After-end-link g) → LinkSnapshot
+now_of g c = snapshot Verifier c.end-link.result.1 (g.L.Link.state c.end-link.result.0)
+
+-- it is a course of the job
+course_of : (g : Over) (c : goal.After-end-link g) → IsCourse c.args.job.now (g.R.Grantor.answer c.serve-course.new.grantor) c.serve-course.result.granted c.serve-course.result.outcome (first_of g c) (now_of g c)
+course_of g c =
+    let first : LineState = c.new-line.result in
+    let is = c.new-line.ensures in
+    let begun = line_begins c.args.job.now first (ap (λ (l : LineState). l.log) is) (ap (λ (l : LineState). l.reading) is)
+    (ap (λ (l : LineState). l.side) is) (ap (λ (l : LineState). l.is_open) is ∙ c.requires.open) in
+    let ended = ends_for c.serve-course.new.line c.end-link.result.1 (g.L.Link.state c.end-link.result.0) c.serve-course.ensures.usable.side c.end-link.ensures.passed in
+    subst (λ (q : LinkSnapshot × LinkSnapshot). IsCourse c.args.job.now (g.R.Grantor.answer c.serve-course.new.grantor) c.serve-course.result.granted c.serve-course.result.outcome q.0 q.1)
+    (λ i. (ap snapshot_of is i, sym ended i)) (c.serve-course.ensures.course first begun)
 
 pub returns-clause-granted : goal.returns-clause-granted
-returns-clause-granted g c = granted_is c.args.job.now (g.R.Grantor.answer c.verify_over_link-note.new.grantor) c.verify_over_link-note.result.granted c.verify_over_link-note.result.outcome (first_of g c) (now_of g c) c.verify_over_link-note.ensures.course
+returns-clause-granted g c = granted_is c.args.job.now (g.R.Grantor.answer c.serve-course.new.grantor) c.serve-course.result.granted c.serve-course.result.outcome (first_of g c) (now_of g c) (course_of g c)
 
 pub returns-clause-refused : goal.returns-clause-refused
-returns-clause-refused g c = answers_lease c.args.job.now (g.R.Grantor.answer c.verify_over_link-note.new.grantor) c.verify_over_link-note.result.granted c.verify_over_link-note.result.outcome (first_of g c) (now_of g c) c.verify_over_link-note.ensures.course
+returns-clause-refused g c = answers_lease c.args.job.now (g.R.Grantor.answer c.serve-course.new.grantor) c.serve-course.result.granted c.serve-course.result.outcome (first_of g c) (now_of g c) (course_of g c)
 
 pub returns-clause-verdict : goal.returns-clause-verdict
-returns-clause-verdict g c = judges_rightly c.args.job.now (g.R.Grantor.answer c.verify_over_link-note.new.grantor) c.verify_over_link-note.result.granted c.verify_over_link-note.result.outcome (first_of g c) (now_of g c) (known_of g c) c.verify_over_link-note.ensures.course
+returns-clause-verdict g c = judges_rightly c.args.job.now (g.R.Grantor.answer c.serve-course.new.grantor) c.serve-course.result.granted c.serve-course.result.outcome (first_of g c) (now_of g c) (known_of g c) (course_of g c)
 
 pub returns-clause-accepted : goal.returns-clause-accepted
-returns-clause-accepted g c = accepts_exactly c.args.job.now (g.R.Grantor.answer c.verify_over_link-note.new.grantor) c.verify_over_link-note.result.granted c.verify_over_link-note.result.outcome (first_of g c) (now_of g c)
-    c.replies_are_in_range.ensures c.served_session_exists.ensures c.cut_is_not_accepted.ensures c.verdict_is_said.ensures (known_of g c) c.verify_over_link-note.ensures.course
+returns-clause-accepted g c = accepts_exactly c.args.job.now (g.R.Grantor.answer c.serve-course.new.grantor) c.serve-course.result.granted c.serve-course.result.outcome (first_of g c) (now_of g c)
+    c.replies_are_in_range.ensures c.served_session_exists.ensures c.cut_is_not_accepted.ensures c.verdict_is_said.ensures (known_of g c) (course_of g c)
 
 pub returns-clause-shown : goal.returns-clause-shown
-returns-clause-shown g c = is_shown c.args.job.now (g.R.Grantor.answer c.verify_over_link-note.new.grantor) c.verify_over_link-note.result.granted c.verify_over_link-note.result.outcome (first_of g c) (now_of g c)
-    (known_of g c) c.extraction_holds.ensures c.verify_over_link-note.ensures.course
+returns-clause-shown g c = is_shown c.args.job.now (g.R.Grantor.answer c.serve-course.new.grantor) c.serve-course.result.granted c.serve-course.result.outcome (first_of g c) (now_of g c)
+    (known_of g c) c.extraction_holds.ensures (course_of g c)
 
 pub returns-clause-sends : goal.returns-clause-sends
-returns-clause-sends g c = sends_rightly c.args.job.now (g.R.Grantor.answer c.verify_over_link-note.new.grantor) c.verify_over_link-note.result.granted c.verify_over_link-note.result.outcome (first_of g c) (now_of g c)
-    c.replies_are_in_range.ensures c.served_session_exists.ensures (known_of g c) c.verify_over_link-note.ensures.course
+returns-clause-sends g c = sends_rightly c.args.job.now (g.R.Grantor.answer c.serve-course.new.grantor) c.serve-course.result.granted c.serve-course.result.outcome (first_of g c) (now_of g c)
+    c.replies_are_in_range.ensures c.served_session_exists.ensures (known_of g c) (course_of g c)
 
 pub returns-clause-related : goal.returns-clause-related
-returns-clause-related g c = keeps_keys c.args.job.now c.verify_over_link-note.result.granted c.verify_over_link-note.result.outcome c.verify_over_link-note.result.log c.keys_fit.ensures (known_of g c)
-    (sends_rightly c.args.job.now (g.R.Grantor.answer c.verify_over_link-note.new.grantor) c.verify_over_link-note.result.granted c.verify_over_link-note.result.outcome (first_of g c) (now_of g c)
-    c.replies_are_in_range.ensures c.served_session_exists.ensures (known_of g c) c.verify_over_link-note.ensures.course)
+returns-clause-related g c = keeps_keys c.args.job.now c.serve-course.result.granted c.serve-course.result.outcome c.end-link.result.1 c.keys_fit.ensures (known_of g c)
+    (sends_rightly c.args.job.now (g.R.Grantor.answer c.serve-course.new.grantor) c.serve-course.result.granted c.serve-course.result.outcome (first_of g c) (now_of g c)
+    c.replies_are_in_range.ensures c.served_session_exists.ensures (known_of g c) (course_of g c))
 
 pub returns-clause-cause : goal.returns-clause-cause
-returns-clause-cause g c = ends_because c.args.job.now (g.R.Grantor.answer c.verify_over_link-note.new.grantor) c.verify_over_link-note.result.granted c.verify_over_link-note.result.outcome (first_of g c) (now_of g c) (known_of g c) c.verify_over_link-note.ensures.course
+returns-clause-cause g c = ends_because c.args.job.now (g.R.Grantor.answer c.serve-course.new.grantor) c.serve-course.result.granted c.serve-course.result.outcome (first_of g c) (now_of g c) (known_of g c) (course_of g c)
 
 pub returns-clause-leased : goal.returns-clause-leased
-returns-clause-leased g c = leases_behind c.args.job.now (g.R.Grantor.answer c.verify_over_link-note.new.grantor) c.verify_over_link-note.result.granted c.verify_over_link-note.result.outcome (first_of g c) (now_of g c) c.verify_over_link-note.ensures.course
+returns-clause-leased g c = leases_behind c.args.job.now (g.R.Grantor.answer c.serve-course.new.grantor) c.serve-course.result.granted c.serve-course.result.outcome (first_of g c) (now_of g c) (course_of g c)
 
 pub returns-clause-told : goal.returns-clause-told
-returns-clause-told g c = is_told c.args.job.now (g.R.Grantor.answer c.verify_over_link-note.new.grantor) c.verify_over_link-note.result.granted c.verify_over_link-note.result.outcome (first_of g c) (now_of g c)
-    c.replies_are_in_range.ensures c.served_session_exists.ensures (known_of g c) c.verify_over_link-note.ensures.course
+returns-clause-told g c = is_told c.args.job.now (g.R.Grantor.answer c.serve-course.new.grantor) c.serve-course.result.granted c.serve-course.result.outcome (first_of g c) (now_of g c)
+    c.replies_are_in_range.ensures c.served_session_exists.ensures (known_of g c) (course_of g c)
 
 pub returns-clause-receives : goal.returns-clause-receives
-returns-clause-receives g c = receives_few c.args.job.now (g.R.Grantor.answer c.verify_over_link-note.new.grantor) c.verify_over_link-note.result.granted c.verify_over_link-note.result.outcome (first_of g c) (now_of g c) c.verify_over_link-note.ensures.course
+returns-clause-receives g c = receives_few c.args.job.now (g.R.Grantor.answer c.serve-course.new.grantor) c.serve-course.result.granted c.serve-course.result.outcome (first_of g c) (now_of g c) (course_of g c)
 
 pub returns-clause-faults : goal.returns-clause-faults
-returns-clause-faults g c = counts_faults c.args.job.now (g.R.Grantor.answer c.verify_over_link-note.new.grantor) c.verify_over_link-note.result.granted c.verify_over_link-note.result.outcome (first_of g c) (now_of g c) c.verify_over_link-note.ensures.course
+returns-clause-faults g c = counts_faults c.args.job.now (g.R.Grantor.answer c.serve-course.new.grantor) c.serve-course.result.granted c.serve-course.result.outcome (first_of g c) (now_of g c) (course_of g c)
 
 pub returns-clause-complete : goal.returns-clause-complete
 returns-clause-complete g c =
@@ -81,4 +94,4 @@ returns-clause-complete g c =
       ends = c.honest_turn_ends.ensures;
       accepted = c.honest_whole_is_accepted.ensures;
     } in
-    completes c.args.job.now (g.R.Grantor.answer c.verify_over_link-note.new.grantor) c.verify_over_link-note.result.granted c.verify_over_link-note.result.outcome (first_of g c) (now_of g c) laws (known_of g c) c.verify_over_link-note.ensures.course
+    completes c.args.job.now (g.R.Grantor.answer c.serve-course.new.grantor) c.serve-course.result.granted c.serve-course.result.outcome (first_of g c) (now_of g c) laws (known_of g c) (course_of g c)
