@@ -11,7 +11,7 @@ use Rattle.zk_model.specs.Field.{IsElement}
 use Rattle.zk_model.specs.Bytes.{LeftRight, AreBytes, element_bytes}
 use Rattle.zk_model.specs.Mac.{Pair}
 use Rattle.zk_model.specs.Files.{Transfer, AreParams, AreTransfers, IsCodeSeed, IsProverUnit, IsVerifierUnit, IsProverFile, IsVerifierFile, dealt_per_unit}
-use Rattle.zk_model.specs.FileBytes.{kind_code, params_bytes, header_bytes, pair_bytes, transfer_bytes, pads_bytes, prover_unit_bytes, verifier_unit_bytes, prover_file_bytes, verifier_file_bytes, sealed}
+use Rattle.zk_model.specs.FileBytes.{kind_code, params_bytes, header_bytes, prover_unit_bytes, verifier_unit_bytes, prover_file_bytes, verifier_file_bytes, sealed}
 use Rattle.zk_model.specs.FileFaults.{side_code, kind_of, params_at, block_length, block_start, HasDigest}
 use Rattle.zk_model.specs.declared.Params.{Params}
 use Rattle.zk_model.specs.declared.Side.{Side}
@@ -149,6 +149,15 @@ units_whole form other side params bytes items others blocks unit below = (
   trees_are params other.Holds others params.total unit blocks.transfers below blocks.hold_other,
 )
 
+-- its items, and the others tree by tree, spell its block
+unit_spelled : {A B : Type 0} (form : Spelled A) (other : Spelled B) (side : Side) (params : Params) (bytes : List ℕ) (items : List A) (others : List B)
+    → AreBlocks form other side params bytes params.total items others → (unit : ℕ) → unit < params.total
+    → flat_map form.spell (piece (dealt_per_unit params) items unit) ++ flat_map other.spell (flat_map (λ levels. levels) (trees_of params others unit))
+    ≡ take (block_length side params) (drop (block_start side params unit) bytes)
+unit_spelled form other side params bytes items others blocks unit below =
+    ap (λ l. flat_map form.spell (piece (dealt_per_unit params) items unit) ++ flat_map other.spell l) (trees_joined params others params.total unit blocks.transfers below)
+    ∙ blocks.spelled unit below
+
 -- all units are in range, by the parameters that the bytes have
 pub units_in_range : {A B : Type 0} (form : Spelled A) (other : Spelled B) (side : Side) (params : Params) (bytes : List ℕ) (items : List A) (others : List B)
     → params ≡ params_at bytes → AreBlocks form other side params bytes params.total items others
@@ -203,8 +212,7 @@ prover_spelled bytes params id coin_key code_seed pairs transfers body digest sa
     units : flat_map prover_unit_bytes (map (flat_prover_unit params pairs transfers) (range_with_len 0 params.total))
         ≡ take (block_length Prover params * params.total) (drop 128 bytes)
     units = made ∙ joined_blocks Prover params bytes (λ unit. prover_unit_bytes (flat_prover_unit params pairs transfers unit)) 128
-        (λ unit below. ap (λ l. flat_map pair_bytes (piece (dealt_per_unit params) pairs unit) ++ flat_map transfer_bytes l)
-        (trees_joined params transfers params.total unit blocks.transfers below) ∙ blocks.spelled unit below)
+        (unit_spelled a_pair a_transfer Prover params bytes pairs transfers blocks)
 
 -- its units are a prover's
 prover_unit_is : (params : Params) (bytes : List ℕ) (pairs : List Pair) (transfers : List Transfer) → AreBlocks a_pair a_transfer Prover params bytes params.total pairs transfers
@@ -245,8 +253,7 @@ verifier_spelled bytes params id coin_key code_seed key keys pads body digest sa
         ≡ take (block_length Verifier params * params.total) (drop 136 bytes)
     units = flat_map-map verifier_unit_bytes (flat_verifier_unit params keys pads) (range_with_len 0 params.total)
         ∙ joined_blocks Verifier params bytes (λ unit. verifier_unit_bytes (flat_verifier_unit params keys pads unit)) 136
-        (λ unit below. ap (λ l. flat_map element_bytes (piece (dealt_per_unit params) keys unit) ++ flat_map pads_bytes l)
-        (trees_joined params pads params.total unit blocks.transfers below) ∙ blocks.spelled unit below)
+        (unit_spelled an_element both_pads Verifier params bytes keys pads blocks)
 
 -- its units are a verifier's
 verifier_unit_is : (params : Params) (bytes : List ℕ) (keys : List ℕ) (pads : List LeftRight) → AreBlocks an_element both_pads Verifier params bytes params.total keys pads
