@@ -80,8 +80,8 @@ mod units;
 
 use anyhow::Result;
 use port_os::FileShelf;
-use scenario::read_scenario;
-use sessions::text_lines;
+use scenario::{Scenario, read_scenario};
+use sessions::scenario_lines;
 use std::alloc::Global;
 use std::rt::Files;
 use std::sync::Wait;
@@ -90,21 +90,25 @@ use zk_model::FILE_LIMIT;
 use zk_port::Shelf;
 
 /// The lines of one line's scenario.
-fn scenario_lines<R>(rt: &R, alloc: Global, line: &str) -> Result<String>
+fn lines_of<R>(rt: &R, alloc: Global, line: &str) -> Result<String>
 where
     R: Files + AllocGlobal + Threads + Wait + Sync,
 {
-    let scenario = read_scenario(line)?;
+    let named = read_scenario(line)?;
     let mut shelf = FileShelf::new(rt);
-    let text = shelf.load(alloc, scenario.circuit, FILE_LIMIT)?;
-    text_lines(rt, alloc, &scenario, text)
+    let text = shelf.load(alloc, named.circuit, FILE_LIMIT)?;
+    let scenario = Scenario {
+        text: &text,
+        ..named
+    };
+    scenario_lines(rt, alloc, &scenario)
 }
 
 fn main(rt: HostRuntime) -> Result<()> {
     let alloc: Global = rt.alloc();
     for line in rt.lines(alloc) {
         let line = line?;
-        let lines = scenario_lines(&rt, alloc, line.as_str())?;
+        let lines = lines_of(&rt, alloc, line.as_str())?;
         println!(rt; "{}", line.as_str())?;
         print!(rt; "{}", lines.as_str())?;
     }

@@ -1,9 +1,9 @@
 // Runs of the program as either end of sessions, with peers whose bytes are stated.
-use crate::runs::{called_door, given_of, run_line, waiting_door, words_of};
+use crate::runs::{Peers, empty_door, given_of, run_line, words_of};
+use crate::say::Bits;
 use crate::scenario::Scenario;
-use crate::sessions::{Case, cases_of};
+use crate::sessions::{Case, cases_of, link_of};
 use anyhow::Result;
-use command_words::write_bits;
 use lease_journal::JournalKind;
 use std::alloc::Global;
 use std::sync::Wait;
@@ -19,41 +19,61 @@ fn push_option(alloc: Global, words: &mut Vec<String>, name: &str, value: &str) 
 }
 
 /// The words of a service about these outputs.
-fn service_words(
-    alloc: Global,
-    scenario: &Scenario<'_>,
-    text: &[u8],
-    outputs: &[bool],
-) -> Result<Vec<String>> {
-    let outputs = write_bits(alloc, outputs)?;
+fn service_words(alloc: Global, scenario: &Scenario<'_>, outputs: &[bool]) -> Result<Vec<String>> {
+    let outputs = Bits { bits: outputs };
     let (circuit, section) = (scenario.circuit, scenario.section);
     let line = format!(in alloc; "serve,here,x.verifier,{circuit},{outputs},--section,{section}")?;
-    let mut words = words_of(alloc, scenario, &line, text)?;
-    push_option(alloc, &mut words, "--sessions", scenario.service.sessions)?;
-    push_option(alloc, &mut words, "--workers", scenario.service.workers)?;
-    push_option(alloc, &mut words, "--logs", scenario.service.logs)?;
+    let mut words = words_of(alloc, scenario, &line)?;
+    let service = &scenario.service;
+    for (name, value) in [
+        ("--sessions", service.sessions),
+        ("--workers", service.workers),
+        ("--logs", service.logs),
+    ] {
+        push_option(alloc, &mut words, name, value)?;
+    }
     Ok(words)
 }
 
-/// The peers that call at a service: the one of the stated number does what is stated, and the others are honest.
-fn peers_of(
+/// A door at which the peers of a service call: the one of the stated number does what is stated, and the others are honest.
+fn service_door(
     alloc: Global,
     scenario: &Scenario<'_>,
     honest: &[Vec<u8>],
     stated: &Case,
-) -> Result<Vec<Case>> {
-    let mut peers = Vec::new(alloc);
+) -> Result<Peers> {
+    let mut door = empty_door(alloc, scenario)?;
     for (number, script) in honest.iter().enumerate() {
         let is_stated = number as u64 == scenario.service.peer;
         let script = if is_stated { &stated.script } else { script };
-        peers.push(Case {
-            name: String::new(alloc),
-            script: script.to_vec(alloc)?,
-            call: if is_stated { stated.call } else { 0 },
-            piece: if is_stated { stated.piece } else { 4096 },
-        })?;
+        let call = if is_stated { stated.call } else { 0 };
+        let piece = if is_stated { stated.piece } else { 4096 };
+        let link = link_of(alloc, script.to_vec(alloc)?, call, piece)?;
+        door.wait(link)?;
     }
-    Ok(peers)
+    Ok(door)
+}
+
+/// The line of a run of the program that serves a claim, at which one peer does what is stated.
+fn service_line<R: Threads + Wait + Sync>(
+    rt: &R,
+    alloc: Global,
+    scenario: &Scenario<'_>,
+    honest: &[Vec<u8>],
+    words: &[String],
+    stated: &Case,
+) -> Result<String> {
+    let given = given_of(alloc, scenario, JournalKind::Ceilings)?;
+    let door = service_door(alloc, scenario, honest, stated)?;
+    run_line(
+        rt,
+        alloc,
+        &scenario.outside,
+        &stated.name,
+        given,
+        door,
+        words,
+    )
 }
 
 /// The lines of runs of the program that serve a claim, with these peers at the door: for each its honest bytes.
@@ -61,24 +81,33 @@ pub fn service_lines<R: Threads + Wait + Sync>(
     rt: &R,
     alloc: Global,
     scenario: &Scenario<'_>,
-    text: &[u8],
     outputs: &[bool],
     honest: &[Vec<u8>],
 ) -> Result<String> {
-    let words = service_words(alloc, scenario, text, outputs)?;
+    let words = service_words(alloc, scenario, outputs)?;
     let script = match honest.get(scenario.service.peer as usize) {
         Some(script) => script.as_slice(),
         None => &[],
     };
     let mut lines = String::new(alloc);
-    for case in cases_of(alloc, scenario, script)? {
-        let given = given_of(alloc, scenario, text.to_vec(alloc)?, JournalKind::Ceilings)?;
-        let peers = peers_of(alloc, scenario, honest, &case)?;
-        let door = waiting_door(alloc, scenario.outside.door_fails, peers)?;
-        lines.push_str(&case.name)?;
-        lines.push_str(&run_line(rt, alloc, &scenario.outside, given, door, &words)?)?;
+    for stated in &cases_of(alloc, scenario, script)? {
+        lines.push_str(&service_line(rt, alloc, scenario, honest, &words, stated)?)?;
     }
     Ok(lines)
+}
+
+/// The line of a run of the program that proves a claim to the peer of this case.
+fn proof_line<R: Threads + Wait + Sync>(
+    rt: &R,
+    alloc: Global,
+    scenario: &Scenario<'_>,
+    words: &[String],
+    case: &Case,
+) -> Result<String> {
+    let given = given_of(alloc, scenario, JournalKind::Claims)?;
+    let mut door = empty_door(alloc, scenario)?;
+    door.call(link_of(alloc, case.script.to_vec(alloc)?, case.call, case.piece)?)?;
+    run_line(rt, alloc, &scenario.outside, &case.name, given, door, words)
 }
 
 /// The lines of runs of the program that prove a claim to a peer whose honest bytes are these.
@@ -86,20 +115,16 @@ pub fn proof_lines<R: Threads + Wait + Sync>(
     rt: &R,
     alloc: Global,
     scenario: &Scenario<'_>,
-    text: &[u8],
     outputs: &[bool],
     honest: &[u8],
 ) -> Result<String> {
-    let outputs = write_bits(alloc, outputs)?;
+    let outputs = Bits { bits: outputs };
     let circuit = scenario.circuit;
     let line = format!(in alloc; "prove,here,x.prover,{circuit},BITS,{outputs}")?;
-    let words = words_of(alloc, scenario, &line, text)?;
+    let words = words_of(alloc, scenario, &line)?;
     let mut lines = String::new(alloc);
-    for case in cases_of(alloc, scenario, honest)? {
-        let given = given_of(alloc, scenario, text.to_vec(alloc)?, JournalKind::Claims)?;
-        lines.push_str(&case.name)?;
-        let door = called_door(alloc, scenario.outside.door_fails, case)?;
-        lines.push_str(&run_line(rt, alloc, &scenario.outside, given, door, &words)?)?;
+    for case in &cases_of(alloc, scenario, honest)? {
+        lines.push_str(&proof_line(rt, alloc, scenario, &words, case)?)?;
     }
     Ok(lines)
 }

@@ -1,24 +1,25 @@
 // Runs of the program over files, an output, a door and a journal's disk in memory.
 use crate::piece_link::{PieceLink, plan_of};
-use crate::say::{log_words, prover_words, span_words, verifier_words};
+use crate::say::{Bits, Hex, Logged, ProverEnded, Units, VerifierEnded};
 use crate::scenario::{Journaled, Outside, Scenario, read_numbers};
 use crate::scene::{input_bits, params_of};
-use crate::sessions::{Case, SEED, link_of};
+use crate::sessions::SEED;
 use anyhow::{Error, Result};
 use bristol_reader::read;
 use command_words::write_bits;
-use dealer_files::{VerifierFile, deal};
+use dealer_files::{ProverFile, VerifierFile, deal};
 use lease_journal::{JournalKind, blank, ceiling_slots, claim_slots};
 use memory_ports::{FailAt, MemoryDisk, MemoryDoor, MemoryShelf, MemorySink, QuietDisk};
 use session_prover::ProverNote;
 use session_verifier::SessionNote;
 use sha2::{Digest, Sha256};
-use std::alloc::Global;
+use std::alloc::{AllocError, Global};
 use std::collections::BTreeMap;
+use std::fmt;
 use std::sync::Wait;
 use std::thread::Threads;
-use zk_cli::{Finish, Part, run_zk};
-use zk_port::{Link, QuietGate, Shelf};
+use zk_cli::{Finish, Part, Rehearsal, run_zk};
+use zk_port::{QuietGate, Shelf};
 
 /// A door of peers in memory.
 pub type Peers = MemoryDoor<PieceLink, FailAt>;
@@ -30,7 +31,8 @@ const MOST_SHOWN: u64 = 1 << 30;
 const DISK_CALLS: usize = 100;
 
 /// The circuit's text, with more behind it, where `_` is a space, and line feeds up to a size.
-fn circuit_text(scenario: &Scenario<'_>, mut text: Vec<u8>) -> Result<Vec<u8>> {
+fn circuit_text(alloc: Global, scenario: &Scenario<'_>) -> Result<Vec<u8>> {
+    let mut text = scenario.text.to_vec(alloc)?;
     for byte in scenario.outside.tail.bytes() {
         text.push(if byte == b'_' { b' ' } else { byte })?;
     }
@@ -112,86 +114,150 @@ fn journal_of(
     }
 }
 
-/// What stands there: the circuit under its name, the dealt files of both ends, and the journal of this kind.
-pub fn given_of(
+/// Puts these bytes under a name.
+fn put(
+    alloc: Global,
+    files: &mut BTreeMap<String, Vec<u8>>,
+    name: &str,
+    bytes: Vec<u8>,
+) -> Result<()> {
+    let name = String::from_str(alloc, name)?;
+    files.insert(name, bytes)?;
+    Ok(())
+}
+
+/// The dealt files of both ends, and the circuit under its name.
+fn files_of(
     alloc: Global,
     scenario: &Scenario<'_>,
-    text: Vec<u8>,
-    kind: JournalKind,
-) -> Result<Given> {
-    let (prover, verifier) = deal(alloc, &params_of(scenario)?, &SEED)?;
-    let journal = journal_of(alloc, &scenario.outside.journal, kind, &verifier)?;
+    prover: &ProverFile,
+    verifier: &VerifierFile,
+) -> Result<BTreeMap<String, Vec<u8>>> {
     let mut files = BTreeMap::new(alloc);
-    files.insert(String::from_str(alloc, "x.prover")?, prover.encode(alloc)?)?;
-    files.insert(
-        String::from_str(alloc, "x.verifier")?,
-        verifier.encode(alloc)?,
+    put(alloc, &mut files, "x.prover", prover.encode(alloc)?)?;
+    put(alloc, &mut files, "x.verifier", verifier.encode(alloc)?)?;
+    put(
+        alloc,
+        &mut files,
+        scenario.circuit,
+        circuit_text(alloc, scenario)?,
     )?;
-    let text = circuit_text(scenario, text)?;
-    files.insert(String::from_str(alloc, scenario.circuit)?, text)?;
+    Ok(files)
+}
+
+/// What stands there: the dealt files of both ends, the circuit under its name, and the journal of this kind.
+pub fn given_of(alloc: Global, scenario: &Scenario<'_>, kind: JournalKind) -> Result<Given> {
+    let (prover, verifier) = deal(alloc, &params_of(scenario)?, &SEED)?;
+    let files = files_of(alloc, scenario, &prover, &verifier)?;
+    let journal = journal_of(alloc, &scenario.outside.journal, kind, &verifier)?;
     Ok(Given { files, journal })
 }
 
 /// The words of a line, with commas between them; `BITS` stands for the bits of the circuit's inputs.
-pub fn words_of(
-    alloc: Global,
-    scenario: &Scenario<'_>,
-    line: &str,
-    text: &[u8],
-) -> Result<Vec<String>> {
+pub fn words_of(alloc: Global, scenario: &Scenario<'_>, line: &str) -> Result<Vec<String>> {
     let mut words = Vec::new(alloc);
     for word in line.split(',') {
-        if word == "BITS" {
-            let bits = input_bits(alloc, &read(alloc, text)?, scenario.bits)?;
-            words.push(write_bits(alloc, &bits)?)?;
-        } else {
-            words.push(String::from_str(alloc, word)?)?;
-        }
+        words.push(word_of(alloc, scenario, word)?)?;
     }
     Ok(words)
 }
 
-/// What came of a session that was served.
-fn note_words<L: Link>(alloc: Global, note: &SessionNote<L>) -> Result<String> {
-    let words = verifier_words(alloc, &note.outcome)?;
-    let units = span_words(alloc, note.granted)?;
-    let log = log_words(alloc, &note.log)?;
-    Ok(format!(in alloc; " {words} units={units} {log}")?)
-}
-
-/// What came of a session with a verifier.
-fn proved_words<L: Link>(alloc: Global, note: &ProverNote<L>) -> Result<String> {
-    let words = prover_words(alloc, &note.outcome)?;
-    let units = span_words(alloc, note.granted)?;
-    let log = log_words(alloc, &note.log)?;
-    Ok(format!(in alloc; "proved {words} units={units} {log}")?)
+fn word_of(alloc: Global, scenario: &Scenario<'_>, word: &str) -> Result<String> {
+    if word != "BITS" {
+        return Ok(String::from_str(alloc, word)?);
+    }
+    let circuit = read(alloc, scenario.text)?;
+    let bits = input_bits(alloc, &circuit, scenario.bits)?;
+    Ok(write_bits(alloc, &bits)?)
 }
 
 /// What a run hands back.
-fn part_words<L: Link>(alloc: Global, part: &Part<L>) -> Result<String> {
-    match part {
-        Part::Plain => Ok(format!(in alloc; "plain")?),
-        Part::Rehearsed(rehearsal) => {
-            let outputs = write_bits(alloc, rehearsal.outputs.as_slice())?;
-            let (need, units) = (rehearsal.need, rehearsal.units);
-            Ok(format!(in alloc; "rehearsed outputs={outputs} need={need} units={units}")?)
-        }
-        Part::Proved(note) => proved_words(alloc, note),
-        Part::Served(notes) => {
-            let mut words = format!(in alloc; "served")?;
-            for note in notes {
-                words.push_str(&note_words(alloc, note)?)?;
+#[derive(Clone, Copy)]
+struct HandedBack<'a> {
+    part: &'a Part<PieceLink>,
+}
+
+impl fmt::Display for HandedBack<'_> {
+    fn fmt<W: fmt::Write>(&self, f: &mut fmt::Formatter<W>) -> fmt::Result {
+        match self.part {
+            Part::Plain => write!(f, "plain"),
+            Part::Rehearsed(rehearsal) => write!(f, "{}", Rehearsed { rehearsal }),
+            Part::Proved(note) => write!(f, "{}", Proved { note }),
+            Part::Served(notes) => {
+                write!(f, "served")?;
+                for note in notes {
+                    write!(f, " {}", Served { note })?;
+                }
+                Ok(())
             }
-            Ok(words)
         }
     }
 }
 
+/// What a rehearsal gave.
+#[derive(Clone, Copy)]
+struct Rehearsed<'a> {
+    rehearsal: &'a Rehearsal,
+}
+
+impl fmt::Display for Rehearsed<'_> {
+    fn fmt<W: fmt::Write>(&self, f: &mut fmt::Formatter<W>) -> fmt::Result {
+        let outputs = Bits {
+            bits: self.rehearsal.outputs.as_slice(),
+        };
+        let (need, units) = (self.rehearsal.need, self.rehearsal.units);
+        write!(f, "rehearsed outputs={outputs} need={need} units={units}")
+    }
+}
+
+/// What came of a session with a verifier.
+#[derive(Clone, Copy)]
+struct Proved<'a> {
+    note: &'a ProverNote<PieceLink>,
+}
+
+impl fmt::Display for Proved<'_> {
+    fn fmt<W: fmt::Write>(&self, f: &mut fmt::Formatter<W>) -> fmt::Result {
+        let ended = ProverEnded {
+            outcome: self.note.outcome,
+        };
+        let units = Units {
+            span: self.note.granted,
+        };
+        let log = Logged {
+            log: &self.note.log,
+        };
+        write!(f, "proved {ended} units={units} {log}")
+    }
+}
+
+/// What came of a session that was served.
+#[derive(Clone, Copy)]
+struct Served<'a> {
+    note: &'a SessionNote<PieceLink>,
+}
+
+impl fmt::Display for Served<'_> {
+    fn fmt<W: fmt::Write>(&self, f: &mut fmt::Formatter<W>) -> fmt::Result {
+        let ended = VerifierEnded {
+            outcome: self.note.outcome,
+        };
+        let units = Units {
+            span: self.note.granted,
+        };
+        let log = Logged {
+            log: &self.note.log,
+        };
+        write!(f, "{ended} units={units} {log}")
+    }
+}
+
 /// How many bytes stand under this name, and SHA-256 of them.
-fn shown_bytes(alloc: Global, name: &str, bytes: &[u8]) -> Result<String> {
-    let digest = hex::encode(alloc, &Sha256::digest(bytes))?;
+fn push_shown(words: &mut String, name: &str, bytes: &[u8]) -> Result<(), AllocError> {
+    let digest = Sha256::digest(bytes);
+    let digest = Hex { bytes: &digest };
     let count = bytes.len();
-    Ok(format!(in alloc; " {name}={count},{digest}")?)
+    write!(words, " {name}={count},{digest}")
 }
 
 /// Which bytes stand under these names, and on the disk.
@@ -204,31 +270,21 @@ fn shown_files(
     let mut words = String::new(alloc);
     for name in names.split(',').filter(|name| !name.is_empty()) {
         if name == "disk" {
-            words.push_str(&shown_bytes(alloc, name, disk.disk.bytes())?)?;
+            push_shown(&mut words, name, disk.disk.bytes())?;
             continue;
         }
         match shelf.load(alloc, name, MOST_SHOWN) {
-            Ok(bytes) => words.push_str(&shown_bytes(alloc, name, &bytes)?)?,
-            Err(_) => words.push_str(&format!(in alloc; " {name}=none")?)?,
+            Ok(bytes) => push_shown(&mut words, name, &bytes)?,
+            Err(_) => write!(words, " {name}=none")?,
         }
     }
     Ok(words)
 }
 
-/// A door at which these peers call, one after the other.
-pub fn waiting_door(alloc: Global, door_fails: u64, peers: Vec<Case>) -> Result<Peers> {
-    let mut door = MemoryDoor::new(alloc, plan_of(alloc, door_fails)?);
-    for peer in peers {
-        door.wait(link_of(alloc, peer.script, peer.call, peer.piece)?)?;
-    }
-    Ok(door)
-}
-
-/// A door that connects to this peer, once.
-pub fn called_door(alloc: Global, door_fails: u64, peer: Case) -> Result<Peers> {
-    let mut door = MemoryDoor::new(alloc, plan_of(alloc, door_fails)?);
-    door.call(link_of(alloc, peer.script, peer.call, peer.piece)?)?;
-    Ok(door)
+/// A door with no peers.
+pub fn empty_door(alloc: Global, scenario: &Scenario<'_>) -> Result<Peers> {
+    let plan = plan_of(alloc, scenario.outside.door_fails)?;
+    Ok(MemoryDoor::new(alloc, plan))
 }
 
 /// A disk that tells nothing of what it has, which is this.
@@ -238,34 +294,65 @@ fn disk_of(alloc: Global, bytes: Vec<u8>, disk_fails: u64) -> Result<QuietDisk<F
     Ok(QuietDisk { disk })
 }
 
-/// The line of a run of these words over what stands there, with this door.
-pub fn run_line<R: Threads + Wait + Sync>(
+/// What came of a run: its status, its output, what it hands back, the files and the disk.
+#[derive(Drop)]
+struct Ran {
+    status: u8,
+    out: MemorySink<FailAt>,
+    part: Part<PieceLink>,
+    shelf: MemoryShelf<FailAt>,
+    disk: QuietDisk<FailAt>,
+}
+
+/// A run of these words over what stands there, with this door.
+fn run<R: Threads + Wait + Sync>(
     rt: &R,
     alloc: Global,
     outside: &Outside<'_>,
     given: Given,
     door: Peers,
     words: &[String],
-) -> Result<String> {
+) -> Result<Ran> {
     let Given { files, journal } = given;
+    let disk = disk_of(alloc, journal, outside.disk_fails)?;
     let mut shelf = MemoryShelf::new(files, plan_of(alloc, outside.shelf_fails)?);
     let mut out = MemorySink::new(alloc, plan_of(alloc, outside.sink_fails)?);
-    let disk = disk_of(alloc, journal, outside.disk_fails)?;
     let finish = run_zk(
         rt, alloc, words, &mut shelf, disk, door, &QuietGate, &SEED, &mut out,
     );
     let Finish {
         status,
         part,
-        journal,
+        journal: disk,
         ..
     } = finish;
-    let Ok(written) = str::from_utf8(out.bytes()) else {
+    Ok(Ran {
+        status,
+        out,
+        part,
+        shelf,
+        disk,
+    })
+}
+
+/// The line of a run of this name and these words over what stands there, with this door.
+pub fn run_line<R: Threads + Wait + Sync>(
+    rt: &R,
+    alloc: Global,
+    outside: &Outside<'_>,
+    name: &str,
+    given: Given,
+    door: Peers,
+    words: &[String],
+) -> Result<String> {
+    let mut ran = run(rt, alloc, outside, given, door, words)?;
+    let shown = shown_files(alloc, outside.show, &mut ran.shelf, &ran.disk)?;
+    let Ok(written) = str::from_utf8(ran.out.bytes()) else {
         return Err(Error::msg("no text is written"));
     };
-    let part = part_words(alloc, &part)?;
-    let shown = shown_files(alloc, outside.show, &mut shelf, &journal)?;
-    Ok(format!(in alloc; "status={status} written={written:?} {part}{shown}\n")?)
+    let status = ran.status;
+    let part = HandedBack { part: &ran.part };
+    Ok(format!(in alloc; "{name}status={status} written={written:?} {part}{shown}\n")?)
 }
 
 /// The kind of the journal that the disk has: `prove` claims in the prover's.
@@ -281,10 +368,10 @@ pub fn words_line<R: Threads + Wait + Sync>(
     rt: &R,
     alloc: Global,
     scenario: &Scenario<'_>,
-    text: Vec<u8>,
 ) -> Result<String> {
-    let words = words_of(alloc, scenario, scenario.outside.words, &text)?;
-    let given = given_of(alloc, scenario, text, kind_of(&words))?;
-    let door = waiting_door(alloc, scenario.outside.door_fails, Vec::new(alloc))?;
-    run_line(rt, alloc, &scenario.outside, given, door, &words)
+    let outside = &scenario.outside;
+    let words = words_of(alloc, scenario, outside.words)?;
+    let given = given_of(alloc, scenario, kind_of(&words))?;
+    let door = empty_door(alloc, scenario)?;
+    run_line(rt, alloc, outside, "", given, door, &words)
 }

@@ -1,134 +1,294 @@
 // What came of a session, in words.
 use crate::piece_link::PieceLink;
-use anyhow::Result;
 use frame_link::Log;
 use session_core::HelloDiffers;
 use session_prover::ProverOutcome;
 use session_verifier::VerifierOutcome;
 use sha2::{Digest, Sha256};
-use std::alloc::Global;
+use std::fmt;
 use zk_model::{Side, Span, Verdict};
 use zk_port::Link;
 
-/// Which field of a hello differs, what was wanted and what came.
-fn differing(alloc: Global, name: &str, want: &[u8; 32], got: &[u8; 32]) -> Result<String> {
-    let want = hex::encode(alloc, want)?;
-    let got = hex::encode(alloc, got)?;
-    Ok(format!(in alloc; "bad-hello {name} want={want} got={got}")?)
+/// Bytes, in hex.
+#[derive(Clone, Copy)]
+pub struct Hex<'a> {
+    pub bytes: &'a [u8],
 }
 
-/// Which field of a hello differs, in words.
-fn hello_words(alloc: Global, differs: &HelloDiffers) -> Result<String> {
-    match differs {
-        HelloDiffers::Id { want, got } => differing(alloc, "id", want, got),
-        HelloDiffers::Circuit { want, got } => differing(alloc, "circuit", want, got),
-        HelloDiffers::Outputs { want, got } => differing(alloc, "outputs", want, got),
-        HelloDiffers::Version { want, got } => {
-            Ok(format!(in alloc; "bad-hello version want={want} got={got}")?)
+impl fmt::Display for Hex<'_> {
+    fn fmt<W: fmt::Write>(&self, f: &mut fmt::Formatter<W>) -> fmt::Result {
+        for byte in self.bytes {
+            write!(f, "{byte:02x}")?;
+        }
+        Ok(())
+    }
+}
+
+/// Bits as a word, or `none` where there are none.
+#[derive(Clone, Copy)]
+pub struct Bits<'a> {
+    pub bits: &'a [bool],
+}
+
+impl fmt::Display for Bits<'_> {
+    fn fmt<W: fmt::Write>(&self, f: &mut fmt::Formatter<W>) -> fmt::Result {
+        if self.bits.is_empty() {
+            return write!(f, "none");
+        }
+        for bit in self.bits {
+            write!(f, "{}", if *bit { "1" } else { "0" })?;
+        }
+        Ok(())
+    }
+}
+
+/// Which field of a hello differs, what was wanted and what came.
+#[derive(Clone, Copy)]
+struct Differing<'a> {
+    name: &'static str,
+    want: &'a [u8; 32],
+    got: &'a [u8; 32],
+}
+
+impl fmt::Display for Differing<'_> {
+    fn fmt<W: fmt::Write>(&self, f: &mut fmt::Formatter<W>) -> fmt::Result {
+        let (name, want, got) = (self.name, self.want, self.got);
+        let want = Hex { bytes: want };
+        let got = Hex { bytes: got };
+        write!(f, "bad-hello {name} want={want} got={got}")
+    }
+}
+
+/// A hello that differs, in words.
+#[derive(Clone, Copy)]
+struct OtherHello {
+    differs: HelloDiffers,
+}
+
+impl fmt::Display for OtherHello {
+    fn fmt<W: fmt::Write>(&self, f: &mut fmt::Formatter<W>) -> fmt::Result {
+        let (name, want, got) = match &self.differs {
+            HelloDiffers::Id { want, got } => ("id", want, got),
+            HelloDiffers::Circuit { want, got } => ("circuit", want, got),
+            HelloDiffers::Outputs { want, got } => ("outputs", want, got),
+            HelloDiffers::Version { want, got } => {
+                return write!(f, "bad-hello version want={want} got={got}");
+            }
+        };
+        let differing = Differing { name, want, got };
+        write!(f, "{differing}")
+    }
+}
+
+/// How something ended: its name, and up to three numbers with their names; one whose name is empty is not said.
+#[derive(Clone, Copy)]
+struct Ending {
+    name: &'static str,
+    numbers: [(&'static str, u64); 3],
+}
+
+impl fmt::Display for Ending {
+    fn fmt<W: fmt::Write>(&self, f: &mut fmt::Formatter<W>) -> fmt::Result {
+        let name = self.name;
+        write!(f, "{name}")?;
+        for (name, number) in &self.numbers {
+            if !name.is_empty() {
+                write!(f, " {name}={number}")?;
+            }
+        }
+        Ok(())
+    }
+}
+
+const NONE: (&str, u64) = ("", 0);
+
+/// An ending without numbers.
+fn bare(name: &'static str) -> Ending {
+    let numbers = [NONE, NONE, NONE];
+    Ending { name, numbers }
+}
+
+/// An ending with one number.
+fn single(name: &'static str, label: &'static str, number: u64) -> Ending {
+    let numbers = [(label, number), NONE, NONE];
+    Ending { name, numbers }
+}
+
+/// How a session ended for the verifier.
+#[derive(Clone, Copy)]
+pub struct VerifierEnded {
+    pub outcome: VerifierOutcome,
+}
+
+impl fmt::Display for VerifierEnded {
+    fn fmt<W: fmt::Write>(&self, f: &mut fmt::Formatter<W>) -> fmt::Result {
+        let ending = match self.outcome {
+            VerifierOutcome::Accepted => bare("accepted"),
+            VerifierOutcome::RejectedSum {
+                section,
+                left,
+                right,
+            } => Ending {
+                name: "rejected-sum",
+                numbers: [
+                    ("section", u64::from(section)),
+                    ("left", left.value()),
+                    ("right", right.value()),
+                ],
+            },
+            VerifierOutcome::RejectedOpening {
+                output,
+                left,
+                right,
+            } => Ending {
+                name: "rejected-opening",
+                numbers: [
+                    ("output", u64::from(output)),
+                    ("left", left.value()),
+                    ("right", right.value()),
+                ],
+            },
+            VerifierOutcome::PeerEnded { at } => single("peer-ended", "at", at),
+            VerifierOutcome::BadFrame { place } => single("bad-frame", "place", place),
+            VerifierOutcome::BadHello(differs) => {
+                let hello = OtherHello { differs };
+                return write!(f, "{hello}");
+            }
+            VerifierOutcome::Exhausted { at, count, total } => Ending {
+                name: "exhausted",
+                numbers: [("at", at), ("count", u64::from(count)), ("total", total)],
+            },
+            VerifierOutcome::Device => bare("device"),
+            VerifierOutcome::Broken { first } => single("broken", "first", first),
+            VerifierOutcome::Link => bare("link"),
+            VerifierOutcome::NoMemory => bare("no-memory"),
+        };
+        write!(f, "{ending}")
+    }
+}
+
+/// How a session ended for the prover.
+#[derive(Clone, Copy)]
+pub struct ProverEnded {
+    pub outcome: ProverOutcome,
+}
+
+impl fmt::Display for ProverEnded {
+    fn fmt<W: fmt::Write>(&self, f: &mut fmt::Formatter<W>) -> fmt::Result {
+        let ending = match self.outcome {
+            ProverOutcome::Accepted => bare("accepted"),
+            ProverOutcome::Rejected { code, number } => Ending {
+                name: "rejected",
+                numbers: [
+                    ("code", u64::from(code)),
+                    ("number", u64::from(number)),
+                    NONE,
+                ],
+            },
+            ProverOutcome::PeerEnded { at } => single("peer-ended", "at", at),
+            ProverOutcome::BadFrame { place } => single("bad-frame", "place", place),
+            ProverOutcome::BadGrant => bare("bad-grant"),
+            ProverOutcome::PeerRefused { code } => single("peer-refused", "code", u64::from(code)),
+            ProverOutcome::Broken { first } => single("broken", "first", first),
+            ProverOutcome::OutOfRange { total } => single("out-of-range", "total", total),
+            ProverOutcome::Overlap { earlier } => {
+                let Span { start, end } = earlier;
+                return write!(f, "overlap earlier={start}..{end}");
+            }
+            ProverOutcome::Full { slots } => single("full", "slots", slots),
+            ProverOutcome::Device => bare("device"),
+            ProverOutcome::Link => bare("link"),
+            ProverOutcome::NoMemory => bare("no-memory"),
+        };
+        write!(f, "{ending}")
+    }
+}
+
+/// The verdict of a rehearsal.
+#[derive(Clone, Copy)]
+pub struct Judged {
+    pub verdict: Verdict,
+}
+
+impl fmt::Display for Judged {
+    fn fmt<W: fmt::Write>(&self, f: &mut fmt::Formatter<W>) -> fmt::Result {
+        match self.verdict {
+            Verdict::Accepted => write!(f, "accepted"),
+            Verdict::RejectedSum { section } => write!(f, "rejected-sum section={section}"),
+            Verdict::RejectedOpening { output } => write!(f, "rejected-opening output={output}"),
         }
     }
 }
 
-/// How a session ended for the verifier.
-pub fn verifier_words(alloc: Global, outcome: &VerifierOutcome) -> Result<String> {
-    let words = match outcome {
-        VerifierOutcome::Accepted => format!(in alloc; "accepted")?,
-        VerifierOutcome::RejectedSum {
-            section,
-            left,
-            right,
-        } => {
-            let (left, right) = (left.value(), right.value());
-            format!(in alloc; "rejected-sum section={section} left={left} right={right}")?
-        }
-        VerifierOutcome::RejectedOpening {
-            output,
-            left,
-            right,
-        } => {
-            let (left, right) = (left.value(), right.value());
-            format!(in alloc; "rejected-opening output={output} left={left} right={right}")?
-        }
-        VerifierOutcome::PeerEnded { at } => format!(in alloc; "peer-ended at={at}")?,
-        VerifierOutcome::BadFrame { place } => format!(in alloc; "bad-frame place={place}")?,
-        VerifierOutcome::BadHello(differs) => hello_words(alloc, differs)?,
-        VerifierOutcome::Exhausted { at, count, total } => {
-            format!(in alloc; "exhausted at={at} count={count} total={total}")?
-        }
-        VerifierOutcome::Device => format!(in alloc; "device")?,
-        VerifierOutcome::Broken { first } => format!(in alloc; "broken first={first}")?,
-        VerifierOutcome::Link => format!(in alloc; "link")?,
-        VerifierOutcome::NoMemory => format!(in alloc; "no-memory")?,
-    };
-    Ok(words)
-}
-
-/// How a session ended for the prover.
-pub fn prover_words(alloc: Global, outcome: &ProverOutcome) -> Result<String> {
-    let words = match outcome {
-        ProverOutcome::Accepted => format!(in alloc; "accepted")?,
-        ProverOutcome::Rejected { code, number } => {
-            format!(in alloc; "rejected code={code} number={number}")?
-        }
-        ProverOutcome::PeerEnded { at } => format!(in alloc; "peer-ended at={at}")?,
-        ProverOutcome::BadFrame { place } => format!(in alloc; "bad-frame place={place}")?,
-        ProverOutcome::BadGrant => format!(in alloc; "bad-grant")?,
-        ProverOutcome::PeerRefused { code } => format!(in alloc; "peer-refused code={code}")?,
-        ProverOutcome::Broken { first } => format!(in alloc; "broken first={first}")?,
-        ProverOutcome::OutOfRange { total } => format!(in alloc; "out-of-range total={total}")?,
-        ProverOutcome::Overlap { earlier } => {
-            let Span { start, end } = *earlier;
-            format!(in alloc; "overlap earlier={start}..{end}")?
-        }
-        ProverOutcome::Full { slots } => format!(in alloc; "full slots={slots}")?,
-        ProverOutcome::Device => format!(in alloc; "device")?,
-        ProverOutcome::Link => format!(in alloc; "link")?,
-        ProverOutcome::NoMemory => format!(in alloc; "no-memory")?,
-    };
-    Ok(words)
-}
-
-/// The verdict of a rehearsal.
-pub fn verdict_words(alloc: Global, verdict: &Verdict) -> Result<String> {
-    let words = match verdict {
-        Verdict::Accepted => format!(in alloc; "accepted")?,
-        Verdict::RejectedSum { section } => format!(in alloc; "rejected-sum section={section}")?,
-        Verdict::RejectedOpening { output } => {
-            format!(in alloc; "rejected-opening output={output}")?
-        }
-    };
-    Ok(words)
-}
-
 /// The units of a session, or `none`.
-pub fn span_words(alloc: Global, span: Option<Span>) -> Result<String> {
-    match span {
-        Some(Span { start, end }) => Ok(format!(in alloc; "{start}..{end}")?),
-        None => Ok(format!(in alloc; "none")?),
+#[derive(Clone, Copy)]
+pub struct Units {
+    pub span: Option<Span>,
+}
+
+impl fmt::Display for Units {
+    fn fmt<W: fmt::Write>(&self, f: &mut fmt::Formatter<W>) -> fmt::Result {
+        match self.span {
+            Some(Span { start, end }) => write!(f, "{start}..{end}"),
+            None => write!(f, "none"),
+        }
+    }
+}
+
+/// What was asked of who has the units.
+#[derive(Clone, Copy)]
+pub enum Asked {
+    Nothing,
+    /// So many.
+    Count(u32),
+    /// So many from this one on.
+    From(u64, u64),
+}
+
+impl fmt::Display for Asked {
+    fn fmt<W: fmt::Write>(&self, f: &mut fmt::Formatter<W>) -> fmt::Result {
+        match self {
+            Asked::Nothing => write!(f, "none"),
+            Asked::Count(count) => write!(f, "{count}"),
+            Asked::From(start, count) => write!(f, "{start}+{count}"),
+        }
     }
 }
 
 /// A log: how many bytes each side sent in a row, `p` the prover and `v` the verifier, how many they are, and SHA-256 of them.
-pub fn log_words(alloc: Global, log: &Log) -> Result<String> {
-    let mut words = format!(in alloc; "log")?;
-    for run in log.runs() {
-        let side = match run.side {
-            Side::Prover => "p",
-            Side::Verifier => "v",
-        };
-        let count = run.count;
-        words.push_str(&format!(in alloc; " {side}{count}")?)?;
+#[derive(Clone, Copy)]
+pub struct Logged<'a> {
+    pub log: &'a Log,
+}
+
+impl fmt::Display for Logged<'_> {
+    fn fmt<W: fmt::Write>(&self, f: &mut fmt::Formatter<W>) -> fmt::Result {
+        write!(f, "log")?;
+        for run in self.log.runs() {
+            let count = run.count;
+            match run.side {
+                Side::Prover => write!(f, " p{count}")?,
+                Side::Verifier => write!(f, " v{count}")?,
+            }
+        }
+        let count = self.log.bytes().len();
+        let digest = Sha256::digest(self.log.bytes());
+        let digest = Hex { bytes: &digest };
+        write!(f, " bytes={count} sha256={digest}")
     }
-    let count = log.bytes().len();
-    let digest = hex::encode(alloc, &Sha256::digest(log.bytes()))?;
-    words.push_str(&format!(in alloc; " bytes={count} sha256={digest}")?)?;
-    Ok(words)
 }
 
 /// How many calls of a link there were, and how many of them failed.
-pub fn link_words(alloc: Global, link: &PieceLink) -> Result<String> {
-    let sends = link.sends();
-    let receives = link.receives();
-    let failed = link.faults();
-    Ok(format!(in alloc; "sends={sends} receives={receives} failed={failed}")?)
+#[derive(Clone, Copy)]
+pub struct Called<'a> {
+    pub link: &'a PieceLink,
+}
+
+impl fmt::Display for Called<'_> {
+    fn fmt<W: fmt::Write>(&self, f: &mut fmt::Formatter<W>) -> fmt::Result {
+        let sends = self.link.sends();
+        let receives = self.link.receives();
+        let failed = self.link.faults();
+        write!(f, "sends={sends} receives={receives} failed={failed}")
+    }
 }

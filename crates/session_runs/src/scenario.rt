@@ -96,11 +96,12 @@ pub struct Service<'a> {
     pub peer: u64,
 }
 
-/// A line's scenario.
+/// A line's scenario, with the text of its circuit, once that is loaded.
 #[derive(Clone, Copy)]
 pub struct Scenario<'a> {
     pub end: End,
     pub circuit: &'a str,
+    pub text: &'a [u8],
     pub bits: &'a str,
     pub outputs: Option<&'a str>,
     pub section: u32,
@@ -121,6 +122,7 @@ fn plain(end: End) -> Scenario<'static> {
     Scenario {
         end,
         circuit: "and.txt",
+        text: &[],
         bits: "1",
         outputs: None,
         section: 1 << 20,

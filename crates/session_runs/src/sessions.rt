@@ -7,7 +7,7 @@ ghost use Rattle.zk_port.specs.Doors.{IsFreshLink};
 use crate::piece_link::{PieceLink, plan_of};
 use crate::program_ends::{proof_lines, service_lines};
 use crate::runs::words_line;
-use crate::say::{link_words, log_words, prover_words, span_words, verdict_words, verifier_words};
+use crate::say::{Asked, Called, Judged, Logged, ProverEnded, Units, VerifierEnded};
 use crate::scenario::{End, Numbers, Scenario, Sweep};
 use crate::scene::{claimed_outputs, input_bits, params_of, wires_of};
 use crate::units::{AskedUnits, NextUnits, claim_fault, lease_fault};
@@ -23,9 +23,10 @@ use session_rehearsal::rehearse;
 use session_verifier::{SessionNote, verify_session};
 use sha2::{Digest, Sha256};
 use std::alloc::{AllocError, Global};
+use std::fmt;
 use std::sync::Wait;
 use std::thread::Threads;
-use zk_model::{MAX_SECTION_LENGTH, Side};
+use zk_model::{MAX_SECTION_LENGTH, Side, Span};
 use zk_port::{Link, QuietGate};
 
 /// The seed of all files.
@@ -81,7 +82,7 @@ fn verified(
     start: u64,
     fault: Option<LeaseFault>,
     link: PieceLink,
-) -> (SessionNote<PieceLink>, Option<u32>)
+) -> (SessionNote<PieceLink>, Asked)
     requires { (⟦<PieceLink as Link>⟧.state link).is_open ≡ true }
 {
     let mut grantor = NextUnits {
@@ -92,7 +93,11 @@ fn verified(
         answer: None,
     };
     let note = verify_session(alloc, job, &mut grantor, link, &QuietGate);
-    (note, grantor.asked)
+    let asked = match grantor.asked {
+        Some(count) => Asked::Count(count),
+        None => Asked::Nothing,
+    };
+    (note, asked)
 }
 
 /// A prover's session whose units are claimed, or refused, and what it asked for.
@@ -101,7 +106,7 @@ fn proved(
     job: &ProverJob<'_>,
     fault: Option<ClaimFault>,
     link: PieceLink,
-) -> (ProverNote<PieceLink>, Option<(u64, u64)>)
+) -> (ProverNote<PieceLink>, Asked)
     requires { (⟦<PieceLink as Link>⟧.state link).is_open ≡ true }
 {
     let mut claimant = AskedUnits {
@@ -111,7 +116,30 @@ fn proved(
         answer: None,
     };
     let note = prove_session(alloc, job, &mut claimant, link);
-    (note, claimant.asked)
+    let asked = match claimant.asked {
+        Some((start, count)) => Asked::From(start, count),
+        None => Asked::Nothing,
+    };
+    (note, asked)
+}
+
+/// What a prover sends whose peer sends these bytes.
+fn prover_part(alloc: Global, job: &ProverJob<'_>, heard: &[u8]) -> Result<Vec<u8>> {
+    let link = link_of(alloc, heard.to_vec(alloc)?, 0, 4096)?;
+    let (note, _) = proved(alloc, job, None, link);
+    Ok(part_of(alloc, &note.log, Side::Prover)?)
+}
+
+/// What a verifier sends whose peer sends these bytes.
+fn verifier_part(
+    alloc: Global,
+    job: &VerifierJob<'_>,
+    start: u64,
+    heard: &[u8],
+) -> Result<Vec<u8>> {
+    let link = link_of(alloc, heard.to_vec(alloc)?, 0, 4096)?;
+    let (note, _) = verified(alloc, job, start, None, link);
+    Ok(part_of(alloc, &note.log, Side::Verifier)?)
 }
 
 /// The session that both ends hold with each other: turn by turn, each has what the other has sent.
@@ -126,12 +154,8 @@ fn hold_dialogue(
         verifier: Vec::new(alloc),
     };
     for _ in 0..4 {
-        let link = link_of(alloc, sent.verifier.to_vec(alloc)?, 0, 4096)?;
-        let (note, _) = proved(alloc, prover, None, link);
-        sent.prover = part_of(alloc, &note.log, Side::Prover)?;
-        let link = link_of(alloc, sent.prover.to_vec(alloc)?, 0, 4096)?;
-        let (note, _) = verified(alloc, verifier, start, None, link);
-        sent.verifier = part_of(alloc, &note.log, Side::Verifier)?;
+        sent.prover = prover_part(alloc, prover, &sent.verifier)?;
+        sent.verifier = verifier_part(alloc, verifier, start, &sent.prover)?;
     }
     Ok(sent)
 }
@@ -192,34 +216,46 @@ pub fn cases_of(alloc: Global, scenario: &Scenario<'_>, honest: &[u8]) -> Result
     Ok(cases)
 }
 
+/// The line of a session of this name.
+fn told<E: fmt::Display>(
+    alloc: Global,
+    name: &str,
+    ended: &E,
+    asked: &Asked,
+    granted: Option<Span>,
+    log: &Log,
+    link: &PieceLink,
+) -> Result<String> {
+    let units = Units { span: granted };
+    let log = Logged { log };
+    let calls = Called { link };
+    Ok(format!(in alloc; "{name}{ended} asked={asked} units={units} {log} {calls}\n")?)
+}
+
 /// The line of one session of a verifier.
 fn verifier_line(
     alloc: Global,
     scenario: &Scenario<'_>,
     job: &VerifierJob<'_>,
-    case: Case,
-) -> Result<String> {
-    let fault = match scenario.refusal {
-        Some(refusal) => Some(lease_fault(&refusal)?),
-        None => None,
-    };
-    let Case {
-        name,
-        script,
-        call,
-        piece,
-    } = case;
-    let link = link_of(alloc, script, call, piece)?;
+    name: &str,
+    link: PieceLink,
+) -> Result<String>
+    requires { (⟦<PieceLink as Link>⟧.state link).is_open ≡ true }
+{
+    let fault = lease_fault(scenario)?;
     let (note, asked) = verified(alloc, job, scenario.start, fault, link);
-    let words = verifier_words(alloc, &note.outcome)?;
-    let asked = match asked {
-        Some(count) => format!(in alloc; "{count}")?,
-        None => format!(in alloc; "none")?,
+    let ended = VerifierEnded {
+        outcome: note.outcome,
     };
-    let units = span_words(alloc, note.granted)?;
-    let log = log_words(alloc, &note.log)?;
-    let calls = link_words(alloc, &note.link)?;
-    Ok(format!(in alloc; "{name}{words} asked={asked} units={units} {log} {calls}\n")?)
+    told(
+        alloc,
+        name,
+        &ended,
+        &asked,
+        note.granted,
+        &note.log,
+        &note.link,
+    )
 }
 
 /// The line of one session of a prover.
@@ -227,12 +263,40 @@ fn prover_line(
     alloc: Global,
     scenario: &Scenario<'_>,
     job: &ProverJob<'_>,
+    name: &str,
+    link: PieceLink,
+) -> Result<String>
+    requires { (⟦<PieceLink as Link>⟧.state link).is_open ≡ true }
+{
+    let (note, asked) = proved(alloc, job, claim_fault(scenario)?, link);
+    let ended = ProverEnded {
+        outcome: note.outcome,
+    };
+    told(
+        alloc,
+        name,
+        &ended,
+        &asked,
+        note.granted,
+        &note.log,
+        &note.link,
+    )
+}
+
+/// Whose session it is, and what it is about.
+#[derive(Clone, Copy)]
+enum Party<'a, 'b> {
+    Verifier(&'a VerifierJob<'b>),
+    Prover(&'a ProverJob<'b>),
+}
+
+/// The line of one session.
+fn case_line(
+    alloc: Global,
+    scenario: &Scenario<'_>,
+    party: &Party<'_, '_>,
     case: Case,
 ) -> Result<String> {
-    let fault = match scenario.refusal {
-        Some(refusal) => Some(claim_fault(&refusal)?),
-        None => None,
-    };
     let Case {
         name,
         script,
@@ -240,42 +304,22 @@ fn prover_line(
         piece,
     } = case;
     let link = link_of(alloc, script, call, piece)?;
-    let (note, asked) = proved(alloc, job, fault, link);
-    let words = prover_words(alloc, &note.outcome)?;
-    let asked = match asked {
-        Some((start, count)) => format!(in alloc; "{start}+{count}")?,
-        None => format!(in alloc; "none")?,
-    };
-    let units = span_words(alloc, note.granted)?;
-    let log = log_words(alloc, &note.log)?;
-    let calls = link_words(alloc, &note.link)?;
-    Ok(format!(in alloc; "{name}{words} asked={asked} units={units} {log} {calls}\n")?)
-}
-
-/// The lines of a verifier's sessions, whose honest peer sends these bytes.
-fn verifier_lines(
-    alloc: Global,
-    scenario: &Scenario<'_>,
-    job: &VerifierJob<'_>,
-    honest: &[u8],
-) -> Result<String> {
-    let mut lines = String::new(alloc);
-    for case in cases_of(alloc, scenario, honest)? {
-        lines.push_str(&verifier_line(alloc, scenario, job, case)?)?;
+    match party {
+        Party::Verifier(job) => verifier_line(alloc, scenario, job, &name, link),
+        Party::Prover(job) => prover_line(alloc, scenario, job, &name, link),
     }
-    Ok(lines)
 }
 
-/// The lines of a prover's sessions, whose honest peer sends these bytes.
-fn prover_lines(
+/// The lines of one end's sessions, whose honest peer sends these bytes.
+fn case_lines(
     alloc: Global,
     scenario: &Scenario<'_>,
-    job: &ProverJob<'_>,
+    party: &Party<'_, '_>,
     honest: &[u8],
 ) -> Result<String> {
     let mut lines = String::new(alloc);
     for case in cases_of(alloc, scenario, honest)? {
-        lines.push_str(&prover_line(alloc, scenario, job, case)?)?;
+        lines.push_str(&case_line(alloc, scenario, party, case)?)?;
     }
     Ok(lines)
 }
@@ -302,23 +346,36 @@ fn lines_of<R: Threads + Wait + Sync>(
     rt: &R,
     alloc: Global,
     scenario: &Scenario<'_>,
-    text: &[u8],
     outputs: &[bool],
     prover: &ProverJob<'_>,
     verifier: &VerifierJob<'_>,
 ) -> Result<String> {
     if scenario.end == End::Service {
         let honest = honest_peers(alloc, scenario, prover, verifier)?;
-        return service_lines(rt, alloc, scenario, text, outputs, &honest);
+        return service_lines(rt, alloc, scenario, outputs, &honest);
     }
     let sent = hold_dialogue(alloc, scenario.start, prover, verifier)?;
     match scenario.end {
-        End::Verifier => verifier_lines(alloc, scenario, verifier, &sent.prover),
-        End::Prover => prover_lines(alloc, scenario, prover, &sent.verifier),
-        End::Proof => proof_lines(rt, alloc, scenario, text, outputs, &sent.verifier),
+        End::Proof => proof_lines(rt, alloc, scenario, outputs, &sent.verifier),
+        _ => party_lines(alloc, scenario, prover, verifier, &sent),
+    }
+}
+
+/// The lines of sessions of the one end, the other or both.
+fn party_lines(
+    alloc: Global,
+    scenario: &Scenario<'_>,
+    prover: &ProverJob<'_>,
+    verifier: &VerifierJob<'_>,
+    sent: &Dialogue,
+) -> Result<String> {
+    let (verifier, prover) = (Party::Verifier(verifier), Party::Prover(prover));
+    match scenario.end {
+        End::Verifier => case_lines(alloc, scenario, &verifier, &sent.prover),
+        End::Prover => case_lines(alloc, scenario, &prover, &sent.verifier),
         _ => {
-            let mut lines = verifier_lines(alloc, scenario, verifier, &sent.prover)?;
-            lines.push_str(&prover_lines(alloc, scenario, prover, &sent.verifier)?)?;
+            let mut lines = case_lines(alloc, scenario, &verifier, &sent.prover)?;
+            lines.push_str(&case_lines(alloc, scenario, &prover, &sent.verifier)?)?;
             Ok(lines)
         }
     }
@@ -341,7 +398,6 @@ fn circuit_lines<R: Threads + Wait + Sync>(
     rt: &R,
     alloc: Global,
     scenario: &Scenario<'_>,
-    text: &[u8],
     circuit: &Circuit,
     digest: [u8; 32],
 ) -> Result<String>
@@ -356,13 +412,25 @@ fn circuit_lines<R: Threads + Wait + Sync>(
     let prover = ProverJob::new(&statement, &prover_file, &wires);
     let section = section_of(scenario)?;
     match VerifierJob::fit(&statement, &verifier_file, section) {
-        Ok(verifier) => lines_of(rt, alloc, scenario, text, &outputs, &prover, &verifier),
-        // There is no such session, and no honest peer.
-        Err(TooLarge { need, units }) => match scenario.end {
-            End::Prover => prover_lines(alloc, scenario, &prover, &[]),
-            End::Proof => proof_lines(rt, alloc, scenario, text, &outputs, &[]),
-            _ => Ok(format!(in alloc; "too-large need={need} units={units}\n")?),
-        },
+        Ok(verifier) => lines_of(rt, alloc, scenario, &outputs, &prover, &verifier),
+        Err(fault) => unfit_lines(rt, alloc, scenario, &outputs, &prover, &fault),
+    }
+}
+
+/// The lines of a scenario whose claim no verifier takes: there is no such session, and no honest peer.
+fn unfit_lines<R: Threads + Wait + Sync>(
+    rt: &R,
+    alloc: Global,
+    scenario: &Scenario<'_>,
+    outputs: &[bool],
+    prover: &ProverJob<'_>,
+    fault: &TooLarge,
+) -> Result<String> {
+    let TooLarge { need, units } = *fault;
+    match scenario.end {
+        End::Prover => case_lines(alloc, scenario, &Party::Prover(prover), &[]),
+        End::Proof => proof_lines(rt, alloc, scenario, outputs, &[]),
+        _ => Ok(format!(in alloc; "too-large need={need} units={units}\n")?),
     }
 }
 
@@ -372,10 +440,14 @@ fn rehearsal_line(alloc: Global, scenario: &Scenario<'_>, circuit: Circuit) -> R
     let bits = input_bits(alloc, &circuit, scenario.bits)?;
     let kind = params_of(scenario)?.kind;
     let rehearsal = rehearse(alloc, circuit, &bits, kind, section, &SEED)?;
-    let words = verdict_words(alloc, &rehearsal.verdict)?;
+    let judged = Judged {
+        verdict: rehearsal.verdict,
+    };
     let units = rehearsal.units;
-    let log = log_words(alloc, &rehearsal.log)?;
-    Ok(format!(in alloc; "{words} units={units} {log}\n")?)
+    let log = Logged {
+        log: &rehearsal.log,
+    };
+    Ok(format!(in alloc; "{judged} units={units} {log}\n")?)
 }
 
 /// The digest of a circuit's text.
@@ -385,20 +457,18 @@ fn digest_of(text: &[u8]) -> [u8; 32]
     Sha256::digest(text)
 }
 
-/// The lines of a scenario about the circuit of this text.
-pub fn text_lines<R: Threads + Wait + Sync>(
+/// The lines of a scenario.
+pub fn scenario_lines<R: Threads + Wait + Sync>(
     rt: &R,
     alloc: Global,
     scenario: &Scenario<'_>,
-    text: Vec<u8>,
 ) -> Result<String> {
     if scenario.end == End::Run {
-        return words_line(rt, alloc, scenario, text);
+        return words_line(rt, alloc, scenario);
     }
-    let circuit = read(alloc, &text)?;
+    let circuit = read(alloc, scenario.text)?;
     if scenario.end == End::Rehearsal {
         return rehearsal_line(alloc, scenario, circuit);
     }
-    let digest = digest_of(&text);
-    circuit_lines(rt, alloc, scenario, &text, &circuit, digest)
+    circuit_lines(rt, alloc, scenario, &circuit, digest_of(scenario.text))
 }

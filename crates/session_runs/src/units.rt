@@ -1,5 +1,5 @@
 // Who leases units to a verifier and claims them for a prover, or refuses.
-use crate::scenario::Refusal;
+use crate::scenario::Scenario;
 use anyhow::{Error, Result};
 use claim_store::ClaimFault;
 use lease_store::{Grantor, LeaseFault};
@@ -71,36 +71,44 @@ impl Claimant for AskedUnits {
     }
 }
 
-/// The fault by which a lease is refused.
-pub fn lease_fault(refusal: &Refusal<'_>) -> Result<LeaseFault> {
+/// The fault by which leases are refused, if they are.
+pub fn lease_fault(scenario: &Scenario<'_>) -> Result<Option<LeaseFault>> {
+    let Some(refusal) = scenario.refusal else {
+        return Ok(None);
+    };
     let [first, second, third] = refusal.numbers;
-    match refusal.name {
-        "exhausted" => Ok(LeaseFault::Exhausted {
+    let fault = match refusal.name {
+        "exhausted" => LeaseFault::Exhausted {
             at: first,
             count: u32::try_from(second)?,
             total: third,
-        }),
-        "device" => Ok(LeaseFault::Device),
-        "broken" => Ok(LeaseFault::Broken { first }),
-        _ => Err(Error::msg("no refusal of a lease")),
-    }
+        },
+        "device" => LeaseFault::Device,
+        "broken" => LeaseFault::Broken { first },
+        _ => return Err(Error::msg("no refusal of a lease")),
+    };
+    Ok(Some(fault))
 }
 
-/// The fault by which a claim is refused.
-pub fn claim_fault(refusal: &Refusal<'_>) -> Result<ClaimFault> {
+/// The fault by which claims are refused, if they are.
+pub fn claim_fault(scenario: &Scenario<'_>) -> Result<Option<ClaimFault>> {
+    let Some(refusal) = scenario.refusal else {
+        return Ok(None);
+    };
     let [first, second, _] = refusal.numbers;
-    match refusal.name {
-        "broken" => Ok(ClaimFault::Broken { first }),
-        "out-of-range" => Ok(ClaimFault::OutOfRange { total: first }),
-        "overlap" => Ok(ClaimFault::Overlap {
+    let fault = match refusal.name {
+        "broken" => ClaimFault::Broken { first },
+        "out-of-range" => ClaimFault::OutOfRange { total: first },
+        "overlap" => ClaimFault::Overlap {
             earlier: Span {
                 start: first,
                 end: second,
             },
-        }),
-        "full" => Ok(ClaimFault::Full { slots: first }),
-        "device" => Ok(ClaimFault::Device),
-        "no-memory" => Ok(ClaimFault::NoMemory),
-        _ => Err(Error::msg("no refusal of a claim")),
-    }
+        },
+        "full" => ClaimFault::Full { slots: first },
+        "device" => ClaimFault::Device,
+        "no-memory" => ClaimFault::NoMemory,
+        _ => return Err(Error::msg("no refusal of a claim")),
+    };
+    Ok(Some(fault))
 }
