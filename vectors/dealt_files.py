@@ -6,7 +6,7 @@ height 1, base 10), and journals with the id of that seed in which nothing is wr
 bytes it has, and in hex SHA-256 of the bytes: of a dealt file of all but its last 32, which are that digest.
 
 It follows the formats of `docs/FORMATS.md`, with what `common.py` has of the field, coins and digests.
-Run `python3 vectors/dealt_files.py`; `--rust` prints the digests as the test's constants.
+Run `python3 vectors/dealt_files.py`; `--rust` prints the rows of the test's tables.
 """
 import struct
 import sys
@@ -21,7 +21,6 @@ from common import (
     dealt_correlations,
     dealt_transfers,
     element,
-    print_rust,
     sha256,
 )
 
@@ -62,28 +61,28 @@ def journal(kind, total):
 
 
 FILES = [
-    ("DIRECT_PROVER", "direct, prover's file", deal(DIRECT)[0]),
-    ("DIRECT_VERIFIER", "direct, verifier's file", deal(DIRECT)[1]),
-    ("EXTENDED_PROVER", "extended, prover's file", deal(EXTENDED)[0]),
-    ("EXTENDED_VERIFIER", "extended, verifier's file", deal(EXTENDED)[1]),
+    ("Direct, Prover", "direct, prover's file", deal(DIRECT)[0]),
+    ("Direct, Verifier", "direct, verifier's file", deal(DIRECT)[1]),
+    ("Extended, Prover", "extended, prover's file", deal(EXTENDED)[0]),
+    ("Extended, Verifier", "extended, verifier's file", deal(EXTENDED)[1]),
 ]
 JOURNALS = [
-    ("CLAIMS_OF_1", "claims of 1 unit", journal(0, 1)),
-    ("CLAIMS_OF_5000", "claims of 5,000 units", journal(0, 5000)),
-    ("CEILINGS_OF_1", "ceilings of 1 unit", journal(1, 1)),
-    ("CEILINGS_OF_100", "ceilings of 100 units", journal(1, 100)),
+    ("Claims, 1", "claims of 1 unit", journal(0, 1)),
+    ("Claims, 5000", "claims of 5,000 units", journal(0, 5000)),
+    ("Ceilings, 1", "ceilings of 1 unit", journal(1, 1)),
+    ("Ceilings, 100", "ceilings of 100 units", journal(1, 100)),
 ]
 assert [len(data) for _, _, data in FILES] == [1184, 680, 353, 288]
 assert [len(data) for _, _, data in JOURNALS] == [96, 64 + 32 * 4096, 96, 288]
 
-ROWS = [(name, text, len(data), data[-32:]) for name, text, data in FILES]
-ROWS += [(name, text, len(data), sha256(data)) for name, text, data in JOURNALS]
+ROWS = [(row, text, len(data), data[-32:]) for row, text, data in FILES]
+ROWS += [(row, text, len(data), sha256(data)) for row, text, data in JOURNALS]
 
 
 def main():
-    for name, text, length, digest in ROWS:
+    for row, text, length, digest in ROWS:
         if "--rust" in sys.argv[1:]:
-            print_rust(f"{name}_DIGEST", digest)
+            print(f'    ({row}, {length}, "{digest.hex()}"),')
         else:
             print(f"{text}: {length} bytes {digest.hex()}")
 

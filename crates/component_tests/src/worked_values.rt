@@ -4,6 +4,7 @@ ghost use Rattle.zk_model.specs.Circuit.{AreWireBits};
 ghost use Rattle.zk_model.specs.Boolean.{circuit_program};
 ghost use Rattle.proof_frames.specs.Readings.{IsShortPlace};
 
+use crate::dealing_tests::{DIRECT, EXTENDED};
 use crate::vectors::FILE_ID;
 use bool_eval::{eval, eval_wires};
 use bristol_reader::{Circuit, read};
@@ -22,7 +23,7 @@ use std::test::Fail;
 use tree_messages::{TreeAsk, TreeReply};
 use wire_auth::{Correlations, KeyTriple, ProverWires, Triple, VerifierWires};
 use zk_coins::CoinBox;
-use zk_model::{FrameKind, Kind, Params, Span};
+use zk_model::{FrameKind, Params, Span};
 
 /// The element of a small number.
 fn small(number: u64) -> Fe {
@@ -181,22 +182,10 @@ fn values_of_products_are_those_of_the_bits(rt: HostRuntime) -> Result<(), Fail>
     Ok(())
 }
 
-/// Files of kind direct with one unit.
-const DIRECT: Params = Params {
-    kind: Kind::Direct,
-    height: 0,
-    trees: 0,
-    base: 0,
-    total: 1,
-};
-
-/// Files of kind extended: trees of height 1, one a round, base pairs for one round, and two units.
-const EXTENDED: Params = Params {
-    kind: Kind::Extended,
-    height: 1,
-    trees: 1,
-    base: 10,
+/// Files of kind extended with two units.
+const TWO_UNITS: Params = Params {
     total: 2,
+    ..EXTENDED
 };
 
 #[test]
@@ -240,7 +229,7 @@ fn files_are_those_of_the_seed(rt: HostRuntime) -> Result<(), Fail> {
 #[test]
 fn files_of_one_dealing_are_told_from_others(rt: HostRuntime) -> Result<(), Fail> {
     let alloc = rt.alloc();
-    let (prover, verifier) = deal(alloc, &EXTENDED, &[7; 32])?;
+    let (prover, verifier) = deal(alloc, &TWO_UNITS, &[7; 32])?;
     assert_eq!(rt; prover.params(), verifier.params());
     assert_eq!(rt; prover.pairs(Span { start: 1, end: 2 }).len(), 11);
     let pads: &[Pads] = verifier.pads(1);
@@ -248,7 +237,7 @@ fn files_of_one_dealing_are_told_from_others(rt: HostRuntime) -> Result<(), Fail
     assert_eq!(rt; prover.encode(alloc)?.len(), 353 + 193);
     assert_eq!(rt; verifier.encode(alloc)?.len(), 288 + 120);
     assert_eq!(rt; dealt(&prover, &verifier), Ok(()));
-    let (other, _) = deal(alloc, &EXTENDED, &[8; 32])?;
+    let (other, _) = deal(alloc, &TWO_UNITS, &[8; 32])?;
     assert_eq!(rt; dealt(&other, &verifier), Err(NotDealt { unit: 0 }));
     Ok(())
 }
@@ -274,7 +263,7 @@ fn files_are_read_back(rt: HostRuntime) -> Result<(), Fail> {
     let right = verifier.encode(alloc)?;
     assert_eq!(rt; (left.len(), right.len()), (1184, 680));
     assert!(rt; are_read_back(alloc, &left, &right)?);
-    let (prover, verifier) = deal(alloc, &EXTENDED, &[7; 32])?;
+    let (prover, verifier) = deal(alloc, &TWO_UNITS, &[7; 32])?;
     let left = prover.encode(alloc)?;
     let right = verifier.encode(alloc)?;
     assert!(rt; are_read_back(alloc, &left, &right)?);

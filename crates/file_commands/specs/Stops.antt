@@ -194,21 +194,20 @@ pub record IsClaim (told : Option Files) (name : List ℕ) (outputs : List Bool)
 
 -- ---- why a door gives no link
 
--- why the door does not listen at the address: it failed, or found no memory
-abbrev pub ListenStop : List ℕ → DoorChange → Refusal → Type 0
-ListenStop address door stop.DoorFailed =
-    RefusesListen address door.old door.new × Rose door.old.listen_faults door.new.listen_faults
-ListenStop address door stop.NoMemory =
-    RefusesListen address door.old door.new × (door.new.listen_faults ≡ door.old.listen_faults)
-ListenStop address door other = ⊥
+-- why a call of the door is refused, whose count of failures was this and is this now: it failed, or found no memory
+abbrev pub DoorStop : Type 0 → ℕ → ℕ → Refusal → Type 0
+DoorStop IsRefused before now stop.DoorFailed = IsRefused × Rose before now
+DoorStop IsRefused before now stop.NoMemory = IsRefused × (now ≡ before)
+DoorStop IsRefused before now other = ⊥
 
--- why the door does not connect to the address: it failed, or found no memory
+-- why the door does not listen at the address, or connect to it
+abbrev pub ListenStop : List ℕ → DoorChange → Refusal → Type 0
+ListenStop address door stop =
+    DoorStop (RefusesListen address door.old door.new) door.old.listen_faults door.new.listen_faults stop
+
 abbrev pub ConnectStop : List ℕ → DoorChange → Refusal → Type 0
-ConnectStop address door stop.DoorFailed =
-    RefusesConnect address door.old door.new × Rose door.old.connect_faults door.new.connect_faults
-ConnectStop address door stop.NoMemory =
-    RefusesConnect address door.old door.new × (door.new.connect_faults ≡ door.old.connect_faults)
-ConnectStop address door other = ⊥
+ConnectStop address door stop =
+    DoorStop (RefusesConnect address door.old door.new) door.old.connect_faults door.new.connect_faults stop
 
 -- what a connect that is refused stops a run by
 abbrev pub connect_refusal : PortFault → Refusal

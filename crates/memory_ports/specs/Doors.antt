@@ -1,22 +1,7 @@
 -- How a door in memory hands out links.
 use Rattle.std.specs.Prelude.{◌≡◌, ◌⊎◌, ◌==◌, ◌&&◌, ℕ, List, [], ◌∷◌, ◌++◌, Bool, true, false, not, Option, Some, None}
-use Rattle.zk_port.specs.Doors.{DoorState}
 use Rattle.zk_port.specs.Links.{LinkState}
 use Rattle.zk_port.specs.declared.way.Way.{Way}
-
--- a door with no links, of which nothing was asked yet
-abbrev pub unasked_door : DoorState
-unasked_door = record {
-  left = 0;
-  offers = λ _. 0;
-  listened = Some [];
-  connected = Some [];
-  made = 0;
-  nexts = 0;
-  listen_faults = 0;
-  connect_faults = 0;
-  next_faults = 0;
-}
 
 -- the first of the links is given, if there is one, and the others stay in order
 abbrev pub GivesFirst : {L : Type 0} → Option L → List L → List L → Type 0

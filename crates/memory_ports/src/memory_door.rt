@@ -1,10 +1,10 @@
 // A door in memory that hands out the links it was given.
-ghost use Rattle.std.specs.Prelude.{◌≡◌, ◌≤◌, ◌+◌, ◌++◌, ◌||◌, ◌&&◌, ◌==◌, ℕ, [], ◌∷◌, true, not, map, string_bytes, OnOk, OnErr, IfOk, IfSome, IsTrue, is_err};
+ghost use Rattle.std.specs.Prelude.{◌≡◌, ◌≤◌, ◌+◌, ◌++◌, ◌||◌, ◌&&◌, ◌==◌, ℕ, [], ◌∷◌, true, not, map, string_bytes, Some, OnOk, OnErr, IfOk, IfSome, IsTrue, is_err};
 ghost use Rattle.std.specs.List.{list_all};
 ghost use Rattle.std.specs.VecDeque.{deque_len};
 ghost use Rattle.zk_port.specs.Counts.{counted, is_failed};
-ghost use Rattle.zk_port.specs.Doors.{IsFreshLink};
-ghost use Rattle.memory_ports.specs.Doors.{is_fresh, unasked_door, GivesFirst, NotesText};
+ghost use Rattle.zk_port.specs.Doors.{IsFreshLink, unasked_door};
+ghost use Rattle.memory_ports.specs.Doors.{is_fresh, GivesFirst, NotesText};
 
 use crate::plan::FaultPlan;
 use std::alloc::{AllocError, Global};
@@ -46,7 +46,7 @@ impl<L: Link, P: FaultPlan> MemoryDoor<L, P> {
     pub fn new(alloc: Global, plan: P) -> Self
         ensures waiting { result.waiting.items ≡ [] }
         ensures called { result.called.items ≡ [] }
-        ensures state { ⟦<MemoryDoor<L, P> as Door>⟧.state result ≡ unasked_door }
+        ensures state { ⟦<MemoryDoor<L, P> as Door>⟧.state result ≡ unasked_door (λ _. 0) (Some []) }
         ensures plan { result.plan ≡ plan }
     {
         MemoryDoor {

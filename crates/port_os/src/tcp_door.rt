@@ -1,6 +1,6 @@
 // Connections of TCP.
 ghost use Rattle.std.specs.Prelude.{◌≡◌, None, IfOk};
-ghost use Rattle.zk_port.specs.Doors.{IsFreshLink};
+ghost use Rattle.zk_port.specs.Doors.{IsFreshLink, unasked_door};
 
 use crate::refusals::refusal;
 use crate::tcp_link::TcpLink;
@@ -27,17 +27,7 @@ pub struct TcpDoor<R: Net> {
 impl<R: Net> TcpDoor<R> {
     /// A door of which nothing was asked yet.
     pub fn new(rt: R) -> Self
-        ensures { ⟦<TcpDoor<R> as Door>⟧.state result ≡ record {
-          left = 0;
-          offers = λ n. n;
-          listened = None;
-          connected = None;
-          made = 0;
-          nexts = 0;
-          listen_faults = 0;
-          connect_faults = 0;
-          next_faults = 0;
-        } }
+        ensures { ⟦<TcpDoor<R> as Door>⟧.state result ≡ unasked_door (λ n. n) None }
     {
         TcpDoor {
             rt,

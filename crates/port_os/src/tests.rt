@@ -108,14 +108,28 @@ fn both_ends<R: Net>(
     Ok((caller, called))
 }
 
+/// Both ends of a connection at an address of this machine.
+fn connected<R: Net>(
+    rt: &R,
+    alloc: Global,
+) -> Result<(TcpLink<R::Stream>, TcpLink<R::Stream>), Fail>
+    ensures { IfOk result (λ ends. IsFreshLink (⟦<TcpLink<R::Stream> as Link>⟧.state ends.0)
+        × IsFreshLink (⟦<TcpLink<R::Stream> as Link>⟧.state ends.1)) }
+{
+    let address = free_address(rt, alloc)?;
+    let mut door = TcpDoor::new(rt);
+    if door.listen(alloc, &address, 1).is_err() {
+        return Err(Fail::new("nobody may listen"));
+    }
+    let ends = both_ends(alloc, &mut door, &address)?;
+    Ok(ends)
+}
+
 /// What one end sends the other receives, and then its end, also where it ended over bytes that it had not read.
 #[test]
 fn a_link_carries_bytes_and_its_end(rt: HostRuntime) -> Result<(), Fail> {
     let alloc: Global = rt.alloc();
-    let address = free_address(&rt, alloc)?;
-    let mut door = TcpDoor::new(&rt);
-    assert!(rt; door.listen(alloc, &address, 1).is_ok());
-    let (mut caller, mut called) = both_ends(alloc, &mut door, &address)?;
+    let (mut caller, mut called) = connected(&rt, alloc)?;
     let mut buffer = [b'.'; 8];
     assert!(rt; caller.send(alloc, b"hello").is_ok());
     assert!(rt; called.receive(alloc, &mut buffer) == Ok(5));
@@ -135,10 +149,7 @@ fn a_link_carries_bytes_and_its_end(rt: HostRuntime) -> Result<(), Fail> {
 #[test]
 fn a_reset_is_a_fault(rt: HostRuntime) -> Result<(), Fail> {
     let alloc: Global = rt.alloc();
-    let address = free_address(&rt, alloc)?;
-    let mut door = TcpDoor::new(&rt);
-    assert!(rt; door.listen(alloc, &address, 1).is_ok());
-    let (mut caller, called) = both_ends(alloc, &mut door, &address)?;
+    let (mut caller, called) = connected(&rt, alloc)?;
     assert!(rt; caller.send(alloc, b"unread").is_ok());
     drop(called);
     let mut buffer = [0; 8];

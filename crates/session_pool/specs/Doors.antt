@@ -1,21 +1,11 @@
 -- What is taken from a door.
 use Rattle.std.specs.Prelude.{◌≡◌, ◌⊎◌, ◌+◌, ◌≤◌, ℕ, zero, suc, Bool, true, false, None}
 use Rattle.zk_port.specs.Counts.{Rose, counted}
-use Rattle.zk_port.specs.Doors.{DoorState}
+use Rattle.zk_port.specs.Doors.{DoorState, unasked_door}
 
 -- what no door tells
 abbrev pub no_door : DoorState
-no_door = record {
-  left = 0;
-  offers = λ _. 0;
-  listened = None;
-  connected = None;
-  made = 0;
-  nexts = 0;
-  listen_faults = 0;
-  connect_faults = 0;
-  next_faults = 0;
-}
+no_door = unasked_door (λ _. 0) None
 
 -- a count of calls after so many more
 abbrev pub called : ℕ → ℕ → ℕ

@@ -27,18 +27,11 @@ fn main(rt: HostRuntime) -> io::Result<()> {
         let words = words_of(alloc, line?.as_str())?;
         let mut shelf = FileShelf::new(&rt);
         let mut out = OutputSink::new(&rt);
+        let disk = FileDisk::new(&rt);
         let nobody = FailAt::new(Vec::new(alloc));
         let door: MemoryDoor<ScriptedLink<NoFault>, FailAt> = MemoryDoor::new(alloc, nobody);
         let finish = run_zk(
-            &rt,
-            alloc,
-            &words,
-            &mut shelf,
-            FileDisk::new(&rt),
-            door,
-            &QuietGate,
-            &[7; 32],
-            &mut out,
+            &rt, alloc, &words, &mut shelf, disk, door, &QuietGate, &[7; 32], &mut out,
         );
         let status = finish.status;
         println!(rt; "status {status}")?;

@@ -18,6 +18,20 @@ pub record DoorState : Type 0 where
   pub connect_faults : ℕ
   pub next_faults : ℕ
 
+-- a door of which nothing was asked yet, which offers so many links, and notes addresses so
+abbrev pub unasked_door : (ℕ → ℕ) → Option (List (List ℕ)) → DoorState
+unasked_door offers noted = record {
+  left = 0;
+  offers = offers;
+  listened = noted;
+  connected = noted;
+  made = 0;
+  nexts = 0;
+  listen_faults = 0;
+  connect_faults = 0;
+  next_faults = 0;
+}
+
 -- after a listen at this address, for so many sessions
 abbrev pub after_listen : List ℕ → ℕ → DoorState → DoorState
 after_listen address sessions old =
