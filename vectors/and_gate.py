@@ -46,8 +46,7 @@ def main() -> None:
         print_rust("FILE_ID", FILE_ID)
         print_rust("AND_LOG", b"".join(frames))
         print_rust("AND_HELLO", hello)
-        for start, rest in enumerate(rests):
-            print_rust(f"AND_REST_{start}", rest)
+        print_rust("AND_RESTS", b"".join(rests))
         return
     pairs = dealt_correlations(0, 64)
     print("id", FILE_ID.hex())

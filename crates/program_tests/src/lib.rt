@@ -3,9 +3,12 @@
 //!
 //! `run_tests` has a rehearsal that is handed back and words that are long, `log_tests` a session's log byte for byte, and `serve_tests`
 //! services whose gate holds sessions or counts what it is told, with peers that are honest over whichever units they are granted.
-//! `party_tests` has both ends in one process, over a connection. `vectors` has bytes that the program did not make.
+//! `party_tests` has both ends in one process, over a connection. `given` has dealt files and journals, `vectors` bytes that the program
+//! did not make.
 #![tactic(auto)]
 
+#[cfg(test)]
+mod given;
 #[cfg(test)]
 mod log_tests;
 #[cfg(test)]

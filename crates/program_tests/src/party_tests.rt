@@ -1,60 +1,26 @@
 // Both ends of a session in one process, over a connection of this machine.
-ghost use Rattle.std.specs.Prelude.{IfOk};
-ghost use Rattle.zk_cli.specs.Journals.{IsJournalDisk};
-
-use crate::run_tests::{AND, SEED, words_of};
-use crate::vectors::FILE_ID;
-use lease_journal::{JournalKind, blank, blank_says_nothing};
-use memory_ports::{MemoryDoor, MemoryShelf, MemorySink, NoFault, ScriptedLink, SureDisk};
+use crate::given::{Files, dealt, new_journal};
+use crate::run_tests::{SEED, words_of};
+use lease_journal::JournalKind;
+use memory_ports::{MemorySink, NoFault};
 use port_os::TcpDoor;
 use std::alloc::{AllocError, Global};
-use std::collections::BTreeMap;
 use std::net::{Net, OpenListener, TcpListener};
 use std::sync::Wait;
 use std::test::Fail;
 use std::thread::{self, Threads, join};
 use std::time::{Clock, Duration};
 use zk_cli::{Finish, run_zk};
-use zk_port::{Disk, QuietGate, Sink};
+use zk_port::{QuietGate, Sink};
 
 /// How often the prover tries to connect, a millisecond apart.
 const TRIES: u32 = 2_000;
-
-type Files = MemoryShelf<NoFault>;
 
 /// How a run ended: its status, and what it wrote.
 #[derive(Drop)]
 struct Ended {
     status: u8,
     written: Vec<u8>,
-}
-
-/// A disk that never fails, with a new journal of one slot of the dealt files.
-fn new_journal(alloc: Global, kind: JournalKind) -> Result<SureDisk, AllocError>
-    ensures { IfOk result (λ disk. IsJournalDisk (⟦<SureDisk as Disk>⟧.state disk)) }
-{
-    blank_says_nothing();
-    let bytes = blank(alloc, kind, &FILE_ID, 4, 1)?;
-    let disk = SureDisk::new(bytes, 64 + 32)?;
-    Ok(disk)
-}
-
-/// The files that `deal x --units 4` gives, and the gate's text under `c`.
-fn dealt<R: Threads + Wait + Sync>(rt: &R, alloc: Global) -> Result<Files, Fail> {
-    let words = words_of(alloc, &["deal", "x", "--units", "4"])?;
-    let mut files = BTreeMap::new(alloc);
-    files.insert(String::from_str(alloc, "c")?, AND.as_bytes().to_vec(alloc)?)?;
-    let mut shelf = MemoryShelf::new(files, NoFault);
-    let mut out = MemorySink::new(alloc, NoFault);
-    let door: MemoryDoor<ScriptedLink<NoFault>, NoFault> = MemoryDoor::new(alloc, NoFault);
-    let disk = new_journal(alloc, JournalKind::Claims)?;
-    let finish = run_zk(
-        rt, alloc, &words, &mut shelf, disk, door, &QuietGate, &SEED, &mut out,
-    );
-    if finish.status != 0 {
-        return Err(Fail::new("not dealt"));
-    }
-    Ok(shelf)
 }
 
 /// An address of this machine at which nobody listens now.

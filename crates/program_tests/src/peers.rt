@@ -2,18 +2,17 @@
 ghost use Rattle.std.specs.Prelude.{◌≡◌};
 ghost use Rattle.zk_port.specs.Doors.{IsFreshLink};
 
-use crate::vectors::{AND_HELLO, AND_REST_0, AND_REST_1, AND_REST_2, AND_REST_3};
+use crate::vectors::{AND_HELLO, AND_RESTS};
 use std::alloc::Global;
 use zk_port::{Link, PortFault};
 
 /// What an honest prover sends after a grant of the unit of this number, or nothing.
 fn rest_of(start: u8) -> &'static [u8] {
-    match start {
-        0 => &AND_REST_0,
-        1 => &AND_REST_1,
-        2 => &AND_REST_2,
-        3 => &AND_REST_3,
-        _ => &[],
+    let rests: &'static [u8] = &AND_RESTS;
+    let from = 63 * usize::from(start);
+    match rests.get(from..from + 63) {
+        Some(rest) => rest,
+        None => &[],
     }
 }
 

@@ -1,49 +1,22 @@
 // Services over a journal, with peers that are honest over whichever units they are granted, and gates that are told of their sessions.
-ghost use Rattle.std.specs.Prelude.{IfOk};
-ghost use Rattle.zk_cli.specs.Journals.{IsJournalDisk};
-
+use crate::given::{dealt, new_journal};
 use crate::peers::HonestPeer;
-use crate::run_tests::{AND, CountingGate, SEED, words_of};
-use crate::vectors::FILE_ID;
-use lease_journal::{JournalKind, blank, blank_says_nothing};
-use memory_ports::{MemoryDoor, MemoryShelf, MemorySink, NoFault, ScriptedLink, SureDisk};
+use crate::run_tests::{CountingGate, SEED, words_of};
+use lease_journal::JournalKind;
+use memory_ports::{MemoryDoor, MemorySink, NoFault, Together};
 use std::alloc::{AllocError, Global};
-use std::collections::BTreeMap;
 use std::sync::atomic::Ordering;
 use std::sync::{Barrier, Wait};
 use std::test::Fail;
 use std::thread::Threads;
 use zk_cli::{Finish, Part, run_zk};
 use zk_model::Span;
-use zk_port::{Disk, Gate, Phase, QuietGate, Shelf, Sink};
-
-/// How many units there are.
-const TOTAL: u64 = 4;
+use zk_port::{Gate, Sink};
 
 /// Where the first slot of a journal begins.
 const SLOT: usize = 64;
 
 type Peers = MemoryDoor<HonestPeer, NoFault>;
-
-/// Holds each granted session until as many are granted as the barrier has places.
-struct Together<'a, R: Wait> {
-    rt: &'a R,
-    barrier: &'a Barrier,
-}
-
-impl<'a, R: Wait> Drop for Together<'a, R> {
-    fn drop(self) {
-        let Together { rt: _, barrier: _ } = self;
-    }
-}
-
-impl<'a, R: Wait> Gate for Together<'a, R> {
-    fn phase(&self, phase: Phase) {
-        if let Phase::Granted { .. } = phase {
-            self.barrier.wait(self.rt);
-        }
-    }
-}
 
 /// What came of a run: the status, what is written, the units of each session that is handed back, and what the disk has.
 #[derive(Drop)]
@@ -52,41 +25,6 @@ struct Ran {
     written: Vec<u8>,
     granted: Vec<Option<Span>>,
     journal: Vec<u8>,
-}
-
-/// A disk that never fails, with the file's new journal.
-fn journal_disk(alloc: Global) -> Result<SureDisk, AllocError>
-    ensures { IfOk result (λ disk. IsJournalDisk (⟦<SureDisk as Disk>⟧.state disk)) }
-{
-    blank_says_nothing();
-    let bytes = blank(alloc, JournalKind::Ceilings, &FILE_ID, TOTAL, 1)?;
-    let disk = SureDisk::new(bytes, 64 + 32)?;
-    Ok(disk)
-}
-
-/// The verifier's file that `deal x` gives, and the gate's text under `c`.
-fn dealt_files<R: Threads + Wait + Sync>(
-    rt: &R,
-    alloc: Global,
-) -> Result<BTreeMap<String, Vec<u8>>, Fail> {
-    let words = words_of(alloc, &["deal", "x", "--units", "4"])?;
-    let mut shelf = MemoryShelf::new(BTreeMap::new(alloc), NoFault);
-    let mut out = MemorySink::new(alloc, NoFault);
-    let door: MemoryDoor<ScriptedLink<NoFault>, NoFault> = MemoryDoor::new(alloc, NoFault);
-    let disk = journal_disk(alloc)?;
-    let finish = run_zk(
-        rt, alloc, &words, &mut shelf, disk, door, &QuietGate, &SEED, &mut out,
-    );
-    if finish.status != 0 {
-        return Err(Fail::new("not dealt"));
-    }
-    let Ok(bytes) = shelf.load(alloc, "x.verifier", 1 << 26) else {
-        return Err(Fail::new("not stored"));
-    };
-    let mut files = BTreeMap::new(alloc);
-    files.insert(String::from_str(alloc, "x.verifier")?, bytes)?;
-    files.insert(String::from_str(alloc, "c")?, AND.as_bytes().to_vec(alloc)?)?;
-    Ok(files)
 }
 
 /// A door at which so many honest peers call.
@@ -121,9 +59,9 @@ fn served<R: Threads + Wait + Sync, G: Gate + Sync + Drop>(
             workers,
         ],
     )?;
-    let mut shelf = MemoryShelf::new(dealt_files(rt, alloc)?, NoFault);
+    let mut shelf = dealt(rt, alloc)?;
     let mut out = MemorySink::new(alloc, NoFault);
-    let disk = journal_disk(alloc)?;
+    let disk = new_journal(alloc, JournalKind::Ceilings)?;
     let finish = run_zk(
         rt, alloc, &words, &mut shelf, disk, door, gate, &SEED, &mut out,
     );
@@ -164,10 +102,7 @@ fn sessions_are_held_at_once(rt: HostRuntime) -> Result<(), Fail> {
     let units = [unit(0), unit(1), unit(2), unit(3)];
     for (word, count) in [("2", 2), ("4", 4)] {
         let barrier = Barrier::new(count);
-        let gate = Together {
-            rt: &rt,
-            barrier: &barrier,
-        };
+        let gate = Together::new(&rt, &barrier);
         let ran = served(&rt, alloc, word, word, door_of(alloc, count)?, &gate)?;
         assert_eq!(rt;
             Some(ran.written.as_slice()),
