@@ -1,6 +1,7 @@
 // A disk whose calls all fail.
-ghost use Rattle.std.specs.Prelude.{◌≡◌, ◌≤◌, true, is_err};
+ghost use Rattle.std.specs.Prelude.{◌≡◌, ◌≤◌, true, length, is_err};
 ghost use Rattle.zk_port.specs.Counts.{counted};
+ghost use Rattle.zk_port.specs.Images.{ImagesFollow, IsTorn};
 
 use zk_port::{Disk, Failed};
 
@@ -28,13 +29,21 @@ impl ClosedDisk {
 }
 
 impl Disk for ClosedDisk {
-    ghost use Rattle.zk_port.specs.Disks.{untold};
+    ghost use Rattle.std.specs.Prelude.{None};
 
-    ghost state = { λ d. untold d.faults };
+    ghost state = { λ d. record {
+      chosen = None;
+      content = None;
+      room = None;
+      images = λ _. Unit {0};
+      moment = 0;
+      images_since = λ _ _. Unit {0};
+      faults = d.faults;
+    } };
 
-    ghost counts_now = { λ d t c le none. none };
+    ghost counts_now = { λ d t c le now. tt };
 
-    ghost only_now = { λ d c none. none };
+    ghost only_now = { λ d c left. tt };
 
     fn faults(&self) -> u64 {
         self.faults
@@ -60,6 +69,7 @@ impl Disk for ClosedDisk {
         ensures refused { is_err result ≡ true }
         ensures count { self.new.faults ≡ counted true self.old.faults }
         ensures faults_grow { self.old.faults ≤ self.new.faults }
+        ensures crash { ImagesFollow (IsTorn _at (length _bytes.now)) (λ _. Unit {0}) (λ _. Unit {0}) }
     {
         Err(self.fail())
     }
