@@ -15,6 +15,3 @@ mod storing;
 pub use event::{Drawn, Event, Moment};
 pub use running::{leases_are_safe, run};
 pub use state::State;
-
-#[cfg(test)]
-mod tests;

@@ -25,6 +25,3 @@ pub use pass::{JournalSeat, Pass};
 pub use rule::Leases;
 pub use table::Words;
 pub use view::{Bounds, Entry, Report, View};
-
-#[cfg(test)]
-mod tests;

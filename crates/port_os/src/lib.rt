@@ -26,6 +26,3 @@ pub use no_memory::found_no_memory;
 pub use output_sink::OutputSink;
 pub use tcp_door::TcpDoor;
 pub use tcp_link::TcpLink;
-
-#[cfg(test)]
-mod tests;

@@ -141,10 +141,10 @@ raise total spent s shown m d above within = record {
 spend : (total : ℕ) (spent : List Span) (s : Span) (shown : ℕ) (m : Machine) → Drew total spent s shown m → s.end ≤ shown
     → EventsLead m (Serves total (spent ++ s ∷ []) s.end shown)
 spend total spent s shown m d below = by_event m (Spend 0 s) may (record {
-  reached = goes_on m (Spend 0 s) d.serves.reached may;
   up = d.serves.up;
   has_pass = d.serves.has_pass;
   total_is = d.serves.total_is;
+  reached = goes_on m (Spend 0 s) d.serves.reached may;
   stage_is = d.serves.stage_is;
   next_is = d.serves.next_is;
   shown_is = d.serves.shown_is;

@@ -112,12 +112,12 @@ begins total spent base ceiling m d rises = by_event m Begin may (record {
     reached = (reached_goes_on m Begin d.reached may).0;
     up = refl;
     has_pass = d.has_pass;
-    total_is = d.total_is;
     stage_is = refl;
+    total_is = d.total_is;
+    free = refl;
     next_is = d.durable_is;
     shown_is = d.durable_is;
     spent_is = d.spent_is;
-    free = refl;
   };
   low = omega arith;
   high = rises;
@@ -201,12 +201,12 @@ runs_are_events = record {
   of_run = of_run;
   of_stop = of_stop;
   begins = first_machine;
-  one_run = one_run;
-  all_runs = all_runs;
   apart = λ id total ceiling first runs later said leave.
       let began = first_machine id total ceiling first said in
       let led = all_runs id total first [] runs later began.0 began.1 leave in
       subst AreSpansApart led.led.is.spent_is (is_consistent _ (reached_inv _ led.led.is.reached)).spent_apart;
+  one_run = one_run;
+  all_runs = all_runs;
 } where
   AreSpansApart : List Span → Type 0
   AreSpansApart spans = AllPairs IsApart spans

@@ -9,6 +9,13 @@ use std::alloc::Global;
 use std::sync::Wait;
 use std::thread::Threads;
 
+/// A scenario, and the outputs that are claimed in it.
+#[derive(Clone, Copy)]
+pub struct Claimed<'a, 'b> {
+    pub scenario: &'a Scenario<'b>,
+    pub outputs: &'a [bool],
+}
+
 /// Adds an option to the words, where its value is not empty.
 fn push_option(alloc: Global, words: &mut Vec<String>, name: &str, value: &str) -> Result<()> {
     if !value.is_empty() {
@@ -80,10 +87,10 @@ fn service_line<R: Threads + Wait + Sync>(
 pub fn service_lines<R: Threads + Wait + Sync>(
     rt: &R,
     alloc: Global,
-    scenario: &Scenario<'_>,
-    outputs: &[bool],
+    claimed: &Claimed<'_, '_>,
     honest: &[Vec<u8>],
 ) -> Result<String> {
+    let Claimed { scenario, outputs } = *claimed;
     let words = service_words(alloc, scenario, outputs)?;
     let script = match honest.get(scenario.service.peer as usize) {
         Some(script) => script.as_slice(),
@@ -114,10 +121,10 @@ fn proof_line<R: Threads + Wait + Sync>(
 pub fn proof_lines<R: Threads + Wait + Sync>(
     rt: &R,
     alloc: Global,
-    scenario: &Scenario<'_>,
-    outputs: &[bool],
+    claimed: &Claimed<'_, '_>,
     honest: &[u8],
 ) -> Result<String> {
+    let Claimed { scenario, outputs } = *claimed;
     let outputs = Bits { bits: outputs };
     let circuit = scenario.circuit;
     let line = format!(in alloc; "prove,here,x.prover,{circuit},BITS,{outputs}")?;

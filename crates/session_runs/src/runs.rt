@@ -1,6 +1,6 @@
 // Runs of the program over files, an output, a door and a journal's disk in memory.
 use crate::piece_link::{PieceLink, plan_of};
-use crate::say::{Bits, Hex, Logged, ProverEnded, Units, VerifierEnded};
+use crate::say::{Bits, Ending, Hex, Logged, Units, prover_ending, verifier_ending};
 use crate::scenario::{Journaled, Outside, Scenario, read_numbers};
 use crate::scene::{input_bits, params_of};
 use crate::sessions::SEED;
@@ -8,6 +8,7 @@ use anyhow::{Error, Result};
 use bristol_reader::read;
 use command_words::write_bits;
 use dealer_files::{ProverFile, VerifierFile, deal};
+use frame_link::Log;
 use lease_journal::{JournalKind, blank, ceiling_slots, claim_slots};
 use memory_ports::{FailAt, MemoryDisk, MemoryDoor, MemoryShelf, MemorySink, QuietDisk};
 use session_prover::ProverNote;
@@ -19,6 +20,7 @@ use std::fmt;
 use std::sync::Wait;
 use std::thread::Threads;
 use zk_cli::{Finish, Part, Rehearsal, run_zk};
+use zk_model::Span;
 use zk_port::{QuietGate, Shelf};
 
 /// A door of peers in memory.
@@ -182,11 +184,11 @@ impl fmt::Display for HandedBack<'_> {
         match self.part {
             Part::Plain => write!(f, "plain"),
             Part::Rehearsed(rehearsal) => write!(f, "{}", Rehearsed { rehearsal }),
-            Part::Proved(note) => write!(f, "{}", Proved { note }),
+            Part::Proved(note) => write!(f, "proved {}", proved(note)),
             Part::Served(notes) => {
                 write!(f, "served")?;
                 for note in notes {
-                    write!(f, " {}", Served { note })?;
+                    write!(f, " {}", served(note))?;
                 }
                 Ok(())
             }
@@ -210,45 +212,36 @@ impl fmt::Display for Rehearsed<'_> {
     }
 }
 
-/// What came of a session with a verifier.
+/// What came of a session: how it ended, the units that it was granted, and its log.
 #[derive(Clone, Copy)]
-struct Proved<'a> {
-    note: &'a ProverNote<PieceLink>,
+struct Led<'a> {
+    ended: Ending,
+    granted: Option<Span>,
+    log: &'a Log,
 }
 
-impl fmt::Display for Proved<'_> {
+impl fmt::Display for Led<'_> {
     fn fmt<W: fmt::Write>(&self, f: &mut fmt::Formatter<W>) -> fmt::Result {
-        let ended = ProverEnded {
-            outcome: self.note.outcome,
-        };
-        let units = Units {
-            span: self.note.granted,
-        };
-        let log = Logged {
-            log: &self.note.log,
-        };
-        write!(f, "proved {ended} units={units} {log}")
+        let ended = self.ended;
+        let units = Units { span: self.granted };
+        let log = Logged { log: self.log };
+        write!(f, "{ended} units={units} {log}")
     }
 }
 
-/// What came of a session that was served.
-#[derive(Clone, Copy)]
-struct Served<'a> {
-    note: &'a SessionNote<PieceLink>,
+/// What came of a session with a verifier.
+fn proved(note: &ProverNote<PieceLink>) -> Led<'_> {
+    let ended = prover_ending(note.outcome);
+    let (granted, log) = (note.granted, &note.log);
+    Led { ended, granted, log }
 }
 
-impl fmt::Display for Served<'_> {
-    fn fmt<W: fmt::Write>(&self, f: &mut fmt::Formatter<W>) -> fmt::Result {
-        let ended = VerifierEnded {
-            outcome: self.note.outcome,
-        };
-        let units = Units {
-            span: self.note.granted,
-        };
-        let log = Logged {
-            log: &self.note.log,
-        };
-        write!(f, "{ended} units={units} {log}")
+/// What came of a session that was served.
+fn served(note: &SessionNote<PieceLink>) -> Led<'_> {
+    Led {
+        ended: verifier_ending(note.outcome),
+        granted: note.granted,
+        log: &note.log,
     }
 }
 

@@ -59,44 +59,54 @@ impl fmt::Display for Differing<'_> {
     }
 }
 
-/// A hello that differs, in words.
+/// How something ended: its name, and up to three numbers with their names, of which one whose name is empty is not said; or what
+/// has no numbers of its own.
 #[derive(Clone, Copy)]
-struct OtherHello {
-    differs: HelloDiffers,
+pub enum Ending {
+    Numbers {
+        name: &'static str,
+        numbers: [(&'static str, u64); 3],
+    },
+    Hello(HelloDiffers),
+    Overlap(Span),
 }
 
-impl fmt::Display for OtherHello {
-    fn fmt<W: fmt::Write>(&self, f: &mut fmt::Formatter<W>) -> fmt::Result {
-        let (name, want, got) = match &self.differs {
-            HelloDiffers::Id { want, got } => ("id", want, got),
-            HelloDiffers::Circuit { want, got } => ("circuit", want, got),
-            HelloDiffers::Outputs { want, got } => ("outputs", want, got),
-            HelloDiffers::Version { want, got } => {
-                return write!(f, "bad-hello version want={want} got={got}");
-            }
-        };
-        let differing = Differing { name, want, got };
-        write!(f, "{differing}")
+/// A name, and the numbers that are said.
+fn write_numbers<W: fmt::Write>(
+    f: &mut fmt::Formatter<W>,
+    name: &str,
+    numbers: &[(&'static str, u64); 3],
+) -> fmt::Result {
+    write!(f, "{name}")?;
+    for (name, number) in numbers {
+        if !name.is_empty() {
+            write!(f, " {name}={number}")?;
+        }
     }
+    Ok(())
 }
 
-/// How something ended: its name, and up to three numbers with their names; one whose name is empty is not said.
-#[derive(Clone, Copy)]
-struct Ending {
-    name: &'static str,
-    numbers: [(&'static str, u64); 3],
+/// The first field of a hello that differs.
+fn write_hello<W: fmt::Write>(f: &mut fmt::Formatter<W>, differs: &HelloDiffers) -> fmt::Result {
+    let (name, want, got) = match differs {
+        HelloDiffers::Id { want, got } => ("id", want, got),
+        HelloDiffers::Circuit { want, got } => ("circuit", want, got),
+        HelloDiffers::Outputs { want, got } => ("outputs", want, got),
+        HelloDiffers::Version { want, got } => {
+            return write!(f, "bad-hello version want={want} got={got}");
+        }
+    };
+    let differing = Differing { name, want, got };
+    write!(f, "{differing}")
 }
 
 impl fmt::Display for Ending {
     fn fmt<W: fmt::Write>(&self, f: &mut fmt::Formatter<W>) -> fmt::Result {
-        let name = self.name;
-        write!(f, "{name}")?;
-        for (name, number) in &self.numbers {
-            if !name.is_empty() {
-                write!(f, " {name}={number}")?;
-            }
+        match self {
+            Ending::Numbers { name, numbers } => write_numbers(f, name, numbers),
+            Ending::Hello(differs) => write_hello(f, differs),
+            Ending::Overlap(Span { start, end }) => write!(f, "overlap earlier={start}..{end}"),
         }
-        Ok(())
     }
 }
 
@@ -105,102 +115,76 @@ const NONE: (&str, u64) = ("", 0);
 /// An ending without numbers.
 fn bare(name: &'static str) -> Ending {
     let numbers = [NONE, NONE, NONE];
-    Ending { name, numbers }
+    Ending::Numbers { name, numbers }
 }
 
 /// An ending with one number.
 fn single(name: &'static str, label: &'static str, number: u64) -> Ending {
     let numbers = [(label, number), NONE, NONE];
-    Ending { name, numbers }
+    Ending::Numbers { name, numbers }
+}
+
+/// A check that fails at this number of its kind, with both sides.
+fn rejected(
+    name: &'static str,
+    label: &'static str,
+    number: u32,
+    left: u64,
+    right: u64,
+) -> Ending {
+    let number = u64::from(number);
+    let numbers = [(label, number), ("left", left), ("right", right)];
+    Ending::Numbers { name, numbers }
 }
 
 /// How a session ended for the verifier.
-#[derive(Clone, Copy)]
-pub struct VerifierEnded {
-    pub outcome: VerifierOutcome,
-}
-
-impl fmt::Display for VerifierEnded {
-    fn fmt<W: fmt::Write>(&self, f: &mut fmt::Formatter<W>) -> fmt::Result {
-        let ending = match self.outcome {
-            VerifierOutcome::Accepted => bare("accepted"),
-            VerifierOutcome::RejectedSum {
-                section,
-                left,
-                right,
-            } => Ending {
-                name: "rejected-sum",
-                numbers: [
-                    ("section", u64::from(section)),
-                    ("left", left.value()),
-                    ("right", right.value()),
-                ],
-            },
-            VerifierOutcome::RejectedOpening {
-                output,
-                left,
-                right,
-            } => Ending {
-                name: "rejected-opening",
-                numbers: [
-                    ("output", u64::from(output)),
-                    ("left", left.value()),
-                    ("right", right.value()),
-                ],
-            },
-            VerifierOutcome::PeerEnded { at } => single("peer-ended", "at", at),
-            VerifierOutcome::BadFrame { place } => single("bad-frame", "place", place),
-            VerifierOutcome::BadHello(differs) => {
-                let hello = OtherHello { differs };
-                return write!(f, "{hello}");
-            }
-            VerifierOutcome::Exhausted { at, count, total } => Ending {
-                name: "exhausted",
-                numbers: [("at", at), ("count", u64::from(count)), ("total", total)],
-            },
-            VerifierOutcome::Device => bare("device"),
-            VerifierOutcome::Broken { first } => single("broken", "first", first),
-            VerifierOutcome::Link => bare("link"),
-            VerifierOutcome::NoMemory => bare("no-memory"),
-        };
-        write!(f, "{ending}")
+pub fn verifier_ending(outcome: VerifierOutcome) -> Ending {
+    match outcome {
+        VerifierOutcome::Accepted => bare("accepted"),
+        VerifierOutcome::RejectedSum {
+            section,
+            left,
+            right,
+        } => rejected("rejected-sum", "section", section, left.value(), right.value()),
+        VerifierOutcome::RejectedOpening {
+            output,
+            left,
+            right,
+        } => rejected("rejected-opening", "output", output, left.value(), right.value()),
+        VerifierOutcome::PeerEnded { at } => single("peer-ended", "at", at),
+        VerifierOutcome::BadFrame { place } => single("bad-frame", "place", place),
+        VerifierOutcome::BadHello(differs) => Ending::Hello(differs),
+        VerifierOutcome::Exhausted { at, count, total } => Ending::Numbers {
+            name: "exhausted",
+            numbers: [("at", at), ("count", u64::from(count)), ("total", total)],
+        },
+        VerifierOutcome::Device => bare("device"),
+        VerifierOutcome::Broken { first } => single("broken", "first", first),
+        VerifierOutcome::Link => bare("link"),
+        VerifierOutcome::NoMemory => bare("no-memory"),
     }
 }
 
 /// How a session ended for the prover.
-#[derive(Clone, Copy)]
-pub struct ProverEnded {
-    pub outcome: ProverOutcome,
-}
-
-impl fmt::Display for ProverEnded {
-    fn fmt<W: fmt::Write>(&self, f: &mut fmt::Formatter<W>) -> fmt::Result {
-        let ending = match self.outcome {
-            ProverOutcome::Accepted => bare("accepted"),
-            ProverOutcome::Rejected { code, number } => Ending {
-                name: "rejected",
-                numbers: [
-                    ("code", u64::from(code)),
-                    ("number", u64::from(number)),
-                    NONE,
-                ],
-            },
-            ProverOutcome::PeerEnded { at } => single("peer-ended", "at", at),
-            ProverOutcome::BadFrame { place } => single("bad-frame", "place", place),
-            ProverOutcome::BadGrant => bare("bad-grant"),
-            ProverOutcome::PeerRefused { code } => single("peer-refused", "code", u64::from(code)),
-            ProverOutcome::Broken { first } => single("broken", "first", first),
-            ProverOutcome::OutOfRange { total } => single("out-of-range", "total", total),
-            ProverOutcome::Overlap { earlier } => {
-                let Span { start, end } = earlier;
-                return write!(f, "overlap earlier={start}..{end}");
-            }
-            ProverOutcome::Full { slots } => single("full", "slots", slots),
-            ProverOutcome::Device => bare("device"),
-            ProverOutcome::Link => bare("link"),
-            ProverOutcome::NoMemory => bare("no-memory"),
-        };
-        write!(f, "{ending}")
+pub fn prover_ending(outcome: ProverOutcome) -> Ending {
+    match outcome {
+        ProverOutcome::Accepted => bare("accepted"),
+        ProverOutcome::Rejected { code, number } => {
+            let numbers = [("code", u64::from(code)), ("number", u64::from(number)), NONE];
+            let name = "rejected";
+            Ending::Numbers { name, numbers }
+        }
+        ProverOutcome::PeerEnded { at } => single("peer-ended", "at", at),
+        ProverOutcome::BadFrame { place } => single("bad-frame", "place", place),
+        ProverOutcome::BadGrant => bare("bad-grant"),
+        ProverOutcome::PeerRefused { code } => single("peer-refused", "code", u64::from(code)),
+        ProverOutcome::Broken { first } => single("broken", "first", first),
+        ProverOutcome::OutOfRange { total } => single("out-of-range", "total", total),
+        ProverOutcome::Overlap { earlier } => Ending::Overlap(earlier),
+        ProverOutcome::Full { slots } => single("full", "slots", slots),
+        ProverOutcome::Device => bare("device"),
+        ProverOutcome::Link => bare("link"),
+        ProverOutcome::NoMemory => bare("no-memory"),
     }
 }
 

@@ -5,9 +5,9 @@ ghost use Rattle.zk_model.specs.declared.limits.TheConstants.{MAX_SECTION_LENGTH
 ghost use Rattle.zk_port.specs.Doors.{IsFreshLink};
 
 use crate::piece_link::{PieceLink, plan_of};
-use crate::program_ends::{proof_lines, service_lines};
+use crate::program_ends::{Claimed, proof_lines, service_lines};
 use crate::runs::words_line;
-use crate::say::{Asked, Called, Judged, Logged, ProverEnded, Units, VerifierEnded};
+use crate::say::{Asked, Called, Ending, Judged, Logged, Units, prover_ending, verifier_ending};
 use crate::scenario::{End, Numbers, Scenario, Sweep};
 use crate::scene::{claimed_outputs, input_bits, params_of, wires_of};
 use crate::units::{AskedUnits, NextUnits, claim_fault, lease_fault};
@@ -23,7 +23,6 @@ use session_rehearsal::rehearse;
 use session_verifier::{SessionNote, verify_session};
 use sha2::{Digest, Sha256};
 use std::alloc::{AllocError, Global};
-use std::fmt;
 use std::sync::Wait;
 use std::thread::Threads;
 use zk_model::{MAX_SECTION_LENGTH, Side, Span};
@@ -40,6 +39,16 @@ pub struct Case {
     pub script: Vec<u8>,
     pub call: u64,
     pub piece: u64,
+}
+
+/// What came of a session of either end.
+#[derive(Drop)]
+struct Session {
+    ended: Ending,
+    asked: Asked,
+    granted: Option<Span>,
+    log: Log,
+    link: PieceLink,
 }
 
 /// What each end sends in a session that both hold with each other.
@@ -82,7 +91,7 @@ fn verified(
     start: u64,
     fault: Option<LeaseFault>,
     link: PieceLink,
-) -> (SessionNote<PieceLink>, Asked)
+) -> Session
     requires { (⟦<PieceLink as Link>⟧.state link).is_open ≡ true }
 {
     let mut grantor = NextUnits {
@@ -97,7 +106,13 @@ fn verified(
         Some(count) => Asked::Count(count),
         None => Asked::Nothing,
     };
-    (note, asked)
+    Session {
+        ended: verifier_ending(note.outcome),
+        asked,
+        granted: note.granted,
+        log: note.log,
+        link: note.link,
+    }
 }
 
 /// A prover's session whose units are claimed, or refused, and what it asked for.
@@ -106,7 +121,7 @@ fn proved(
     job: &ProverJob<'_>,
     fault: Option<ClaimFault>,
     link: PieceLink,
-) -> (ProverNote<PieceLink>, Asked)
+) -> Session
     requires { (⟦<PieceLink as Link>⟧.state link).is_open ≡ true }
 {
     let mut claimant = AskedUnits {
@@ -120,14 +135,27 @@ fn proved(
         Some((start, count)) => Asked::From(start, count),
         None => Asked::Nothing,
     };
-    (note, asked)
+    let ProverNote {
+        granted,
+        outcome,
+        log,
+        link,
+    } = note;
+    let ended = prover_ending(outcome);
+    Session {
+        ended,
+        asked,
+        granted,
+        log,
+        link,
+    }
 }
 
 /// What a prover sends whose peer sends these bytes.
 fn prover_part(alloc: Global, job: &ProverJob<'_>, heard: &[u8]) -> Result<Vec<u8>> {
     let link = link_of(alloc, heard.to_vec(alloc)?, 0, 4096)?;
-    let (note, _) = proved(alloc, job, None, link);
-    Ok(part_of(alloc, &note.log, Side::Prover)?)
+    let session = proved(alloc, job, None, link);
+    Ok(part_of(alloc, &session.log, Side::Prover)?)
 }
 
 /// What a verifier sends whose peer sends these bytes.
@@ -138,8 +166,8 @@ fn verifier_part(
     heard: &[u8],
 ) -> Result<Vec<u8>> {
     let link = link_of(alloc, heard.to_vec(alloc)?, 0, 4096)?;
-    let (note, _) = verified(alloc, job, start, None, link);
-    Ok(part_of(alloc, &note.log, Side::Verifier)?)
+    let session = verified(alloc, job, start, None, link);
+    Ok(part_of(alloc, &session.log, Side::Verifier)?)
 }
 
 /// The session that both ends hold with each other: turn by turn, each has what the other has sent.
@@ -217,70 +245,16 @@ pub fn cases_of(alloc: Global, scenario: &Scenario<'_>, honest: &[u8]) -> Result
 }
 
 /// The line of a session of this name.
-fn told<E: fmt::Display>(
-    alloc: Global,
-    name: &str,
-    ended: &E,
-    asked: &Asked,
-    granted: Option<Span>,
-    log: &Log,
-    link: &PieceLink,
-) -> Result<String> {
-    let units = Units { span: granted };
-    let log = Logged { log };
-    let calls = Called { link };
+fn line_of(alloc: Global, name: &str, session: &Session) -> Result<String> {
+    let (ended, asked) = (session.ended, &session.asked);
+    let units = Units {
+        span: session.granted,
+    };
+    let log = Logged { log: &session.log };
+    let calls = Called {
+        link: &session.link,
+    };
     Ok(format!(in alloc; "{name}{ended} asked={asked} units={units} {log} {calls}\n")?)
-}
-
-/// The line of one session of a verifier.
-fn verifier_line(
-    alloc: Global,
-    scenario: &Scenario<'_>,
-    job: &VerifierJob<'_>,
-    name: &str,
-    link: PieceLink,
-) -> Result<String>
-    requires { (⟦<PieceLink as Link>⟧.state link).is_open ≡ true }
-{
-    let fault = lease_fault(scenario)?;
-    let (note, asked) = verified(alloc, job, scenario.start, fault, link);
-    let ended = VerifierEnded {
-        outcome: note.outcome,
-    };
-    told(
-        alloc,
-        name,
-        &ended,
-        &asked,
-        note.granted,
-        &note.log,
-        &note.link,
-    )
-}
-
-/// The line of one session of a prover.
-fn prover_line(
-    alloc: Global,
-    scenario: &Scenario<'_>,
-    job: &ProverJob<'_>,
-    name: &str,
-    link: PieceLink,
-) -> Result<String>
-    requires { (⟦<PieceLink as Link>⟧.state link).is_open ≡ true }
-{
-    let (note, asked) = proved(alloc, job, claim_fault(scenario)?, link);
-    let ended = ProverEnded {
-        outcome: note.outcome,
-    };
-    told(
-        alloc,
-        name,
-        &ended,
-        &asked,
-        note.granted,
-        &note.log,
-        &note.link,
-    )
 }
 
 /// Whose session it is, and what it is about.
@@ -305,8 +279,15 @@ fn case_line(
     } = case;
     let link = link_of(alloc, script, call, piece)?;
     match party {
-        Party::Verifier(job) => verifier_line(alloc, scenario, job, &name, link),
-        Party::Prover(job) => prover_line(alloc, scenario, job, &name, link),
+        Party::Verifier(job) => {
+            let fault = lease_fault(scenario)?;
+            let session = verified(alloc, job, scenario.start, fault, link);
+            line_of(alloc, &name, &session)
+        }
+        Party::Prover(job) => {
+            let fault = claim_fault(scenario)?;
+            line_of(alloc, &name, &proved(alloc, job, fault, link))
+        }
     }
 }
 
@@ -345,18 +326,18 @@ fn honest_peers(
 fn lines_of<R: Threads + Wait + Sync>(
     rt: &R,
     alloc: Global,
-    scenario: &Scenario<'_>,
-    outputs: &[bool],
+    claimed: &Claimed<'_, '_>,
     prover: &ProverJob<'_>,
     verifier: &VerifierJob<'_>,
 ) -> Result<String> {
+    let scenario = claimed.scenario;
     if scenario.end == End::Service {
         let honest = honest_peers(alloc, scenario, prover, verifier)?;
-        return service_lines(rt, alloc, scenario, outputs, &honest);
+        return service_lines(rt, alloc, claimed, &honest);
     }
     let sent = hold_dialogue(alloc, scenario.start, prover, verifier)?;
     match scenario.end {
-        End::Proof => proof_lines(rt, alloc, scenario, outputs, &sent.verifier),
+        End::Proof => proof_lines(rt, alloc, claimed, &sent.verifier),
         _ => party_lines(alloc, scenario, prover, verifier, &sent),
     }
 }
@@ -411,9 +392,13 @@ fn circuit_lines<R: Threads + Wait + Sync>(
     let (prover_file, verifier_file) = deal(alloc, &params_of(scenario)?, &SEED)?;
     let prover = ProverJob::new(&statement, &prover_file, &wires);
     let section = section_of(scenario)?;
+    let claimed = Claimed {
+        scenario,
+        outputs: &outputs,
+    };
     match VerifierJob::fit(&statement, &verifier_file, section) {
-        Ok(verifier) => lines_of(rt, alloc, scenario, &outputs, &prover, &verifier),
-        Err(fault) => unfit_lines(rt, alloc, scenario, &outputs, &prover, &fault),
+        Ok(verifier) => lines_of(rt, alloc, &claimed, &prover, &verifier),
+        Err(fault) => unfit_lines(rt, alloc, &claimed, &prover, &fault),
     }
 }
 
@@ -421,15 +406,14 @@ fn circuit_lines<R: Threads + Wait + Sync>(
 fn unfit_lines<R: Threads + Wait + Sync>(
     rt: &R,
     alloc: Global,
-    scenario: &Scenario<'_>,
-    outputs: &[bool],
+    claimed: &Claimed<'_, '_>,
     prover: &ProverJob<'_>,
     fault: &TooLarge,
 ) -> Result<String> {
     let TooLarge { need, units } = *fault;
-    match scenario.end {
-        End::Prover => case_lines(alloc, scenario, &Party::Prover(prover), &[]),
-        End::Proof => proof_lines(rt, alloc, scenario, outputs, &[]),
+    match claimed.scenario.end {
+        End::Prover => case_lines(alloc, claimed.scenario, &Party::Prover(prover), &[]),
+        End::Proof => proof_lines(rt, alloc, claimed, &[]),
         _ => Ok(format!(in alloc; "too-large need={need} units={units}\n")?),
     }
 }

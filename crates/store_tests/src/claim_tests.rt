@@ -146,12 +146,10 @@ fn left(
 fn a_stop_leaves_the_old_claims_or_the_new(rt: HostRuntime) -> Result<(), Fail> {
     let alloc: Global = rt.alloc();
     let both = [span(0, 4), span(4, 6)];
-    for (call, leftovers) in STOPS {
-        for (leftover, is_written) in leftovers {
-            let store = left(alloc, call, leftover)?;
-            let count = if is_written { 2 } else { 1 };
-            assert!(rt; Some(store.claims()) == both.get(..count));
-        }
+    for (call, leftover, is_written) in STOPS {
+        let store = left(alloc, call, leftover)?;
+        let count = if is_written { 2 } else { 1 };
+        assert!(rt; Some(store.claims()) == both.get(..count));
     }
     Ok(())
 }

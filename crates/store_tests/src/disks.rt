@@ -1,9 +1,15 @@
 // New journals, the disks in memory that they stand on, and what a crash may leave of them.
-ghost use Rattle.std.specs.Prelude.{◌≡◌, ◌≤◌, ◌+◌, ◌*◌, ℕ, List, Some, None, false, IfOk};
-ghost use Rattle.zk_model.specs.Journals.{IsTidy, slots_at};
+ghost use Rattle.std.specs.Prelude.{◌≡◌, ◌≤◌, ◌<◌, ◌+◌, ◌*◌, ◌^◌, ℕ, List, Some, None, false, length, All, IfOk};
+ghost use Rattle.zk_model.specs.Journals.{HasHeader, IsTidy, slots_at};
+ghost use Rattle.zk_model.specs.declared.JournalKind.TheVariants as kind;
+ghost use Rattle.zk_port.specs.Disks.{Stays};
 ghost use Rattle.lease_journal.specs.Causes.{SaysSlots};
+ghost use Rattle.lease_store.specs.Desks.{Begins};
+ghost use Rattle.lease_store.specs.Leases.{IsPassAt};
 
 use lease_journal::{JournalKind, blank, blank_says_nothing};
+use lease_store::LeaseParts;
+use lease_words::Pass;
 use memory_ports::{FailAt, FaultPlan, Leftover, MemoryDisk, QuietDisk, SureDisk};
 use std::alloc::Global;
 use std::test::Fail;
@@ -14,39 +20,23 @@ pub const ID: [u8; 32] = [7; 32];
 
 /// A put makes four calls of the disk. For each call, counted from 1, what a crash leaves after a run that stopped in it, and whether the
 /// slot is then found written.
-pub const STOPS: [(u64, [(Leftover, bool); 3]); 4] = [
-    (
-        1,
-        [
-            (Leftover::Old, false),
-            (Leftover::New, false),
-            (Leftover::Filled(0x5A), false),
-        ],
-    ),
-    (
-        2,
-        [
-            (Leftover::Old, false),
-            (Leftover::New, false),
-            (Leftover::Filled(0x5A), false),
-        ],
-    ),
-    (
-        3,
-        [
-            (Leftover::Old, false),
-            (Leftover::New, false),
-            (Leftover::Filled(0x5A), true),
-        ],
-    ),
-    (
-        4,
-        [
-            (Leftover::Old, false),
-            (Leftover::New, true),
-            (Leftover::Filled(0), false),
-        ],
-    ),
+pub const STOPS: [(u64, Leftover, bool); 12] = [
+    // The body is written,
+    (1, Leftover::Old, false),
+    (1, Leftover::New, false),
+    (1, Leftover::Filled(0x5A), false),
+    // and synced,
+    (2, Leftover::Old, false),
+    (2, Leftover::New, false),
+    (2, Leftover::Filled(0x5A), false),
+    // the slot is opened,
+    (3, Leftover::Old, false),
+    (3, Leftover::New, false),
+    (3, Leftover::Filled(0x5A), true),
+    // and synced.
+    (4, Leftover::Old, false),
+    (4, Leftover::New, true),
+    (4, Leftover::Filled(0), false),
 ];
 
 /// A new journal of this kind.
@@ -118,4 +108,33 @@ pub fn sure_disk(alloc: Global, kind: JournalKind, total: u64, slots: u64) -> Re
 {
     let bytes = new_journal(alloc, kind, total, slots)?;
     Ok(SureDisk::new(bytes, 64 + 32 * slots as usize)?)
+}
+
+/// A store of so many units with so many passes that starts on this disk.
+pub fn started<B: Disk + Drop>(
+    alloc: Global,
+    disk: B,
+    total: u64,
+    passes: u32,
+) -> Result<(LeaseParts<B>, Vec<Pass>), Fail>
+    requires total { total ≤ 2 ^ 40 }
+    requires passes { (1 ≤ passes) × (passes ≤ 1024) }
+    requires room { (size : ℕ) → (B.state disk).room ≡ Some size
+        → (slots : ℕ) → SaysSlots (B.state disk).content slots → 64 + 32 * slots ≤ size }
+    requires tidy { (bytes : List ℕ) → (B.state disk).content ≡ Some bytes
+        → IsTidy 64 (slots_at bytes) bytes }
+    ensures own { IfOk result (λ r. All (IsPassAt r.0.table r.0.total) r.1.items) }
+    ensures passes { IfOk result (λ r. r.0.passes ≡ passes) }
+    ensures made { IfOk result (λ r. length r.1.items ≡ r.0.passes) }
+    ensures some { IfOk result (λ r. 0 < length r.1.items) }
+    ensures total { IfOk result (λ r. r.0.total ≡ total) }
+    ensures header { IfOk result (λ r. (bytes : List ℕ) → (B.state r.0.disk).content ≡ Some bytes
+        → HasHeader kind.Ceilings ID r.0.total bytes) }
+    ensures begins { IfOk result (λ r. Begins (B.state r.0.disk) (B.state r.0.disk)) }
+    ensures stays { IfOk result (λ r. Stays (B.state disk) (B.state r.0.disk)) }
+{
+    match LeaseParts::start(alloc, disk, &ID, total, passes) {
+        Ok(started) => Ok(started),
+        Err(_) => Err(Fail::new("a store does not start")),
+    }
 }

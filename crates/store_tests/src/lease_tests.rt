@@ -7,7 +7,9 @@ ghost use Rattle.lease_journal.specs.Causes.{SaysSlots};
 ghost use Rattle.lease_store.specs.Desks.{Begins};
 ghost use Rattle.lease_store.specs.Leases.{IsClosed, IsPassAt};
 
-use crate::disks::{ID, STOPS, failing, new_journal, quiet_disk, sure_disk, telling_disk};
+use crate::disks::{
+    ID, STOPS, failing, new_journal, quiet_disk, started, sure_disk, telling_disk,
+};
 use lease_journal::{JournalKind, StartFault};
 use lease_store::{LeaseFault, LeaseName, LeaseParts, LeaseStore, StoreFault, TryFault};
 use lease_words::Pass;
@@ -88,32 +90,6 @@ fn answers_of<N: LeaseName, B: Disk + Drop, R: Wait>(
     let mut passes = Vec::with_capacity(alloc, 1)?;
     passes.push(pass)?;
     Ok((answers, store.close(passes)))
-}
-
-/// A store that starts on this disk.
-fn started<B: Disk + Drop>(
-    alloc: Global,
-    disk: B,
-    total: u64,
-    passes: u32,
-) -> Result<(LeaseParts<B>, Vec<Pass>), Fail>
-    requires total { total ≤ 2 ^ 40 }
-    requires passes { (1 ≤ passes) × (passes ≤ 1024) }
-    requires room { (size : ℕ) → (B.state disk).room ≡ Some size
-        → (slots : ℕ) → SaysSlots (B.state disk).content slots → 64 + 32 * slots ≤ size }
-    requires tidy { (bytes : List ℕ) → (B.state disk).content ≡ Some bytes
-        → IsTidy 64 (slots_at bytes) bytes }
-    ensures own { IfOk result (λ r. All (IsPassAt r.0.table r.0.total) r.1.items) }
-    ensures made { IfOk result (λ r. r.0.passes ≡ passes) }
-    ensures header { IfOk result (λ r. (bytes : List ℕ) → (B.state r.0.disk).content ≡ Some bytes
-        → HasHeader kind.Ceilings ID r.0.total bytes) }
-    ensures begins { IfOk result (λ r. Begins (B.state r.0.disk) (B.state r.0.disk)) }
-    ensures stays { IfOk result (λ r. Stays (B.state disk) (B.state r.0.disk)) }
-{
-    match LeaseParts::start(alloc, disk, &ID, total, passes) {
-        Ok(started) => Ok(started),
-        Err(_) => Err(Fail::new("a store does not start")),
-    }
 }
 
 /// What calls of a store of 100 units with one pass answer, and the disk after them, on which a store may start again.
@@ -243,21 +219,19 @@ fn a_close_makes_no_call_of_the_disk(rt: HostRuntime) -> Result<(), Fail> {
 fn a_stop_leaves_the_old_ceiling_or_the_new(rt: HostRuntime) -> Result<(), Fail> {
     let alloc: Global = rt.alloc();
     let calls = [Call::Lease(3)];
-    for (call, leftovers) in STOPS {
-        for (leftover, is_written) in leftovers {
-            // The start makes three calls.
-            let plan = StopAt::new(call.saturating_add(3));
-            let (answers, disk) = played_anew(&rt, alloc, plan, &calls)?;
-            assert!(rt; answers.as_slice() == [Answer::Refused(LeaseFault::Device)].as_slice());
-            let image = disk.image(alloc, &[leftover])?;
-            let (answers, _disk) = played(&rt, alloc, image, failing(alloc, &[])?, &calls)?;
-            let wanted = if is_written {
-                leased(16, 19)
-            } else {
-                leased(0, 3)
-            };
-            assert!(rt; answers.as_slice() == [wanted].as_slice());
-        }
+    for (call, leftover, is_written) in STOPS {
+        // The start makes three calls.
+        let plan = StopAt::new(call.saturating_add(3));
+        let (answers, disk) = played_anew(&rt, alloc, plan, &calls)?;
+        assert!(rt; answers.as_slice() == [Answer::Refused(LeaseFault::Device)].as_slice());
+        let image = disk.image(alloc, &[leftover])?;
+        let (answers, _disk) = played(&rt, alloc, image, failing(alloc, &[])?, &calls)?;
+        let wanted = if is_written {
+            leased(16, 19)
+        } else {
+            leased(0, 3)
+        };
+        assert!(rt; answers.as_slice() == [wanted].as_slice());
     }
     Ok(())
 }

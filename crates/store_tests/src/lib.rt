@@ -1,7 +1,7 @@
 //! Tests of journals, leases, claims and services over disks in memory: calls that fail, crashes at each call and what they leave,
 //! starts after them, damaged journals, and threads that lease and serve at once.
 //!
-//! `journal_tests` has those of `lease_journal`, `lease_tests` those of `lease_store`, `claim_tests` those of `claim_store` and
+//! `machine_tests` has those of `lease_core`, `word_tests` those of `lease_words`, `journal_tests` those of `lease_journal`, `lease_tests` those of `lease_store`, `claim_tests` those of `claim_store` and
 //! `pool_tests` those of `session_pool`. `disks` has the journals and disks that they start on, and what a crash may leave of them.
 #![tactic(auto)]
 
@@ -14,4 +14,8 @@ mod journal_tests;
 #[cfg(test)]
 mod lease_tests;
 #[cfg(test)]
+mod machine_tests;
+#[cfg(test)]
 mod pool_tests;
+#[cfg(test)]
+mod word_tests;

@@ -6,7 +6,7 @@ ghost use Rattle.lease_journal.specs.Causes.{SaysSlots};
 ghost use Rattle.lease_store.specs.Desks.{Begins};
 ghost use Rattle.lease_store.specs.Leases.{IsPassAt};
 
-use crate::disks::{ID, failing, new_journal, quiet_disk, sure_disk};
+use crate::disks::{failing, new_journal, quiet_disk, started, sure_disk};
 use lease_journal::JournalKind;
 use lease_store::{Grantor, LeaseFault, LeaseParts};
 use lease_words::Pass;
@@ -88,31 +88,6 @@ impl<L: Link + Drop> Session<L> for Asks {
 
 type Peers = MemoryDoor<ScriptedLink<NoFault>, NoFault>;
 
-/// A store on this disk with so many passes.
-fn started<B: Disk + Drop>(
-    alloc: Global,
-    disk: B,
-    passes: u32,
-) -> Result<(LeaseParts<B>, Vec<Pass>), Fail>
-    requires passes { (1 ≤ passes) × (passes ≤ 1024) }
-    requires room { (size : ℕ) → (B.state disk).room ≡ Some size
-        → (slots : ℕ) → SaysSlots (B.state disk).content slots → 64 + 32 * slots ≤ size }
-    requires tidy { (bytes : List ℕ) → (B.state disk).content ≡ Some bytes
-        → IsTidy 64 (slots_at bytes) bytes }
-    ensures own { IfOk result (λ r. All (IsPassAt r.0.table r.0.total) r.1.items) }
-    ensures made { IfOk result (λ r. length r.1.items ≡ r.0.passes) }
-    ensures some { IfOk result (λ r. 0 < length r.1.items) }
-    ensures total { IfOk result (λ r. r.0.total ≡ TOTAL) }
-    ensures header { IfOk result (λ r. (bytes : List ℕ) → (B.state r.0.disk).content ≡ Some bytes
-        → HasHeader kind.Ceilings ID r.0.total bytes) }
-    ensures begins { IfOk result (λ r. Begins (B.state r.0.disk) (B.state r.0.disk)) }
-{
-    match LeaseParts::start(alloc, disk, &ID, TOTAL, passes) {
-        Ok(started) => Ok(started),
-        Err(_) => Err(Fail::new("a store does not start")),
-    }
-}
-
 /// A door at which a peer waits for each of these bytes, and sends it.
 fn door_of(alloc: Global, bytes: &[u8]) -> Result<Peers, AllocError> {
     let mut door = MemoryDoor::new(alloc, NoFault);
@@ -140,7 +115,7 @@ fn run_on<B: Disk + Drop + Send, G: Gate + Sync, R: Threads + Wait + Sync>(
     requires tidy { (bytes : List ℕ) → (B.state disk).content ≡ Some bytes
         → IsTidy 64 (slots_at bytes) bytes }
 {
-    let (parts, passes) = started(alloc, disk, passes)?;
+    let (parts, passes) = started(alloc, disk, TOTAL, passes)?;
     let door = door_of(alloc, bytes)?;
     Ok(serve_all(rt, alloc, &Asks, parts, passes, door, sessions, gate))
 }

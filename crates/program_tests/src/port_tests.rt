@@ -2,7 +2,7 @@
 ghost use Rattle.std.specs.Prelude.{IfOk};
 ghost use Rattle.zk_port.specs.Doors.{IsFreshLink};
 
-use crate::{FileDisk, FileShelf, OutputSink, TcpDoor, TcpLink};
+use port_os::{FileDisk, FileShelf, OutputSink, TcpDoor, TcpLink};
 use std::alloc::Global;
 use std::fs;
 use std::net::{Net, OpenListener, TcpListener};

@@ -1,8 +1,8 @@
-// Draws of one thread and of two.
+// Draws from the lease words, of one thread and of two.
 ghost use Rattle.std.specs.Prelude.{◌≡◌, ◌≤◌, length, IfOk, All};
 ghost use Rattle.lease_words.specs.Calls.{journal_view, IsPassOf, IsSeatOf};
 
-use crate::{Exhausted, JournalSeat, Pass, Words, start};
+use lease_words::{Exhausted, JournalSeat, Pass, Words, start};
 use std::alloc::{AllocError, Global};
 use std::test::Fail;
 use std::thread::{Threads, join};

@@ -1,5 +1,5 @@
-// Eras, crashes and claims.
-use crate::{Event, Moment, State, run};
+// Eras, crashes and claims of the lease machine.
+use lease_core::{Event, Moment, State, run};
 use std::alloc::AllocError;
 use std::test::Fail;
 use zk_model::Span;
