@@ -233,7 +233,11 @@ impl fmt::Display for Led<'_> {
 fn proved(note: &ProverNote<PieceLink>) -> Led<'_> {
     let ended = prover_ending(note.outcome);
     let (granted, log) = (note.granted, &note.log);
-    Led { ended, granted, log }
+    Led {
+        ended,
+        granted,
+        log,
+    }
 }
 
 /// What came of a session that was served.

@@ -59,31 +59,46 @@ impl fmt::Display for Differing<'_> {
     }
 }
 
-/// How something ended: its name, and up to three numbers with their names, of which one whose name is empty is not said; or what
-/// has no numbers of its own.
+/// A number with its name; one whose name is empty is not said.
 #[derive(Clone, Copy)]
-pub enum Ending {
-    Numbers {
-        name: &'static str,
-        numbers: [(&'static str, u64); 3],
-    },
-    Hello(HelloDiffers),
-    Overlap(Span),
+pub struct Labelled {
+    label: &'static str,
+    number: u64,
 }
 
-/// A name, and the numbers that are said.
-fn write_numbers<W: fmt::Write>(
-    f: &mut fmt::Formatter<W>,
-    name: &str,
-    numbers: &[(&'static str, u64); 3],
-) -> fmt::Result {
-    write!(f, "{name}")?;
-    for (name, number) in numbers {
-        if !name.is_empty() {
-            write!(f, " {name}={number}")?;
+impl fmt::Display for Labelled {
+    fn fmt<W: fmt::Write>(&self, f: &mut fmt::Formatter<W>) -> fmt::Result {
+        let Labelled { label, number } = *self;
+        if label.is_empty() {
+            return Ok(());
         }
+        write!(f, " {label}={number}")
     }
-    Ok(())
+}
+
+/// A name, and up to three numbers.
+#[derive(Clone, Copy)]
+pub struct Numbers {
+    name: &'static str,
+    first: Labelled,
+    second: Labelled,
+    third: Labelled,
+}
+
+impl fmt::Display for Numbers {
+    fn fmt<W: fmt::Write>(&self, f: &mut fmt::Formatter<W>) -> fmt::Result {
+        let (name, first) = (self.name, self.first);
+        let (second, third) = (self.second, self.third);
+        write!(f, "{name}{first}{second}{third}")
+    }
+}
+
+/// How something ended.
+#[derive(Clone, Copy)]
+pub enum Ending {
+    Named(Numbers),
+    Hello(HelloDiffers),
+    Overlap(Span),
 }
 
 /// The first field of a hello that differs.
@@ -103,38 +118,41 @@ fn write_hello<W: fmt::Write>(f: &mut fmt::Formatter<W>, differs: &HelloDiffers)
 impl fmt::Display for Ending {
     fn fmt<W: fmt::Write>(&self, f: &mut fmt::Formatter<W>) -> fmt::Result {
         match self {
-            Ending::Numbers { name, numbers } => write_numbers(f, name, numbers),
+            Ending::Named(numbers) => write!(f, "{numbers}"),
             Ending::Hello(differs) => write_hello(f, differs),
             Ending::Overlap(Span { start, end }) => write!(f, "overlap earlier={start}..{end}"),
         }
     }
 }
 
-const NONE: (&str, u64) = ("", 0);
+/// A number that is said.
+fn with_label(label: &'static str, number: u64) -> Labelled {
+    Labelled { label, number }
+}
+
+/// An ending with these numbers.
+fn named(name: &'static str, first: Labelled, second: Labelled, third: Labelled) -> Ending {
+    Ending::Named(Numbers {
+        name,
+        first,
+        second,
+        third,
+    })
+}
 
 /// An ending without numbers.
 fn bare(name: &'static str) -> Ending {
-    let numbers = [NONE, NONE, NONE];
-    Ending::Numbers { name, numbers }
+    single(name, "", 0)
 }
 
 /// An ending with one number.
 fn single(name: &'static str, label: &'static str, number: u64) -> Ending {
-    let numbers = [(label, number), NONE, NONE];
-    Ending::Numbers { name, numbers }
+    pair(name, with_label(label, number), with_label("", 0))
 }
 
-/// A check that fails at this number of its kind, with both sides.
-fn rejected(
-    name: &'static str,
-    label: &'static str,
-    number: u32,
-    left: u64,
-    right: u64,
-) -> Ending {
-    let number = u64::from(number);
-    let numbers = [(label, number), ("left", left), ("right", right)];
-    Ending::Numbers { name, numbers }
+/// An ending with two.
+fn pair(name: &'static str, first: Labelled, second: Labelled) -> Ending {
+    named(name, first, second, with_label("", 0))
 }
 
 /// How a session ended for the verifier.
@@ -145,19 +163,31 @@ pub fn verifier_ending(outcome: VerifierOutcome) -> Ending {
             section,
             left,
             right,
-        } => rejected("rejected-sum", "section", section, left.value(), right.value()),
+        } => named(
+            "rejected-sum",
+            with_label("section", u64::from(section)),
+            with_label("left", left.value()),
+            with_label("right", right.value()),
+        ),
         VerifierOutcome::RejectedOpening {
             output,
             left,
             right,
-        } => rejected("rejected-opening", "output", output, left.value(), right.value()),
+        } => named(
+            "rejected-opening",
+            with_label("output", u64::from(output)),
+            with_label("left", left.value()),
+            with_label("right", right.value()),
+        ),
         VerifierOutcome::PeerEnded { at } => single("peer-ended", "at", at),
         VerifierOutcome::BadFrame { place } => single("bad-frame", "place", place),
         VerifierOutcome::BadHello(differs) => Ending::Hello(differs),
-        VerifierOutcome::Exhausted { at, count, total } => Ending::Numbers {
-            name: "exhausted",
-            numbers: [("at", at), ("count", u64::from(count)), ("total", total)],
-        },
+        VerifierOutcome::Exhausted { at, count, total } => named(
+            "exhausted",
+            with_label("at", at),
+            with_label("count", u64::from(count)),
+            with_label("total", total),
+        ),
         VerifierOutcome::Device => bare("device"),
         VerifierOutcome::Broken { first } => single("broken", "first", first),
         VerifierOutcome::Link => bare("link"),
@@ -169,11 +199,11 @@ pub fn verifier_ending(outcome: VerifierOutcome) -> Ending {
 pub fn prover_ending(outcome: ProverOutcome) -> Ending {
     match outcome {
         ProverOutcome::Accepted => bare("accepted"),
-        ProverOutcome::Rejected { code, number } => {
-            let numbers = [("code", u64::from(code)), ("number", u64::from(number)), NONE];
-            let name = "rejected";
-            Ending::Numbers { name, numbers }
-        }
+        ProverOutcome::Rejected { code, number } => pair(
+            "rejected",
+            with_label("code", u64::from(code)),
+            with_label("number", u64::from(number)),
+        ),
         ProverOutcome::PeerEnded { at } => single("peer-ended", "at", at),
         ProverOutcome::BadFrame { place } => single("bad-frame", "place", place),
         ProverOutcome::BadGrant => bare("bad-grant"),

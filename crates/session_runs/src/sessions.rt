@@ -116,12 +116,7 @@ fn verified(
 }
 
 /// A prover's session whose units are claimed, or refused, and what it asked for.
-fn proved(
-    alloc: Global,
-    job: &ProverJob<'_>,
-    fault: Option<ClaimFault>,
-    link: PieceLink,
-) -> Session
+fn proved(alloc: Global, job: &ProverJob<'_>, fault: Option<ClaimFault>, link: PieceLink) -> Session
     requires { (⟦<PieceLink as Link>⟧.state link).is_open ≡ true }
 {
     let mut claimant = AskedUnits {

@@ -7,9 +7,7 @@ ghost use Rattle.lease_journal.specs.Causes.{SaysSlots};
 ghost use Rattle.lease_store.specs.Desks.{Begins};
 ghost use Rattle.lease_store.specs.Leases.{IsClosed, IsPassAt};
 
-use crate::disks::{
-    ID, STOPS, failing, new_journal, quiet_disk, started, sure_disk, telling_disk,
-};
+use crate::disks::{ID, STOPS, failing, new_journal, quiet_disk, started, sure_disk, telling_disk};
 use lease_journal::{JournalKind, StartFault};
 use lease_store::{LeaseFault, LeaseName, LeaseParts, LeaseStore, StoreFault, TryFault};
 use lease_words::Pass;
