@@ -177,13 +177,13 @@ def reset(room: Room) -> None:
 
 
 def other_outputs(room: Room) -> None:
-    refused = Said(("no grant hello outputs\n", 1), [("peer refused 1\n", 8)])
+    refused = Said(("no grant hello statement\n", 1), [("peer refused 1\n", 8)])
     meet(room, [Other(bits="01", outputs="0")], refused)
 
 
 def other_circuit(room: Room) -> None:
     room.put("spaced", AND_GATE.replace(b" ", b"  "))
-    meet(room, [Other(circuit="spaced")], Said(("no grant hello circuit\n", 1), [("peer refused 1\n", 8)]))
+    meet(room, [Other(circuit="spaced")], Said(("no grant hello statement\n", 1), [("peer refused 1\n", 8)]))
 
 
 def other_deal(room: Room) -> None:

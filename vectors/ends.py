@@ -56,9 +56,12 @@ class Job(NamedTuple):
         size = 64 if self.params is None else self.params.trees * 2**self.params.height
         return max(1, -(-self.need(section) // size))
 
+    def digests(self) -> bytes:
+        """The digests of its statement: of the circuit's text, of the claimed outputs, and of no public bits."""
+        return self.claim.digest + sha256("".join(map(str, self.outputs)).encode()) + sha256(b"")
+
     def hello(self) -> bytes:
-        digest = sha256("".join(map(str, self.outputs)).encode())
-        return frame(1, FILE_ID + self.claim.digest + digest + bytes([1]))
+        return frame(1, FILE_ID + self.digests()[:64] + bytes([1]))
 
 
 # ---- frames that a place allows
@@ -85,6 +88,7 @@ ELEMENT = Field(8, lambda part: struct.unpack("<Q", part)[0] < P)
 Place = Dict[int, List[Field]]
 
 HELLO: Place = {1: [anything(97)]}
+LONG_HELLO: Place = {1: [anything(129)]}
 GRANT: Place = {2: [anything(16)], 10: [code(1, 4)]}
 CHALLENGE: Place = {6: [ELEMENT]}
 VERDICT: Place = {9: [code(0, 2), anything(4)]}
@@ -106,10 +110,18 @@ def payload_length(fields: List[Field]) -> int:
     return sum(field.size for field in fields)
 
 
+def form_of(place: Place, data: bytes) -> Place:
+    """The same place, but that of the long form where the length of a hello begins so."""
+    return LONG_HELLO if place is HELLO and data[1:2] == bytes([129]) else place
+
+
 def still_wanted(place: Place, data: bytes) -> int:
-    """How many bytes of the frame under way are still wanted: one, where the first decides."""
+    """How many bytes of the frame under way are still wanted: those up to the byte that decides, where one does."""
+    if place is HELLO and len(data) < 2:
+        return 2 - len(data)
     if not data and len(place) > 1:
         return 1
+    place = form_of(place, data)
     fields = place[data[0]] if data else next(iter(place.values()))
     return 5 + payload_length(fields) - len(data)
 
@@ -118,6 +130,7 @@ def first_bad(place: Place, data: bytes) -> Optional[int]:
     """The place of the first byte after which no frame that is allowed can follow."""
     if data[0] not in place:
         return 0
+    place = form_of(place, data)
     fields = place[data[0]]
     for i, byte in enumerate(struct.pack("<I", payload_length(fields)), 1):
         if data[i : i + 1] not in (b"", bytes([byte])):
@@ -302,13 +315,16 @@ def read_elements(data: bytes) -> List[int]:
     return [x for (x,) in struct.iter_unpack("<Q", data[5:])]
 
 
-def compare_hello(end: End, wanted: bytes, got: bytes) -> None:
-    for name, start in (("id", 5), ("circuit", 37), ("outputs", 69)):
-        want, came = wanted[start : start + 32], got[start : start + 32]
-        if want != came:
-            end.refuse(1, f"bad-hello {name} want={want.hex()} got={came.hex()}")
-    if got[101] != 1:
-        end.refuse(1, f"bad-hello version want=1 got={got[101]}")
+def compare_hello(end: End, job: Job, got: bytes) -> None:
+    came = got[5:37]
+    if came != FILE_ID:
+        end.refuse(1, f"bad-hello id want={FILE_ID.hex()} got={came.hex()}")
+    version = 1 if len(got) == 102 else 2
+    if got[101] != version:
+        end.refuse(1, f"bad-hello version want={version} got={got[101]}")
+    said = got[37:101] + (got[102:] or sha256(b""))
+    if said != job.digests():
+        end.refuse(1, f"bad-hello statement want={job.digests().hex()} got={said.hex()}")
 
 
 def lease(end: End, job: Job, grant: Grant) -> Tuple[int, int]:
@@ -357,7 +373,7 @@ def judge(job: Job, dealt_keys: List[int], given: List[int], challenge: int, sum
 
 def verify_steps(end: End, job: Job, grant: Grant) -> None:
     products = len(products_of(job.claim.circuit))
-    compare_hello(end, job.hello(), end.take(HELLO))
+    compare_hello(end, job, end.take(HELLO))
     start, count = lease(end, job, grant)
     keys = take_keys(end, job, start, count)
     corrections = read_elements(end.take(element_place(5, products)))

@@ -87,7 +87,7 @@ def lies(address: Tuple[str, int]) -> Seen:
     end = Prover("p", Socket(address))
     end.send(JOB._replace(claim=JOB.claim._replace(digest=bytes(32))).hello())
     assert end.take(GRANT) == frame(10, b"\x01")
-    return seen(end, "refused", "no grant hello circuit")
+    return seen(end, "refused", "no grant hello statement")
 
 
 def begun(program: str, folder: pathlib.Path, sessions: int, workers: int) -> Service:

@@ -345,7 +345,21 @@ def wrong_provers() -> List[Scenario]:
     for more in (HELLO, frame(5, bytes(32)), CORRECTIONS[:5] + element(P - 1)[:7] + b"\x20", CORRECTIONS[:5] + P.to_bytes(8, "little")):
         scenarios.append(line("verifier", keep=102, more=more.hex()))
     scenarios += [line("verifier", outputs="0"), line("verifier", bits="10", outputs="1")]
-    return scenarios
+    return scenarios + wrong_greeters()
+
+
+def wrong_greeters() -> List[Scenario]:
+    """A verifier's sessions with peers that send a hello in the long form, of another version or of another length."""
+
+    def long_hello(version: int, digest: bytes) -> bytes:
+        return frame(1, HELLO[5:101] + bytes([version]) + digest) + BY_PROVER[102:]
+
+    none, one = sha256(b""), sha256(b"1")
+    greetings = [long_hello(2, none), long_hello(1, none), long_hello(2, one), long_hello(0, one)]
+    scenarios = [line("verifier", keep=0, more=greeting.hex()) for greeting in greetings]
+    scenarios += [line("verifier", keep=0, more=greetings[0].hex(), pieces=pieces) for pieces in (1, 3, 134)]
+    scenarios += [line("verifier", keep=0, more=greetings[0][:count].hex()) for count in (1, 2, 3, 102, 133, 134)]
+    return scenarios + [line("verifier", set=f"{place}:{byte}") for place, byte in ((101, 2), (1, 98), (1, 128), (1, 129), (1, 0), (2, 1))]
 
 
 def wrong_askers() -> List[Scenario]:

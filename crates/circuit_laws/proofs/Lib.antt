@@ -4,9 +4,11 @@ pub mod ByGate
 pub mod CircuitIsProgram
 pub mod Unique
 pub mod GateValues
+pub mod Ordered
 pub mod OneOutcome
 pub mod BitsSolve
 pub mod SolvedByBits
 pub mod Satisfied
+pub mod Made
 pub mod CircuitIsStatement
 pub mod GatesAreFew

@@ -1,10 +1,10 @@
 -- Boolean circuits and their programs: satisfying the truth tables is solving the equations, both ways.
-use Rattle.std.specs.Prelude.{◌≡◌, ℕ, ◌+◌, ◌≤◌, Bool, List, ◌++◌, length, map, take, slice_index}
+use Rattle.std.specs.Prelude.{◌≡◌, ℕ, ◌+◌, ◌≤◌, Bool, List, ◌++◌, length, map, take, drop, slice_index}
 use Rattle.std.specs.List.{range_with_len}
 use Rattle.zk_model.specs.Bits.{from_bit}
 use Rattle.zk_model.specs.Bytes.{AreBytes}
 use Rattle.zk_model.specs.Circuit.{Circuit, bit_of, AreWireBits, Satisfies, IsSet, IsWellFormed}
-use Rattle.zk_model.specs.Program.{Program, Carries, IsSetInAll, Solves, IsSolvedBy, IsProgram}
+use Rattle.zk_model.specs.Program.{Program, Carries, IsSetInAll, Solves, IsSolvedBy, IsProgram, IsOrdered, AreMade}
 use Rattle.zk_model.specs.Boolean.{circuit_program, products_of_bits}
 use Rattle.zk_model.specs.Statement.{IsStatement, circuit_statement}
 
@@ -12,6 +12,11 @@ use Rattle.zk_model.specs.Statement.{IsStatement, circuit_statement}
 abbrev pub CircuitIsProgram : Type 0
 CircuitIsProgram = (public : ℕ) (circuit : Circuit) → IsWellFormed circuit → public ≤ circuit.inputs
     → IsProgram (circuit_program public circuit)
+
+-- whose steps take no product before its factors are set
+abbrev pub CircuitIsOrdered : Type 0
+CircuitIsOrdered = (public : ℕ) (circuit : Circuit) → IsWellFormed circuit → public ≤ circuit.inputs
+    → IsOrdered (circuit_program public circuit)
 
 -- there are no more inputs and gates than wires
 abbrev pub GatesAreFew : Type 0
@@ -23,10 +28,11 @@ ProductsAreNumbered = (public : ℕ) (circuit : Circuit)
     → map (λ product. product.c) (circuit_program public circuit).products
     ≡ range_with_len 0 (circuit_program public circuit).givens
 
--- claims of a circuit's outputs are a statement
+-- claims of a circuit's outputs are a statement, with some of its first inputs public
 abbrev pub CircuitIsStatement : Type 0
-CircuitIsStatement = (circuit : Circuit) (digest : List ℕ) (outputs : List Bool) → IsWellFormed circuit → AreBytes 32 digest
-    → length outputs ≡ circuit.outputs → IsStatement (circuit_statement circuit digest outputs)
+CircuitIsStatement = (circuit : Circuit) (digest : List ℕ) (public outputs : List Bool) → IsWellFormed circuit
+    → AreBytes 32 digest → length public ≤ circuit.inputs → length outputs ≡ circuit.outputs
+    → IsStatement (circuit_statement circuit digest public outputs)
 
 -- the input bits determine the outputs
 abbrev pub OneOutcome : Type 0
@@ -51,6 +57,13 @@ BitsSolve = (public : ℕ) (circuit : Circuit) (inputs bits : List Bool) → IsW
     → AreWireBits circuit inputs bits
     → Solves (circuit_program public circuit) (map from_bit (take public inputs)) (map from_bit bits)
     (products_of_bits public circuit bits)
+
+-- and are what their first ones, where these are public, and the other inputs make
+abbrev pub BitsAreMade : Type 0
+BitsAreMade = (public : ℕ) (circuit : Circuit) (inputs bits : List Bool) → IsWellFormed circuit → public ≤ circuit.inputs
+    → AreWireBits circuit inputs bits
+    → AreMade (circuit_program public circuit) (map from_bit (take public inputs)) (map from_bit (drop public inputs))
+    (map from_bit bits) (products_of_bits public circuit bits)
 
 -- private inputs and claims that are bits, of which the circuit gives the claims
 pub record AreSatisfying (circuit : Circuit) (known : List Bool) (inputs claims : List ℕ) : Type 0 where
@@ -78,3 +91,9 @@ abbrev pub OneOnSetWires : Type 0
 OneOnSetWires = (one : ℕ) (program : Program) (public given some others : List ℕ) (wire : ℕ) → IsProgram program
     → Carries one program public given some → Carries one program public given others → IsSetInAll program wire
     → slice_index some wire ≡ slice_index others wire
+
+-- public values and inputs make one list of given values
+abbrev pub OneMade : Type 0
+OneMade = (program : Program) (public inputs some_wires some other_wires others : List ℕ) → IsProgram program
+    → IsOrdered program → AreMade program public inputs some_wires some → AreMade program public inputs other_wires others
+    → some ≡ others

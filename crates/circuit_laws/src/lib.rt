@@ -9,6 +9,7 @@
 mod circuits;
 
 pub use circuits::{
-    bits_solve, circuit_is_program, circuit_is_statement, gates_are_few, one_on_set_wires,
-    one_outcome, products_are_numbered, satisfied_is_solved, solved_by_bits, solved_is_satisfied,
+    bits_are_made, bits_solve, circuit_is_ordered, circuit_is_program, circuit_is_statement,
+    gates_are_few, one_made, one_on_set_wires, one_outcome, products_are_numbered,
+    satisfied_is_solved, solved_by_bits, solved_is_satisfied,
 };

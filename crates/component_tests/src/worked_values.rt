@@ -1,16 +1,12 @@
 // Each part of a session at rows that the program did not make.
-ghost use Rattle.std.specs.Prelude.{◌≡◌, ◌≤◌, Bool, List, length, IfOk};
-ghost use Rattle.zk_model.specs.Circuit.{AreWireBits};
-ghost use Rattle.zk_model.specs.Boolean.{circuit_program};
 ghost use Rattle.proof_frames.specs.Readings.{IsShortPlace};
 
 use crate::dealing_tests::{DIRECT, EXTENDED};
 use crate::vectors::FILE_ID;
 use bool_eval::{eval, eval_wires};
 use bristol_reader::{Circuit, read};
-use circuit_laws::bits_solve;
 use dealer_files::{FileFault, NotDealt, Pads, deal, dealt, decode_prover, decode_verifier};
-use field_program::{FieldProgram, Step};
+use field_program::Step;
 use gate_translate::translate;
 use mersenne_field::{Fe, Pair};
 use mult_check::{check_openings, section_left, section_sums};
@@ -44,25 +40,6 @@ fn circuit_of(alloc: Global, text: &[u8]) -> Result<Circuit, Fail> {
         return Err(Fail::new("no circuit"));
     };
     Ok(circuit)
-}
-
-/// The pairs of all wires of a circuit's program at the bits of its wires, over dealt pairs, and the corrections.
-fn prover_wires<'a>(
-    alloc: Global,
-    circuit: &Circuit,
-    program: &'a FieldProgram,
-    bits: &'a [bool],
-    dealt: &'a [Pair],
-) -> Result<(ProverWires<'a>, Vec<Fe>), Fail>
-    requires translated { program.now ≡ circuit_program 0 circuit.now }
-    requires wires { (inputs : List Bool) × AreWireBits circuit.now inputs bits.now }
-    requires dealt { program.now.givens ≤ length dealt.now }
-    ensures program { IfOk result (λ r. r.0.program ≡ program.now) }
-    ensures one_each { IfOk result (λ r. length r.1.items ≡ program.now.givens) }
-{
-    bits_solve();
-    let _wires = circuit.wires();
-    Ok(ProverWires::run(alloc, program, &[], bits, Correlations::Dealt(dealt))?)
 }
 
 #[test]
@@ -104,16 +81,17 @@ fn a_correction_changes_the_value_and_the_key(rt: HostRuntime) -> Result<(), Fai
     let alloc = rt.alloc();
     let circuit = circuit_of(alloc, b"0 1 1 1 1 1")?;
     let program = translate(alloc, &circuit)?;
-    let Ok(bits) = eval_wires(alloc, &circuit, &[true]) else {
-        return Err(Fail::new("no bits"));
-    };
     let key = small(5);
     let pairs = [small_pair(3, 4)];
     let keys = [small(19)];
-    if program.public() != 0 || program.givens() != 1 || program.opened().len() != 1 {
+    if program.public() != 0 || program.inputs() != 1 {
+        return Err(Fail::new("other inputs"));
+    }
+    if program.givens() != 1 || program.opened().len() != 1 {
         return Err(Fail::new("another program"));
     }
-    let (prover, corrections) = prover_wires(alloc, &circuit, &program, &bits, &pairs)?;
+    let dealt = Correlations::Dealt(&pairs);
+    let (prover, corrections) = ProverWires::run(alloc, &program, &[], &[small(1)], dealt)?;
     assert_eq!(rt; corrections.as_slice(), [small((1 << 61) - 3)].as_slice());
     assert_eq!(rt; prover.output(0), small_pair(1, 4));
     let verifier = VerifierWires::run(alloc, &program, &[], &keys, key, &corrections)?;
@@ -154,7 +132,10 @@ fn values_of_products_are_those_of_the_bits(rt: HostRuntime) -> Result<(), Fail>
     };
     assert_eq!(rt; bits.as_slice(), [true, false, false].as_slice());
     let pairs = [small_pair(0, 10), small_pair(0, 20), small_pair(0, 30)];
-    if bits.len() != program.wires() || program.steps() != 1 || program.givens() != 3 {
+    if program.public() != 0 || program.inputs() != 2 {
+        return Err(Fail::new("other inputs"));
+    }
+    if program.steps() != 1 || program.givens() != 3 {
         return Err(Fail::new("another program"));
     }
     assert_eq!(rt;
@@ -166,7 +147,9 @@ fn values_of_products_are_those_of_the_bits(rt: HostRuntime) -> Result<(), Fail>
             product: 2,
         }
     );
-    let (prover, values) = prover_wires(alloc, &circuit, &program, &bits, &pairs)?;
+    let inputs = [small(1), small(0)];
+    let dealt = Correlations::Dealt(&pairs);
+    let (prover, values) = ProverWires::run(alloc, &program, &[], &inputs, dealt)?;
     assert_eq!(rt;
         values.as_slice(),
         [small(1), small(0), small(0)].as_slice()
@@ -352,6 +335,13 @@ fn a_bad_byte_is_told_with_its_place_and_its_frame(rt: HostRuntime) -> Result<()
     let prime = [5, 24, 0, 0, 0, 255, 255, 255, 255, 255, 255, 255, 31];
     let place = 12;
     let found = bad_byte(alloc, three, &prime)?;
+    assert_eq!(rt; found, Some(BadFrame { place, kind }));
+    // A hello whose length is that of neither form, and a long one of more bytes.
+    let (place, kind) = (1, FrameKind::Hello);
+    let found = bad_byte(alloc, Expect::Hello, &[1, 98])?;
+    assert_eq!(rt; found, Some(BadFrame { place, kind }));
+    let place = 2;
+    let found = bad_byte(alloc, Expect::Hello, &[1, 129, 1])?;
     assert_eq!(rt; found, Some(BadFrame { place, kind }));
     // A refusal without a reason, and a grant of more bytes.
     let (place, kind) = (5, FrameKind::Refuse);

@@ -1,6 +1,6 @@
 -- The programs that are held.
 use Rattle.std.specs.Prelude.{◌≡◌, ℕ, ◌^◌, ◌≤◌, List, map, length, slice_get, Some}
-use Rattle.zk_model.specs.Program.{Program, IsProgram}
+use Rattle.zk_model.specs.Program.{Program, IsProgram, IsOrdered}
 use Rattle.zk_model.specs.declared.Product.{Product}
 use Rattle.field_program.specs.PackedSteps.{step_of, numbered}
 use Rattle.field_program.specs.Steps.{equations}
@@ -21,9 +21,11 @@ program_of wires public inputs givens rules factors opened = record {
   opened = opened;
 }
 
--- a program within the limits of the circuits that are read, each of whose given values is that of the product of its number
+-- a program within the limits of the circuits that are read, each of whose given values is that of the product of its number, and
+-- whose steps take no product before its factors are set
 pub record IsSmallProgram (program : Program) : Type 0 where
   pub formed : IsProgram program
+  pub ordered : IsOrdered program
   pub wires : program.wires ≤ MAX_WIRES
   pub givens : program.givens ≤ MAX_WIRES
   pub products : length program.products ≤ MAX_WIRES

@@ -1,5 +1,5 @@
 -- What a run says and answers, why it stops, and what is known of the files that it loads.
-use Rattle.std.specs.Prelude.{◌≡◌, ◌≢◌, ◌⊎◌, ◌≤◌, ℕ, List, length, ◌++◌, codes, Bool, Option, None}
+use Rattle.std.specs.Prelude.{◌≡◌, ◌≢◌, ◌⊎◌, ◌≤◌, ℕ, List, [], length, ◌++◌, codes, Bool, Option, None}
 use Rattle.std.specs.Prelude.{nat_le, if◌then◌else◌}
 use Rattle.std.specs.Fmt.{decimal}
 use Rattle.sha2.specs.Sha256.{sha256}
@@ -190,7 +190,7 @@ pub record IsClaim (told : Option Files) (name : List ℕ) (outputs : List Bool)
   pub loaded : IsLoaded told name text
   pub says : IsText circuit text
   pub count : length outputs ≡ circuit.outputs
-  pub statement_is : statement ≡ circuit_statement circuit (sha256 text) outputs
+  pub statement_is : statement ≡ circuit_statement circuit (sha256 text) [] outputs
 
 -- ---- why a door gives no link
 

@@ -1,11 +1,12 @@
 -- The frames of a session determine the values that they spell.
 use Rattle.std.proofs.Common.{◌≡◌, ℕ, ◌^◌, ◌<◌, List, [], ◌∷◌, ◌++◌, map, flat_map, length, drop, get_or, refl, sym, ◌∙◌, ap, arith}
-use Rattle.std.specs.Prelude.{Bool, true, false, All}
+use Rattle.std.specs.Prelude.{Bool, true, false, Option, Some, None, unwrap_or, IfSome, All}
 use Rattle.std.specs.Int.{w32, w64, to_le_bytes}
-use Rattle.frame_laws.proofs.Codes.{IsCode, regroup, bytes_code, word64_code, word32_code, element_code, pair_code, many_code, frame_code}
+use Rattle.frame_laws.proofs.Codes.{IsCode, regroup, same_front, bytes_code, word64_code, word32_code, element_code, pair_code, many_code, frame_code}
+use Rattle.frame_laws.proofs.Hellos.{hello_payload, payload_length, digest_most}
 use Rattle.zk_model.specs.Bits.{from_bit}
 use Rattle.zk_model.specs.Field.{IsElement}
-use Rattle.zk_model.specs.Bytes.{LeftRight, AreBothBytes, element_bytes}
+use Rattle.zk_model.specs.Bytes.{LeftRight, AreBytes, AreBothBytes, element_bytes}
 use Rattle.zk_model.specs.Program.{Program}
 use Rattle.zk_model.specs.Files.{AreParams}
 use Rattle.zk_model.specs.Transcript.{Grant, TreeAsk, TreeReply, Round, frame_bytes, hello_frame, grant_frame, ask_frame, reply_frame, sums_frame, IsHello, IsGrant, IsTreeAsk, IsTreeReply, IsRound}
@@ -30,17 +31,32 @@ same_bits (x ∷ xs) (y ∷ ys) ps qs sized same =
     let rest : (xs ≡ ys) × (ps ≡ qs) = same_bits xs ys ps qs (omega arith) (ap (drop 1) same) in
     (λ i. first i ∷ rest.0 i, rest.1)
 
+-- the digest of public bits, where there is one
+same_digest : (x y : Option (List ℕ)) → IfSome x (AreBytes 32) → IfSome y (AreBytes 32) → unwrap_or x [] ≡ unwrap_or y [] → x ≡ y
+same_digest None None left right same = refl
+same_digest None (Some digest) left right same = absurd (omega (arith, ap length same, right.0))
+same_digest (Some digest) None left right same = absurd (omega (arith, ap length same, left.0))
+same_digest (Some digest) (Some other) left right same = ap Some same
+
 -- the greeting
 pub hello_code : IsCode hello_frame IsHello
 hello_code x y ps qs left right same =
-    let apart = regroup (x.id ++ x.circuit ++ x.outputs) (x.version ∷ []) ps (y.id ++ y.circuit ++ y.outputs) (y.version ∷ []) qs (ap (drop 5) same) in
-    let apart = regroup (x.id ++ x.circuit) x.outputs (x.version ∷ ps) (y.id ++ y.circuit) y.outputs (y.version ∷ qs) apart in
-    let apart = regroup x.id x.circuit (x.outputs ++ x.version ∷ ps) y.id y.circuit (y.outputs ++ y.version ∷ qs) apart in
-    let id = bytes_code 32 x.id y.id (x.circuit ++ (x.outputs ++ x.version ∷ ps)) (y.circuit ++ (y.outputs ++ y.version ∷ qs)) left.id right.id apart in
-    let circuit = bytes_code 32 x.circuit y.circuit (x.outputs ++ x.version ∷ ps) (y.outputs ++ y.version ∷ qs) left.circuit right.circuit id.1 in
-    let outputs = bytes_code 32 x.outputs y.outputs (x.version ∷ ps) (y.version ∷ qs) left.outputs right.outputs circuit.1 in
+    let said_x : List ℕ = unwrap_or x.public [] in
+    let said_y : List ℕ = unwrap_or y.public [] in
+    let length_x = payload_length x left in
+    let length_y = payload_length y right in
+    let headed = word32_code (length (hello_payload x)) (length (hello_payload y)) (hello_payload x ++ ps) (hello_payload y ++ qs)
+    (omega (arith, length_x, digest_most x.public left.public)) (omega (arith, length_y, digest_most y.public right.public)) (ap (drop 1) same) in
+    let apart = regroup (x.id ++ x.circuit ++ x.outputs) (x.version ∷ said_x) ps (y.id ++ y.circuit ++ y.outputs) (y.version ∷ said_y) qs headed.1 in
+    let apart = regroup (x.id ++ x.circuit) x.outputs (x.version ∷ (said_x ++ ps)) (y.id ++ y.circuit) y.outputs (y.version ∷ (said_y ++ qs)) apart in
+    let apart = regroup x.id x.circuit (x.outputs ++ x.version ∷ (said_x ++ ps)) y.id y.circuit (y.outputs ++ y.version ∷ (said_y ++ qs)) apart in
+    let id = bytes_code 32 x.id y.id (x.circuit ++ (x.outputs ++ x.version ∷ (said_x ++ ps))) (y.circuit ++ (y.outputs ++ y.version ∷ (said_y ++ qs))) left.id right.id apart in
+    let circuit = bytes_code 32 x.circuit y.circuit (x.outputs ++ x.version ∷ (said_x ++ ps)) (y.outputs ++ y.version ∷ (said_y ++ qs)) left.circuit right.circuit id.1 in
+    let outputs = bytes_code 32 x.outputs y.outputs (x.version ∷ (said_x ++ ps)) (y.version ∷ (said_y ++ qs)) left.outputs right.outputs circuit.1 in
     let version : x.version ≡ y.version = ap (λ l. get_or l 0 0) outputs.1 in
-    (λ i. record { id = id.0 i; circuit = circuit.0 i; outputs = outputs.0 i; version = version i }, ap (drop 1) outputs.1)
+    let digest = same_front said_x said_y ps qs (omega (arith, headed.0, length_x, length_y)) (ap (drop 1) outputs.1) in
+    let public : x.public ≡ y.public = same_digest x.public y.public left.public right.public digest.0 in
+    (λ i. record { id = id.0 i; circuit = circuit.0 i; outputs = outputs.0 i; version = version i; public = public i }, digest.1)
 
 -- the grant
 pub grant_code : (params : Params) (program : Program) → AreParams params → IsCode grant_frame (IsGrant params program)

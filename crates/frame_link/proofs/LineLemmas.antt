@@ -5,7 +5,7 @@ use Rattle.std.specs.Result.{IsErrAnd}
 use Rattle.std.proofs.lemmas.List.{take_all, map-append}
 use Rattle.zk_model.specs.Frames.{CanGoOn, IsFirstBad}
 use Rattle.proof_frames.proofs.Begun.{held_goes_on}
-use Rattle.proof_frames.proofs.Finished.{some_bytes}
+use Rattle.proof_frames.proofs.Lengths.{told_within}
 use Rattle.proof_frames.proofs.Steps.{nothing_held}
 use Rattle.proof_frames.specs.Readings.{Reading, IsIdle, wanted, Refuses, Takes}
 use Rattle.proof_frames.specs.declared.decoder.BadFrame.{BadFrame}
@@ -76,7 +76,13 @@ unreceived place old new fault came goes few wanting receives later rose same =
 
 -- no frame is longer than the longest
 pub frame_most : (place : Expect) (bytes : List ℕ) → frame_length place bytes ≤ longest place
-frame_most expect.Hello bytes = omega arith
+frame_most expect.Hello [] = omega arith
+frame_most expect.Hello (first ∷ []) = omega arith
+frame_most expect.Hello (first ∷ low ∷ bytes) = either (nat_eq low 129)
+  where
+    either : (b : Bool) → (if b then 134 else 102) ≤ 134
+    either true = omega arith
+    either false = omega arith
 frame_most expect.Grant [] = omega arith
 frame_most expect.Grant (first ∷ bytes) = either (nat_eq first 10)
   where
@@ -236,8 +242,8 @@ pub none_fails : (place : Expect) (old new : LineState) → Came [] old new → 
 none_fails place old new came receives faults = record {
   bytes = [];
   few = omega arith;
-  unfinished = inl (some_bytes place);
-  cut = λ _. record { goes_on = held_goes_on place [] [] [] (nothing_held place); short = some_bytes place };
+  unfinished = inl (omega (arith, told_within place []));
+  cut = λ _. record { goes_on = held_goes_on place [] [] [] (nothing_held place); short = omega (arith, told_within place []) };
   came = came;
   broken = tt;
   receives = omega (arith, receives);

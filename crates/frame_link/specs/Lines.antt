@@ -15,7 +15,7 @@ use Rattle.proof_frames.specs.Readings.{Reading, wanted}
 use Rattle.frame_link.specs.Sides.{peer_of, seen_by}
 use Rattle.frame_link.specs.declared.fault.LineFault.{LineFault}
 use Rattle.frame_link.specs.declared.fault.LineFault.TheVariants.{PeerEnded, BadFrame, Link, NoMemory}
-use Rattle.zk_model.specs.declared.limits.TheConstants.{HELLO_LENGTH}
+use Rattle.zk_model.specs.declared.limits.TheConstants.{LONG_HELLO_LENGTH}
 
 -- a receive that was refused, or not made: only the counts of receives and of failed calls differ, that of receives by one at most
 pub record RefusesReceive (old new : LinkState) : Type 0 where
@@ -147,7 +147,7 @@ pub record Arrives (place : Expect) (frame : Frame) (old new : LineState) : Type
 
 -- the length of the longest frame of a place
 abbrev pub longest : Expect → ℕ
-longest expect.Hello = HELLO_LENGTH
+longest expect.Hello = LONG_HELLO_LENGTH
 longest expect.Grant = 21
 longest (expect.Ask height trees left) = frame_length (expect.Ask height trees left) []
 longest (expect.Reply height trees left) = frame_length (expect.Reply height trees left) []
@@ -253,7 +253,3 @@ pub record IsSendRefused (bytes : List ℕ) (fault : LineFault) (old new : LineS
   pub others : OnlySends old new
   pub cause : IsSendCause old new fault
   pub count : CountsFault fault old new
-
--- These bytes are not sent: memory was missing before, and there was no send; or their one send was refused.
-abbrev pub SendFails : List ℕ → LineFault → LineState → LineState → Type 0
-SendFails bytes fault old new = ((fault ≡ NoMemory) × (new ≡ old)) ⊎ IsSendRefused bytes fault old new

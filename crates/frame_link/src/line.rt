@@ -3,7 +3,7 @@ ghost use Rattle.std.specs.Prelude.{◌≡◌, ◌+◌, ◌<◌, ◌≤◌, ◌^
 ghost use Rattle.zk_model.specs.Frames.{frame_spelling};
 ghost use Rattle.proof_frames.specs.Frames.{frame_value, IsShort};
 ghost use Rattle.proof_frames.specs.Readings.{IsShortPlace, wanted};
-ghost use Rattle.frame_link.specs.Lines.{PieceComes, PiecesCome, PieceFails, Arrives, Fails, Sends, IsSendRefused, SendFails, fresh_line, snapshot, snapshot_of};
+ghost use Rattle.frame_link.specs.Lines.{PieceComes, PiecesCome, PieceFails, Arrives, Fails, Sends, IsSendRefused, fresh_line, snapshot, snapshot_of};
 ghost use Rattle.frame_link.specs.Sides.{peer_of};
 
 use crate::fault::LineFault;
@@ -154,19 +154,20 @@ impl<L: Link> Line<L> {
         Ok(())
     }
 
-    /// The bytes of a frame, once there is room for them in the log. The link is not called.
+    /// The bytes of frames, one after another, once there is room for them in the log. The link is not called.
     ///
     /// # Errors
     ///
     /// Only where memory runs out; then nothing changes.
-    pub fn prepare(&mut self, alloc: Global, frame: &Frame) -> Result<Vec<u8>, AllocError>
-        requires short { IsShort (frame_value frame.now) }
-        ensures bytes { IfOk result (λ bytes. bytes.items ≡ frame_spelling (frame_value frame.now)) }
+    pub fn prepare(&mut self, alloc: Global, frames: &[Frame]) -> Result<Vec<u8>, AllocError>
+        requires short { All IsShort (map frame_value frames.now) }
+        ensures bytes { IfOk result (λ bytes.
+            bytes.items ≡ flat_map frame_spelling (map frame_value frames.now)) }
         ensures kept { IfOk result (λ bytes.
             self.new ≡ record self.old { room = max self.old.room (length bytes.items) }) }
         ensures refused { OnErr result (self.new ≡ self.old) }
     {
-        let bytes = encode(alloc, frame)?;
+        let bytes = encode_frames(alloc, frames)?;
         self.reserve(bytes.len())?;
         Ok(bytes)
     }
@@ -183,42 +184,6 @@ impl<L: Link> Line<L> {
         ensures fails { IfErr result (λ fault. IsSendRefused bytes.now fault self.old self.new) }
     {
         self.log.send(alloc, &mut self.link, self.side, bytes)?;
-        Ok(())
-    }
-
-    /// Sends a frame.
-    ///
-    /// # Errors
-    ///
-    /// `Link` where the link failed, `NoMemory`; then a part of it may have gone out.
-    pub fn send(&mut self, alloc: Global, frame: &Frame) -> Result<(), LineFault>
-        requires open { IsTrue self.old.is_open }
-        requires short { IsShort (frame_value frame.now) }
-        ensures sends { OnOk result (Sends (frame_spelling (frame_value frame.now)) self.old self.new) }
-        ensures fails { IfErr result (λ fault.
-            SendFails (frame_spelling (frame_value frame.now)) fault self.old self.new) }
-    {
-        let bytes = self.prepare(alloc, frame)?;
-        self.send_prepared(alloc, &bytes)?;
-        Ok(())
-    }
-
-    /// Sends frames, one after another, by one call of the link: all of them are logged, or none.
-    ///
-    /// # Errors
-    ///
-    /// `Link` where the link failed, `NoMemory`; then a part of them may have gone out.
-    pub fn send_frames(&mut self, alloc: Global, frames: &[Frame]) -> Result<(), LineFault>
-        requires open { IsTrue self.old.is_open }
-        requires short { All IsShort (map frame_value frames.now) }
-        ensures sends { OnOk result (Sends (flat_map frame_spelling (map frame_value frames.now))
-            self.old self.new) }
-        ensures fails { IfErr result (λ fault.
-            SendFails (flat_map frame_spelling (map frame_value frames.now)) fault self.old self.new) }
-    {
-        let bytes = encode_frames(alloc, frames)?;
-        self.reserve(bytes.len())?;
-        self.send_prepared(alloc, &bytes)?;
         Ok(())
     }
 

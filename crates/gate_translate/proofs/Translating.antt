@@ -1,5 +1,5 @@
 -- The loop over the gates of a circuit.
-use Rattle.std.proofs.Common.{◌≡◌, ℕ, zero, suc, All, ◌+◌, ◌-◌, ◌<◌, ◌≤◌, ◌^◌, List, [], ◌∷◌, ◌++◌, length, map, flat_map, take, get_or, refl, sym, ap, ◌∙◌, arith, subst, append-nil, append_assoc, length-append}
+use Rattle.std.proofs.Common.{◌≡◌, ℕ, zero, suc, All, ◌+◌, ◌-◌, ◌<◌, ◌≤◌, ◌^◌, List, [], ◌∷◌, ◌++◌, length, map, flat_map, take, get_or, refl, sym, ap, ◌∙◌, arith, subst, add-zero, append-nil, append_assoc, length-append}
 use Rattle.std.specs.Prelude.{sum_by, Some, slice_get}
 use Rattle.std.proofs.lemmas.Option.{slice_get-get_or, slice_get_within, get_or_from_slice_get}
 use Rattle.std.specs.List.{range_with_len}
@@ -18,7 +18,7 @@ use Rattle.zk_model.specs.declared.GateRow.{GateRow}
 use Rattle.zk_model.specs.declared.GateRow.TheVariants.{And, Xor, Inv, Eqw, Eq}
 use Rattle.zk_model.specs.declared.Product.{Product}
 use Rattle.circuit_laws.proofs.ByGate.{from_given, from_given-more, by_gate_is, products_of_all}
-use Rattle.circuit_laws.specs.Circuits.{CircuitIsProgram, GatesAreFew}
+use Rattle.circuit_laws.specs.Circuits.{CircuitIsProgram, CircuitIsOrdered, GatesAreFew}
 use Rattle.bristol_reader.specs.Circuits.{IsCircuit}
 use Rattle.gate_translate.specs.Gates.{gate_rule, gate_factors, squared}
 use Rattle.field_program.proofs.Numbered.{length-numbered, numbered-append}
@@ -34,25 +34,27 @@ use Rattle.field_program.specs.declared.step.Step.TheVariants as step
 abbrev pub products_from : ℕ → List GateRow → List Product
 products_from c gates = flat_map (λ products. products) (from_given gate_products c gates)
 
--- the bit checks of the inputs, and the products of gates
-abbrev pub products_up_to : ℕ → List GateRow → List Product
-products_up_to inputs gates = map (bit_check 0) (range_with_len 0 inputs) ++ products_from inputs gates
+-- the bit checks of the private inputs, behind so many public ones, and the products of gates
+abbrev pub products_up_to : ℕ → ℕ → List GateRow → List Product
+products_up_to public inputs gates = map (bit_check public) (range_with_len 0 inputs) ++ products_from inputs gates
 
 -- rules and factors of these gates
-pub record AreTranslated (inputs : ℕ) (gates : List GateRow) (rules : List PackedStep) (factors : List Factors) : Type 0 where
+pub record AreTranslated (public inputs : ℕ) (gates : List GateRow) (rules : List PackedStep) (factors : List Factors) : Type 0 where
   pub steps_are : equations (map (step_of factors) rules) ≡ from_given gate_step inputs gates
-  pub products_are : numbered 0 factors ≡ products_up_to inputs gates
+  pub products_are : numbered 0 factors ≡ products_up_to public inputs gates
   pub within : All (IsRule (length factors)) rules
 
 -- ---- bit checks
 
-numbered_squares : (start count : ℕ) → numbered start (map squared (range_with_len start count)) ≡ map (bit_check 0) (range_with_len start count)
-numbered_squares start zero = refl
-numbered_squares start (suc count) =
-    λ i. record { a = same i; b = same i; c = start } ∷ numbered_squares (start + 1) count i
+numbered_squares : (public start count : ℕ)
+    → numbered start (map squared (range_with_len (public + start) count)) ≡ map (bit_check public) (range_with_len start count)
+numbered_squares public start zero = refl
+numbered_squares public start (suc count) =
+    ap (λ l. bit_check public start ∷ l)
+    (ap (λ n. numbered (start + 1) (map squared (range_with_len n count))) next ∙ numbered_squares public (start + 1) count)
   where
-    same : start ≡ 0 + start
-    same = omega arith
+    next : public + start + 1 ≡ public + (start + 1)
+    next = omega arith
 
 -- ---- counts
 
@@ -82,11 +84,11 @@ few_products [] = omega arith
 few_products (gate ∷ gates) = omega (arith, at_most_one gate, few_products gates, sum_by-cons products_in gate gates)
 
 -- the next product is the given value after those that stand
-pub next_given : (inputs : ℕ) (gates : List GateRow) (products : List Product) → products ≡ products_up_to inputs gates
+pub next_given : (public inputs : ℕ) (gates : List GateRow) (products : List Product) → products ≡ products_up_to public inputs gates
     → length products ≡ inputs + products_of_all gates
-next_given inputs gates products are =
-    ap length are ∙ length-append (map (bit_check 0) (range_with_len 0 inputs)) (products_from inputs gates)
-    ∙ (λ i. (length-map (range_with_len 0 inputs) (bit_check 0) ∙ length-range_with_len 0 inputs) i + count_from inputs gates i)
+next_given public inputs gates products are =
+    ap length are ∙ length-append (map (bit_check public) (range_with_len 0 inputs)) (products_from inputs gates)
+    ∙ (λ i. (length-map (range_with_len 0 inputs) (bit_check public) ∙ length-range_with_len 0 inputs) i + count_from inputs gates i)
 
 -- ---- one gate more
 
@@ -153,19 +155,19 @@ product_of c (Eqw a out) = refl
 product_of c (Eq bit out) = refl
 
 -- one gate more
-pub translated_more : (inputs : ℕ) (all rows : List GateRow) (n : ℕ) (other : GateRow) (rules rules_now : List PackedStep) (rule : PackedStep) (factors factors_now : List Factors)
+pub translated_more : (public inputs : ℕ) (all rows : List GateRow) (n : ℕ) (other : GateRow) (rules rules_now : List PackedStep) (rule : PackedStep) (factors factors_now : List Factors)
     → rows ≡ all → n < length rows
     → rules_now ≡ rules ++ rule ∷ [] → rule ≡ gate_rule (length factors) (get_or rows n other)
     → factors_now ≡ factors ++ gate_factors (get_or rows n other)
-    → AreTranslated inputs (take n all) rules factors → AreTranslated inputs (take (n + 1) all) rules_now factors_now
-translated_more inputs all rows n other rules rules_now rule factors factors_now same below pushed rule_is factors_are far =
+    → AreTranslated public inputs (take n all) rules factors → AreTranslated public inputs (take (n + 1) all) rules_now factors_now
+translated_more public inputs all rows n other rules rules_now rule factors factors_now same below pushed rule_is factors_are far =
     let gate = get_or rows n other in
     let within : n < length all = omega (arith, ap length same) in
     let at : get_or all n other ≡ gate = ap (λ gates. get_or gates n other) (sym same) in
     let more : take (n + 1) all ≡ take n all ++ gate ∷ [] = take_more all n other within ∙ ap (λ g. take n all ++ g ∷ []) at in
     let number : length factors ≡ inputs + products_of_all (take n all) =
-    sym (length-numbered 0 factors) ∙ next_given inputs (take n all) (numbered 0 factors) far.products_are in
-    let checks = map (bit_check 0) (range_with_len 0 inputs) in
+    sym (length-numbered 0 factors) ∙ next_given public inputs (take n all) (numbered 0 factors) far.products_are in
+    let checks = map (bit_check public) (range_with_len 0 inputs) in
     let behind : products_from inputs (take n all ++ gate ∷ []) ≡ products_from inputs (take n all) ++ gate_products (length factors) gate =
     ap (λ lists. flat_map (λ products. products) lists) (from_given-more gate_products inputs (take n all) gate)
     ∙ flat_map-append (λ products. products) (from_given gate_products inputs (take n all)) (gate_products (inputs + products_of_all (take n all)) gate ∷ [])
@@ -201,42 +203,42 @@ take_none [] = refl
 take_none (gate ∷ gates) = refl
 
 -- no gate yet
-pub none_translated : (inputs : ℕ) (all : List GateRow) (rules : List PackedStep) (factors : List Factors) → rules ≡ [] → factors ≡ map squared (range_with_len 0 inputs)
-    → AreTranslated inputs (take 0 all) rules factors
-none_translated inputs all rules factors none are = record {
+pub none_translated : (public inputs : ℕ) (all : List GateRow) (rules : List PackedStep) (factors : List Factors) → rules ≡ []
+    → factors ≡ map squared (range_with_len public inputs) → AreTranslated public inputs (take 0 all) rules factors
+none_translated public inputs all rules factors none are = record {
   steps_are = ap (λ l. equations (map (step_of factors) l)) none ∙ ap (from_given gate_step inputs) (sym (take_none all));
-  products_are = ap (numbered 0) are ∙ numbered_squares 0 inputs ∙ sym (append-nil (map (bit_check 0) (range_with_len 0 inputs)))
-      ∙ ap (products_up_to inputs) (sym (take_none all));
+  products_are = ap (numbered 0) are ∙ ap (λ n. numbered 0 (map squared (range_with_len n inputs))) (sym (add-zero public))
+      ∙ numbered_squares public 0 inputs ∙ sym (append-nil (map (bit_check public) (range_with_len 0 inputs)))
+      ∙ ap (products_up_to public inputs) (sym (take_none all));
   within = All-same (IsRule (length factors)) rules [] none (All-nil (IsRule (length factors)));
 }
 
 -- there are few products
-pub few_translated : (circuit : Circuit) (inputs n : ℕ) (factors : List Factors) → IsCircuit circuit → inputs ≡ circuit.inputs
-    → numbered 0 factors ≡ products_up_to inputs (take n circuit.gates) → length factors ≤ 2 ^ 21
-few_translated circuit inputs n factors rules same are =
-    omega (arith, next_given inputs (take n circuit.gates) (numbered 0 factors) are, length-numbered 0 factors, few_products (take n circuit.gates), length-take n circuit.gates, rules.well_formed.inputs_within, rules.wires, rules.gates, same)
+pub few_translated : (circuit : Circuit) (public inputs n : ℕ) (factors : List Factors) → IsCircuit circuit → inputs ≡ circuit.inputs - public
+    → numbered 0 factors ≡ products_up_to public inputs (take n circuit.gates) → length factors ≤ 2 ^ 21
+few_translated circuit public inputs n factors rules same are =
+    omega (arith, next_given public inputs (take n circuit.gates) (numbered 0 factors) are, length-numbered 0 factors, few_products (take n circuit.gates), length-take n circuit.gates, rules.well_formed.inputs_within, rules.wires, rules.gates, same)
 
 -- ---- all gates
 
-pub is_translated : (circuit : Circuit) (wires inputs givens : ℕ) (rules : List PackedStep) (factors : List Factors) (opened : List ℕ)
-    → wires ≡ circuit.wires → inputs ≡ circuit.inputs → givens ≡ length factors
+pub is_translated : (circuit : Circuit) (wires public inputs givens : ℕ) (rules : List PackedStep) (factors : List Factors) (opened : List ℕ)
+    → wires ≡ circuit.wires → inputs ≡ private_inputs public circuit → givens ≡ length factors
     → opened ≡ map (λ o. circuit.wires - circuit.outputs + o) (range_with_len 0 circuit.outputs)
-    → AreTranslated inputs (take (length circuit.gates) circuit.gates) rules factors
-    → program_of wires 0 inputs givens rules factors opened ≡ circuit_program 0 circuit
-is_translated circuit wires inputs givens rules factors opened w i g o far =
+    → AreTranslated public inputs (take (length circuit.gates) circuit.gates) rules factors
+    → program_of wires public inputs givens rules factors opened ≡ circuit_program public circuit
+is_translated circuit wires public inputs givens rules factors opened w private g o far =
     let all : take (length circuit.gates) circuit.gates ≡ circuit.gates = take-length circuit.gates in
-    let private : inputs ≡ private_inputs 0 circuit = omega (arith, i) in
-    let steps_are : equations (map (step_of factors) rules) ≡ (circuit_program 0 circuit).steps =
-    far.steps_are ∙ ap (from_given gate_step inputs) all ∙ ap (λ k. from_given gate_step k circuit.gates) private ∙ sym (by_gate_is gate_step 0 circuit) in
-    let products_are : numbered 0 factors ≡ circuit_products 0 circuit =
-    far.products_are ∙ ap (products_up_to inputs) all ∙ ap (λ k. products_up_to k circuit.gates) private
-    ∙ ap (λ (lists : List (List Product)). map (bit_check 0) (range_with_len 0 (private_inputs 0 circuit)) ++ flat_map (λ products. products) lists) (sym (by_gate_is gate_products 0 circuit)) in
-    let givens_are : givens ≡ private_inputs 0 circuit + sum_by products_in circuit.gates =
-    g ∙ sym (length-numbered 0 factors) ∙ next_given inputs (take (length circuit.gates) circuit.gates) (numbered 0 factors) far.products_are
+    let steps_are : equations (map (step_of factors) rules) ≡ (circuit_program public circuit).steps =
+    far.steps_are ∙ ap (from_given gate_step inputs) all ∙ ap (λ k. from_given gate_step k circuit.gates) private ∙ sym (by_gate_is gate_step public circuit) in
+    let products_are : numbered 0 factors ≡ circuit_products public circuit =
+    far.products_are ∙ ap (products_up_to public inputs) all ∙ ap (λ k. products_up_to public k circuit.gates) private
+    ∙ ap (λ (lists : List (List Product)). map (bit_check public) (range_with_len 0 (private_inputs public circuit)) ++ flat_map (λ products. products) lists) (sym (by_gate_is gate_products public circuit)) in
+    let givens_are : givens ≡ private_inputs public circuit + sum_by products_in circuit.gates =
+    g ∙ sym (length-numbered 0 factors) ∙ next_given public inputs (take (length circuit.gates) circuit.gates) (numbered 0 factors) far.products_are
     ∙ (λ j. private j + products_of_all (all j)) in
     λ j. record {
       wires = w j;
-      public = 0;
+      public = public;
       inputs = private j;
       steps = steps_are j;
       givens = givens_are j;
@@ -244,10 +246,12 @@ is_translated circuit wires inputs givens rules factors opened w i g o far =
       opened = o j;
     }
 
-pub is_held : (circuit : Circuit) (program : Program) → CircuitIsProgram → GatesAreFew → IsCircuit circuit → program ≡ circuit_program 0 circuit
+pub is_held : (circuit : Circuit) (public : ℕ) (program : Program) → CircuitIsProgram → CircuitIsOrdered → GatesAreFew → IsCircuit circuit
+    → public ≤ circuit.inputs → program ≡ circuit_program public circuit
     → ((i : ℕ) (product : Product) → slice_get program.products i ≡ Some product → product.c ≡ i) → IsSmallProgram program
-is_held circuit program law few rules same numbers = subst IsSmallProgram (sym same) (record {
-  formed = law 0 circuit rules.well_formed (omega arith);
+is_held circuit public program law order few rules known same numbers = subst IsSmallProgram (sym same) (record {
+  formed = law public circuit rules.well_formed known;
+  ordered = order public circuit rules.well_formed known;
   wires = rules.wires;
   givens = omega (arith, few_products circuit.gates, few circuit rules.well_formed, rules.wires);
   products = omega (arith, count, few_products circuit.gates, few circuit rules.well_formed, rules.wires);
@@ -262,6 +266,6 @@ is_held circuit program law few rules same numbers = subst IsSmallProgram (sym s
   );
 })
   where
-    count : length (circuit_products 0 circuit) ≡ private_inputs 0 circuit + products_of_all circuit.gates
-    count = next_given (private_inputs 0 circuit) circuit.gates (circuit_products 0 circuit)
-        (ap (λ (lists : List (List Product)). map (bit_check 0) (range_with_len 0 (private_inputs 0 circuit)) ++ flat_map (λ products. products) lists) (by_gate_is gate_products 0 circuit))
+    count : length (circuit_products public circuit) ≡ private_inputs public circuit + products_of_all circuit.gates
+    count = next_given public (private_inputs public circuit) circuit.gates (circuit_products public circuit)
+        (ap (λ (lists : List (List Product)). map (bit_check public) (range_with_len 0 (private_inputs public circuit)) ++ flat_map (λ products. products) lists) (by_gate_is gate_products public circuit))

@@ -1,7 +1,7 @@
 //! Circuits as programs over the field (Yang, Sarkar, Weng and Wang, QuickSilver, ACM CCS 2021, for the products; Bristol
 //! Fashion for the gates).
 //!
-//! `translation` has `translate`.
+//! `translation` has `translate_public` and, for circuits all of whose inputs are private, `translate`.
 //!
 //!     let program = translate(alloc, &circuit)?;
 //!     let need = program.need(g); // correlations of a session in sections of g products
@@ -9,4 +9,4 @@
 
 mod translation;
 
-pub use translation::translate;
+pub use translation::{translate, translate_public};

@@ -5,7 +5,7 @@ ghost use Rattle.zk_model.specs.Boolean.{circuit_program};
 ghost use Rattle.gate_translate.specs.Gates.{gate_rule, gate_factors, squared};
 
 use bristol_reader::{Circuit, GateRow};
-use circuit_laws::{circuit_is_program, gates_are_few};
+use circuit_laws::{circuit_is_ordered, circuit_is_program, gates_are_few};
 use field_program::{Factors, FieldProgram, PackedStep};
 use std::alloc::{AllocError, Global};
 
@@ -39,20 +39,27 @@ fn push_factors(factors: &mut Vec<Factors>, gate: GateRow) -> Result<(), AllocEr
     Ok(())
 }
 
-/// The factors of a bit check for each input wire.
-fn bit_checks(alloc: Global, inputs: u32) -> Result<Vec<Factors>, AllocError>
-    ensures { IfOk result (λ v. v.items ≡ map squared (range_with_len 0 inputs)) }
+/// The factors of a bit check for each wire of these.
+fn bit_checks(alloc: Global, first: u32, end: u32) -> Result<Vec<Factors>, AllocError>
+    requires { first ≤ end }
+    ensures { IfOk result (λ v. v.items ≡ map squared (range_with_len first (end - first))) }
 {
-    (0..inputs)
+    (first..end)
         .map(|wire| Factors { a: wire, b: wire })
         .collect(alloc)
 }
 
 /// The same, with room for so many more: a list that grows leaves holes in memory.
-fn first_factors(alloc: Global, inputs: u32, more: usize) -> Result<Vec<Factors>, AllocError>
-    ensures { IfOk result (λ v. v.items ≡ map squared (range_with_len 0 inputs)) }
+fn first_factors(
+    alloc: Global,
+    first: u32,
+    end: u32,
+    more: usize,
+) -> Result<Vec<Factors>, AllocError>
+    requires { first ≤ end }
+    ensures { IfOk result (λ v. v.items ≡ map squared (range_with_len first (end - first))) }
 {
-    let mut factors = bit_checks(alloc, inputs)?;
+    let mut factors = bit_checks(alloc, first, end)?;
     factors.reserve(more)?;
     Ok(factors)
 }
@@ -66,22 +73,28 @@ fn last_wires(alloc: Global, wires: u32, count: u32) -> Result<Vec<u32>, AllocEr
     (0..count).map(|o| first + o).collect(alloc)
 }
 
-/// The program of a circuit, all of whose inputs are private: a bit check for each input, a step for each gate, a product
-/// for each XOR and AND, and the outputs are opened (gates: Bristol Fashion; products, each checked over a correlation of
-/// its own: Yang, Sarkar, Weng and Wang, QuickSilver, ACM CCS 2021). Of a circuit with i inputs and n gates XOR or AND it
-/// has i + n products and as many given values.
+/// The program of a circuit, so many of whose first inputs are public: a bit check for each private input, a step for each
+/// gate, a product for each XOR and AND, and the outputs are opened (gates: Bristol Fashion; products, each checked over a
+/// correlation of its own: Yang, Sarkar, Weng and Wang, QuickSilver, ACM CCS 2021). Of a circuit with i private inputs and n
+/// gates XOR or AND it has i + n products and as many given values.
 ///
 /// # Errors
 ///
 /// Only where memory runs out.
-pub fn translate(alloc: Global, circuit: &Circuit) -> Result<FieldProgram, AllocError>
-    ensures { IfOk result (λ program. program ≡ circuit_program 0 circuit.now) }
+pub fn translate_public(
+    alloc: Global,
+    circuit: &Circuit,
+    public: u32,
+) -> Result<FieldProgram, AllocError>
+    requires { public ≤ circuit.now.inputs }
+    ensures { IfOk result (λ program. program ≡ circuit_program public circuit.now) }
 {
     circuit_is_program();
+    circuit_is_ordered();
     gates_are_few();
     let wires = circuit.wires() as u32;
     let inputs = circuit.inputs() as u32;
-    let mut factors = first_factors(alloc, inputs, circuit.gates())?;
+    let mut factors = first_factors(alloc, public, inputs, circuit.gates())?;
     let mut rules = Vec::with_capacity(alloc, circuit.gates())?;
     for gate in circuit.rows() {
         rules.push(gate_rule(*gate, factors.len() as u32))?;
@@ -89,5 +102,17 @@ pub fn translate(alloc: Global, circuit: &Circuit) -> Result<FieldProgram, Alloc
     }
     let givens = factors.len() as u32;
     let opened = last_wires(alloc, wires, circuit.outputs() as u32)?;
-    Ok(FieldProgram::from_parts(wires, 0, inputs, givens, rules, factors, opened))
+    let private = inputs - public;
+    Ok(FieldProgram::from_parts(wires, public, private, givens, rules, factors, opened))
+}
+
+/// The program of a circuit, all of whose inputs are private.
+///
+/// # Errors
+///
+/// Only where memory runs out.
+pub fn translate(alloc: Global, circuit: &Circuit) -> Result<FieldProgram, AllocError>
+    ensures { IfOk result (λ program. program ≡ circuit_program 0 circuit.now) }
+{
+    translate_public(alloc, circuit, 0)
 }

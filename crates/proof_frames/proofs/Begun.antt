@@ -14,32 +14,36 @@ use Rattle.proof_frames.specs.declared.shape.Level.{Level}
 use Rattle.proof_frames.specs.declared.shape.Payload.{Payload}
 use Rattle.proof_frames.specs.declared.shape.Payload.TheVariants as payload
 use Rattle.proof_frames.specs.declared.shape.Shape.{Shape}
-use Rattle.proof_frames.specs.Shapes.{HoldsPayload, HoldsBytes, HoldsElements, HoldsTrees, IsHeld, level_width, level_most, shape_of, header, spelled}
-use Rattle.proof_frames.proofs.EveryShape.{every_shape}
+use Rattle.proof_frames.specs.Shapes.{HoldsPayload, HoldsBytes, HoldsElements, HoldsTrees, IsHeld, level_width, level_most, shape_of, told, header, spelled}
+use Rattle.proof_frames.proofs.EveryShape.{every_shape, told_early, told_stays}
 use Rattle.proof_frames.proofs.Octets.{IsByte, part_of_element}
 use Rattle.proof_frames.proofs.TreeLemmas.{Complete, no_trees, trees_go_on}
 use Rattle.proof_frames.proofs.Words.{FitsPayload, IsWord, IsWordAt, word_whole}
 
 -- some first byte is in the range, and bytes are in it
 abbrev pub IsSound : Payload → Type 0
-IsSound (payload.Bytes count least most) = (1 ≤ count) × (count ≤ 97) × (least ≤ most) × (most < 256)
+IsSound (payload.Bytes count least most) = (1 ≤ count) × (count ≤ 129) × (least ≤ most) × (most < 256)
 IsSound (payload.Elements count) = Unit {0}
 IsSound (payload.Trees trees height level) = Unit {0}
 
-pub shapes_are_sound : (place : Expect) (first : ℕ) → IsSound (shape_of place first).payload
-shapes_are_sound = every_shape (λ place shape. IsSound shape.payload) (omega arith, omega arith, omega arith, omega arith) (omega arith, omega arith, omega arith, omega arith) (omega arith, omega arith, omega arith, omega arith)
+pub shapes_are_sound : (place : Expect) (byte : ℕ) → IsSound (shape_of place byte).payload
+shapes_are_sound = every_shape (λ place shape. IsSound shape.payload) (omega arith, omega arith, omega arith, omega arith) (omega arith, omega arith, omega arith, omega arith) (omega arith, omega arith, omega arith, omega arith) (omega arith, omega arith, omega arith, omega arith)
     (λ height trees left. tt) (λ height trees left. tt) (λ count. tt) tt (λ sections. tt) (λ count. tt) (omega arith, omega arith, omega arith, omega arith)
 
--- the first byte of a header tells its shape
-same_shape : (place : Expect) (first : ℕ) → shape_of place (get_or (header (shape_of place first)) 0 0) ≡ shape_of place first
-same_shape = every_shape (λ place shape. shape_of place (get_or (header shape) 0 0) ≡ shape) refl refl refl
+-- a header tells its shape
+same_shape : (place : Expect) (byte : ℕ) → shape_of place (told place (header (shape_of place byte))) ≡ shape_of place byte
+same_shape = every_shape (λ place shape. shape_of place (told place (header shape)) ≡ shape) refl refl refl refl
     (λ height trees left. refl) (λ height trees left. refl) (λ count. refl) refl (λ sections. refl) (λ count. refl) refl
 
 -- a header and a payload of its shape are a word
-word_of : (place : Expect) (first : ℕ) (bytes : List ℕ) → FitsPayload (shape_of place first).payload bytes
-    → IsWordAt place (header (shape_of place first) ++ bytes)
-word_of place first bytes fits =
-    subst (λ (shape : Shape). IsWord shape (header (shape_of place first) ++ bytes)) (sym (same_shape place first)) (record { payload = bytes; fits = fits; spelled = refl })
+word_of : (place : Expect) (byte : ℕ) (bytes : List ℕ) → FitsPayload (shape_of place byte).payload bytes
+    → IsWordAt place (header (shape_of place byte) ++ bytes)
+word_of place byte bytes fits =
+    let head = header (shape_of place byte) in
+    let early = told_early place in
+    let told_so : shape_of place (told place (head ++ bytes)) ≡ shape_of place byte =
+    ap (shape_of place) (told_stays place head bytes (omega arith)) ∙ same_shape place byte in
+    subst (λ (shape : Shape). IsWord shape (head ++ bytes)) (sym told_so) (record { payload = bytes; fits = fits; spelled = refl })
 
 -- what begins a word can go on
 begins : (place : Expect) (word bytes : List ℕ) → IsWordAt place word → BeginsWith word bytes → CanGoOn place bytes
@@ -231,7 +235,7 @@ completes k (payload.Trees trees height level) start elements part sound begun a
 -- what is held can go on
 pub held_goes_on : (place : Expect) (start elements part : List ℕ) → IsHeld place start elements part → CanGoOn place (spelled start elements part)
 held_goes_on place start elements part held =
-    let first = get_or start 0 0 in
-    let shape = shape_of place first in
-    let done = completes shape.kind shape.payload start elements part (shapes_are_sound place first) held.begun held.bytes held.part_bytes held.payload in
-    begins place (header shape ++ done.0) (spelled start elements part) (word_of place first done.0 done.1) done.2
+    let byte = told place start in
+    let shape = shape_of place byte in
+    let done = completes shape.kind shape.payload start elements part (shapes_are_sound place byte) held.begun held.bytes held.part_bytes held.payload in
+    begins place (header shape ++ done.0) (spelled start elements part) (word_of place byte done.0 done.1) done.2

@@ -8,62 +8,49 @@ use Rattle.zk_model.specs.declared.Expect.{Expect}
 use Rattle.zk_model.specs.declared.Expect.TheVariants as expect
 use Rattle.proof_frames.specs.Readings.{Reading, IsReading, IsShortPlace, Takes, TurnsBad, Gives, IsNotWhole, wanted}
 use Rattle.proof_frames.specs.Holding.{Holds, StopsAt, IsUnderWay, IsSound, bytes_of}
-use Rattle.proof_frames.specs.Shapes.{shape_of, payload_length}
+use Rattle.proof_frames.specs.Shapes.{shape_of, told_at, told, payload_length}
 use Rattle.proof_frames.specs.declared.decoder.BadFrame.{BadFrame}
 use Rattle.proof_frames.specs.declared.held.Held.{Held}
 use Rattle.proof_frames.proofs.Begun.{held_goes_on}
 use Rattle.proof_frames.proofs.Stops.{front}
-use Rattle.proof_frames.proofs.Lengths.{held_within, length_told, short_payload, whole_length}
-use Rattle.proof_frames.proofs.Finished.{some_bytes}
+use Rattle.proof_frames.proofs.EveryShape.{told_early, told_stays}
+use Rattle.proof_frames.proofs.Lengths.{held_within, length_told, least_length, told_within, length_untold, short_payload, whole_length}
 use Rattle.proof_frames.specs.Laws.{WholeWantsNothing, NothingWantedIsWhole}
 
 -- ---- frames' lengths
 
--- no frame is shorter than what is wanted before its first byte
-least_length : (place : Expect) (bytes : List ℕ) → frame_length place [] ≤ frame_length place bytes
-least_length expect.Hello bytes = omega arith
-least_length expect.Grant [] = omega arith
-least_length expect.Grant (first ∷ bytes) = by_first (nat_eq first 10) refl
-  where
-    by_first : (b : Bool) → nat_eq first 10 ≡ b → 1 ≤ frame_length expect.Grant (first ∷ bytes)
-    by_first true e = rw e (omega arith)
-    by_first false e = rw e (omega arith)
-least_length (expect.Ask height trees left) bytes = omega arith
-least_length (expect.Reply height trees left) bytes = omega arith
-least_length (expect.Corrections count) bytes = omega arith
-least_length expect.Challenge bytes = omega arith
-least_length (expect.Sums sections) bytes = omega arith
-least_length (expect.Openings count) bytes = omega arith
-least_length expect.Verdict bytes = omega arith
+-- the length of a frame is told by one byte
+same_length : (place : Expect) (bytes more : List ℕ) → told_at place < length bytes → frame_length place (bytes ++ more) ≡ frame_length place bytes
+same_length place bytes more some =
+    length_told place (bytes ++ more) (omega (arith, some, length-append bytes more))
+    ∙ ap (λ n. 5 + payload_length (shape_of place n).payload) (told_stays place bytes more some) ∙ sym (length_told place bytes some)
 
--- the length of a frame is told by its first byte
-same_length : (place : Expect) (bytes others : List ℕ) → 0 < length bytes → 0 < length others → get_or bytes 0 0 ≡ get_or others 0 0
-    → frame_length place bytes ≡ frame_length place others
-same_length place bytes others some some_too same =
-    length_told place bytes some ∙ ap (λ n. 5 + payload_length (shape_of place n).payload) same ∙ sym (length_told place others some_too)
+-- with more bytes a frame is no shorter
+pub grows : (place : Expect) (bytes more : List ℕ) → frame_length place bytes ≤ frame_length place (bytes ++ more)
+grows place bytes more = by_length (cases_lt (told_at place) (length bytes))
+  where
+    by_length : (told_at place < length bytes) ⊎ (length bytes ≤ told_at place) → frame_length place bytes ≤ frame_length place (bytes ++ more)
+    by_length (inl some) = omega (arith, same_length place bytes more some)
+    by_length (inr early) = omega (arith, length_untold place bytes early, least_length place (bytes ++ more))
 
 -- bytes and as many as are wanted fit a frame
 pub fits_frame : (place : Expect) (bytes piece : List ℕ) → length bytes ≤ frame_length place bytes → length piece ≤ frame_length place bytes - length bytes
     → length (bytes ++ piece) ≤ frame_length place (bytes ++ piece)
-fits_frame place [] piece within wanted = let least = least_length place piece in omega arith
-fits_frame place (first ∷ bytes) piece within wanted =
-    let same : frame_length place ((first ∷ bytes) ++ piece) ≡ frame_length place (first ∷ bytes) =
-    same_length place ((first ∷ bytes) ++ piece) (first ∷ bytes) (omega arith) (omega arith) refl in
-    omega (arith, same, length-append (first ∷ bytes) piece)
+fits_frame place bytes piece within wanted = omega (arith, within, wanted, length-append bytes piece, grows place bytes piece)
 
 -- fewer bytes fit, too
 pub fewer_fit : (place : Expect) (bytes : List ℕ) (n : ℕ) → n ≤ length bytes → length bytes ≤ frame_length place bytes
     → length (take n bytes) ≤ frame_length place (take n bytes)
-fewer_fit place bytes n fewer within = by_count (cases_lt 0 n)
+fewer_fit place bytes n fewer within = by_count (cases_lt (told_at place) n)
   where
     sized : length (take n bytes) ≡ n
     sized = length-take-le n bytes fewer
 
-    by_count : (0 < n) ⊎ (n ≤ 0) → length (take n bytes) ≤ frame_length place (take n bytes)
+    by_count : (told_at place < n) ⊎ (n ≤ told_at place) → length (take n bytes) ≤ frame_length place (take n bytes)
     by_count (inl some) =
-        let same = same_length place (take n bytes) bytes (omega (arith, sized)) (omega arith) (get_or-take n bytes 0 0 some) in
-        omega (arith, sized, same)
-    by_count (inr none) = omega (arith, sized)
+        let same = same_length place (take n bytes) (drop n bytes) (omega (arith, sized, some)) in
+        omega (arith, sized, fewer, within, same, ap (frame_length place) (take-append-drop n bytes))
+    by_count (inr early) = omega (arith, sized, early, told_within place (take n bytes))
 
 -- the front of what can go on can, too
 pub fewer_go_on : (place : Expect) (bytes : List ℕ) (n : ℕ) → CanGoOn place bytes → CanGoOn place (take n bytes)
@@ -94,11 +81,11 @@ holding_within place held holds = held_within place held.start.items held.elemen
 
 -- a frame is short
 frame_short : (place : Expect) (bytes : List ℕ) → IsShortPlace place → length bytes ≤ frame_length place bytes → length bytes ≤ 2 ^ 24 + 5
-frame_short place [] short within = omega arith
-frame_short place (first ∷ bytes) short within =
-    let told = length_told place (first ∷ bytes) (omega arith) in
-    let most = short_payload place first short in
-    omega (arith, told, most)
+frame_short place bytes short within = by_length (cases_lt (told_at place) (length bytes))
+  where
+    by_length : (told_at place < length bytes) ⊎ (length bytes ≤ told_at place) → length bytes ≤ 2 ^ 24 + 5
+    by_length (inl some) = omega (arith, within, length_told place bytes some, short_payload place (told place bytes) short)
+    by_length (inr early) = omega (arith, early, told_early place)
 
 -- little is taken
 pub taken_most : (place : Expect) (received : ℕ) (bad : Option BadFrame) (taken : ℕ) (held : Held) (pair_room : ℕ)
@@ -331,19 +318,18 @@ pub whole_wants_nothing : WholeWantsNothing
 whole_wants_nothing place bytes frame whole = omega (arith, whole_length place bytes frame whole)
 
 pub nothing_wanted_is_whole : NothingWantedIsWhole
-nothing_wanted_is_whole place [] can none = absurd (omega (arith, some_bytes place))
-nothing_wanted_is_whole place (first ∷ bytes) can none =
+nothing_wanted_is_whole place bytes can none =
     let rest : List ℕ = can.begun.0 in
     let word : List ℕ = frame_spelling can.frame in
-    let spelled : word ≡ (first ∷ bytes) ++ rest = can.begun.1 in
+    let spelled : word ≡ bytes ++ rest = can.begun.1 in
     let sized : length word ≡ frame_length place word = whole_length place word can.frame (record { allowed = can.allowed; spelled = refl }) in
-    let same : frame_length place ((first ∷ bytes) ++ rest) ≡ frame_length place (first ∷ bytes) =
-    same_length place ((first ∷ bytes) ++ rest) (first ∷ bytes) (omega arith) (omega arith) refl in
+    let some : told_at place < length bytes = omega (arith, none, told_within place bytes) in
+    let same : frame_length place (bytes ++ rest) ≡ frame_length place bytes = same_length place bytes rest some in
     let no_rest : rest ≡ [] =
-    nil_from_length rest (omega (arith, sized, ap length spelled, ap (frame_length place) spelled, same, length-append (first ∷ bytes) rest)) in (
+    nil_from_length rest (omega (arith, none, sized, ap length spelled, ap (frame_length place) spelled, same, length-append bytes rest)) in (
       can.frame,
       record {
         allowed = can.allowed;
-        spelled = sym (spelled ∙ ap (λ l. (first ∷ bytes) ++ l) no_rest ∙ append-nil (first ∷ bytes));
+        spelled = sym (spelled ∙ ap (λ l. bytes ++ l) no_rest ∙ append-nil bytes);
       },
     )

@@ -1,6 +1,7 @@
 -- Bad bytes and whole frames at worked examples.
-use Rattle.std.proofs.Common.{◌≡◌, ℕ, ◌≤◌, List, [], ◌∷◌, ◌++◌, replicate, refl, arith}
-use Rattle.std.specs.Prelude.{true}
+use Rattle.std.proofs.Common.{◌≡◌, ℕ, ◌≤◌, List, [], ◌∷◌, ◌++◌, replicate, refl, sym, arith}
+use Rattle.std.specs.Prelude.{Bool, true, false, nat_eq, get_or, ◌≢◌}
+use Rattle.std.proofs.lemmas.Bool.{eqb-true}
 use Rattle.std.specs.Int.{w64, from_le_bytes}
 use Rattle.std.proofs.lemmas.List.Elements.{All-nil, All-from_recursion}
 use Rattle.zk_model.specs.Field.{prime, IsElement}
@@ -10,7 +11,7 @@ use Rattle.zk_model.specs.Frames as model
 use Rattle.zk_model.specs.Frames.{CanGoOn, IsWhole, IsFirstBad, bytes_wanted, frame_length, frame_spelling}
 use Rattle.zk_model.specs.declared.Expect.TheVariants as expect
 use Rattle.proof_frames.specs.declared.shape.Level.TheVariants as level
-use Rattle.proof_frames.specs.Shapes.{IsTree, BeginsTrees, IsHeld}
+use Rattle.proof_frames.specs.Shapes.{IsTree, BeginsTrees, IsHeld, shape_of, header}
 use Rattle.proof_frames.proofs.Octets.{IsByte}
 use Rattle.proof_frames.proofs.Begun.{held_goes_on}
 use Rattle.proof_frames.proofs.Ends.{header_ends, element_ends, tree_ends}
@@ -70,6 +71,31 @@ whole_challenge = record { allowed = (2, refl, omega arith); spelled = refl }
 -- no corrections, whole
 no_corrections : IsWhole (expect.Corrections 0) (5 ∷ 0 ∷ 0 ∷ 0 ∷ 0 ∷ []) (model.corrections [])
 no_corrections = record { allowed = ([], refl, record { counted = refl; ranged = All-nil IsElement }); spelled = refl }
+
+-- in a hello's place two bytes are wanted, and then the rest of one form
+wanted_of_hello : bytes_wanted expect.Hello [] ∷ bytes_wanted expect.Hello (1 ∷ []) ∷ bytes_wanted expect.Hello (1 ∷ 97 ∷ []) ∷ bytes_wanted expect.Hello (1 ∷ 129 ∷ []) ∷ []
+    ≡ 2 ∷ 1 ∷ 100 ∷ 132 ∷ []
+wanted_of_hello = refl
+
+-- a length of 98 or 128 is bad at its first byte
+one_byte : IsHeld expect.Hello (1 ∷ []) [] []
+one_byte = record {
+  begun = refl;
+  bytes = All-from_recursion IsByte (1 ∷ []) (omega arith, tt);
+  part_bytes = All-nil IsByte;
+  payload = record { within = omega arith; no_elements = refl; no_part = refl; ranged = λ long. absurd (omega arith) };
+}
+
+length_of_neither : (low : ℕ) → low ≢ 97 → low ≢ 129 → IsFirstBad expect.Hello (1 ∷ low ∷ []) 1
+length_of_neither low short long = record {
+  within = omega arith;
+  before = held_goes_on expect.Hello (1 ∷ []) [] [] one_byte;
+  ends = header_ends expect.Hello (1 ∷ []) low (omega arith) (by_low (nat_eq low 129) refl);
+}
+  where
+    by_low : (b : Bool) → nat_eq low 129 ≡ b → get_or (header (shape_of expect.Hello low)) 1 0 ≢ low
+    by_low true e = λ same. long (eqb-true low 129 e)
+    by_low false e = λ same. let at : 97 ≡ low = rw e at same in short (sym at)
 
 -- in a grant's place one byte is wanted, and then the rest of a grant or of a refusal
 wanted_bytes : bytes_wanted expect.Grant [] ∷ bytes_wanted expect.Grant (2 ∷ []) ∷ bytes_wanted expect.Grant (10 ∷ []) ∷ [] ≡ 1 ∷ 20 ∷ 5 ∷ []

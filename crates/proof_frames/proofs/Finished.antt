@@ -1,7 +1,7 @@
 -- What is held once the frame is whole.
 use Rattle.std.proofs.Common.{◌≡◌, ℕ, ◌+◌, ◌*◌, ◌<◌, ◌≤◌, ◌⊎◌, inl, inr, List, [], ◌++◌, flat_map, length, take, drop, get_or, refl, sym, ◌∙◌, ap, arith, append-nil, subst, take-append-drop, length-drop}
 use Rattle.std.specs.Prelude.{Bool, true, false, nat_eq}
-use Rattle.std.proofs.lemmas.Bool.{cases_lt}
+use Rattle.std.proofs.lemmas.Bool.{cases_lt, eqb-false}
 use Rattle.std.proofs.lemmas.List.{nil_from_length, take_all, get_or-drop}
 use Rattle.std.proofs.lemmas.List.Elements.{All-drop}
 use Rattle.zk_model.specs.Bytes.{element_bytes}
@@ -14,45 +14,37 @@ use Rattle.proof_frames.specs.declared.shape.Level.{Level}
 use Rattle.proof_frames.specs.declared.shape.Level.TheVariants as level
 use Rattle.proof_frames.specs.declared.shape.Payload.{Payload}
 use Rattle.proof_frames.specs.declared.shape.Payload.TheVariants as payload
-use Rattle.proof_frames.specs.Shapes.{HoldsBytes, HoldsElements, FitsTrees, IsHeld, level_width, level_most, shape_of, header, payload_length, spelled}
+use Rattle.proof_frames.specs.Shapes.{HoldsBytes, HoldsElements, FitsTrees, IsHeld, level_width, level_most, shape_of, told_at, told, header, payload_length, spelled}
 use Rattle.proof_frames.proofs.Octets.{IsByte}
-use Rattle.proof_frames.proofs.Steps.{early_empty, elements_held, trees_held, bytes_held}
+use Rattle.proof_frames.proofs.EveryShape.{told_early}
+use Rattle.proof_frames.proofs.Steps.{only_start, elements_held, trees_held, bytes_held}
 use Rattle.proof_frames.proofs.TreeLemmas.{trees_whole}
-use Rattle.proof_frames.proofs.Lengths.{length-spelled, length_told, length_held}
+use Rattle.proof_frames.proofs.Lengths.{length-spelled, length_told, told_within, length_held}
 use Rattle.proof_frames.proofs.Words.{FitsBytes, FitsPayload, IsWordAt, hello_word, grant_word, verdict_word, asks_whole, replies_whole, corrections_whole, openings_whole, challenge_whole, sums_whole}
 use Rattle.proof_frames.specs.Frames.{ask_bytes, reply_bytes, flattened, hello_in, grant_or_refusal_in, verdict_in}
 
--- a frame has some bytes
-pub some_bytes : (place : Expect) → 1 ≤ frame_length place []
-some_bytes expect.Hello = omega arith
-some_bytes expect.Grant = omega arith
-some_bytes (expect.Ask height trees left) = omega arith
-some_bytes (expect.Reply height trees left) = omega arith
-some_bytes (expect.Corrections count) = omega arith
-some_bytes expect.Challenge = omega arith
-some_bytes (expect.Sums sections) = omega arith
-some_bytes (expect.Openings count) = omega arith
-some_bytes expect.Verdict = omega arith
-
--- a whole frame has a first byte
-pub some_start : (place : Expect) (start elements part : List ℕ) → IsHeld place start elements part
-    → length (spelled start elements part) ≡ frame_length place (spelled start elements part) → 0 < length start
-some_start place start elements part held whole = by_length (cases_lt 0 (length start))
+-- a whole frame has the byte that tells its shape
+pub told_whole : (place : Expect) (start elements part : List ℕ) → IsHeld place start elements part
+    → length (spelled start elements part) ≡ frame_length place (spelled start elements part) → told_at place < length start
+told_whole place start elements part held whole = by_length (cases_lt (told_at place) (length start))
   where
-    by_length : (0 < length start) ⊎ (length start ≤ 0) → 0 < length start
+    by_length : (told_at place < length start) ⊎ (length start ≤ told_at place) → told_at place < length start
     by_length (inl some) = some
-    by_length (inr none) =
-        let empty = early_empty (shape_of place (get_or start 0 0)).payload start elements part held.payload (omega arith) in
-        let no_start : start ≡ [] = nil_from_length start (omega arith) in
-        let length_is : frame_length place start ≡ frame_length place [] = ap (frame_length place) no_start in
-        absurd (omega (arith, some_bytes place, length_is, length_held place start elements part held, length-spelled start elements part, ap length empty.0, ap length empty.1))
+    by_length (inr early) =
+        absurd (omega (
+          arith,
+          whole,
+          early,
+          told_within place (spelled start elements part),
+          ap length (only_start place start elements part held (omega (arith, told_early place, early))),
+        ))
 
 -- as many bytes as the shape says
 shaped : (place : Expect) (start elements part : List ℕ) (p : Payload) → IsHeld place start elements part
-    → (shape_of place (get_or start 0 0)).payload ≡ p → length (spelled start elements part) ≡ frame_length place (spelled start elements part)
+    → (shape_of place (told place start)).payload ≡ p → length (spelled start elements part) ≡ frame_length place (spelled start elements part)
     → length start + 8 * length elements + length part ≡ 5 + payload_length p
 shaped place start elements part p held shape whole =
-    let some = some_start place start elements part held whole in
+    let some = told_whole place start elements part held whole in
     omega (arith, length-spelled start elements part, whole, length_held place start elements part held, length_told place start some, ap payload_length shape)
 
 -- a whole frame of bytes
@@ -62,13 +54,13 @@ pub record HoldsWhole (place : Expect) (start elements part : List ℕ) (count :
   pub word : IsWordAt place start
 
 pub finished_bytes : (place : Expect) (start elements part : List ℕ) (count least most : ℕ) → IsHeld place start elements part
-    → (shape_of place (get_or start 0 0)).payload ≡ payload.Bytes count least most → 1 ≤ count
+    → (shape_of place (told place start)).payload ≡ payload.Bytes count least most → 1 ≤ count
     → length (spelled start elements part) ≡ frame_length place (spelled start elements part) → HoldsWhole place start elements part count
 finished_bytes place start elements part count least most held shape some whole =
     let holds : HoldsBytes count least most start elements part = bytes_held place start elements part count least most held shape in
     let total = shaped place start elements part (payload.Bytes count least most) held shape whole in
     let sized : length start ≡ 5 + count = omega (arith, ap length holds.no_elements, ap length holds.no_part) in
-    let head = header (shape_of place (get_or start 0 0)) in
+    let head = header (shape_of place (told place start)) in
     let front : take 5 start ≡ head = held.begun ∙ take_all (length start) head (omega arith) in
     let first : get_or (drop 5 start) 0 0 ≡ get_or start 5 0 = get_or-drop 5 start 0 0 in
     let range = holds.ranged (omega arith) in
@@ -91,10 +83,10 @@ finished_bytes place start elements part count least most held shape some whole 
 -- a whole frame of elements
 pub record HoldsAll (place : Expect) (start elements part : List ℕ) (count : ℕ) : Type 0 where
   pub are : AreElements count elements
-  pub bytes : spelled start elements part ≡ header (shape_of place (get_or start 0 0)) ++ flat_map element_bytes elements
+  pub bytes : spelled start elements part ≡ header (shape_of place (told place start)) ++ flat_map element_bytes elements
 
 pub finished_elements : (place : Expect) (start elements part : List ℕ) (count : ℕ) → IsHeld place start elements part
-    → (shape_of place (get_or start 0 0)).payload ≡ payload.Elements count
+    → (shape_of place (told place start)).payload ≡ payload.Elements count
     → length (spelled start elements part) ≡ frame_length place (spelled start elements part) → HoldsAll place start elements part count
 finished_elements place start elements part count held shape whole = by_length (cases_lt (length start) 5)
   where
@@ -112,7 +104,7 @@ finished_elements place start elements part count held shape whole = by_length (
         let short = holds.header in
         let partial = holds.partial in
         let none : part ≡ [] = nil_from_length part (omega (arith, total)) in
-        let head = header (shape_of place (get_or start 0 0)) in
+        let head = header (shape_of place (told place start)) in
         let front : start ≡ head = sym (take_all 5 start short) ∙ held.begun ∙ take_all (length start) head long in
         record {
           are = record { counted = omega (arith, total); ranged = holds.ranged };
@@ -123,16 +115,16 @@ finished_elements place start elements part count held shape whole = by_length (
 pub record HoldsForest (place : Expect) (start elements part : List ℕ) (trees height : ℕ) (level : Level) : Type 0 where
   pub long : 5 ≤ length start
   pub fits : FitsTrees trees (level_width level height) (level_most level) (drop 5 start)
-  pub bytes : spelled start elements part ≡ header (shape_of place (get_or start 0 0)) ++ drop 5 start
+  pub bytes : spelled start elements part ≡ header (shape_of place (told place start)) ++ drop 5 start
 
 pub finished_trees : (place : Expect) (start elements part : List ℕ) (trees height : ℕ) (level : Level) → IsHeld place start elements part
-    → (shape_of place (get_or start 0 0)).payload ≡ payload.Trees trees height level
+    → (shape_of place (told place start)).payload ≡ payload.Trees trees height level
     → length (spelled start elements part) ≡ frame_length place (spelled start elements part) → HoldsForest place start elements part trees height level
 finished_trees place start elements part trees height level held shape whole =
     let holds = trees_held place start elements part trees height level held shape in
     let total = shaped place start elements part (payload.Trees trees height level) held shape whole in
     let sized : length start ≡ 5 + trees * (level_width level height + 8) = omega (arith, total, ap length holds.no_elements, ap length holds.no_part) in
-    let head = header (shape_of place (get_or start 0 0)) in
+    let head = header (shape_of place (told place start)) in
     let front : take 5 start ≡ head = held.begun ∙ take_all (length start) head (omega (arith, sized)) in
     record {
       long = omega (arith, sized);
@@ -150,9 +142,32 @@ Finishes place start elements part frame =
 pub hello_finished : (place : Expect) (start elements part bytes : List ℕ) (said : Hello) → place ≡ expect.Hello → bytes ≡ start → said ≡ hello_in bytes
     → Finishes place start elements part (model.hello said)
 hello_finished place start elements part bytes said is same read =
-    subst (λ (p : Expect). Finishes p start elements part (model.hello said)) (sym is) (λ held whole.
-    let done = finished_bytes expect.Hello start elements part 97 0 255 held refl (omega arith) whole in
-    rw (done.bytes, read, same) (hello_word start done.word))
+    subst (λ (p : Expect). Finishes p start elements part (model.hello said)) (sym is) (λ held whole. by_low held whole (nat_eq (get_or start 1 0) 129) refl)
+  where
+    ends : {count : ℕ} → HoldsWhole expect.Hello start elements part count → IsWhole expect.Hello (spelled start elements part) (model.hello said)
+    ends done = rw (done.bytes, read, same) (hello_word start done.word)
+
+    by_low : IsHeld expect.Hello start elements part → length (spelled start elements part) ≡ frame_length expect.Hello (spelled start elements part)
+        → (b : Bool) → nat_eq (get_or start 1 0) 129 ≡ b → IsWhole expect.Hello (spelled start elements part) (model.hello said)
+    by_low held whole true e = ends (finished_bytes expect.Hello start elements part 129 0 255 held (rw e refl) (omega arith) whole)
+    by_low held whole false e = ends (finished_bytes expect.Hello start elements part 97 0 255 held (rw e refl) (omega arith) whole)
+
+-- the length of a whole greeting
+pub hello_held : (place : Expect) (start elements part bytes : List ℕ) → place ≡ expect.Hello → bytes ≡ start → IsHeld place start elements part
+    → length (spelled start elements part) ≡ frame_length place (spelled start elements part)
+    → (102 ≤ length bytes) × (get_or bytes 1 0 ≡ 129 → 134 ≤ length bytes)
+hello_held place start elements part bytes is same held whole =
+    rw same (by_low (subst (λ (p : Expect). IsHeld p start elements part) is held) (subst (λ (p : Expect). length (spelled start elements part) ≡ frame_length p (spelled start elements part)) is whole)
+    (nat_eq (get_or start 1 0) 129) refl)
+  where
+    by_low : IsHeld expect.Hello start elements part → length (spelled start elements part) ≡ frame_length expect.Hello (spelled start elements part)
+        → (b : Bool) → nat_eq (get_or start 1 0) 129 ≡ b → (102 ≤ length start) × (get_or start 1 0 ≡ 129 → 134 ≤ length start)
+    by_low held whole true e =
+        let done = finished_bytes expect.Hello start elements part 129 0 255 held (rw e refl) (omega arith) whole in
+        (omega (arith, done.counted), λ low. omega (arith, done.counted))
+    by_low held whole false e =
+        let done = finished_bytes expect.Hello start elements part 97 0 255 held (rw e refl) (omega arith) whole in
+        (omega (arith, done.counted), λ low. absurd (eqb-false (get_or start 1 0) 129 e low))
 
 pub verdict_finished : (place : Expect) (start elements part bytes : List ℕ) (frame : Frame) → place ≡ expect.Verdict → bytes ≡ start → frame ≡ verdict_in bytes
     → Finishes place start elements part frame
@@ -178,7 +193,7 @@ grant_finished place start elements part bytes frame is same read =
 pub ask_trees : (place : Expect) (start elements part : List ℕ) (height trees left : ℕ) → place ≡ expect.Ask height trees left → IsHeld place start elements part
     → length (spelled start elements part) ≡ frame_length place (spelled start elements part) → (5 ≤ length start) × FitsTrees trees height 1 (drop 5 start)
 ask_trees place start elements part height trees left is held whole =
-    let done = finished_trees place start elements part trees height level.Bit held (ap (λ p. (shape_of p (get_or start 0 0)).payload) is) whole in
+    let done = finished_trees place start elements part trees height level.Bit held (ap (λ p. (shape_of p (told p start)).payload) is) whole in
     (done.long, done.fits)
 
 pub asks_finished : (place : Expect) (start elements part given : List ℕ) (said : List TreeAsk) (height trees left : ℕ) → place ≡ expect.Ask height trees left
@@ -193,7 +208,7 @@ pub reply_trees : (place : Expect) (start elements part : List ℕ) (height tree
     → length (spelled start elements part) ≡ frame_length place (spelled start elements part)
     → (5 ≤ length start) × FitsTrees trees (32 * height) 255 (drop 5 start)
 reply_trees place start elements part height trees left is held whole =
-    let done = finished_trees place start elements part trees height level.Messages held (ap (λ p. (shape_of p (get_or start 0 0)).payload) is) whole in
+    let done = finished_trees place start elements part trees height level.Messages held (ap (λ p. (shape_of p (told p start)).payload) is) whole in
     (done.long, done.fits)
 
 pub replies_finished : (place : Expect) (start elements part given : List ℕ) (said : List TreeReply) (height trees left : ℕ)
@@ -206,8 +221,8 @@ replies_finished place start elements part given said height trees left is same 
 
 -- a place of a count of elements, whose frames hold them
 elements_finished : (stage place : Expect) (frame : List ℕ → Frame) (start elements part given : List ℕ) (count : ℕ)
-    → (shape_of stage (get_or start 0 0)).payload ≡ payload.Elements count
-    → (AreElements count elements → IsWhole stage (header (shape_of stage (get_or start 0 0)) ++ flat_map element_bytes elements) (frame elements))
+    → (shape_of stage (told stage start)).payload ≡ payload.Elements count
+    → (AreElements count elements → IsWhole stage (header (shape_of stage (told stage start)) ++ flat_map element_bytes elements) (frame elements))
     → place ≡ stage → given ≡ elements → Finishes place start elements part (frame given)
 elements_finished stage place frame start elements part given count shaped_so ends is same =
     subst (λ (p : Expect). Finishes p start elements part (frame given)) (sym is) (λ held whole.

@@ -12,7 +12,7 @@ use Rattle.zk_model.specs.declared.Expect.{Expect}
 use Rattle.proof_frames.specs.declared.shape.Level.{Level}
 use Rattle.proof_frames.specs.declared.shape.Payload.{Payload}
 use Rattle.proof_frames.specs.declared.shape.Payload.TheVariants as payload
-use Rattle.proof_frames.specs.Shapes.{IsHeld, HoldsBytes, HoldsTrees, level_width, level_most, shape_of, header, spelled}
+use Rattle.proof_frames.specs.Shapes.{IsHeld, HoldsBytes, HoldsTrees, level_width, level_most, shape_of, told, header, spelled}
 use Rattle.proof_frames.specs.Laws.{GoesOnOrIsBad, NeverBoth}
 use Rattle.proof_frames.proofs.Octets.{IsByte, back_64}
 use Rattle.proof_frames.proofs.Begun.{held_goes_on}
@@ -42,12 +42,12 @@ held_next place bytes byte state next = subst (λ (l : List ℕ). Next place l b
 next_header : (place : Expect) (start elements part : List ℕ) (byte : ℕ) → IsHeld place start elements part → byte < 256 → length start < 5
     → Next place (spelled start elements part) byte
 next_header place start elements part byte held small short =
-    by_byte (cases_eq (get_or (header (shape_of place (get_or (start ++ byte ∷ []) 0 0))) (length start) 0) byte)
+    by_byte (cases_eq (get_or (header (shape_of place (told place (start ++ byte ∷ [])))) (length start) 0) byte)
   where
-    by_byte : (get_or (header (shape_of place (get_or (start ++ byte ∷ []) 0 0))) (length start) 0 ≡ byte)
-        ⊎ (get_or (header (shape_of place (get_or (start ++ byte ∷ []) 0 0))) (length start) 0 ≢ byte) → Next place (spelled start elements part) byte
+    by_byte : (get_or (header (shape_of place (told place (start ++ byte ∷ [])))) (length start) 0 ≡ byte)
+        ⊎ (get_or (header (shape_of place (told place (start ++ byte ∷ [])))) (length start) 0 ≢ byte) → Next place (spelled start elements part) byte
     by_byte (inl same) =
-        let empty = early_empty (shape_of place (get_or start 0 0)).payload start elements part held.payload short in
+        let empty = early_empty (shape_of place (told place start)).payload start elements part held.payload short in
         inl (record {
           start = start ++ byte ∷ [];
           elements = elements;
@@ -60,7 +60,7 @@ next_header place start elements part byte held small short =
 
 -- a byte of a payload of bytes
 next_plain : (place : Expect) (start elements part : List ℕ) (byte count least most : ℕ) → IsHeld place start elements part → byte < 256 → 5 ≤ length start
-    → (shape_of place (get_or start 0 0)).payload ≡ payload.Bytes count least most → length start < 5 + count → Next place (spelled start elements part) byte
+    → (shape_of place (told place start)).payload ≡ payload.Bytes count least most → length start < 5 + count → Next place (spelled start elements part) byte
 next_plain place start elements part byte count least most held small long shape within =
     by_length (cases_lt 5 (length start)) (cases_lt byte least) (cases_lt most byte)
   where
@@ -90,7 +90,7 @@ next_plain place start elements part byte count least most held small long shape
 
 -- a byte of a payload of elements
 next_element : (place : Expect) (start elements part : List ℕ) (byte count : ℕ) → IsHeld place start elements part → byte < 256 → length start ≡ 5
-    → (shape_of place (get_or start 0 0)).payload ≡ payload.Elements count → 8 * length elements + length part < 8 * count
+    → (shape_of place (told place start)).payload ≡ payload.Elements count → 8 * length elements + length part < 8 * count
     → Next place (spelled start elements part) byte
 next_element place start elements part byte count held small headed shape within =
     by_part (cases_lt (length part) 7) (cases_lt (from_le_bytes w64 (part ++ byte ∷ [])) prime)
@@ -129,7 +129,7 @@ next_element place start elements part byte count held small headed shape within
 
 -- a byte of a payload of trees
 next_tree : (place : Expect) (start elements part : List ℕ) (byte trees height : ℕ) (level : Level) → IsHeld place start elements part → byte < 256 → 5 ≤ length start
-    → (shape_of place (get_or start 0 0)).payload ≡ payload.Trees trees height level → length start < 5 + trees * (level_width level height + 8)
+    → (shape_of place (told place start)).payload ≡ payload.Trees trees height level → length start < 5 + trees * (level_width level height + 8)
     → Next place (spelled start elements part) byte
 next_tree place start elements part byte trees height level held small long shape within =
     by_part (cases_lt (length behind) width) (cases_lt (length behind) (width + 7)) (cases_lt most byte) (cases_lt (from_le_bytes w64 (drop width behind ++ byte ∷ [])) prime)
@@ -179,7 +179,7 @@ next place bytes byte state small within =
     held_within : length (spelled state.start state.elements state.part ++ byte ∷ []) ≤ frame_length place (spelled state.start state.elements state.part ++ byte ∷ [])
     held_within = subst (λ (l : List ℕ). length (l ++ byte ∷ []) ≤ frame_length place (l ++ byte ∷ [])) (sym state.spells) within
 
-    by_payload : (p : Payload) → 5 ≤ length state.start → (shape_of place (get_or state.start 0 0)).payload ≡ p
+    by_payload : (p : Payload) → 5 ≤ length state.start → (shape_of place (told place state.start)).payload ≡ p
         → Next place (spelled state.start state.elements state.part) byte
     by_payload (payload.Bytes count least most) long shape =
         let left = bytes_left place state.start state.elements state.part (byte ∷ []) count least most long shape held_within in
@@ -193,7 +193,7 @@ next place bytes byte state small within =
 
     by_header : (length state.start < 5) ⊎ (5 ≤ length state.start) → Next place (spelled state.start state.elements state.part) byte
     by_header (inl short) = next_header place state.start state.elements state.part byte state.held small short
-    by_header (inr long) = by_payload (shape_of place (get_or state.start 0 0)).payload long refl
+    by_header (inr long) = by_payload (shape_of place (told place state.start)).payload long refl
 
 -- up to any of the bytes they are held, or one is bad
 run : (place : Expect) (bytes : List ℕ) → All IsByte bytes → length bytes ≤ frame_length place bytes → (n : ℕ) → n ≤ length bytes

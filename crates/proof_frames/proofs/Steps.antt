@@ -1,8 +1,8 @@
 -- One byte more is held.
 use Rattle.std.proofs.Common.{◌≡◌, ℕ, ◌+◌, ◌*◌, ◌<◌, ◌≤◌, ◌⊎◌, inl, inr, List, [], ◌∷◌, ◌++◌, flat_map, length, take, drop, get_or, refl, sym, ◌∙◌, ap, arith, length-append, length-drop, append_assoc, append-nil, subst}
 use Rattle.std.specs.Prelude.{All}
-use Rattle.std.proofs.lemmas.Bool.{cases_lt}
-use Rattle.std.proofs.lemmas.List.{take_all, nil_from_length, get_or_append_left, get_or_push, take-append-le, drop-append-le, take_more, flat_map_more}
+use Rattle.std.proofs.lemmas.Bool.{cases_lt, cases_order}
+use Rattle.std.proofs.lemmas.List.{take_all, nil_from_length, get_or_append_left, get_or_push, get_or_past, get_or_default, take-append-le, drop-append-le, take_more, flat_map_more}
 use Rattle.std.proofs.lemmas.List.Elements.{All-nil, All-push, All-drop}
 use Rattle.zk_model.specs.Field.{IsElement}
 use Rattle.zk_model.specs.Bytes.{element_bytes}
@@ -11,7 +11,8 @@ use Rattle.proof_frames.specs.declared.shape.Level.{Level}
 use Rattle.proof_frames.specs.declared.shape.Payload.{Payload}
 use Rattle.proof_frames.specs.declared.shape.Payload.TheVariants as payload
 use Rattle.proof_frames.specs.declared.shape.Shape.{Shape}
-use Rattle.proof_frames.specs.Shapes.{HoldsPayload, HoldsBytes, HoldsElements, HoldsTrees, BeginsTrees, IsHeld, level_width, level_most, shape_of, header, spelled}
+use Rattle.proof_frames.specs.Shapes.{HoldsPayload, HoldsBytes, HoldsElements, HoldsTrees, BeginsTrees, IsHeld, level_width, level_most, shape_of, told_at, told, header, spelled}
+use Rattle.proof_frames.proofs.EveryShape.{told_early, told_stays, same_headers, same_header_byte}
 use Rattle.proof_frames.proofs.Octets.{IsByte}
 use Rattle.proof_frames.proofs.TreeLemmas.{GoesOn, no_trees, trees_more}
 
@@ -39,56 +40,51 @@ early_holds (payload.Trees trees height level) start elements part short no_elem
       (no_trees trees (level_width level height) (level_most level));
 }
 
--- the first byte stays
-first_stays : (start : List ℕ) (byte : ℕ) → 0 < length start → get_or (start ++ byte ∷ []) 0 0 ≡ get_or start 0 0
-first_stays start byte some = get_or_append_left start (byte ∷ []) 0 0 some
-
 -- nothing is held
 pub nothing_held : (place : Expect) → IsHeld place [] [] []
 nothing_held place = record {
   begun = refl;
   bytes = All-nil IsByte;
   part_bytes = All-nil IsByte;
-  payload = early_holds (shape_of place 0).payload [] [] [] (omega arith) refl refl;
+  payload = early_holds (shape_of place (told place [])).payload [] [] [] (omega arith) refl refl;
 }
 
 -- a byte of the header
 pub header_step : (place : Expect) (start elements part : List ℕ) (byte : ℕ) → IsHeld place start elements part → length start < 5 → byte < 256
-    → get_or (header (shape_of place (get_or (start ++ byte ∷ []) 0 0))) (length start) 0 ≡ byte → IsHeld place (start ++ byte ∷ []) elements part
+    → get_or (header (shape_of place (told place (start ++ byte ∷ [])))) (length start) 0 ≡ byte → IsHeld place (start ++ byte ∷ []) elements part
 header_step place start elements part byte held short small same =
-    let empty = early_empty (shape_of place (get_or start 0 0)).payload start elements part held.payload short in
-    let head = header (shape_of place (get_or (start ++ byte ∷ []) 0 0)) in
+    let empty = early_empty (shape_of place (told place start)).payload start elements part held.payload short in
+    let head = header (shape_of place (told place (start ++ byte ∷ []))) in
     let sized : length (start ++ byte ∷ []) ≡ length start + 1 = length-append start (byte ∷ []) in
     let more : take (length start + 1) head ≡ take (length start) head ++ get_or head (length start) 0 ∷ [] = take_more head (length start) 0 short in
     record {
-      begun = take_all 5 (start ++ byte ∷ []) (omega arith) ∙ (λ i. sym (front (cases_lt 0 (length start))) i ++ sym same i ∷ []) ∙ sym more ∙ ap (λ n. take n head) (sym sized);
+      begun = take_all 5 (start ++ byte ∷ []) (omega arith) ∙ (λ i. sym (front (cases_lt (told_at place) (length start))) i ++ sym same i ∷ []) ∙ sym more ∙ ap (λ n. take n head) (sym sized);
       bytes = All-push IsByte start byte held.bytes small;
       part_bytes = held.part_bytes;
-      payload = early_holds (shape_of place (get_or (start ++ byte ∷ []) 0 0)).payload (start ++ byte ∷ []) elements part (omega arith) empty.0 empty.1;
+      payload = early_holds (shape_of place (told place (start ++ byte ∷ []))).payload (start ++ byte ∷ []) elements part (omega arith) empty.0 empty.1;
     }
   where
-    front : (0 < length start) ⊎ (length start ≤ 0) → take (length start) (header (shape_of place (get_or (start ++ byte ∷ []) 0 0))) ≡ start
+    front : (told_at place < length start) ⊎ (length start ≤ told_at place) → take (length start) (header (shape_of place (told place (start ++ byte ∷ [])))) ≡ start
     front (inl some) =
-        ap (λ n. take (length start) (header (shape_of place n))) (first_stays start byte some) ∙ sym held.begun ∙ take_all 5 start (omega arith)
-    front (inr none) =
-        let no_start : start ≡ [] = nil_from_length start (omega arith) in
-        ap (λ n. take n (header (shape_of place (get_or (start ++ byte ∷ []) 0 0)))) (ap length no_start) ∙ sym no_start
+        ap (λ n. take (length start) (header (shape_of place n))) (told_stays place start (byte ∷ []) some) ∙ sym held.begun ∙ take_all 5 start (omega arith)
+    front (inr early) =
+        same_headers place (told place (start ++ byte ∷ [])) (told place start) (length start) early ∙ sym held.begun ∙ take_all 5 start (omega arith)
 
 -- the shape's payload, where it is known
 payload_is : (place : Expect) (start elements part : List ℕ) (p : Payload) → IsHeld place start elements part
-    → (shape_of place (get_or start 0 0)).payload ≡ p → HoldsPayload p start elements part
+    → (shape_of place (told place start)).payload ≡ p → HoldsPayload p start elements part
 payload_is place start elements part p held is = subst (λ (q : Payload). HoldsPayload q start elements part) is held.payload
 
 -- a byte after the header
 start_step : (place : Expect) (start elements part : List ℕ) (byte : ℕ) (p : Payload) → IsHeld place start elements part → 5 ≤ length start → byte < 256
-    → (shape_of place (get_or start 0 0)).payload ≡ p → HoldsPayload p (start ++ byte ∷ []) elements part → IsHeld place (start ++ byte ∷ []) elements part
+    → (shape_of place (told place start)).payload ≡ p → HoldsPayload p (start ++ byte ∷ []) elements part → IsHeld place (start ++ byte ∷ []) elements part
 start_step place start elements part byte p held long small shape holds =
-    let stays : get_or (start ++ byte ∷ []) 0 0 ≡ get_or start 0 0 = first_stays start byte (omega arith) in
+    let stays : told place (start ++ byte ∷ []) ≡ told place start = told_stays place start (byte ∷ []) (omega (arith, told_early place)) in
     let sized : length (start ++ byte ∷ []) ≡ length start + 1 = length-append start (byte ∷ []) in
     record {
-      begun = take-append-le 5 start (byte ∷ []) long ∙ held.begun ∙ take_all (length start) (header (shape_of place (get_or start 0 0))) long
+      begun = take-append-le 5 start (byte ∷ []) long ∙ held.begun ∙ take_all (length start) (header (shape_of place (told place start))) long
           ∙ ap (λ n. header (shape_of place n)) (sym stays)
-          ∙ sym (take_all (length (start ++ byte ∷ [])) (header (shape_of place (get_or (start ++ byte ∷ []) 0 0))) (omega arith));
+          ∙ sym (take_all (length (start ++ byte ∷ [])) (header (shape_of place (told place (start ++ byte ∷ [])))) (omega arith));
       bytes = All-push IsByte start byte held.bytes small;
       part_bytes = held.part_bytes;
       payload = subst (λ (q : Payload). HoldsPayload q (start ++ byte ∷ []) elements part) (sym (ap (λ n. (shape_of place n).payload) stays ∙ shape)) holds;
@@ -96,7 +92,7 @@ start_step place start elements part byte p held long small shape holds =
 
 -- a byte of a payload of trees
 pub tree_step : (place : Expect) (start elements part : List ℕ) (byte trees height : ℕ) (level : Level) → IsHeld place start elements part → 5 ≤ length start
-    → (shape_of place (get_or start 0 0)).payload ≡ payload.Trees trees height level → length start < 5 + trees * (level_width level height + 8) → byte < 256
+    → (shape_of place (told place start)).payload ≡ payload.Trees trees height level → length start < 5 + trees * (level_width level height + 8) → byte < 256
     → (holds : HoldsTrees trees (level_width level height) (level_most level) start elements part)
     → GoesOn (level_width level height) (level_most level) holds.begins.part byte → IsHeld place (start ++ byte ∷ []) elements part
 tree_step place start elements part byte trees height level held long shape within small holds goes =
@@ -110,7 +106,7 @@ tree_step place start elements part byte trees height level held long shape with
 
 -- a byte of a payload of bytes
 pub plain_step : (place : Expect) (start elements part : List ℕ) (byte count least most : ℕ) → IsHeld place start elements part → 5 ≤ length start
-    → (shape_of place (get_or start 0 0)).payload ≡ payload.Bytes count least most → length start < 5 + count
+    → (shape_of place (told place start)).payload ≡ payload.Bytes count least most → length start < 5 + count
     → (length start ≡ 5 → (least ≤ byte) × (byte ≤ most)) → byte < 256 → IsHeld place (start ++ byte ∷ []) elements part
 plain_step place start elements part byte count least most held long shape within range small =
     let holds : HoldsBytes count least most start elements part = payload_is place start elements part (payload.Bytes count least most) held shape in
@@ -133,7 +129,7 @@ plain_step place start elements part byte count least most held long shape withi
 
 -- a payload of elements, with other elements and another part
 pub elements_step : (place : Expect) (start elements part more part_now : List ℕ) (count : ℕ) → IsHeld place start elements part → length start ≡ 5
-    → (shape_of place (get_or start 0 0)).payload ≡ payload.Elements count → All IsElement more → length part_now < 8 → All IsByte part_now
+    → (shape_of place (told place start)).payload ≡ payload.Elements count → All IsElement more → length part_now < 8 → All IsByte part_now
     → 8 * length more + length part_now ≤ 8 * count → IsHeld place start more part_now
 elements_step place start elements part more part_now count held headed shape ranged partial all within = record {
   begun = held.begun;
@@ -176,35 +172,42 @@ only_raw start elements part no_elements no_part =
 -- before the header is whole only its bytes are held
 pub only_start : (place : Expect) (start elements part : List ℕ) → IsHeld place start elements part → length start < 5 → spelled start elements part ≡ start
 only_start place start elements part held short =
-    let empty = early_empty (shape_of place (get_or start 0 0)).payload start elements part held.payload short in
+    let empty = early_empty (shape_of place (told place start)).payload start elements part held.payload short in
     only_raw start elements part empty.0 empty.1
 
--- the first byte of what is held and of one byte more
-first_is : (start : List ℕ) (byte : ℕ) → get_or start 0 byte ≡ get_or (start ++ byte ∷ []) 0 0
-first_is [] byte = refl
-first_is (first ∷ start) byte = refl
-
--- the byte of the header that is due
-pub due : (place : Expect) (start head : List ℕ) (byte first n : ℕ) (shape : Shape) → first ≡ get_or start 0 byte → shape ≡ shape_of place first
+-- the byte of the header that is due, where the byte that tells the shape is held or comes now
+pub due : (place : Expect) (start head : List ℕ) (byte telling n : ℕ) (shape : Shape) → telling ≡ get_or start (told_at place) byte → shape ≡ shape_of place telling
     → head ≡ header shape → n ≡ length start
-    → get_or head n 0 ≡ get_or (header (shape_of place (get_or (start ++ byte ∷ []) 0 0))) (length start) 0
-due place start head byte first n shape is_first is_shape is_head is_n =
+    → get_or head n 0 ≡ get_or (header (shape_of place (told place (start ++ byte ∷ [])))) (length start) 0
+due place start head byte telling n shape is_telling is_shape is_head is_n =
     (λ i. get_or (is_head i) (is_n i) 0)
-    ∙ ap (λ s. get_or (header s) (length start) 0) (is_shape ∙ ap (shape_of place) (is_first ∙ first_is start byte))
+    ∙ ap (λ s. get_or (header s) (length start) 0) (is_shape ∙ ap (shape_of place) is_telling)
+    ∙ by_place (cases_order (length start) (told_at place))
+  where
+    by_place : (length start ≡ told_at place) ⊎ ((length start < told_at place) ⊎ (told_at place < length start))
+        → get_or (header (shape_of place (get_or start (told_at place) byte))) (length start) 0
+        ≡ get_or (header (shape_of place (told place (start ++ byte ∷ [])))) (length start) 0
+    by_place (inl at) =
+        ap (λ k. get_or (header (shape_of place k)) (length start) 0)
+        (get_or_past start (told_at place) byte (omega (arith, at)) ∙ sym (get_or_push start byte 0 (told_at place) at))
+    by_place (inr (inl early)) = same_header_byte place (get_or start (told_at place) byte) (told place (start ++ byte ∷ [])) (length start) early
+    by_place (inr (inr some)) =
+        ap (λ k. get_or (header (shape_of place k)) (length start) 0)
+        (get_or_default start (told_at place) byte 0 some ∙ sym (told_stays place start (byte ∷ []) some))
 
 -- what is held of elements
 pub elements_held : (place : Expect) (start elements part : List ℕ) (count : ℕ) → IsHeld place start elements part
-    → (shape_of place (get_or start 0 0)).payload ≡ payload.Elements count → HoldsElements count start elements part
+    → (shape_of place (told place start)).payload ≡ payload.Elements count → HoldsElements count start elements part
 elements_held place start elements part count held shape = payload_is place start elements part (payload.Elements count) held shape
 
 -- what is held of trees
 pub trees_held : (place : Expect) (start elements part : List ℕ) (trees height : ℕ) (level : Level) → IsHeld place start elements part
-    → (shape_of place (get_or start 0 0)).payload ≡ payload.Trees trees height level
+    → (shape_of place (told place start)).payload ≡ payload.Trees trees height level
     → HoldsTrees trees (level_width level height) (level_most level) start elements part
 trees_held place start elements part trees height level held shape = payload_is place start elements part (payload.Trees trees height level) held shape
 
 -- what is held of bytes
 pub bytes_held : (place : Expect) (start elements part : List ℕ) (count least most : ℕ) → IsHeld place start elements part
-    → (shape_of place (get_or start 0 0)).payload ≡ payload.Bytes count least most → HoldsBytes count least most start elements part
+    → (shape_of place (told place start)).payload ≡ payload.Bytes count least most → HoldsBytes count least most start elements part
 bytes_held place start elements part count least most held shape =
     payload_is place start elements part (payload.Bytes count least most) held shape

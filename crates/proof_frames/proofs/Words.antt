@@ -1,11 +1,12 @@
 -- The bytes of the frames that a place allows, by their shape.
 use Rattle.std.proofs.Common.{◌≡◌, ℕ, ◌+◌, ◌*◌, ◌<◌, ◌≤◌, inl, inr, List, [], ◌∷◌, ◌++◌, flat_map, length, take, drop, get_or, refl, sym, ◌∙◌, ap, arith, length-append, append_assoc, subst, take-append-drop, length-drop}
-use Rattle.std.specs.Prelude.{All, Bool, true, false, nat_eq}
+use Rattle.std.specs.Prelude.{All, Bool, true, false, nat_eq, Option, Some, None, unwrap_or, IfSome}
 use Rattle.std.specs.Int.{w32, w64, from_le_bytes, to_le_bytes}
 use Rattle.std.proofs.Math.Seq.{drop-drop}
-use Rattle.std.proofs.lemmas.List.{take_all, length-take-le, get_or-drop, get_or-take}
+use Rattle.std.proofs.lemmas.List.{take_all, drop_more, nil_from_length, length-take-le, get_or-drop, get_or-take}
 use Rattle.std.proofs.lemmas.List.Elements.{All-append, All-cons, All-nil, All-get_or, All-head, All-take, All-drop, All-from_recursion, recursion_from_All}
 use Rattle.frame_laws.proofs.Octets.{word_octets}
+use Rattle.frame_laws.proofs.Hellos.{hello_payload, payload_length}
 use Rattle.zk_model.specs.Field.{IsElement}
 use Rattle.zk_model.specs.Bytes.{AreBytes, element_bytes}
 use Rattle.zk_model.specs.Transcript.{Hello, Grant, TreeAsk, TreeReply, IsHello, frame_bytes, kind_number}
@@ -21,7 +22,7 @@ use Rattle.proof_frames.specs.declared.shape.Payload.{Payload}
 use Rattle.proof_frames.specs.declared.shape.Payload.TheVariants as payload
 use Rattle.proof_frames.specs.declared.shape.Shape.{Shape}
 use Rattle.proof_frames.specs.Frames.{ask_bytes, reply_bytes, flattened, sums_payload, hello_in, grant_in, grant_or_refusal_in, verdict_in}
-use Rattle.proof_frames.specs.Shapes.{FitsTrees, level_width, level_most, shape_of, header}
+use Rattle.proof_frames.specs.Shapes.{FitsTrees, level_width, level_most, shape_of, told, header}
 use Rattle.proof_frames.proofs.FrameLemmas.{length-elements}
 use Rattle.proof_frames.proofs.Sums.{flattened_bytes, length-flattened, flattened_elements, paired, flattened_paired, paired_elements}
 use Rattle.proof_frames.proofs.TreeLemmas.{length-trees}
@@ -57,7 +58,7 @@ pub record IsWord (shape : Shape) (word : List ℕ) : Type 0 where
 
 -- the bytes of a frame at a place
 abbrev pub IsWordAt : Expect → List ℕ → Type 0
-IsWordAt place word = IsWord (shape_of place (get_or word 0 0)) word
+IsWordAt place word = IsWord (shape_of place (told place word)) word
 
 -- ---- a frame that is allowed is a word
 
@@ -86,22 +87,16 @@ free count bytes counted some all =
     let first : get_or bytes 0 0 < 256 = All-get_or IsByte bytes 0 0 (omega arith) all in
     record { counted = counted; ranged = all; low = omega arith; high = omega arith }
 
-hello_fits : (said : Hello) → IsHello said → FitsBytes 97 0 255 (said.id ++ said.circuit ++ said.outputs ++ said.version ∷ [])
-hello_fits said is =
-    let sized : length (said.id ++ said.circuit ++ said.outputs ++ said.version ∷ []) ≡ 97 =
-    omega (
-      arith,
-      is.id.0,
-      is.circuit.0,
-      is.outputs.0,
-      length-append (said.id ++ said.circuit ++ said.outputs) (said.version ∷ []),
-      length-append (said.id ++ said.circuit) said.outputs,
-      length-append said.id said.circuit,
-    ) in
-    free 97 (said.id ++ said.circuit ++ said.outputs ++ said.version ∷ []) sized (omega arith)
-    (All-append IsByte (said.id ++ said.circuit ++ said.outputs) (said.version ∷ [])
+-- the bytes of a greeting are bytes
+hello_bytes : (said : Hello) → IsHello said → All IsByte (hello_payload said)
+hello_bytes said is =
+    All-append IsByte (said.id ++ said.circuit ++ said.outputs) (said.version ∷ unwrap_or said.public [])
     (All-append IsByte (said.id ++ said.circuit) said.outputs (All-append IsByte said.id said.circuit is.id.1 is.circuit.1) is.outputs.1)
-    (All-cons IsByte said.version [] is.version (All-nil IsByte)))
+    (All-cons IsByte said.version (unwrap_or said.public []) is.version (digest said.public is.public))
+  where
+    digest : (public : Option (List ℕ)) → IfSome public (AreBytes 32) → All IsByte (unwrap_or public [])
+    digest None none = All-nil IsByte
+    digest (Some bytes) are = are.1
 
 grant_fits : (given : Grant) → FitsBytes 16 0 255 (to_le_bytes w64 given.start ++ to_le_bytes w32 given.count ++ to_le_bytes w32 given.section_length)
 grant_fits given =
@@ -143,10 +138,28 @@ forest frame trees height level bytes fits = record {
   spelled = headed frame bytes (trees * (level_width level height + 8)) (length-trees trees (level_width level height) (level_most level) bytes fits);
 }
 
+-- a greeting is a word of one of its two forms
+hello_is_word : (said : Hello) → IsHello said → IsWordAt expect.Hello (frame_bytes kind.Hello (hello_payload said))
+hello_is_word said is = by_form said.public refl
+  where
+    bytes : List ℕ
+    bytes = hello_payload said
+
+    by_form : (public : Option (List ℕ)) → said.public ≡ public → IsWordAt expect.Hello (frame_bytes kind.Hello bytes)
+    by_form None form =
+        let counted : length bytes ≡ 97 = omega (arith, payload_length said is, ap (λ p. length (unwrap_or p [])) form) in
+        subst (IsWordAt expect.Hello) (sym (headed kind.Hello bytes 97 counted))
+        (record { payload = bytes; fits = free 97 bytes counted (omega arith) (hello_bytes said is); spelled = refl })
+    by_form (Some digest) form =
+        let are : AreBytes 32 digest = subst (λ (p : Option (List ℕ)). IfSome p (AreBytes 32)) form is.public in
+        let counted : length bytes ≡ 129 = omega (arith, payload_length said is, ap (λ p. length (unwrap_or p [])) form, are.0) in
+        subst (IsWordAt expect.Hello) (sym (headed kind.Hello bytes 129 counted))
+        (record { payload = bytes; fits = free 129 bytes counted (omega arith) (hello_bytes said is); spelled = refl })
+
 -- the bytes of a frame that a place allows are a word
 pub allowed_word : (place : Expect) (frame : Frame) → Allows place frame → IsWordAt place (frame_spelling frame)
 allowed_word expect.Hello frame is =
-    subst (λ f. IsWordAt expect.Hello (frame_spelling f)) (sym is.1) (plain kind.Hello 97 0 255 _ (hello_fits is.0 is.2))
+    subst (λ f. IsWordAt expect.Hello (frame_spelling f)) (sym is.1) (hello_is_word is.0 is.2)
 allowed_word expect.Grant frame (inl is) =
     subst (λ f. IsWordAt expect.Grant (frame_spelling f)) (sym is.1) (plain kind.Grant 16 0 255 _ (grant_fits is.0))
 allowed_word expect.Grant frame (inr is) =
@@ -185,16 +198,16 @@ part_bytes : (bytes : List ℕ) (n at : ℕ) → All IsByte bytes → n + at ≤
 part_bytes bytes n at all within =
     (length-take-le n (drop at bytes) (omega (arith, length-drop at bytes)), All-take IsByte n (drop at bytes) (All-drop IsByte at bytes all))
 
--- a payload of a greeting
-hello_whole : (payload : List ℕ) → length payload ≡ 97
-    → payload ≡ take 32 payload ++ take 32 (drop 32 payload) ++ take 32 (drop 64 payload) ++ get_or payload 96 0 ∷ []
-hello_whole payload sized =
+-- a payload of a greeting, and what comes after its version
+hello_whole : (payload digest : List ℕ) → 97 ≤ length payload → drop 97 payload ≡ digest
+    → payload ≡ take 32 payload ++ take 32 (drop 32 payload) ++ take 32 (drop 64 payload) ++ get_or payload 96 0 ∷ digest
+hello_whole payload digest long is =
     front_and_rest 32 payload
     ∙ ap (λ l. first ++ l) (front_and_rest 32 (drop 32 payload)
     ∙ ap (λ l. second ++ l) (drop-drop 32 32 payload ∙ front_and_rest 32 (drop 64 payload)
     ∙ ap (λ l. third ++ l) (drop-drop 32 64 payload ∙ last)))
-    ∙ sym (append_assoc first second (third ++ get_or payload 96 0 ∷ []))
-    ∙ sym (append_assoc (first ++ second) third (get_or payload 96 0 ∷ []))
+    ∙ sym (append_assoc first second (third ++ get_or payload 96 0 ∷ digest))
+    ∙ sym (append_assoc (first ++ second) third (get_or payload 96 0 ∷ digest))
   where
     first : List ℕ
     first = take 32 payload
@@ -205,8 +218,8 @@ hello_whole payload sized =
     third : List ℕ
     third = take 32 (drop 64 payload)
 
-    last : drop 96 payload ≡ get_or payload 96 0 ∷ []
-    last = one_item (drop 96 payload) (omega (arith, length-drop 96 payload, sized)) ∙ ap (λ x. x ∷ []) (get_or-drop 96 payload 0 0)
+    last : drop 96 payload ≡ get_or payload 96 0 ∷ digest
+    last = drop_more payload 96 0 (omega (arith, long)) ∙ ap (λ l. get_or payload 96 0 ∷ l) is
 
 -- a payload of a grant
 grant_whole : (payload : List ℕ) → length payload ≡ 16 → All IsByte payload
@@ -248,25 +261,52 @@ verdict_whole payload sized all =
 
 -- a greeting's word
 pub hello_word : (word : List ℕ) → IsWordAt expect.Hello word → IsWhole expect.Hello word (model.hello (hello_in word))
-hello_word word is = subst (λ (l : List ℕ). IsWhole expect.Hello l (model.hello (hello_in l))) (sym is.spelled) (whole is.payload is.fits)
+hello_word word is = by_low (nat_eq (get_or word 1 0) 129) refl
   where
-    whole : (p : List ℕ) → FitsBytes 97 0 255 p → IsWhole expect.Hello (header (shape_of expect.Hello 0) ++ p) (model.hello (hello_in (header (shape_of expect.Hello 0) ++ p)))
-    whole p fits =
-        let parts = hello_whole p fits.counted in
-        let version : get_or p 96 0 < 256 = All-get_or IsByte p 96 0 (omega (arith, fits.counted)) fits.ranged in
+    short : (p : List ℕ) → FitsBytes 97 0 255 p
+        → IsWhole expect.Hello ((1 ∷ to_le_bytes w32 97) ++ p) (model.hello (hello_in ((1 ∷ to_le_bytes w32 97) ++ p)))
+    short p fits = record {
+      allowed = (
+        hello_in ((1 ∷ to_le_bytes w32 97) ++ p),
+        refl,
         record {
-          allowed = (
-            hello_in (header (shape_of expect.Hello 0) ++ p),
-            refl,
-            record {
-              id = part_bytes p 32 0 fits.ranged (omega (arith, fits.counted));
-              circuit = part_bytes p 32 32 fits.ranged (omega (arith, fits.counted));
-              outputs = part_bytes p 32 64 fits.ranged (omega (arith, fits.counted));
-              version = version;
-            },
-          );
-          spelled = sym (headed kind.Hello p 97 fits.counted) ∙ ap (frame_bytes kind.Hello) parts;
-        }
+          id = part_bytes p 32 0 fits.ranged (omega (arith, fits.counted));
+          circuit = part_bytes p 32 32 fits.ranged (omega (arith, fits.counted));
+          outputs = part_bytes p 32 64 fits.ranged (omega (arith, fits.counted));
+          version = All-get_or IsByte p 96 0 (omega (arith, fits.counted)) fits.ranged;
+          public = tt;
+        },
+      );
+      spelled = sym (headed kind.Hello p 97 fits.counted)
+          ∙ ap (frame_bytes kind.Hello) (hello_whole p [] (omega (arith, fits.counted)) (nil_from_length (drop 97 p) (omega (arith, length-drop 97 p, fits.counted))));
+    }
+
+    long : (p : List ℕ) → FitsBytes 129 0 255 p
+        → IsWhole expect.Hello ((1 ∷ to_le_bytes w32 129) ++ p) (model.hello (hello_in ((1 ∷ to_le_bytes w32 129) ++ p)))
+    long p fits = record {
+      allowed = (
+        hello_in ((1 ∷ to_le_bytes w32 129) ++ p),
+        refl,
+        record {
+          id = part_bytes p 32 0 fits.ranged (omega (arith, fits.counted));
+          circuit = part_bytes p 32 32 fits.ranged (omega (arith, fits.counted));
+          outputs = part_bytes p 32 64 fits.ranged (omega (arith, fits.counted));
+          version = All-get_or IsByte p 96 0 (omega (arith, fits.counted)) fits.ranged;
+          public = part_bytes p 32 97 fits.ranged (omega (arith, fits.counted));
+        },
+      );
+      spelled = sym (headed kind.Hello p 129 fits.counted)
+          ∙ ap (frame_bytes kind.Hello) (hello_whole p (take 32 (drop 97 p)) (omega (arith, fits.counted))
+          (sym (take_all 32 (drop 97 p) (omega (arith, length-drop 97 p, fits.counted)))));
+    }
+
+    by_low : (b : Bool) → nat_eq (get_or word 1 0) 129 ≡ b → IsWhole expect.Hello word (model.hello (hello_in word))
+    by_low true e =
+        let word_is : IsWord (record { kind = kind.Hello; payload = payload.Bytes 129 0 255 }) word = rw e at is in
+        subst (λ (l : List ℕ). IsWhole expect.Hello l (model.hello (hello_in l))) (sym word_is.spelled) (long word_is.payload word_is.fits)
+    by_low false e =
+        let word_is : IsWord (record { kind = kind.Hello; payload = payload.Bytes 97 0 255 }) word = rw e at is in
+        subst (λ (l : List ℕ). IsWhole expect.Hello l (model.hello (hello_in l))) (sym word_is.spelled) (short word_is.payload word_is.fits)
 
 -- the word of a grant or of a refusal
 pub grant_word : (word : List ℕ) → IsWordAt expect.Grant word → IsWhole expect.Grant word (grant_or_refusal_in word)

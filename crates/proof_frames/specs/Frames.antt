@@ -1,5 +1,5 @@
 -- Frames of the program, and what they say.
-use Rattle.std.specs.Prelude.{ℕ, ◌+◌, ◌≤◌, if◌then◌else◌, nat_eq, List, [], ◌∷◌, ◌++◌, map, flat_map, length, take, drop, get_or, All}
+use Rattle.std.specs.Prelude.{ℕ, ◌+◌, ◌≤◌, if◌then◌else◌, nat_eq, Some, None, List, [], ◌∷◌, ◌++◌, map, flat_map, length, take, drop, get_or, All}
 use Rattle.std.specs.Int.{w32, w64, from_le_bytes}
 use Rattle.zk_model.specs.Bits.{from_bit}
 use Rattle.zk_model.specs.Bytes.{LeftRight, element_bytes}
@@ -78,8 +78,13 @@ flattened sums = flat_map (λ both. both.0 ∷ both.1 ∷ []) sums
 
 -- the greeting that bytes say
 abbrev pub hello_in : List ℕ → Hello
-hello_in bytes =
-    record { id = take 32 (drop 5 bytes); circuit = take 32 (drop 37 bytes); outputs = take 32 (drop 69 bytes); version = get_or bytes 101 0 }
+hello_in bytes = record {
+  id = take 32 (drop 5 bytes);
+  circuit = take 32 (drop 37 bytes);
+  outputs = take 32 (drop 69 bytes);
+  version = get_or bytes 101 0;
+  public = if nat_eq (get_or bytes 1 0) 129 then Some (take 32 (drop 102 bytes)) else None;
+}
 
 -- the grant that bytes say
 abbrev pub grant_in : List ℕ → Grant

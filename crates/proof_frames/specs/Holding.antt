@@ -9,7 +9,7 @@ use Rattle.proof_frames.specs.Readings.{IsShortPlace}
 use Rattle.proof_frames.specs.Shapes.{IsHeld, spelled}
 use Rattle.proof_frames.specs.declared.decoder.BadFrame.{BadFrame}
 use Rattle.proof_frames.specs.declared.held.Held.{Held}
-use Rattle.zk_model.specs.declared.limits.TheConstants.{HELLO_LENGTH}
+use Rattle.zk_model.specs.declared.limits.TheConstants.{LONG_HELLO_LENGTH}
 
 -- how many elements a place allows
 abbrev pub elements_at : Expect → ℕ
@@ -66,7 +66,7 @@ pub record IsEmpty (held : Held) : Type 0 where
 
 -- there is room for a whole frame at the place
 pub record HasFrameRoom (place : Expect) (held : Held) : Type 0 where
-  pub start : HELLO_LENGTH ≤ vec_capacity held.start
+  pub start : LONG_HELLO_LENGTH ≤ vec_capacity held.start
   pub raw : raw_at place ≤ vec_capacity held.start
   pub elements : elements_at place ≤ vec_capacity held.elements
   pub part : 8 ≤ vec_capacity held.part

@@ -29,9 +29,28 @@ payload_length (payload.Bytes count least most) = count
 payload_length (payload.Elements count) = 8 * count
 payload_length (payload.Trees trees height level) = trees * (level_width level height + 8)
 
--- the shape of the frame at a place, of which the first byte is known
+-- the place of the byte that tells the shape of a frame: of a hello the first of the length, else the kind
+abbrev pub told_at : Expect → ℕ
+told_at expect.Hello = 1
+told_at expect.Grant = 0
+told_at (expect.Ask height trees left) = 0
+told_at (expect.Reply height trees left) = 0
+told_at (expect.Corrections count) = 0
+told_at expect.Challenge = 0
+told_at (expect.Sums sections) = 0
+told_at (expect.Openings count) = 0
+told_at expect.Verdict = 0
+
+-- that byte, or 0 where it is not there
+abbrev pub told : Expect → List ℕ → ℕ
+told place bytes = get_or bytes (told_at place) 0
+
+-- the shape of the frame at a place, of which that byte is known
 abbrev pub shape_of : Expect → ℕ → Shape
-shape_of expect.Hello first = record { kind = kind.Hello; payload = payload.Bytes 97 0 255 }
+shape_of expect.Hello low =
+    if nat_eq low 129
+    then record { kind = kind.Hello; payload = payload.Bytes 129 0 255 }
+    else record { kind = kind.Hello; payload = payload.Bytes 97 0 255 }
 shape_of expect.Grant first =
     if nat_eq first 10
     then record { kind = kind.Refuse; payload = payload.Bytes 1 1 4 }
@@ -122,7 +141,7 @@ HoldsPayload (payload.Trees trees height level) start elements part =
 
 -- what is held begins a frame of its shape
 pub record IsHeld (place : Expect) (start elements part : List ℕ) : Type 0 where
-  pub begun : take 5 start ≡ take (length start) (header (shape_of place (get_or start 0 0)))
+  pub begun : take 5 start ≡ take (length start) (header (shape_of place (told place start)))
   pub bytes : All (λ byte. byte < 256) start
   pub part_bytes : All (λ byte. byte < 256) part
-  pub payload : HoldsPayload (shape_of place (get_or start 0 0)).payload start elements part
+  pub payload : HoldsPayload (shape_of place (told place start)).payload start elements part

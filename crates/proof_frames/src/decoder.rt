@@ -104,8 +104,8 @@ impl Decoder {
         Ok(())
     }
 
-    /// How many bytes of the frame are still wanted. Where one byte decides between two lengths, that byte alone is. None are
-    /// where nothing is expected, or a byte was bad.
+    /// How many bytes of the frame are still wanted. Where one byte decides between two lengths, no more are than up to it. None
+    /// are where nothing is expected, or a byte was bad.
     pub fn wants(&self) -> usize
         ensures count { result ≡ wanted self.now }
         ensures sound { IsReading self.now }

@@ -1,5 +1,5 @@
 // Frames as bytes.
-ghost use Rattle.std.specs.Prelude.{◌≡◌, ◌*◌, ◌^◌, ◌≤◌, ◌++◌, ◌∷◌, length, map, flat_map, All, IfOk, OnOk};
+ghost use Rattle.std.specs.Prelude.{◌≡◌, ◌*◌, ◌+◌, ◌^◌, ◌≤◌, ◌++◌, ◌∷◌, [], unwrap_or, length, map, flat_map, All, IfOk, OnOk};
 ghost use Rattle.std.specs.Int.{w32, to_le_bytes};
 ghost use Rattle.zk_model.specs.Bits.{from_bit};
 ghost use Rattle.zk_model.specs.Bytes.{element_bytes};
@@ -14,7 +14,7 @@ use mersenne_field::Fe;
 use pad_transfer::Masked;
 use std::alloc::{AllocError, Global};
 use tree_messages::{TreeAsk, TreeReply};
-use zk_model::FrameKind;
+use zk_model::{FrameKind, LONG_HELLO_LENGTH};
 
 /// A frame of this kind whose payload will have so many bytes, without the payload.
 fn begin(alloc: Global, kind: FrameKind, length: usize) -> Result<Vec<u8>, AllocError>
@@ -106,7 +106,18 @@ fn framed(alloc: Global, kind: FrameKind, payload: &[u8]) -> Result<Vec<u8>, All
     Ok(bytes)
 }
 
-/// The prover's greeting, as it is sent: a payload of 97 bytes.
+/// Appends a digest, if there is one.
+fn push_digest(bytes: &mut Vec<u8>, digest: Option<[u8; 32]>) -> Result<(), AllocError>
+    ensures bytes { OnOk result (bytes.new.items ≡ bytes.old.items ++ unwrap_or digest []) }
+    ensures most { OnOk result (length bytes.new.items ≤ length bytes.old.items + 32) }
+{
+    if let Some(digest) = digest {
+        bytes.extend_from_slice(&digest)?;
+    }
+    Ok(())
+}
+
+/// The prover's greeting, as it is sent: a payload of 97 bytes, or in the long form of 129.
 ///
 /// # Errors
 ///
@@ -114,12 +125,13 @@ fn framed(alloc: Global, kind: FrameKind, payload: &[u8]) -> Result<Vec<u8>, All
 pub fn encode_hello(alloc: Global, hello: &Hello) -> Result<Vec<u8>, AllocError>
     ensures { IfOk result (λ bytes. bytes.items ≡ hello_frame hello.now) }
 {
-    let mut bytes = begin(alloc, FrameKind::Hello, 97)?;
-    bytes.extend_from_slice(&hello.id)?;
-    bytes.extend_from_slice(&hello.circuit)?;
-    bytes.extend_from_slice(&hello.outputs)?;
-    bytes.push(hello.version)?;
-    Ok(bytes)
+    let mut payload = Vec::with_capacity(alloc, LONG_HELLO_LENGTH)?;
+    payload.extend_from_slice(&hello.id)?;
+    payload.extend_from_slice(&hello.circuit)?;
+    payload.extend_from_slice(&hello.outputs)?;
+    payload.push(hello.version)?;
+    push_digest(&mut payload, hello.public)?;
+    framed(alloc, FrameKind::Hello, &payload)
 }
 
 /// A grant, as it is sent: a payload of 16 bytes.

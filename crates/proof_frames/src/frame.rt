@@ -8,13 +8,14 @@ use tree_messages::{TreeAsk, TreeReply};
 use zk_model::FrameKind;
 
 /// The prover's greeting: the id of the dealt files, the digests (SHA-256 of FIPS 180-4) of the circuit's text and of the
-/// claimed outputs, and the version.
+/// claimed outputs, the version, and in the long form the digest of the public bits.
 #[derive(Clone, Copy, Debug, PartialEq, Eq)]
 pub struct Hello {
     pub id: [u8; 32],
     pub circuit: [u8; 32],
     pub outputs: [u8; 32],
     pub version: u8,
+    pub public: Option<[u8; 32]>,
 }
 
 impl Model for Hello {
@@ -27,6 +28,7 @@ impl Model for Hello {
       circuit = h.circuit;
       outputs = h.outputs;
       version = h.version;
+      public = h.public;
     } };
 
     ghost inverse = { λ h. record {
@@ -34,6 +36,7 @@ impl Model for Hello {
       circuit = h.circuit;
       outputs = h.outputs;
       version = h.version;
+      public = h.public;
     } };
 }
 

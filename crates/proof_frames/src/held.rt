@@ -7,11 +7,11 @@ ghost use Rattle.zk_model.specs.Frames as model;
 ghost use Rattle.proof_frames.specs.Readings.{IsShortPlace};
 ghost use Rattle.proof_frames.specs.Holding.{MayFollow, elements_at, raw_at};
 
-use crate::shape::{Level, Payload, Shape};
+use crate::shape::{Level, Payload, Shape, told_at};
 use mersenne_field::Fe;
 use std::alloc::{AllocError, Global};
 use std::mem;
-use zk_model::{Expect, FrameKind, HELLO_LENGTH};
+use zk_model::{Expect, FrameKind, LONG_HELLO_LENGTH};
 
 /// The bytes that are taken: the header, and the payload if it has trees or no elements, as they came; whole elements as
 /// elements; and the bytes of an element that is not whole.
@@ -119,7 +119,7 @@ fn raw_room(place: Expect) -> usize
 
 impl Held {
     ghost use Rattle.proof_frames.specs.Readings.{IsShortPlace};
-    ghost use Rattle.proof_frames.specs.Shapes.{shape_of, level_width};
+    ghost use Rattle.proof_frames.specs.Shapes.{shape_of, told_at, told, level_width};
     ghost use Rattle.proof_frames.specs.declared.shape.Payload.TheVariants as payload;
     ghost use Rattle.proof_frames.specs.Holding.{bytes_of, IsEmpty, HasFrameRoom, Holds, Steps, Runs, elements_at};
 
@@ -134,12 +134,12 @@ impl Held {
         }
     }
 
-    /// The first byte, or another if there is none.
-    fn first_or(&self, other: u8) -> u8
-        ensures { result ≡ get_or self.now.start.items 0 other }
+    /// The byte that tells the shape of the frame, or another if it is not there.
+    fn told_or(&self, place: Expect, other: u8) -> u8
+        ensures { result ≡ get_or self.now.start.items (told_at place) other }
     {
-        match self.start.first() {
-            Some(first) => *first,
+        match self.start.get(told_at(place)) {
+            Some(byte) => *byte,
             None => other,
         }
     }
@@ -147,9 +147,9 @@ impl Held {
     /// The shape of the frame.
     fn shape(&self, place: Expect) -> Shape
         requires { IsShortPlace place }
-        ensures { result ≡ shape_of place (get_or self.now.start.items 0 0) }
+        ensures { result ≡ shape_of place (told place self.now.start.items) }
     {
-        Shape::at(place, self.first_or(0))
+        Shape::at(place, self.told_or(place, 0))
     }
 
     /// The kind of the frame.
@@ -165,10 +165,11 @@ impl Held {
         requires { Holds place self.now }
         ensures { result ≡ model.frame_length place (bytes_of self.now) }
     {
-        if place == Expect::Grant && self.start.is_empty() {
-            1
-        } else {
-            self.shape(place).length()
+        let untold = self.start.len() <= told_at(place);
+        match place {
+            Expect::Hello if untold => 2,
+            Expect::Grant if untold => 1,
+            _ => self.shape(place).length(),
         }
     }
 
@@ -178,7 +179,7 @@ impl Held {
         requires short { vec_len self.old.start < 5 }
         ensures { Steps place self.old byte result self.new }
     {
-        let header = Shape::at(place, self.first_or(byte)).header();
+        let header = Shape::at(place, self.told_or(place, byte)).header();
         if header[self.start.len()] != byte {
             return false;
         }
@@ -190,7 +191,7 @@ impl Held {
     fn take_element_byte(&mut self, place: Expect, count: usize, byte: u8) -> bool
         requires holds { Holds place self.old }
         requires headed { vec_len self.old.start ≡ 5 }
-        requires shape { (shape_of place (get_or self.old.start.items 0 0)).payload
+        requires shape { (shape_of place (told place self.old.start.items)).payload
             ≡ payload.Elements count }
         requires within { 8 * vec_len self.old.elements + vec_len self.old.part < 8 * count }
         ensures { Steps place self.old byte result self.new }
@@ -218,7 +219,7 @@ impl Held {
     ) -> bool
         requires holds { Holds place self.old }
         requires headed { 5 ≤ vec_len self.old.start }
-        requires shape { (shape_of place (get_or self.old.start.items 0 0)).payload
+        requires shape { (shape_of place (told place self.old.start.items)).payload
             ≡ payload.Bytes count least most }
         requires within { vec_len self.old.start < 5 + count }
         ensures { Steps place self.old byte result self.new }
@@ -242,7 +243,7 @@ impl Held {
     ) -> bool
         requires holds { Holds place self.old }
         requires headed { 5 ≤ vec_len self.old.start }
-        requires shape { (shape_of place (get_or self.old.start.items 0 0)).payload
+        requires shape { (shape_of place (told place self.old.start.items)).payload
             ≡ payload.Trees trees height level }
         requires within { vec_len self.old.start < 5 + trees * (level_width level height + 8) }
         ensures { Steps place self.old byte result self.new }
@@ -322,7 +323,7 @@ impl Held {
         ensures empty { IsEmpty self.new }
         ensures holds { OnOk result (Holds place self.new) }
     {
-        self.start.reserve(raw_room(place).max(HELLO_LENGTH))?;
+        self.start.reserve(raw_room(place).max(LONG_HELLO_LENGTH))?;
         self.part.reserve(8)?;
         self.elements.reserve(elements_room(place))?;
         Ok(())

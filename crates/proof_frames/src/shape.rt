@@ -1,7 +1,7 @@
 // The shapes of the frames that a place allows.
 ghost use Rattle.std.specs.Prelude.{◌≡◌, ◌+◌, ◌*◌, ◌^◌, ◌≤◌};
 ghost use Rattle.proof_frames.specs.Readings.{IsShortPlace};
-ghost use Rattle.proof_frames.specs.Shapes.{level_width};
+ghost use Rattle.proof_frames.specs.Shapes.{level_width, told_at};
 ghost use Rattle.zk_model.specs.declared.limits.TheConstants.{MAX_PAYLOAD};
 
 use crate::frame::number_of;
@@ -42,6 +42,16 @@ pub(crate) enum Payload {
 pub(crate) struct Shape {
     pub(crate) kind: FrameKind,
     pub(crate) payload: Payload,
+}
+
+/// The place of the byte that tells the shape of a frame.
+pub(crate) fn told_at(place: Expect) -> usize
+    ensures { result ≡ told_at place }
+{
+    match place {
+        Expect::Hello => 1,
+        _ => 0,
+    }
 }
 
 impl Level {
@@ -135,14 +145,15 @@ impl Shape {
         }
     }
 
-    /// The shape of the frame at a place, of which the first byte is known.
-    pub(crate) fn at(place: Expect, first: u8) -> Self
+    /// The shape of the frame at a place, of which the byte that tells it is known.
+    pub(crate) fn at(place: Expect, byte: u8) -> Self
         requires { IsShortPlace place }
-        ensures { result ≡ shape_of place first }
+        ensures { result ≡ shape_of place byte }
     {
         match place {
+            Expect::Hello if byte == 129 => Shape::of_bytes(FrameKind::Hello, 129, 0, 255),
             Expect::Hello => Shape::of_bytes(FrameKind::Hello, 97, 0, 255),
-            Expect::Grant if first == 10 => Shape::of_bytes(FrameKind::Refuse, 1, 1, 4),
+            Expect::Grant if byte == 10 => Shape::of_bytes(FrameKind::Refuse, 1, 1, 4),
             Expect::Grant => Shape::of_bytes(FrameKind::Grant, 16, 0, 255),
             Expect::Ask { height, trees, .. } => {
                 Shape::of_trees(FrameKind::ExtendAsk, trees, height, Level::Bit)

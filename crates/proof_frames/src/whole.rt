@@ -1,11 +1,11 @@
 // Frames from the bytes that are held.
-ghost use Rattle.std.specs.Prelude.{◌≡◌, ℕ, ◌+◌, ◌*◌, ◌≤◌, ◌<◌, length, take, drop, OnOk, vec_len, vec_capacity, [], ◌++◌};
+ghost use Rattle.std.specs.Prelude.{◌≡◌, ℕ, ◌+◌, ◌*◌, ◌≤◌, ◌<◌, length, take, drop, get_or, OnOk, vec_len, vec_capacity, [], ◌++◌};
 ghost use Rattle.std.specs.Int.{w32, w64, to_le_bytes, from_le_bytes};
 ghost use Rattle.zk_model.specs.Frames as model;
 ghost use Rattle.proof_frames.specs.Frames.{frame_value, flattened, hello_in, grant_in, grant_or_refusal_in, verdict_in};
 ghost use Rattle.proof_frames.specs.Holding.{bytes_of, IsEmpty, Holds, pairs_at};
 ghost use Rattle.proof_frames.specs.Rooms.{HasTreeRooms};
-ghost use Rattle.zk_model.specs.declared.limits.TheConstants.{HELLO_LENGTH};
+ghost use Rattle.zk_model.specs.declared.limits.TheConstants.{HELLO_LENGTH, LONG_HELLO_LENGTH};
 
 use crate::frame::{Frame, Grant, Hello};
 use crate::held::Held;
@@ -46,9 +46,23 @@ fn word32_at(bytes: &[u8], at: usize) -> u32
     u32::from_le_bytes(word)
 }
 
-/// The greeting of 102 bytes.
+/// The digest of public bits that a greeting of 134 bytes ends with.
+fn digest_of(bytes: &[u8]) -> Option<[u8; 32]>
+    requires short { HELLO_LENGTH ≤ length bytes.now }
+    requires long { get_or bytes.now 1 0 ≡ 129 → LONG_HELLO_LENGTH ≤ length bytes.now }
+    ensures { result ≡ (hello_in bytes.now).public }
+{
+    if bytes[1] == 129 {
+        Some(array_at(bytes, 102))
+    } else {
+        None
+    }
+}
+
+/// The greeting of 102 or of 134 bytes.
 fn hello_of(bytes: &[u8]) -> Hello
-    requires { length bytes.now ≡ HELLO_LENGTH }
+    requires short { HELLO_LENGTH ≤ length bytes.now }
+    requires long { get_or bytes.now 1 0 ≡ 129 → LONG_HELLO_LENGTH ≤ length bytes.now }
     ensures { result ≡ hello_in bytes.now }
 {
     Hello {
@@ -56,6 +70,7 @@ fn hello_of(bytes: &[u8]) -> Hello
         circuit: array_at(bytes, 37),
         outputs: array_at(bytes, 69),
         version: bytes[101],
+        public: digest_of(bytes),
     }
 }
 

@@ -3,7 +3,7 @@ use Rattle.std.proofs.Common.{◌≡◌, ℕ, List, drop, take, refl, ◌∙◌,
 use Rattle.zk_model.specs.Program.{Program, section_count}
 use Rattle.zk_model.specs.Mac.{corrected_keys}
 use Rattle.zk_model.specs.Correlations.{span_keys}
-use Rattle.zk_model.specs.Transcript.{Round}
+use Rattle.zk_model.specs.Transcript.{Hello, Round}
 use Rattle.zk_model.specs.Check.{ProductCheck, OpeningCheck, WireKeys, AreKeysFor}
 use Rattle.zk_model.specs.View.{IsVerdictOf, span_of, session_keys, session_products, session_openings}
 use Rattle.zk_model.specs.ServedVerifier.{challenge_coin}
@@ -27,24 +27,24 @@ sides_of_few check openings masks (RejectedSum section left right) few is sides 
 sides_of_few check openings masks (RejectedOpening output left right) few is sides = sides
 
 -- the check of products over the dealt keys of a grant's units, and as many masks as there are sections
-abbrev pub few_products : VerifierJob → ℕ → List Round → List ℕ → List (ℕ × ℕ) → List ℕ → WireKeys → ProductCheck
-few_products job start rounds corrections sums openings keys =
-    record (session_products job.task.file job.task.statement (session_transcript job start rounds corrections sums openings (verdict_in Accepted)) keys) {
+abbrev pub few_products : VerifierJob → Hello → ℕ → List Round → List ℕ → List (ℕ × ℕ) → List ℕ → WireKeys → ProductCheck
+few_products job greeting start rounds corrections sums openings keys =
+    record (session_products job.task.file job.task.statement (session_transcript job greeting start rounds corrections sums openings (verdict_in Accepted)) keys) {
       masks = masks_in job.task.statement.program job.section_length (span_keys job.task.file (span_of (granted_from job start)));
     }
 
-pub judged_whole : (job : VerifierJob) (start : ℕ) (rounds : List Round) (corrections : List ℕ) (sums : List (ℕ × ℕ)) (openings : List ℕ) (keys : WireKeys) (judgement : Judgement)
+pub judged_whole : (job : VerifierJob) (greeting : Hello) (start : ℕ) (rounds : List Round) (corrections : List ℕ) (sums : List (ℕ × ℕ)) (openings : List ℕ) (keys : WireKeys) (judgement : Judgement)
     → keys.given ≡ corrected_keys job.task.file.key (span_keys job.task.file (span_of (granted_from job start))) corrections
     → AreKeysFor job.task.file.key job.task.statement.program job.task.statement.public keys
-    → IsVerdictOf (few_products job start rounds corrections sums openings keys)
-    (session_openings job.task.file job.task.statement (session_transcript job start rounds corrections sums openings (verdict_in judgement)) keys) (verdict_in judgement)
-    → HasSides (few_products job start rounds corrections sums openings keys)
-    (session_openings job.task.file job.task.statement (session_transcript job start rounds corrections sums openings (verdict_in judgement)) keys) judgement
-    → IsJudgement job.task (session_transcript job start rounds corrections sums openings (verdict_in judgement)) judgement
-judged_whole job start rounds corrections sums openings keys judgement given carried judged sides =
+    → IsVerdictOf (few_products job greeting start rounds corrections sums openings keys)
+    (session_openings job.task.file job.task.statement (session_transcript job greeting start rounds corrections sums openings (verdict_in judgement)) keys) (verdict_in judgement)
+    → HasSides (few_products job greeting start rounds corrections sums openings keys)
+    (session_openings job.task.file job.task.statement (session_transcript job greeting start rounds corrections sums openings (verdict_in judgement)) keys) judgement
+    → IsJudgement job.task (session_transcript job greeting start rounds corrections sums openings (verdict_in judgement)) judgement
+judged_whole job greeting start rounds corrections sums openings keys judgement given carried judged sides =
     let program : Program = job.task.statement.program in
-    let products = few_products job start rounds corrections sums openings keys in
-    let t = session_transcript job start rounds corrections sums openings (verdict_in judgement) in
+    let products = few_products job greeting start rounds corrections sums openings keys in
+    let t = session_transcript job greeting start rounds corrections sums openings (verdict_in judgement) in
     let opened = session_openings job.task.file job.task.statement t keys in
     let masks = drop program.givens (session_keys job.task.file t.commitment) in
     record {
@@ -58,7 +58,7 @@ judged_whole job start rounds corrections sums openings keys judgement given car
     }
 
 -- the same from the checks as they were made
-pub judged_taken : (job : VerifierJob) (start : ℕ) (rounds : List Round) (corrections : List ℕ) (sums : List (ℕ × ℕ)) (openings : List ℕ) (side : VerifierSide)
+pub judged_taken : (job : VerifierJob) (greeting : Hello) (start : ℕ) (rounds : List Round) (corrections : List ℕ) (sums : List (ℕ × ℕ)) (openings : List ℕ) (side : VerifierSide)
     (section challenge key : ℕ) (masks claims : List ℕ) (judgement : Judgement)
     → side.program ≡ job.task.statement.program → section ≡ job.section_length → challenge ≡ challenge_coin job.task.file start
     → key ≡ job.task.file.key → masks ≡ masks_in job.task.statement.program job.section_length (span_keys job.task.file (span_of (granted_from job start)))
@@ -67,9 +67,9 @@ pub judged_taken : (job : VerifierJob) (start : ℕ) (rounds : List Round) (corr
     → AreKeysFor job.task.file.key job.task.statement.program job.task.statement.public side.keys
     → IsVerdictOf (product_check side section challenge masks key sums) (opening_check side key openings claims) (verdict_in judgement)
     → HasSides (product_check side section challenge masks key sums) (opening_check side key openings claims) judgement
-    → IsJudgement job.task (session_transcript job start rounds corrections sums openings (verdict_in judgement)) judgement
-judged_taken job start rounds corrections sums openings side section challenge key masks claims judgement program sections coin one masked claimed given carried judged sides =
-    judged_whole job start rounds corrections sums openings side.keys judgement given carried
+    → IsJudgement job.task (session_transcript job greeting start rounds corrections sums openings (verdict_in judgement)) judgement
+judged_taken job greeting start rounds corrections sums openings side section challenge key masks claims judgement program sections coin one masked claimed given carried judged sides =
+    judged_whole job greeting start rounds corrections sums openings side.keys judgement given carried
     (subst (λ (q : ProductCheck × OpeningCheck). IsVerdictOf q.0 q.1 (verdict_in judgement)) same judged)
     (subst (λ (q : ProductCheck × OpeningCheck). HasSides q.0 q.1 judgement) same sides)
   where

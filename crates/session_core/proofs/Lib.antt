@@ -5,3 +5,4 @@ pub mod Opening
 pub mod Rounds
 pub mod Served
 pub mod DirectViews
+pub mod Proving

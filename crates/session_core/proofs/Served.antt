@@ -4,7 +4,8 @@ use Rattle.zk_model.specs.Field.{IsElement}
 use Rattle.zk_model.specs.Program.{section_count}
 use Rattle.zk_model.specs.Statement.{IsStatement}
 use Rattle.zk_model.specs.Files.{IsVerifierFile}
-use Rattle.zk_model.specs.Transcript.{Round, IsGrant, IsTranscript, spelling}
+use Rattle.frame_laws.proofs.Hellos.{fitting_is_hello}
+use Rattle.zk_model.specs.Transcript.{Hello, Round, IsHelloFor, IsGrant, IsTranscript, spelling}
 use Rattle.zk_model.specs.Frames.{AreElements, AreSums}
 use Rattle.zk_model.specs.View.{verdict_code, verdict_number}
 use Rattle.zk_model.specs.ServedVerifier.{IsServed, challenge_coin}
@@ -30,16 +31,16 @@ pub record AreRanged (job : VerifierJob) (start : ℕ) (d : List ℕ) (both : Li
   pub number : verdict_number said < 2 ^ 32
 
 -- the transcript has the right counts and ranges
-pub in_range : (job : VerifierJob) (start : ℕ) (rounds : List Round) (d : List ℕ) (both : List (ℕ × ℕ)) (macs : List ℕ) (said : Verdict) → IsStatement job.task.statement
-    → IsVerifierFile job.task.file → IsVerifierJob job
+pub in_range : (job : VerifierJob) (greeting : Hello) (start : ℕ) (rounds : List Round) (d : List ℕ) (both : List (ℕ × ℕ)) (macs : List ℕ) (said : Verdict) → IsStatement job.task.statement
+    → IsVerifierFile job.task.file → IsVerifierJob job → IsHelloFor job.task.file.id job.task.statement greeting
     → IsGrant job.task.file.params job.task.statement.program (granted_from job start)
     → AreServedRounds job.task.file (granted_from job start) rounds
     → AreRanged job start d both macs said
-    → IsTranscript job.task.file.params job.task.statement.program (session_transcript job start rounds d both macs said)
-in_range job start rounds d both macs said stated file is granted served ranged = record {
+    → IsTranscript job.task.file.params job.task.statement.program (session_transcript job greeting start rounds d both macs said)
+in_range job greeting start rounds d both macs said stated file is fits granted served ranged = record {
   commitment = record {
     setup = record {
-      hello = record { id = file.id; circuit = stated.circuit; outputs = stated.outputs; version = stated.version };
+      hello = fitting_is_hello job.task.file.id job.task.statement greeting file.id stated fits;
       grant = granted;
       round_count = served.count;
       rounds = served.ranged;
@@ -57,19 +58,19 @@ in_range job start rounds d both macs said stated file is granted served ranged 
 }
 
 -- the verifier serves the session
-pub served_is : (job : VerifierJob) (start : ℕ) (rounds : List Round) (d : List ℕ) (both : List (ℕ × ℕ)) (macs : List ℕ) (judgement : Judgement) (log : List (Side × ℕ))
-    → IsStatement job.task.statement → IsVerifierFile job.task.file → IsVerifierJob job
+pub served_is : (job : VerifierJob) (greeting : Hello) (start : ℕ) (rounds : List Round) (d : List ℕ) (both : List (ℕ × ℕ)) (macs : List ℕ) (judgement : Judgement) (log : List (Side × ℕ))
+    → IsStatement job.task.statement → IsVerifierFile job.task.file → IsVerifierJob job → IsHelloFor job.task.file.id job.task.statement greeting
     → IsGrant job.task.file.params job.task.statement.program (granted_from job start)
     → AreServedRounds job.task.file (granted_from job start) rounds
     → AreRanged job start d both macs (verdict_in judgement)
-    → IsJudgement job.task (session_transcript job start rounds d both macs (verdict_in judgement)) judgement
-    → log ≡ spelling (session_transcript job start rounds d both macs (verdict_in judgement))
-    → IsServed job.task (session_transcript job start rounds d both macs (verdict_in judgement)) (verdict_in judgement) log
-served_is job start rounds d both macs judgement log stated file is granted served ranged found spelled = record {
+    → IsJudgement job.task (session_transcript job greeting start rounds d both macs (verdict_in judgement)) judgement
+    → log ≡ spelling (session_transcript job greeting start rounds d both macs (verdict_in judgement))
+    → IsServed job.task (session_transcript job greeting start rounds d both macs (verdict_in judgement)) (verdict_in judgement) log
+served_is job greeting start rounds d both macs judgement log stated file is fits granted served ranged found spelled = record {
   in_order = record {
     stated = stated;
-    hello = refl;
-    transcript = in_range job start rounds d both macs (verdict_in judgement) stated file is granted served ranged;
+    hello = fits;
+    transcript = in_range job greeting start rounds d both macs (verdict_in judgement) stated file is fits granted served ranged;
     bytes = spelled;
   };
   replies = served.replies;

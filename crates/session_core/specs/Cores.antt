@@ -2,9 +2,10 @@
 use Rattle.std.specs.Prelude.{◌≡◌, ◌≢◌, ◌⊎◌, ◌+◌, ◌-◌, ◌<◌, ◌≤◌, ℕ, List, [], ◌∷◌, ◌++◌, map, length, drop, All, Option, Some, None}
 use Rattle.zk_model.specs.Mac.{Pair, macs_of}
 use Rattle.zk_model.specs.Program.{section_count}
+use Rattle.zk_model.specs.Statement.{Statement}
 use Rattle.zk_model.specs.Files.{ProverFile, prover_unit, span_pairs}
 use Rattle.zk_model.specs.Check.{WirePairs, all_sums, opened_pairs}
-use Rattle.zk_model.specs.Transcript.{Hello, Grant, TreeAsk, TreeReply, IsGrant, wanted_hello}
+use Rattle.zk_model.specs.Transcript.{Hello, Grant, TreeAsk, TreeReply, IsHelloFor, IsGrant, version_of, digest_said}
 use Rattle.zk_model.specs.Correlations.{IsExtension}
 use Rattle.zk_model.specs.Frames.{Frame, hello, grant, asks, replies, corrections, challenge, sums, openings, verdict, refuse, AreAsks}
 use Rattle.zk_model.specs.View.{span_of, verdict_code, verdict_number}
@@ -17,8 +18,9 @@ use Rattle.zk_model.specs.declared.Kind.TheVariants.{Direct, Extended}
 use Rattle.session_core.specs.Ends.{IsFixed}
 use Rattle.session_core.specs.Jobs.{VerifierJob, ProverJob, Suits, units_of_job, granted_from}
 use Rattle.session_core.specs.Judgements.{verdict_in, Finds}
+use Rattle.session_core.specs.declared.fault.Digests.{Digests}
 use Rattle.session_core.specs.declared.fault.HelloDiffers.{HelloDiffers}
-use Rattle.session_core.specs.declared.fault.HelloDiffers.TheVariants.{Id, Circuit, Outputs, Version}
+use Rattle.session_core.specs.declared.fault.HelloDiffers.TheVariants as differs
 use Rattle.session_core.specs.declared.fault.ProverFault.{ProverFault}
 use Rattle.session_core.specs.declared.fault.ProverFault.TheVariants.{BadGrant, PeerRefused}
 use Rattle.session_core.specs.declared.fault.ProverFault.TheVariants as prover
@@ -110,11 +112,14 @@ AnswersAsks job start asked answer now =
     × (answer ≡ map replies (round_replies job.task.file (granted_from job start) asked))
     × (now ≡ awaits_corrections start))
 
--- The wanted hello leaves its grant due. The asks of the last unit are answered by all replies, corrections by the coin of the
+-- A hello for the statement leaves its grant due. The asks of the last unit are answered by all replies, corrections by the coin of the
 -- first unit, sums by nothing, and openings by what it finds of the whole session.
 abbrev pub VerifierAnswers : VerifierJob → VerifierStage → Frame → List Frame → VerifierStage → Type 0
-VerifierAnswers job awaits_hello frame answer now =
-    (frame ≡ hello (wanted_hello job.task.file.id job.task.statement)) × (answer ≡ []) × (now ≡ owes_grant)
+VerifierAnswers job awaits_hello frame answer now = (said : Hello)
+    × (frame ≡ hello said)
+    × IsHelloFor job.task.file.id job.task.statement said
+    × (answer ≡ [])
+    × (now ≡ owes_grant)
 VerifierAnswers job owes_grant frame answer now = ⊥
 VerifierAnswers job (awaits_asks start asked) frame answer now = (trees : List TreeAsk)
     × (frame ≡ asks trees) × AnswersAsks job start (asked ++ trees ∷ []) answer now
@@ -132,23 +137,29 @@ VerifierAnswers job (awaits_openings start d both) frame answer now = (macs : Li
 VerifierAnswers job (has_judged start judgement) frame answer now = ⊥
 VerifierAnswers job has_refused frame answer now = ⊥
 
--- the first field of a hello that is not the wanted one, with both
-abbrev pub DiffersFirst : Hello → Hello → HelloDiffers → Type 0
-DiffersFirst wanted other (Id want got) = (want ≡ wanted.id) × (got ≡ other.id) × (want ≢ got)
-DiffersFirst wanted other (Circuit want got) =
-    (wanted.id ≡ other.id) × (want ≡ wanted.circuit) × (got ≡ other.circuit) × (want ≢ got)
-DiffersFirst wanted other (Outputs want got) =
-    (wanted.id ≡ other.id) × (wanted.circuit ≡ other.circuit)
-    × (want ≡ wanted.outputs) × (got ≡ other.outputs) × (want ≢ got)
-DiffersFirst wanted other (Version want got) =
-    (wanted.id ≡ other.id) × (wanted.circuit ≡ other.circuit) × (wanted.outputs ≡ other.outputs)
-    × (want ≡ wanted.version) × (got ≡ other.version) × (want ≢ got)
+-- the digests of a statement, and those that a hello says
+abbrev pub digests_of : Statement → Digests
+digests_of statement =
+    record { circuit = statement.circuit; outputs = statement.outputs; public = statement.public_digest }
+
+abbrev pub digests_said : Hello → Digests
+digests_said said = record { circuit = said.circuit; outputs = said.outputs; public = digest_said said }
+
+-- What differs first in a hello, with what is wanted and what came: the id; the version, of which its form wants one; the
+-- digests of the statement.
+abbrev pub DiffersFirst : List ℕ → Statement → Hello → HelloDiffers → Type 0
+DiffersFirst id statement said (differs.Id want got) = (want ≡ id) × (got ≡ said.id) × (want ≢ got)
+DiffersFirst id statement said (differs.Version want got) =
+    (said.id ≡ id) × (want ≡ version_of said.public) × (got ≡ said.version) × (want ≢ got)
+DiffersFirst id statement said (differs.Statement want got) =
+    (said.id ≡ id) × (said.version ≡ version_of said.public)
+    × (want ≡ digests_of statement) × (got ≡ digests_said said) × (want ≢ got)
 
 -- why a verifier refuses a frame: a hello that differs
 abbrev pub VerifierRefuses : VerifierJob → VerifierStage → Frame → VerifierFault → Type 0
 VerifierRefuses job stage frame (BadHello differs) = (other : Hello)
     × (stage ≡ awaits_hello) × (frame ≡ hello other)
-    × DiffersFirst (wanted_hello job.task.file.id job.task.statement) other differs
+    × DiffersFirst job.task.file.id job.task.statement other differs
 VerifierRefuses job stage frame verifier.NoMemory = Unit {0}
 
 -- ---- the prover

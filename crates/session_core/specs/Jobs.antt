@@ -1,14 +1,15 @@
 -- What either end of a session is to do.
-use Rattle.std.specs.Prelude.{◌≡◌, ◌^◌, ◌<◌, ◌≤◌, ℕ, Bool, List, map, length}
+use Rattle.std.specs.Prelude.{◌≡◌, ◌^◌, ◌<◌, ◌≤◌, ℕ, Bool, List, ◌++◌, map, length}
 use Rattle.zk_model.specs.Bits.{from_bit}
 use Rattle.zk_model.specs.Boolean.{bits_of_products}
-use Rattle.zk_model.specs.Program.{Program, Carries, correlations_needed}
+use Rattle.zk_model.specs.Program.{Program, correlations_needed}
 use Rattle.zk_model.specs.Circuit.{Circuit, IsWellFormed, AreWireBits}
 use Rattle.zk_model.specs.Statement.{Statement, circuit_statement}
 use Rattle.zk_model.specs.Files.{ProverFile, VerifierFile}
 use Rattle.zk_model.specs.Transcript.{Grant, units_for}
 use Rattle.zk_model.specs.ServedVerifier.{VerifierTask}
 use Rattle.zk_model.specs.declared.Params.{Params}
+use Rattle.wire_auth.specs.Values.{given_made}
 use Rattle.session_core.specs.declared.verifier_job.TooLarge.{TooLarge}
 use Rattle.zk_model.specs.declared.limits.TheConstants.{MAX_SECTION_LENGTH, MAX_UNITS}
 
@@ -42,20 +43,24 @@ abbrev pub verifier_of : Statement → VerifierFile → ℕ → VerifierJob
 verifier_of statement file section_length =
     record { task = record { file = file; statement = statement }; section_length = section_length }
 
--- the bits of all wires are values that follow from the public ones and, for each product, that of its two wires
-abbrev pub AreValues : Statement → List Bool → Type 0
-AreValues statement bits =
-    Carries 1 statement.program statement.public (bits_of_products statement.program.products bits) (map from_bit bits)
+-- the job of a prover with this statement, these values of its private inputs and this file: its given values are those that the
+-- statement's public values and the inputs make
+abbrev pub prover_from : Statement → List ℕ → ProverFile → ProverJob
+prover_from statement inputs file =
+    record { statement = statement; file = file; given = given_made statement.program statement.public inputs }
 
--- those of all wires of a circuit, for each claim about it
-abbrev pub WireBitsAreValues : Type 0
-WireBitsAreValues = (circuit : Circuit) (digest : List ℕ) (outputs inputs bits : List Bool) → IsWellFormed circuit
-    → AreWireBits circuit inputs bits → AreValues (circuit_statement circuit digest outputs) bits
-
--- the job of a prover with this statement, these bits of all wires and this file
+-- with the given values that these bits of all wires make
 abbrev pub prover_of : Statement → List Bool → ProverFile → ProverJob
 prover_of statement bits file =
     record { statement = statement; file = file; given = bits_of_products statement.program.products bits }
+
+-- The first is the second for each claim about a circuit, where the private inputs are bits and the others the bits that the circuit
+-- has on all wires then.
+abbrev pub InputBitsProve : Type 0
+InputBitsProve = (circuit : Circuit) (digest : List ℕ) (public outputs inputs bits : List Bool) (file : ProverFile)
+    → IsWellFormed circuit → length public ≤ circuit.inputs → AreWireBits circuit (public ++ inputs) bits
+    → prover_from (circuit_statement circuit digest public outputs) (map from_bit inputs) file
+    ≡ prover_of (circuit_statement circuit digest public outputs) bits file
 
 -- as many given values as the program has
 pub record IsProverJob (job : ProverJob) : Type 0 where

@@ -1,6 +1,6 @@
 -- What a verifier finds of a whole session.
 use Rattle.std.specs.Prelude.{◌≡◌, ℕ, List}
-use Rattle.zk_model.specs.Transcript.{Round, Transcript, wanted_hello}
+use Rattle.zk_model.specs.Transcript.{Hello, Round, Transcript}
 use Rattle.zk_model.specs.Check.{WireKeys, ProductCheck, OpeningCheck, left_of_section, right_of_section, left_of_opening, right_of_opening}
 use Rattle.zk_model.specs.View.{AreSessionKeys, IsVerdictOf, session_products, session_openings, verdict_code, verdict_number}
 use Rattle.zk_model.specs.ServedVerifier.{VerifierTask, challenge_coin}
@@ -34,13 +34,13 @@ pub record IsJudgement (task : VerifierTask) (t : Transcript) (judgement : Judge
   pub sides : HasSides
       (session_products task.file task.statement t keys) (session_openings task.file task.statement t keys) judgement
 
--- The transcript of a session with these rounds: the wanted hello, the grant from this unit on, what the prover sent, the
+-- The transcript of a session with this hello and these rounds: the grant from this unit on, what the prover sent, the
 -- verifier's coin, and what it says in the end.
-abbrev pub session_transcript : VerifierJob → ℕ → List Round → List ℕ → List (ℕ × ℕ) → List ℕ → Verdict → Transcript
-session_transcript job start rounds corrections sums openings said = record {
+abbrev pub session_transcript : VerifierJob → Hello → ℕ → List Round → List ℕ → List (ℕ × ℕ) → List ℕ → Verdict → Transcript
+session_transcript job greeting start rounds corrections sums openings said = record {
   commitment = record {
     setup = record {
-      hello = wanted_hello job.task.file.id job.task.statement;
+      hello = greeting;
       grant = granted_from job start;
       rounds = rounds;
     };
@@ -53,9 +53,9 @@ session_transcript job start rounds corrections sums openings said = record {
   number = verdict_number said;
 }
 
--- What is found of a session with a grant from this unit on, in which the prover sent these: the same whatever the rounds were,
--- since the verifier's keys are those of its file.
+-- What is found of a session with a grant from this unit on, in which the prover sent these: the same whatever the hello and the
+-- rounds were, since the verifier's keys are those of its file.
 abbrev pub Finds : VerifierJob → ℕ → List ℕ → List (ℕ × ℕ) → List ℕ → Judgement → Type 0
 Finds job start corrections sums openings judgement =
-    (rounds : List Round)
-    → IsJudgement job.task (session_transcript job start rounds corrections sums openings (verdict_in judgement)) judgement
+    (greeting : Hello) (rounds : List Round)
+    → IsJudgement job.task (session_transcript job greeting start rounds corrections sums openings (verdict_in judgement)) judgement

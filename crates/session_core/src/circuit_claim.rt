@@ -1,30 +1,32 @@
 // The claim that some inputs make a circuit give outputs.
-ghost use Rattle.std.specs.Prelude.{◌≡◌, length, IfOk};
+ghost use Rattle.std.specs.Prelude.{◌≡◌, ◌≤◌, length, IfOk};
 ghost use Rattle.zk_model.specs.Bytes.{AreBytes};
 ghost use Rattle.zk_model.specs.Statement.{circuit_statement};
-ghost use Rattle.session_core.specs.Jobs.{WireBitsAreValues};
+ghost use Rattle.session_core.specs.Jobs.{InputBitsProve};
 
-use crate::statement::{Statement, elements_of, outputs_digest};
+use crate::statement::{Statement, bits_digest, elements_of};
 use bristol_reader::Circuit;
-use circuit_laws::{bits_solve, circuit_is_statement};
+use circuit_laws::circuit_is_statement;
 use field_program::FieldProgram;
-use gate_translate::translate;
+use gate_translate::translate_public;
 use mersenne_field::Fe;
 use std::alloc::{AllocError, Global};
 use std::marker::Model;
+use wire_auth::bits_make_products;
 
-/// The claim that some input bits make a circuit give these output bits: its program, and what a hello says of it. Contracts see
-/// the statement.
+/// The claim that with some public input bits some private ones make a circuit give these output bits: its program, and what a
+/// hello says of it. Contracts see the statement.
 #[derive(Debug, Drop)]
 pub struct CircuitClaim {
     program: FieldProgram,
+    public: Vec<Fe>,
     claims: Vec<Fe>,
     circuit: [u8; 32],
     outputs: [u8; 32],
+    public_digest: [u8; 32],
 }
 
 impl Model for CircuitClaim {
-    ghost use Rattle.std.specs.Prelude.{[]};
     ghost use Rattle.zk_model.specs.Statement.{IsStatement};
     ghost use Rattle.zk_model.specs.Statement as model;
 
@@ -32,42 +34,54 @@ impl Model for CircuitClaim {
 
     ghost view = { λ c. record {
       program = c.program;
-      public = [];
+      public = c.public.items;
       claims = c.claims.items;
-      version = 1;
       circuit = c.circuit;
       outputs = c.outputs;
+      public_digest = c.public_digest;
     } };
 
     ghost invariant = { λ c. IsStatement (record {
       program = c.program;
-      public = [];
+      public = c.public.items;
       claims = c.claims.items;
-      version = 1;
       circuit = c.circuit;
       outputs = c.outputs;
+      public_digest = c.public_digest;
     }) };
 }
 
 impl CircuitClaim {
-    /// The claim that the circuit, of whose text this is the digest, gives as many outputs as it has.
+    /// The claim that the circuit, of whose text this is the digest, gives these outputs, as many as it has, with these
+    /// public bits for its first inputs.
     pub fn new(
         alloc: Global,
         circuit: &Circuit,
         digest: [u8; 32],
+        public: &[bool],
         outputs: &[bool],
     ) -> Result<Self, AllocError>
         requires digest { AreBytes 32 digest }
+        requires public { length public.now ≤ circuit.now.inputs }
         requires outputs { length outputs.now ≡ circuit.now.outputs }
-        ensures { IfOk result (λ claim. claim ≡ circuit_statement circuit.now digest outputs.now) }
+        ensures { IfOk result (λ claim.
+            claim ≡ circuit_statement circuit.now digest public.now outputs.now) }
     {
         circuit_is_statement();
         let _wires = circuit.wires();
+        let _inputs = circuit.inputs();
+        let program = translate_public(alloc, circuit, public.len() as u32)?;
+        let values = elements_of(alloc, public)?;
+        let claims = elements_of(alloc, outputs)?;
+        let claimed = bits_digest(alloc, outputs)?;
+        let named = bits_digest(alloc, public)?;
         Ok(CircuitClaim {
-            program: translate(alloc, circuit)?,
-            claims: elements_of(alloc, outputs)?,
+            program,
+            public: values,
+            claims,
             circuit: digest,
-            outputs: outputs_digest(alloc, outputs)?,
+            outputs: claimed,
+            public_digest: named,
         })
     }
 
@@ -77,19 +91,19 @@ impl CircuitClaim {
     {
         Statement::new(
             &self.program,
-            &[],
+            &self.public,
             &self.claims,
-            1,
             self.circuit,
             self.outputs,
+            self.public_digest,
         )
     }
 }
 
-/// The bits that a circuit has on all its wires at some inputs are values of every claim about it: they are what a prover proves
-/// with. It does nothing.
-pub fn wire_bits_are_values()
-    ensures { WireBitsAreValues }
+/// A prover of a claim about a circuit whose private inputs are bits has for given values the products of the bits that the circuit
+/// has on all its wires then. It does nothing.
+pub fn input_bits_prove()
+    ensures { InputBitsProve }
 {
-    bits_solve();
+    bits_make_products();
 }

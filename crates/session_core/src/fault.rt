@@ -6,24 +6,30 @@ ghost use Rattle.session_core.specs.declared.fault.ProverFault.TheVariants as pr
 use std::alloc::AllocError;
 use thiserror::Error;
 
-/// The first field of a hello that is not the wanted one, with what was wanted and what came.
+/// The digests by which a hello names a statement: of the circuit's text, of the claimed outputs and of the public bits.
+#[derive(Clone, Copy, Debug, PartialEq, Eq)]
+pub struct Digests {
+    pub circuit: [u8; 32],
+    pub outputs: [u8; 32],
+    pub public: [u8; 32],
+}
+
+/// What differs first in a hello, with what was wanted and what came.
 #[derive(Clone, Copy, Debug, PartialEq, Eq)]
 pub enum HelloDiffers {
     /// The id of the dealt files.
     Id { want: [u8; 32], got: [u8; 32] },
-    /// The digest of the circuit's text.
-    Circuit { want: [u8; 32], got: [u8; 32] },
-    /// The digest of the claimed outputs.
-    Outputs { want: [u8; 32], got: [u8; 32] },
-    /// The version of the protocol.
+    /// The version: the short form wants 1, the long form 2.
     Version { want: u8, got: u8 },
+    /// The statement. A hello in the short form says that there are no public bits.
+    Statement { want: Digests, got: Digests },
 }
 
 /// Why a verifier refuses a frame, or does not answer it.
 #[derive(Clone, Copy, Debug, PartialEq, Eq, Error)]
 pub enum VerifierFault {
-    /// The hello is not the one that the verifier's file and statement want.
-    #[error("the hello differs from the wanted one")]
+    /// The hello is not one for the verifier's file and statement.
+    #[error("the hello is not one for the file and the statement")]
     BadHello(HelloDiffers),
     /// Memory is missing.
     #[error("memory is missing")]

@@ -6,7 +6,7 @@
 //! and take these turns. `extending` has the asks, replies, pairs and keys of all units of a grant, `judgement` what the checks
 //! found, `fault` why a core stops.
 //!
-//!     let claim = CircuitClaim::new(alloc, &circuit, digest, outputs)?;
+//!     let claim = CircuitClaim::new(alloc, &circuit, digest, public, outputs)?;
 //!     let statement = claim.statement();
 //!     let job = VerifierJob::fit(&statement, &file, section)?;
 //!     let mut core = VerifierCore::new(&job);
@@ -23,13 +23,13 @@ mod statement;
 mod verifier_core;
 mod verifier_job;
 
-pub use circuit_claim::{CircuitClaim, wire_bits_are_values};
+pub use circuit_claim::{CircuitClaim, input_bits_prove};
 pub use extending::{Replied, ask_units, finish_units, reply_units};
-pub use fault::{HelloDiffers, ProverFault, VerifierFault};
+pub use fault::{Digests, HelloDiffers, ProverFault, VerifierFault};
 pub use judgement::Judgement;
 pub use prover_core::ProverCore;
 pub use prover_job::{Committed, Opened, ProverJob};
-pub use statement::{Statement, outputs_digest};
+pub use statement::{Statement, bits_digest, elements_of};
 pub use verifier_core::VerifierCore;
 pub use verifier_job::{TooLarge, VerifierJob, units_for};
 pub use wire_auth::Correlations;

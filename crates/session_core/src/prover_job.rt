@@ -1,8 +1,7 @@
 // What a prover is to do, and how it answers a grant and a challenge.
-ghost use Rattle.std.specs.Prelude.{◌≡◌, true, false, ◌+◌, ◌*◌, ◌≤◌, ◌^◌, length, take, drop, IfOk};
-ghost use Rattle.zk_model.specs.Boolean.{bits_of_products};
+ghost use Rattle.std.specs.Prelude.{◌≡◌, true, false, ◌+◌, ◌*◌, ◌≤◌, ◌^◌, ℕ, List, length, take, drop, IfOk};
 ghost use Rattle.zk_model.specs.Mac.{macs_of};
-ghost use Rattle.zk_model.specs.Program.{section_count};
+ghost use Rattle.zk_model.specs.Program.{AreMade, section_count};
 ghost use Rattle.zk_model.specs.Files.{correlations_per_unit, span_pairs};
 ghost use Rattle.zk_model.specs.Check.{all_sums, opened_pairs};
 ghost use Rattle.zk_model.specs.Transcript.{IsGrant, wanted_hello};
@@ -10,7 +9,7 @@ ghost use Rattle.zk_model.specs.View.{span_of};
 ghost use Rattle.zk_model.specs.declared.Kind.TheVariants.{Direct};
 ghost use Rattle.wire_auth.specs.Held.{items_in};
 ghost use Rattle.session_core.specs.Ends.{IsFixed, masks_in};
-ghost use Rattle.session_core.specs.Jobs.{AreValues, IsProverJob, Suits, prover_of};
+ghost use Rattle.session_core.specs.Jobs.{IsProverJob, Suits, prover_from};
 ghost use Rattle.session_core.specs.Fixing.{AreEnough, IsFixedUnder};
 ghost use Rattle.zk_model.specs.declared.limits.TheConstants.{MAX_DEALT_UNITS, MAX_WIRES};
 
@@ -25,24 +24,25 @@ use std::marker::Model;
 use wire_auth::{Correlations, ProverWires};
 use zk_model::{MAX_SECTION_LENGTH, MAX_UNITS, Span};
 
-/// What a prover is to do: its statement and its file, and the bits of all wires that it proves with.
+/// What a prover is to do: its statement and its file, and the values of its private inputs.
 #[derive(Debug, Drop)]
 pub struct ProverJob<'a> {
     statement: &'a Statement<'a>,
     file: &'a ProverFile,
-    bits: &'a [bool],
+    inputs: &'a [Fe],
 }
 
 impl<'a> Model for ProverJob<'a> {
+    ghost use Rattle.std.specs.Prelude.{◌≡◌, length};
     ghost use Rattle.session_core.specs.Jobs as jobs;
-    ghost use Rattle.session_core.specs.Jobs.{AreValues, IsProverJob, prover_of};
+    ghost use Rattle.session_core.specs.Jobs.{IsProverJob, prover_from};
 
     ghost Value = { jobs.ProverJob };
 
-    ghost view = { λ p. prover_of p.statement.now p.bits.now p.file.now };
+    ghost view = { λ p. prover_from p.statement.now p.inputs.now p.file.now };
 
-    ghost invariant = { λ p. IsProverJob (prover_of p.statement.now p.bits.now p.file.now)
-        × AreValues p.statement.now p.bits.now };
+    ghost invariant = { λ p. IsProverJob (prover_from p.statement.now p.inputs.now p.file.now)
+        × (length p.inputs.now ≡ p.statement.now.program.inputs) };
 }
 
 /// What a prover answers by once it has all its pairs: its corrections, and the pairs of all wires, which these fix.
@@ -95,17 +95,18 @@ fn opened_macs(alloc: Global, wires: &ProverWires<'_>) -> Result<Vec<Fe>, AllocE
 }
 
 impl<'a> ProverJob<'a> {
-    /// A job with the bits of all wires: they follow from the public values and, for each product, that of its two wires, which is
-    /// its given value.
-    pub fn new(statement: &'a Statement<'a>, file: &'a ProverFile, bits: &'a [bool]) -> Self
-        requires { AreValues statement.now bits.now }
-        ensures { result ≡ prover_of statement.now bits.now file.now }
+    /// A job with the values of the private inputs. Its given values are what these and the statement's public values make.
+    pub fn new(statement: &'a Statement<'a>, file: &'a ProverFile, inputs: &'a [Fe]) -> Self
+        requires { length inputs.now ≡ statement.now.program.inputs }
+        ensures job { result ≡ prover_from statement.now inputs.now file.now }
+        ensures made { (wires : List ℕ)
+            × AreMade statement.now.program statement.now.public inputs.now wires result.given }
     {
         let _givens = statement.program().givens();
         ProverJob {
             statement,
             file,
-            bits,
+            inputs,
         }
     }
 
@@ -175,7 +176,8 @@ impl<'a> ProverJob<'a> {
     {
         let program = self.statement.program();
         let public = self.statement.public();
-        let (wires, corrections) = ProverWires::run(alloc, program, public, self.bits, pairs)?;
+        let _givens = program.givens();
+        let (wires, corrections) = ProverWires::run(alloc, program, public, self.inputs, pairs)?;
         Ok(Committed { wires, corrections })
     }
 

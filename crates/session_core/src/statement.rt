@@ -1,10 +1,12 @@
 // What a session is to prove.
 ghost use Rattle.std.specs.Prelude.{◌≡◌, length, map, IfOk};
 ghost use Rattle.zk_model.specs.Bits.{digits_of, from_bit};
+ghost use Rattle.session_core.specs.Cores.{digests_of};
 ghost use Rattle.zk_model.specs.Statement.{IsStatement};
-ghost use Rattle.zk_model.specs.Transcript.{wanted_hello};
+ghost use Rattle.zk_model.specs.Transcript.{wanted_hello, digest_sent, version_of};
 ghost use Rattle.sha2.specs.Sha256.{sha256};
 
+use crate::fault::Digests;
 use field_program::FieldProgram;
 use mersenne_field::Fe;
 use proof_frames::Hello;
@@ -13,15 +15,15 @@ use std::alloc::{AllocError, Global};
 use std::marker::Model;
 
 /// What a session is to prove: a program, the values of its public wires and the claimed values of the wires that it opens;
-/// and what its hello says of them.
+/// and the digests by which its hello names them.
 #[derive(Debug, Drop)]
 pub struct Statement<'a> {
     program: &'a FieldProgram,
     public: &'a [Fe],
     claims: &'a [Fe],
-    version: u8,
     circuit: [u8; 32],
     outputs: [u8; 32],
+    public_digest: [u8; 32],
 }
 
 impl<'a> Model for Statement<'a> {
@@ -34,56 +36,56 @@ impl<'a> Model for Statement<'a> {
       program = s.program.now;
       public = s.public.now;
       claims = s.claims.now;
-      version = s.version;
       circuit = s.circuit;
       outputs = s.outputs;
+      public_digest = s.public_digest;
     } };
 
     ghost invariant = { λ s. IsStatement (record {
       program = s.program.now;
       public = s.public.now;
       claims = s.claims.now;
-      version = s.version;
       circuit = s.circuit;
       outputs = s.outputs;
+      public_digest = s.public_digest;
     }) };
 }
 
 impl<'a> Statement<'a> {
-    /// A statement of these parts: as many public values and claims as the program has public and opened wires, the version
-    /// of the protocol, the digest of the circuit and that of the claims.
+    /// A statement of these parts: as many public values and claims as the program has public and opened wires, and the
+    /// digests of the circuit, of the claims and of the public values: of the empty text, where there are none.
     pub fn new(
         program: &'a FieldProgram,
         public: &'a [Fe],
         claims: &'a [Fe],
-        version: u8,
         circuit: [u8; 32],
         outputs: [u8; 32],
+        public_digest: [u8; 32],
     ) -> Self
         requires { IsStatement (record {
           program = program.now;
           public = public.now;
           claims = claims.now;
-          version = version;
           circuit = circuit;
           outputs = outputs;
+          public_digest = public_digest;
         }) }
         ensures { result ≡ record {
           program = program.now;
           public = public.now;
           claims = claims.now;
-          version = version;
           circuit = circuit;
           outputs = outputs;
+          public_digest = public_digest;
         } }
     {
         Statement {
             program,
             public,
             claims,
-            version,
             circuit,
             outputs,
+            public_digest,
         }
     }
 
@@ -111,31 +113,64 @@ impl<'a> Statement<'a> {
         self.claims
     }
 
-    /// The hello that names the files of this id and the statement.
+    /// The digests by which a hello names it.
+    pub fn digests(&self) -> Digests
+        ensures { result ≡ digests_of self.now }
+    {
+        Digests {
+            circuit: self.circuit,
+            outputs: self.outputs,
+            public: self.public_digest,
+        }
+    }
+
+    /// The digest of the public values that a prover sends: none where there are none.
+    fn digest_sent(&self) -> Option<[u8; 32]>
+        ensures { result ≡ digest_sent self.now.public self.now.public_digest }
+    {
+        match self.public {
+            [] => None,
+            [_, ..] => Some(self.public_digest),
+        }
+    }
+
+    /// The hello that a prover sends for the files of this id and the statement.
     pub fn hello(&self, id: [u8; 32]) -> Hello
         ensures { result ≡ wanted_hello id self.now }
     {
+        let public = self.digest_sent();
         Hello {
             id,
             circuit: self.circuit,
             outputs: self.outputs,
-            version: self.version,
+            version: version_of(public),
+            public,
         }
     }
 }
 
+/// The version of a hello in this form: 1 without a digest of public bits, 2 with one.
+pub(crate) fn version_of(public: Option<[u8; 32]>) -> u8
+    ensures { result ≡ version_of public }
+{
+    match public {
+        None => 1,
+        Some(_) => 2,
+    }
+}
+
 /// Bits as elements.
-pub(crate) fn elements_of(alloc: Global, bits: &[bool]) -> Result<Vec<Fe>, AllocError>
+pub fn elements_of(alloc: Global, bits: &[bool]) -> Result<Vec<Fe>, AllocError>
     ensures { IfOk result (λ elements. elements.items ≡ map from_bit bits.now) }
 {
     bits.iter().map(|bit| Fe::from_bit(*bit)).collect(alloc)
 }
 
-/// The digest of claimed bits, written 0 and 1.
-pub fn outputs_digest(alloc: Global, outputs: &[bool]) -> Result<[u8; 32], AllocError>
-    ensures { IfOk result (λ digest. digest ≡ sha256 (digits_of outputs.now)) }
+/// The digest of bits, written 0 and 1.
+pub fn bits_digest(alloc: Global, bits: &[bool]) -> Result<[u8; 32], AllocError>
+    ensures { IfOk result (λ digest. digest ≡ sha256 (digits_of bits.now)) }
 {
-    let digits: Vec<u8> = outputs
+    let digits: Vec<u8> = bits
         .iter()
         .map(|bit| if *bit { b'1' } else { b'0' })
         .collect(alloc)?;

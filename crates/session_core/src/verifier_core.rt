@@ -3,6 +3,7 @@ ghost use Rattle.std.specs.Prelude.{◌≡◌, ◌+◌, ◌≤◌, ℕ, [], ◌�
 ghost use Rattle.zk_model.specs.Frames.{Allows, AreAsks};
 ghost use Rattle.zk_model.specs.View.{verdict_code, verdict_number};
 ghost use Rattle.zk_model.specs.Frames as model;
+ghost use Rattle.zk_model.specs.Transcript.{IsHelloFor, digest_said};
 ghost use Rattle.proof_frames.specs.Frames.{frame_value};
 ghost use Rattle.wire_auth.specs.Held.{items_in};
 ghost use Rattle.proof_frames.specs.Readings.{IsShortPlace};
@@ -13,14 +14,16 @@ ghost use Rattle.zk_model.specs.declared.Kind.TheVariants.{Extended};
 ghost use Rattle.zk_model.specs.Program.{section_count};
 ghost use Rattle.session_core.specs.Extending.{asks_of};
 ghost use Rattle.session_core.specs.Fixing.{HoldsKeys};
-ghost use Rattle.session_core.specs.Cores.{AnswersAsks, VerifierAnswers, VerifierRefuses, IsVerifierStage, awaits_hello, owes_grant, behind_grant, awaits_asks, awaits_corrections, awaits_sums, awaits_openings, has_refused, verifier_expects, judgement_at, DiffersFirst};
+ghost use Rattle.session_core.specs.Cores.{AnswersAsks, VerifierAnswers, VerifierRefuses, IsVerifierStage, awaits_hello, owes_grant, behind_grant, awaits_asks, awaits_corrections, awaits_sums, awaits_openings, has_refused, verifier_expects, judgement_at, digests_said, DiffersFirst};
 
 use crate::extending::reply_units;
-use crate::fault::{HelloDiffers, VerifierFault};
+use crate::fault::{Digests, HelloDiffers, VerifierFault};
 use crate::judgement::Judgement;
+use crate::statement::{Statement, version_of};
 use crate::verifier_job::VerifierJob;
 use mersenne_field::Fe;
 use proof_frames::{Frame, Hello};
+use sha2::{Digest, Sha256};
 use std::alloc::{AllocError, Global};
 use std::marker::Model;
 use std::mem;
@@ -80,34 +83,49 @@ impl<'a> Model for VerifierCore<'a> {
         × HoldsKeysAt c.job.now c.stage };
 }
 
-/// The first field of a hello that is not the wanted one.
-fn difference(wanted: &Hello, hello: &Hello) -> Option<HelloDiffers>
-    ensures differs { IfSome result (DiffersFirst wanted.now hello.now) }
-    ensures equal { IfNone result (wanted.now ≡ hello.now) }
+/// The digest of public bits that a hello says: in the short form that of the empty text.
+fn digest_said(hello: &Hello) -> [u8; 32]
+    ensures { result ≡ digest_said hello.now }
 {
-    if wanted.id != hello.id {
+    match hello.public {
+        Some(digest) => digest,
+        None => Sha256::digest(&[]),
+    }
+}
+
+/// The digests that a hello says.
+fn digests_said(hello: &Hello) -> Digests
+    ensures { result ≡ digests_said hello.now }
+{
+    Digests {
+        circuit: hello.circuit,
+        outputs: hello.outputs,
+        public: digest_said(hello),
+    }
+}
+
+/// What differs first in a hello for the files of this id and a statement.
+fn difference(id: [u8; 32], statement: &Statement<'_>, hello: &Hello) -> Option<HelloDiffers>
+    ensures differs { IfSome result (DiffersFirst id statement.now hello.now) }
+    ensures fits { IfNone result (IsHelloFor id statement.now hello.now) }
+{
+    if hello.id != id {
         return Some(HelloDiffers::Id {
-            want: wanted.id,
+            want: id,
             got: hello.id,
         });
     }
-    if wanted.circuit != hello.circuit {
-        return Some(HelloDiffers::Circuit {
-            want: wanted.circuit,
-            got: hello.circuit,
-        });
-    }
-    if wanted.outputs != hello.outputs {
-        return Some(HelloDiffers::Outputs {
-            want: wanted.outputs,
-            got: hello.outputs,
-        });
-    }
-    if wanted.version != hello.version {
+    let version = version_of(hello.public);
+    if hello.version != version {
         return Some(HelloDiffers::Version {
-            want: wanted.version,
+            want: version,
             got: hello.version,
         });
+    }
+    let want = statement.digests();
+    let got = digests_said(hello);
+    if want != got {
+        return Some(HelloDiffers::Statement { want, got });
     }
     None
 }
@@ -154,6 +172,7 @@ impl<'a> VerifierCore<'a> {
     pub fn expects(&self) -> Option<Expect>
         ensures stage { result ≡ verifier_expects self.now.job self.now.stage }
         ensures short { IfSome result IsShortPlace }
+        ensures held { IsVerifierStage self.now.job self.now.stage }
     {
         let program = self.job.statement().program();
         let _products = program.products();
@@ -216,7 +235,7 @@ impl<'a> VerifierCore<'a> {
     ///
     /// # Errors
     ///
-    /// `BadHello` where a hello is not the wanted one, with the first field that differs; `NoMemory`. It then expects
+    /// `BadHello` where a hello is not one for its file and statement, with what differs first; `NoMemory`. It then expects
     /// nothing more. That a check fails is no error: the verdict says it.
     pub fn step(&mut self, alloc: Global, frame: Frame) -> Result<Vec<Frame>, VerifierFault>
         requires expected { IsSomeAnd (verifier_expects self.old.job self.old.stage)
@@ -248,7 +267,7 @@ impl<'a> VerifierCore<'a> {
         }
     }
 
-    /// Meets a hello: the wanted one leaves its grant due.
+    /// Meets a hello: one for its file and statement leaves its grant due.
     fn meet(&mut self, alloc: Global, frame: Frame) -> Result<Vec<Frame>, VerifierFault>
         requires expected { Allows expect.Hello (frame_value frame) }
         ensures answered { IfOk result (λ answer. VerifierAnswers self.old.job awaits_hello
@@ -260,8 +279,8 @@ impl<'a> VerifierCore<'a> {
         let Frame::Hello(hello) = frame else {
             unreachable!();
         };
-        let wanted = self.job.statement().hello(self.job.file().id());
-        if let Some(differs) = difference(&wanted, &hello) {
+        let id = self.job.file().id();
+        if let Some(differs) = difference(id, self.job.statement(), &hello) {
             return Err(VerifierFault::BadHello(differs));
         }
         self.stage = Stage::Grant;

@@ -5,7 +5,8 @@ use Rattle.std.proofs.lemmas.List.{take_all}
 use Rattle.session_laws.specs.Peers.{HasWitness, said_in}
 use Rattle.session_laws.specs.Sessions.{BeginsHonestly, IsCutInAnswer, HonestAnswer, HonestVerdict}
 use Rattle.session_laws.proofs.Turns.{said, answered, sizes, same_said, same_answered, same_turns, no_more_turns, no_more_said, said_more, answered_more, fewer_said, fewer_answered, same_length_in}
-use Rattle.session_laws.proofs.Sizes.{count_is, same_sizes, all_answered, all_said, hello_length}
+use Rattle.session_laws.proofs.Sizes.{count_is, same_sizes, all_answered, all_said}
+use Rattle.session_laws.proofs.Greetings.{later_turns, one_greeting}
 use Rattle.session_laws.proofs.Cut.{one_grant}
 use Rattle.session_laws.proofs.Followed.{granted_session}
 use Rattle.session_laws.proofs.Completed.{AreBoth, task_of, counterparts}
@@ -18,7 +19,7 @@ use Rattle.frame_laws.proofs.OneTranscript.{one_transcript}
 use Rattle.frame_laws.proofs.SentBytes.{sent_by-prover, sent_by-verifier}
 use Rattle.zk_model.specs.Statement.{Statement, IsStatement}
 use Rattle.zk_model.specs.Files.{VerifierFile, rounds_of}
-use Rattle.zk_model.specs.Transcript.{Grant, Transcript, IsTranscript, wanted_hello, hello_frame, bytes_from, turn_bytes, session_turns, spelling, sent_by}
+use Rattle.zk_model.specs.Transcript.{Grant, Transcript, IsTranscript, hello_frame, bytes_from, turn_bytes, session_turns, spelling, sent_by}
 use Rattle.zk_model.specs.HonestProver.{ProverTask, IsHonest}
 use Rattle.zk_model.specs.ServedVerifier.{IsServed}
 use Rattle.zk_model.specs.BothEnds.{IsHonestSession}
@@ -58,6 +59,14 @@ heard_grant prover file t w (suc m) n more_said rest more both is =
     one_grant prover.file.params prover.statement.program t w n m (rest ++ more) [] both.ends.prover_file.params is.mine is.theirs
     (sym is.answers ∙ sym (append-nil (answered (take (suc m) (session_turns w)))))
 
+-- and one hello
+heard_greeting : (prover : ProverTask) (file : VerifierFile) (t w : Transcript) (m n : ℕ) (more_said rest more : List ℕ)
+    → IsHeardBy prover file t w m (suc n) more_said rest more → t.commitment.setup.hello ≡ w.commitment.setup.hello
+heard_greeting prover file t w zero n more_said rest more is =
+    let some = some_heard prover file t w zero n more_said rest more is in absurd (omega (arith, some))
+heard_greeting prover file t w (suc m) n more_said rest more is =
+    one_greeting prover.file.params prover.statement.program t w n m (said_in t (suc n)) more_said is.mine is.theirs is.heard
+
 -- it heard the turns that it answered, and one more at most
 record Heard (prover : ProverTask) (t w : Transcript) (m n : ℕ) (more_said rest more : List ℕ) : Type 0 where
   grant : t.commitment.setup.grant ≡ w.commitment.setup.grant
@@ -89,7 +98,7 @@ heard_turns prover file t w m n more_said rest more both is = record {
     grant = heard_grant prover file t w m n more_said rest more both is
 
     sized : sizes (session_turns t) ≡ sizes (session_turns w)
-    sized = same_sizes prover.file.params prover.statement.program t w is.mine is.theirs grant
+    sized = same_sizes prover.file.params prover.statement.program t w is.mine is.theirs (heard_greeting prover file t w m n more_said rest more is) grant
 
     least : suc n ≤ m
     least = no_more_turns (suc n) m ts ws sized (all_answered prover.file.params prover.statement.program t is.mine)
@@ -190,7 +199,7 @@ at_first : (prover : ProverTask) (file : VerifierFile) (t w : Transcript) (m : �
     → AreBoth prover file → IsHeardBy prover file t w m 0 more_said rest more
     → log ≡ turn_bytes (take 0 (session_turns t)) ++ (bytes_from Prover (said_in t 0) ++ bytes_from Verifier rest)
     → BeginsHonestly prover (task_of prover file) w.commitment.setup.grant log
-at_first prover file t w m more_said rest more log both is bytes = by_turns m is.answers few
+at_first prover file t w m more_said rest more log both is bytes = by_turns m is.heard is.within is.answers
   where
     some : (u : Transcript) × IsTranscript prover.file.params prover.statement.program u × IsHonest prover u
         × (u.commitment.setup.grant ≡ w.commitment.setup.grant)
@@ -214,22 +223,28 @@ at_first prover file t w m more_said rest more log both is bytes = by_turns m is
     spelled : log ≡ turn_bytes (take 0 (session_turns some.0)) ++ (bytes_from Prover (said_in some.0 0) ++ bytes_from Verifier rest)
     spelled = bytes ∙ ap (λ l. [] ++ (bytes_from Prover l ++ bytes_from Verifier rest)) hello
 
-    few : m ≤ 1
-    few = no_more_said m 1 (session_turns w) (session_turns w) refl (all_said prover.file.params prover.statement.program w is.theirs) is.within
-        (let whole = ap length is.heard in
-        let parts = length-append (said (take m (session_turns w))) more_said in
-        let left = hello_length t.commitment.setup.hello is.mine.commitment.setup.hello in
-        let right = hello_length w.commitment.setup.hello is.theirs.commitment.setup.hello in
-        let one = length-append (hello_frame w.commitment.setup.hello) [] in
-        omega (arith, whole, parts, left, right, one))
+    -- which is that of a verifier that heard it
+    greeting : (m : ℕ) → said_in t 0 ≡ said (take (suc m) (session_turns w)) ++ more_said
+        → t.commitment.setup.hello ≡ w.commitment.setup.hello
+    greeting m heard = one_greeting prover.file.params prover.statement.program t w 0 m [] more_said is.mine is.theirs
+        (append-nil (hello_frame t.commitment.setup.hello ++ []) ∙ append-nil (hello_frame t.commitment.setup.hello) ∙ heard)
 
-    by_turns : (m : ℕ) → answered (take m (session_turns w)) ≡ [] ++ (rest ++ more) → m ≤ 1
-        → BeginsHonestly prover (task_of prover file) w.commitment.setup.grant log
-    by_turns zero none few = ends_with_turn prover file some.0 w 0 rest more log both agree none spelled
-    by_turns (suc zero) answers few = in_met_answer prover file some.0 w 0 rest more log both agree
-        (ap hello_frame (some.2.hello ∙ ap (λ id. wanted_hello id prover.statement) both.dealt.id ∙ sym is.served.in_order.hello))
+    few : (m : ℕ) → said_in t 0 ≡ said (take (suc m) (session_turns w)) ++ more_said → suc m ≤ length (session_turns w) → suc m ≤ 1
+    few m heard within = no_more_said (suc m) 1 (session_turns w) (session_turns w) refl
+        (all_said prover.file.params prover.statement.program w is.theirs) within
+        (let whole = ap length heard in
+        let parts = length-append (said (take (suc m) (session_turns w))) more_said in
+        let same = ap (λ hello. length (hello_frame hello)) (greeting m heard) in
+        let one = length-append (hello_frame w.commitment.setup.hello) [] in
+        omega (arith, whole, parts, same, one))
+
+    by_turns : (m : ℕ) → said_in t 0 ≡ said (take m (session_turns w)) ++ more_said → m ≤ length (session_turns w)
+        → answered (take m (session_turns w)) ≡ [] ++ (rest ++ more) → BeginsHonestly prover (task_of prover file) w.commitment.setup.grant log
+    by_turns zero heard within none = ends_with_turn prover file some.0 w 0 rest more log both agree none spelled
+    by_turns (suc zero) heard within answers = in_met_answer prover file some.0 w 0 rest more log both agree
+        (ap hello_frame (some.2.hello ∙ sym is.honest.hello ∙ greeting 0 heard))
         (sym (append-nil (answered_in w 0)) ∙ answers) spelled
-    by_turns (suc (suc m)) answers few = absurd (omega (arith, few))
+    by_turns (suc (suc m)) heard within answers = let most = few (suc m) heard within in absurd (omega (arith, most))
 
 -- wherever it ends
 cut_in_answer : (prover : ProverTask) (file : VerifierFile) (t w : Transcript) (m n : ℕ) (more_said rest more : List ℕ) (log : List (Side × ℕ))
@@ -326,8 +341,12 @@ served_it prover file t w verdict (suc m) more_said more both is served within h
         (let whole = count_is prover.file.params prover.statement.program t is in omega (arith, whole)))
         ∙ sym answers ∙ sym (append-nil (answered (take (suc m) ws))))
 
+    greeting : t.commitment.setup.hello ≡ w.commitment.setup.hello
+    greeting = one_greeting prover.file.params prover.statement.program t w (length (later_turns t)) m [] more_said is theirs
+        (append-nil (said (take (suc (length (later_turns t))) ts)) ∙ ap (λ turns. said turns) all_t ∙ heard)
+
     sized : sizes (session_turns w) ≡ sizes (session_turns t)
-    sized = same_sizes prover.file.params prover.statement.program w t theirs is (sym grant)
+    sized = same_sizes prover.file.params prover.statement.program w t theirs is (sym greeting) (sym grant)
 
     least : length (session_turns t) ≤ suc m
     least = no_more_turns n (suc m) ts ws (sym sized) (all_answered prover.file.params prover.statement.program t is) (omega arith)

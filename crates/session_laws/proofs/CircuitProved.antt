@@ -33,7 +33,7 @@ same_bits (x ∷ xs) (y ∷ ys) same =
 -- a prover of the outputs of a circuit
 abbrev circuit_prover : ProverFile → Circuit → List ℕ → List Bool → List Bool → ProverTask
 circuit_prover file circuit digest inputs outputs =
-    record { file = file; statement = circuit_statement circuit digest outputs; inputs = map from_bit inputs }
+    record { file = file; statement = circuit_statement circuit digest [] outputs; inputs = map from_bit inputs }
 
 has_witness : (file : ProverFile) (circuit : Circuit) (digest : List ℕ) (inputs outputs : List Bool) → IsWellFormed circuit
     → Satisfies circuit inputs outputs → HasWitness (circuit_prover file circuit digest inputs outputs)

@@ -13,10 +13,11 @@ use Rattle.zk_laws.proofs.HonestIsAccepted.{honest_session_is_accepted}
 use Rattle.zk_laws.proofs.HonestSession.{honest_session_holds}
 use Rattle.zk_laws.proofs.KeysFit.{keys_fit}
 use Rattle.zk_laws.proofs.Views.{rounds_are}
+use Rattle.frame_laws.proofs.Hellos.{wanted_fits}
 use Rattle.zk_model.specs.Program.{Carries, opened_values}
 use Rattle.zk_model.specs.Mac.{AreKeysOf, corrected_keys}
 use Rattle.zk_model.specs.Files.{VerifierFile, AreDealt}
-use Rattle.zk_model.specs.Transcript.{Grant, Setup, Transcript, IsGrant, IsTranscript, wanted_hello, spelling}
+use Rattle.zk_model.specs.Transcript.{Grant, Setup, Transcript, IsHelloFor, IsGrant, IsTranscript, wanted_hello, spelling}
 use Rattle.zk_model.specs.Check.{WireKeys, AllSectionsHold, AllOpeningsHold}
 use Rattle.zk_model.specs.View.{AreSessionKeys, session_keys, session_products, session_openings}
 use Rattle.zk_model.specs.HonestProver.{ProverTask, IsHonest}
@@ -120,7 +121,8 @@ completed prover file u both is honest replies = (
     served = record {
       in_order = record {
         stated = both.ends.stated;
-        hello = honest.hello ∙ ap (λ id. wanted_hello id prover.statement) both.dealt.id;
+        hello = subst (IsHelloFor file.id prover.statement) (sym (honest.hello ∙ ap (λ id. wanted_hello id prover.statement) both.dealt.id))
+            (wanted_fits file.id prover.statement both.ends.stated);
         transcript = theirs;
         bytes = refl;
       };

@@ -10,7 +10,7 @@ use Rattle.frame_laws.proofs.OneTranscript.{one_transcript}
 use Rattle.frame_laws.proofs.SentBytes.{sent_by-verifier}
 use Rattle.zk_model.specs.Program.{Program}
 use Rattle.zk_model.specs.Files.{AreParams, rounds_of}
-use Rattle.zk_model.specs.Transcript.{Transcript, IsTranscript, session_turns, sent_by}
+use Rattle.zk_model.specs.Transcript.{Hello, Transcript, IsHello, IsTranscript, session_turns, sent_by}
 use Rattle.zk_model.specs.declared.Params.{Params}
 use Rattle.zk_model.specs.declared.Side.TheVariants.{Verifier}
 use Rattle.zk_model.specs.declared.Verdict.TheVariants.{Accepted, RejectedSum, RejectedOpening}
@@ -23,7 +23,34 @@ pub one_grant : (params : Params) (program : Program) (t u : Transcript) (m n : 
 one_grant params program t u m n xs ys are is also same =
     (grant_code params program are t.commitment.setup.grant u.commitment.setup.grant _ _ is.commitment.setup.grant also.commitment.setup.grant same).0
 
--- the answers of all turns are not those of fewer
+-- a session with another hello
+abbrev pub greeted : Hello → Transcript → Transcript
+greeted hello t =
+    record t { commitment = record t.commitment { setup = record t.commitment.setup { hello = hello } } }
+
+pub greeted_is : (params : Params) (program : Program) (hello : Hello) (t : Transcript) → IsHello hello → IsTranscript params program t
+    → IsTranscript params program (greeted hello t)
+greeted_is params program hello t greets is = record {
+  commitment = record {
+    setup = record {
+      hello = greets;
+      grant = is.commitment.setup.grant;
+      round_count = is.commitment.setup.round_count;
+      rounds = is.commitment.setup.rounds;
+    };
+    count = is.commitment.count;
+    elements = is.commitment.elements;
+  };
+  challenge = is.challenge;
+  sum_count = is.sum_count;
+  sums = is.sums;
+  opening_count = is.opening_count;
+  openings = is.openings;
+  code = is.code;
+  number = is.number;
+}
+
+-- the answers of all turns are not those of fewer, since no hello is in them
 not_fewer : (params : Params) (program : Program) (t u : Transcript) (n : ℕ) → AreParams params
     → IsTranscript params program t → IsTranscript params program u → n < length (session_turns t)
     → answered (take n (session_turns t)) ≡ answered (session_turns u) → ⊥
@@ -34,9 +61,10 @@ not_fewer params program t u (suc n) are is also below same =
     let front = ap (λ l. answered l) all in
     let grant = one_grant params program t u n (rounds + 2) [] [] are is also
     (ap (λ l. l ++ []) (same ∙ sym (ap (λ l. answered l) (take_all (suc (rounds + 2)) us (omega (arith, count)))))) in
-    let sized = same_sizes params program u t also is (sym grant) in
-    let many = as_many us (session_turns t) sized in
-    let most = no_more_turns (length us) (suc n) us (session_turns t) sized (all_answered params program u also) (omega arith)
+    let alike = greeted u.commitment.setup.hello t in
+    let sized = same_sizes params program u alike also (greeted_is params program u.commitment.setup.hello t also.commitment.setup.hello is) refl (sym grant) in
+    let many : length us ≡ length (session_turns t) = as_many us (session_turns alike) sized in
+    let most = no_more_turns (length us) (suc n) us (session_turns alike) sized (all_answered params program u also) (omega arith)
     (let left = ap length front in let right = ap length same in omega (arith, left, right)) in
     omega (arith, most, many, below)
   where

@@ -6,11 +6,12 @@ use Rattle.std.proofs.lemmas.List.{length-map}
 use Rattle.std.proofs.lemmas.List.Elements.{recursion_from_All, All-from_recursion}
 use Rattle.session_laws.specs.Peers.{HasWitness}
 use Rattle.session_laws.proofs.Turns.{said, answered}
-use Rattle.session_laws.proofs.Sizes.{round_turns, asks_length, hello_length, count_is}
+use Rattle.session_laws.proofs.Sizes.{round_turns, asks_length, count_is}
+use Rattle.session_laws.proofs.Greetings.{greeting_is}
 use Rattle.session_laws.proofs.Cut.{one_grant}
 use Rattle.session_laws.proofs.Honest.{AsksAre, IsMade, HasHonestSetup, honest_session_exists, honest_setup_exists}
 use Rattle.frame_laws.proofs.Codes.{same_front}
-use Rattle.frame_laws.proofs.FrameCodes.{round_code}
+use Rattle.frame_laws.proofs.FrameCodes.{hello_code, round_code}
 use Rattle.zk_model.specs.Statement.{IsStatement}
 use Rattle.zk_model.specs.Files.{VerifierFile, IsProverFile, IsVerifierFile, rounds_of}
 use Rattle.zk_model.specs.Transcript.{Grant, TreeAsk, Round, Transcript, IsRound, IsTranscript, BeginsWith, wanted_hello, hello_frame, grant_frame, ask_frame, reply_frame, corrections_frame, challenge_frame, sums_frame, openings_frame, verdict_frame, setup_turns, session_turns}
@@ -128,7 +129,6 @@ pub record AreEnds (prover : ProverTask) (verifier : VerifierFile) : Type 0 wher
 -- a session that the verifier leads
 pub record IsLed (prover : ProverTask) (verifier : VerifierFile) (t : Transcript) : Type 0 where
   pub transcript : IsTranscript prover.file.params prover.statement.program t
-  pub hello : t.commitment.setup.hello ≡ wanted_hello prover.file.id prover.statement
   pub replies : RepliesAre verifier t.commitment.setup
 
 -- an honest session with the grant of t
@@ -205,9 +205,9 @@ asks_are prover t u m n honest rest more is also honestly same left right =
 
     front : said (take (suc m) (round_turns u.commitment.setup.rounds ++ last_two u))
         ≡ said (take (suc n) (round_turns t.commitment.setup.rounds ++ last_two t)) ++ (rest ++ more)
-    front = (same_front (hello_frame u.commitment.setup.hello) (hello_frame t.commitment.setup.hello)
+    front = (hello_code u.commitment.setup.hello t.commitment.setup.hello
         (said (take (suc m) (round_turns u.commitment.setup.rounds ++ last_two u))) (later ++ (rest ++ more))
-        (hello_length u.commitment.setup.hello also.commitment.setup.hello ∙ sym (hello_length t.commitment.setup.hello is.commitment.setup.hello))
+        also.commitment.setup.hello is.commitment.setup.hello
         (sym left ∙ right ∙ append_assoc (first ++ later) rest more ∙ append_assoc first later (rest ++ more))).1
 
 -- what an honest prover answered when n turns and more bytes had come: n turns at least
@@ -238,9 +238,13 @@ enough_turns prover verifier t (suc n) received honest rest extra more ends led 
     asks = asks_are prover t answer.u answer.before n honest rest more led.transcript answer.transcript answer.honest same
         answer.sent_is heard.honest_is
 
+    greeting : t.commitment.setup.hello ≡ wanted_hello prover.file.id prover.statement
+    greeting = greeting_is prover t (suc n) received honest (rest ++ more) ends.prover_file ends.stated led.transcript bytes
+        (heard.honest_is ∙ append_assoc (said (take (suc (suc n)) (session_turns t))) rest more)
+
     made : IsMade prover t.commitment.setup t.challenge 0 0 ends.witness.wires ends.witness.given
     made = honest_session_exists prover t.commitment.setup t.challenge 0 0 ends.witness.wires ends.witness.given ends.prover_file
-        ends.stated ends.witness.witness led.transcript.commitment.setup led.hello asks led.transcript.challenge (omega arith) (omega arith)
+        ends.stated ends.witness.witness led.transcript.commitment.setup greeting asks led.transcript.challenge (omega arith) (omega arith)
 
     inside : suc n < length (session_turns made.t)
     inside =

@@ -18,6 +18,7 @@ use Rattle.zk_model.specs.Program.{Program}
 use Rattle.zk_model.specs.Statement.{Statement, IsStatement}
 use Rattle.zk_model.specs.Mac.{Pair, corrected_pair, corrected_pairs, macs_of, pair_at}
 use Rattle.zk_model.specs.Files.{ProverFile, VerifierFile, IsProverFile, IsVerifierFile, rounds_of}
+use Rattle.frame_laws.proofs.Hellos.{wanted_is_hello}
 use Rattle.zk_model.specs.Transcript.{Grant, Round, Setup, Commitment, Transcript, ForEachTree, IsTreeAsk, IsTreeReply, IsGrant, IsRound, IsSetup, IsCommitment, IsTranscript, wanted_hello}
 use Rattle.zk_model.specs.Correlations.{IsProverView}
 use Rattle.zk_model.specs.Check.{honest_sums, section_triples, all_sums, opened_pairs}
@@ -229,7 +230,7 @@ pub honest_setup_exists : (prover : ProverTask) (verifier : VerifierFile) (grant
 honest_setup_exists prover verifier grant left stated right same granted = record {
   setup = record { hello = wanted_hello prover.file.id prover.statement; grant = grant; rounds = honest_rounds prover.file verifier grant prover.file.params.kind };
   granted = refl;
-  is = record { hello = record { id = left.id; circuit = stated.circuit; outputs = stated.outputs; version = stated.version }; grant = granted; round_count = rounds.count; rounds = rounds.each };
+  is = record { hello = wanted_is_hello prover.file.id prover.statement left.id stated; grant = granted; round_count = rounds.count; rounds = rounds.each };
   hello = refl;
   asks = rounds.asks;
   replies = rounds.replies;

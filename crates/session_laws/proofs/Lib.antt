@@ -1,6 +1,7 @@
 pub mod Served
 pub mod Turns
 pub mod Sizes
+pub mod Greetings
 pub mod Cut
 pub mod Shapes
 pub mod Honest

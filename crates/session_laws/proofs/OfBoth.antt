@@ -32,13 +32,13 @@ record AreWhole (t : Transcript) (n : ℕ) (received extra : List ℕ) : Type 0 
 -- turns of another session that came are no more, where one came
 no_more : (prover : ProverTask) (t u : Transcript) (m n : ℕ) (received extra : List ℕ) → AreParams prover.file.params
     → IsTranscript prover.file.params prover.statement.program t → IsTranscript prover.file.params prover.statement.program u
-    → AreWhole t n received extra → m < length (session_turns u)
+    → t.commitment.setup.hello ≡ u.commitment.setup.hello → AreWhole t n received extra → m < length (session_turns u)
     → BeginsWith received (answered (take (suc m) (session_turns u))) → suc m ≤ n
-no_more prover t u m zero received extra are is also whole within begins =
+no_more prover t u m zero received extra are is also greeting whole within begins =
     let all = ap length begins.1 in
     let least = whole.most 1 (omega arith) (omega (arith, all)) in
     absurd (omega (arith, least))
-no_more prover t u m (suc n) received extra are is also whole within begins =
+no_more prover t u m (suc n) received extra are is also greeting whole within begins =
     whole.most (suc m) (omega (arith, within, count))
     (let all = ap length begins.1 in
     let parts = length-append (answered (take (suc m) (session_turns u))) begins.0 in
@@ -46,7 +46,7 @@ no_more prover t u m (suc n) received extra are is also whole within begins =
     omega (arith, all, parts, long))
   where
     sized : sizes (session_turns t) ≡ sizes (session_turns u)
-    sized = same_sizes prover.file.params prover.statement.program t u is also
+    sized = same_sizes prover.file.params prover.statement.program t u is also greeting
         (one_grant prover.file.params prover.statement.program t u n m extra begins.0 are is also (sym whole.came ∙ begins.1))
 
     count : length (session_turns t) ≡ length (session_turns u)
@@ -72,7 +72,7 @@ honest_bytes_at prover t n received extra are is honest whole = record {
   where
     at_most : (more : ℕ) (other : List ℕ) → SentAfter prover received more other → more ≤ n
     at_most zero other after = omega arith
-    at_most (suc m) other after = no_more prover t after.0 m n received extra are is after.1 whole after.3 after.4
+    at_most (suc m) other after = no_more prover t after.0 m n received extra are is after.1 (honest.hello ∙ sym after.2.hello) whole after.3 after.4
 
 -- after whole turns
 whole_turns : (prover : ProverTask) (t : Transcript) (n : ℕ) (received : List ℕ) → IsTranscript prover.file.params prover.statement.program t
@@ -235,7 +235,7 @@ from_verifier verifier t verdict log is (in_answer n rest more below same bytes)
 pub honest_log_is_of_both : HonestLogIsOfBoth
 honest_log_is_of_both prover verifier grant log both begins = record {
   from_prover = from_prover prover begins.t log both.prover_file.params
-      (led_of prover verifier begins.t both served.in_order.transcript served.in_order.hello served.replies).transcript
+      (led_of prover verifier begins.t both served.in_order.transcript served.replies).transcript
       begins.session.honest ends;
   from_verifier = from_verifier verifier begins.t Accepted log served ends;
   serves = record { t = begins.t; verdict = Accepted; served = served; granted = begins.session.granted; bytes = inl begins.begun };

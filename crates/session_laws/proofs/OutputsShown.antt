@@ -26,8 +26,8 @@ by_inputs circuit outputs inputs bits = record {
 -- what a finding shows of the statement is what it says of the circuit's outputs
 by_finding : (circuit : Circuit) (digest : List ℕ) (outputs : List Bool) (key : ℕ) (t : Transcript) (finding : Finding)
     → IsWellFormed circuit
-    → Shows (circuit_statement circuit digest outputs) t.commitment.setup.grant.section_length t.challenge key finding
-    → SaysOutputs circuit outputs key (circuit_statement circuit digest outputs) t finding
+    → Shows (circuit_statement circuit digest [] outputs) t.commitment.setup.grant.section_length t.challenge key finding
+    → SaysOutputs circuit outputs key (circuit_statement circuit digest [] outputs) t finding
 by_finding circuit digest outputs key t (found_inputs inputs) formed shows = by_inputs circuit outputs inputs
     (found_bits circuit digest outputs t.commitment.setup.grant.section_length t.challenge key (found_inputs inputs) formed shows)
 by_finding circuit digest outputs key t (found_challenge_root s errors) formed shows = shows

@@ -4,6 +4,7 @@ use Rattle.std.proofs.lemmas.List.{length-map, take_all, take_at, get_or-take, g
 use Rattle.session_laws.specs.Peers.{HasWitness, IsServedTurns, IsHonestUpTo, HonestTurn, HonestTurnEnds, HonestWhole, HonestWholeIsAccepted, said_in}
 use Rattle.session_laws.proofs.Turns.{said, answered, sizes, same_said, same_answered, same_turns, no_more_turns, said_more, answered_more, fewer_answered, same_length_in, cut_said, cut_answered}
 use Rattle.session_laws.proofs.Sizes.{round_turns, count_is, same_sizes, all_answered}
+use Rattle.session_laws.proofs.Greetings.{greeting_is}
 use Rattle.session_laws.proofs.Honest.{honest_as}
 use Rattle.session_laws.proofs.Followed.{AreEnds, IsLed, IsFollowed, first_answer, followed, granted_session}
 use Rattle.zk_laws.specs.Completeness.{AreCounterparts}
@@ -16,7 +17,7 @@ use Rattle.zk_model.specs.Bytes.{element_bytes}
 use Rattle.zk_model.specs.Program.{Program}
 use Rattle.zk_model.specs.Statement.{Statement, IsStatement}
 use Rattle.zk_model.specs.Files.{VerifierFile, AreParams, rounds_of}
-use Rattle.zk_model.specs.Transcript.{Transcript, IsTranscript, wanted_hello, hello_frame, corrections_frame, challenge_frame, sums_frame, openings_frame, verdict_frame, setup_turns, session_turns, turn_bytes, sent_by}
+use Rattle.zk_model.specs.Transcript.{Transcript, IsTranscript, hello_frame, corrections_frame, challenge_frame, sums_frame, openings_frame, verdict_frame, setup_turns, session_turns, turn_bytes, sent_by}
 use Rattle.zk_model.specs.HonestProver.{ProverTask, IsHonest, SentAfter, AreHonestBytes}
 use Rattle.zk_model.specs.ServedVerifier.{VerifierTask, RepliesAre}
 use Rattle.zk_model.specs.declared.FrameKind.TheVariants as kind
@@ -38,12 +39,10 @@ ends_of prover verifier both stated witness = record {
 
 pub led_of : (prover : ProverTask) (verifier : VerifierTask) (t : Transcript) → AreCounterparts prover verifier
     → IsTranscript verifier.file.params verifier.statement.program t
-    → t.commitment.setup.hello ≡ wanted_hello verifier.file.id verifier.statement
     → RepliesAre verifier.file t.commitment.setup → IsLed prover verifier.file t
-led_of prover verifier t both is hello replies = record {
+led_of prover verifier t both is replies = record {
   transcript = subst (λ (params : Params). IsTranscript params prover.statement.program t) (sym both.dealt.params)
       (subst (λ (statement : Statement). IsTranscript verifier.file.params statement.program t) (sym both.statement) is);
-  hello = hello ∙ (λ i. wanted_hello (sym both.dealt.id i) (sym both.statement i));
   replies = replies;
 }
 
@@ -115,7 +114,9 @@ turn_said prover verifier t (suc n) received honest rest more ends led below cam
     us = session_turns answer.u
 
     sized : sizes (session_turns answer.u) ≡ sizes (session_turns t)
-    sized = same_sizes prover.file.params prover.statement.program answer.u t answer.transcript led.transcript answer.grant
+    sized = same_sizes prover.file.params prover.statement.program answer.u t answer.transcript led.transcript
+        (answer.honest.hello ∙ sym (greeting_is prover t n received honest (rest ++ more) ends.prover_file ends.stated led.transcript bytes
+        (sent ∙ append_assoc (said (take (suc n) (session_turns t))) rest more))) answer.grant
 
     no_more : suc answer.before ≤ suc n
     no_more = no_more_turns (suc answer.before) (suc n) us (session_turns t) sized
@@ -157,7 +158,7 @@ sent_in verifier t n rest log served = ap (sent_by Prover) served.bytes ∙ cut_
 pub honest_turn : HonestTurn
 honest_turn prover verifier t n rest log both witness served from =
     let found = turn_said prover verifier.file t n (sent_by Verifier log) from.0 rest from.2.0
-    (ends_of prover verifier both served.stated witness) (led_of prover verifier t both served.transcript served.hello served.replies)
+    (ends_of prover verifier both served.stated witness) (led_of prover verifier t both served.transcript served.replies)
     served.more (came_in verifier t n rest log served) from.1
     (from.2.1 ∙ ap (λ l. l ++ from.2.0) (sent_in verifier t n rest log served)) in
     (found.0, found.1, (from.2.0, found.2))
@@ -165,7 +166,7 @@ honest_turn prover verifier t n rest log both witness served from =
 pub honest_turn_ends : HonestTurnEnds
 honest_turn_ends prover verifier t n rest log both witness served ended =
     let found = turn_said prover verifier.file t n (sent_by Verifier log) (sent_by Prover log) rest []
-    (ends_of prover verifier both served.stated witness) (led_of prover verifier t both served.transcript served.hello served.replies)
+    (ends_of prover verifier both served.stated witness) (led_of prover verifier t both served.transcript served.replies)
     served.more (came_in verifier t n rest log served) ended
     (sent_in verifier t n rest log served ∙ sym (append-nil (said (take n (session_turns t)) ++ rest))) in
     (found.0, found.1, sym (found.2 ∙ append-nil rest))
@@ -266,7 +267,9 @@ whole_honest prover verifier t honest more ends led bytes sent =
     us = session_turns answer.u
 
     sized : sizes (session_turns answer.u) ≡ sizes (session_turns t)
-    sized = same_sizes prover.file.params prover.statement.program answer.u t answer.transcript led.transcript answer.grant
+    sized = same_sizes prover.file.params prover.statement.program answer.u t answer.transcript led.transcript
+        (answer.honest.hello ∙ sym (greeting_is prover t (suc n) (answered (session_turns t)) honest more ends.prover_file ends.stated led.transcript bytes
+        (sent ∙ ap (λ turns. said turns ++ more) (sym all)))) answer.grant
 
     count : length (session_turns answer.u) ≡ rounds_of prover.file.params.kind + 3
     count = count_is prover.file.params prover.statement.program answer.u answer.transcript
@@ -301,7 +304,7 @@ whole_honest prover verifier t honest more ends led bytes sent =
 pub honest_whole : HonestWhole
 honest_whole prover verifier t verdict log both witness served from =
     whole_honest prover verifier.file t from.0 from.2.0 (ends_of prover verifier both served.in_order.stated witness)
-    (led_of prover verifier t both served.in_order.transcript served.in_order.hello served.replies)
+    (led_of prover verifier t both served.in_order.transcript served.replies)
     (subst (λ (l : List ℕ). AreHonestBytes prover l from.0) (ap (sent_by Verifier) served.in_order.bytes ∙ sent_by-verifier (session_turns t)) from.1)
     (from.2.1 ∙ ap (λ l. l ++ from.2.0) (ap (sent_by Prover) served.in_order.bytes ∙ sent_by-prover (session_turns t)))
 

@@ -4,6 +4,7 @@ use Rattle.session_laws.specs.Peers.{HasWitness, GivesClaims, IsHonestUpTo, said
 use Rattle.session_laws.specs.Sessions.{BeginsHonestly, HonestLog}
 use Rattle.session_laws.proofs.Turns.{said, answered, sizes, same_said, same_answered, same_turns, said_more, fewer_said, fewer_answered, same_length_in, cut_said, cut_answered}
 use Rattle.session_laws.proofs.Sizes.{count_is, same_sizes}
+use Rattle.session_laws.proofs.Greetings.{greeting_is}
 use Rattle.session_laws.proofs.Followed.{AreEnds, IsLed, IsFollowed, followed, granted_session}
 use Rattle.session_laws.proofs.PeersHonest.{ends_of, led_of, turn_said, whole_honest}
 use Rattle.session_laws.proofs.Completed.{AreBoth, task_of, counterparts}
@@ -35,7 +36,7 @@ both_of prover verifier both stated witness claims =
 led : (prover : ProverTask) (file : VerifierFile) (t : Transcript) (verdict : Verdict) (log : List (Side × ℕ)) → AreBoth prover file
     → IsServed (task_of prover file) t verdict log → IsLed prover file t
 led prover file t verdict log both served =
-    led_of prover (task_of prover file) t (counterparts prover file both) served.in_order.transcript served.in_order.hello served.replies
+    led_of prover (task_of prover file) t (counterparts prover file both) served.in_order.transcript served.replies
 
 -- ---- a log that ends in a turn of the prover
 
@@ -136,7 +137,8 @@ says_turn prover file t zero received honest rest more ends leads below came byt
   honest = some.2;
   grant = some.3;
   same = refl;
-  says = ap hello_frame (some.2.hello ∙ sym leads.hello);
+  says = ap hello_frame (some.2.hello ∙ sym (greeting_is prover t 0 received honest more ends.prover_file ends.stated leads.transcript bytes
+      (sent ∙ ap (λ l. l ++ more) (sym (append-nil (hello_frame t.commitment.setup.hello))))));
 }
   where
     some : (u : Transcript) × IsTranscript prover.file.params prover.statement.program u × IsHonest prover u
@@ -162,7 +164,9 @@ says_turn prover file t (suc n) received honest rest more ends leads below came 
     ts = session_turns t
 
     sized : sizes (session_turns answer.u) ≡ sizes (session_turns t)
-    sized = same_sizes prover.file.params prover.statement.program answer.u t answer.transcript leads.transcript answer.grant
+    sized = same_sizes prover.file.params prover.statement.program answer.u t answer.transcript leads.transcript
+        (answer.honest.hello ∙ sym (greeting_is prover t n received honest (said_in t (suc n) ++ more) ends.prover_file ends.stated leads.transcript bytes
+        (sent ∙ append_assoc (said (take (suc n) (session_turns t))) (said_in t (suc n)) more))) answer.grant
 
     more_answered : (rest : List ℕ) × (answered (take (suc answer.before) (session_turns answer.u)) ≡ answered (take (suc n) (session_turns answer.u)) ++ rest)
     more_answered = fewer_answered (suc n) (suc answer.before) us (let most = answer.most in omega (arith, most))

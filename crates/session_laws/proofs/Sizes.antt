@@ -1,4 +1,4 @@
--- How long the turns of a session are: the grant alone decides it.
+-- How long the turns of a session are: the hello and the grant decide it.
 use Rattle.std.proofs.Common.{◌≡◌, ℕ, ◌+◌, ◌*◌, ◌≤◌, List, [], ◌∷◌, ◌++◌, map, flat_map, length, replicate, refl, ap, arith, ◌∙◌, sym, length-append}
 use Rattle.std.specs.Prelude.{All}
 use Rattle.std.specs.List.{AllByRecursion}
@@ -35,16 +35,6 @@ many_length f P per n each xs all =
 -- five bytes before the payload
 frame_length : (frame : FrameKind) (payload : List ℕ) (n : ℕ) → length payload ≡ n → length (frame_bytes frame payload) ≡ 5 + n
 frame_length frame payload n sized = omega (arith, sized)
-
-pub hello_length : (hello : Hello) → IsHello hello → length (hello_frame hello) ≡ 102
-hello_length hello is =
-    let last = length-append (hello.id ++ hello.circuit ++ hello.outputs) (hello.version ∷ []) in
-    let third = length-append (hello.id ++ hello.circuit) hello.outputs in
-    let second = length-append hello.id hello.circuit in
-    let id = is.id.0 in
-    let circuit = is.circuit.0 in
-    let outputs = is.outputs.0 in
-    omega (arith, last, third, second, id, circuit, outputs)
 
 -- ---- a round
 
@@ -97,9 +87,9 @@ replies_length params grant round is =
 -- ---- a session
 
 -- how long each turn is
-abbrev pub session_sizes : Params → Program → Grant → List (ℕ × ℕ)
-session_sizes params program grant =
-    (102, 21)
+abbrev pub session_sizes : Params → Program → Hello → Grant → List (ℕ × ℕ)
+session_sizes params program hello grant =
+    (length (hello_frame hello), 21)
     ∷ replicate (rounds_of params.kind) (asks_size params grant, replies_size params grant)
     ++ (5 + program.givens * 8, 13)
     ∷ (5 + section_count program grant.section_length * 16 + (5 + length program.opened * 8), 10)
@@ -129,12 +119,12 @@ sums_size n sums counted all =
     (many_length (λ both. element_bytes both.0 ++ element_bytes both.1) (λ both. IsElement both.0 × IsElement both.1) 16 n (λ x is. refl) sums (counted, all))
 
 pub sizes_are : (params : Params) (program : Program) (t : Transcript) → IsTranscript params program t
-    → sizes (session_turns t) ≡ session_sizes params program t.commitment.setup.grant
+    → sizes (session_turns t) ≡ session_sizes params program t.commitment.setup.hello t.commitment.setup.grant
 sizes_are params program t is =
     map-append (λ turn. (length turn.0, length turn.1)) (setup_turns setup)
     ((corrections_frame t.commitment.corrections, challenge_frame t.challenge)
     ∷ (sums_frame t.sums ++ openings_frame t.openings, verdict_frame t.code t.number) ∷ [])
-    ∙ (λ i. (hello_length setup.hello is.commitment.setup.hello i, 21) ∷ (rounds i ++ (corrections i, 13) ∷ (last i, 10) ∷ []))
+    ∙ (λ i. (length (hello_frame setup.hello), 21) ∷ (rounds i ++ (corrections i, 13) ∷ (last i, 10) ∷ []))
   where
     setup : Setup
     setup = t.commitment.setup
@@ -154,11 +144,12 @@ sizes_are params program t is =
         ∙ (λ i. sums_size (section_count program t.commitment.setup.grant.section_length) t.sums is.sum_count is.sums i
         + elements_size kind.Openings (length program.opened) t.openings is.opening_count is.openings i)
 
--- sessions with one grant have turns of the same sizes
+-- sessions with one hello and one grant have turns of the same sizes
 pub same_sizes : (params : Params) (program : Program) (t u : Transcript) → IsTranscript params program t → IsTranscript params program u
-    → t.commitment.setup.grant ≡ u.commitment.setup.grant → sizes (session_turns t) ≡ sizes (session_turns u)
-same_sizes params program t u is also same =
-    sizes_are params program t is ∙ ap (session_sizes params program) same ∙ sym (sizes_are params program u also)
+    → t.commitment.setup.hello ≡ u.commitment.setup.hello → t.commitment.setup.grant ≡ u.commitment.setup.grant
+    → sizes (session_turns t) ≡ sizes (session_turns u)
+same_sizes params program t u is also greeting same =
+    sizes_are params program t is ∙ (λ i. session_sizes params program (greeting i) (same i)) ∙ sym (sizes_are params program u also)
 
 -- as many turns, whatever the grant
 pub count_is : (params : Params) (program : Program) (t : Transcript) → IsTranscript params program t

@@ -1,5 +1,5 @@
 -- Sessions about the outputs of a circuit.
-use Rattle.std.specs.Prelude.{◌≡◌, ℕ, Bool, List, map}
+use Rattle.std.specs.Prelude.{◌≡◌, ℕ, Bool, List, [], map}
 use Rattle.zk_model.specs.Bits.{from_bit}
 use Rattle.zk_model.specs.Circuit.{Circuit, Satisfies, IsWellFormed}
 use Rattle.zk_model.specs.Files.{ProverFile, VerifierFile}
@@ -14,7 +14,7 @@ use Rattle.session_laws.specs.Peers.{HasWitness, GivesClaims}
 abbrev pub CircuitIsProved : Type 0
 CircuitIsProved = (circuit : Circuit) (digest : List ℕ) (inputs outputs : List Bool) (prover : ProverTask)
     → IsWellFormed circuit → Satisfies circuit inputs outputs
-    → prover.statement ≡ circuit_statement circuit digest outputs → prover.inputs ≡ map from_bit inputs
+    → prover.statement ≡ circuit_statement circuit digest [] outputs → prover.inputs ≡ map from_bit inputs
     → HasWitness prover × GivesClaims prover
 
 -- What every finding of a session about a circuit's outputs shows is that the input bits make the circuit give them, or a root
@@ -22,5 +22,5 @@ CircuitIsProved = (circuit : Circuit) (digest : List ℕ) (inputs outputs : List
 abbrev pub ExtractedShowsOutputs : Type 0
 ExtractedShowsOutputs = (circuit : Circuit) (digest : List ℕ) (outputs : List Bool) (prover : ProverFile) (verifier : VerifierFile)
     (t : Transcript) → IsWellFormed circuit
-    → IsExtracted prover verifier (circuit_statement circuit digest outputs) t
-    → ShowsOutputs circuit outputs prover verifier.key (circuit_statement circuit digest outputs) t
+    → IsExtracted prover verifier (circuit_statement circuit digest [] outputs) t
+    → ShowsOutputs circuit outputs prover verifier.key (circuit_statement circuit digest [] outputs) t

@@ -2,7 +2,7 @@
 use Rattle.std.specs.Prelude.{◌≡◌, ℕ, ◌<◌, List, [], ◌++◌, take, length, slice_index_or}
 use Rattle.zk_model.specs.Program.{opened_values}
 use Rattle.zk_model.specs.Statement.{IsStatement}
-use Rattle.zk_model.specs.Transcript.{Transcript, IsTranscript, BeginsWith, wanted_hello, bytes_from, turn_bytes, setup_turns, session_turns}
+use Rattle.zk_model.specs.Transcript.{Transcript, IsHelloFor, IsTranscript, BeginsWith, bytes_from, turn_bytes, setup_turns, session_turns}
 use Rattle.zk_model.specs.HonestProver.{ProverTask, IsWitness, IsHonest}
 use Rattle.zk_model.specs.ServedVerifier.{VerifierTask, RepliesAre, IsServed}
 use Rattle.zk_model.specs.Peers.{IsFromHonestProver, HasEndedHonestly}
@@ -32,7 +32,7 @@ pub record IsServedTurns
     (log : List (Side × ℕ)) : Type 0 where
   pub stated : IsStatement verifier.statement
   pub transcript : IsTranscript verifier.file.params verifier.statement.program t
-  pub hello : t.commitment.setup.hello ≡ wanted_hello verifier.file.id verifier.statement
+  pub hello : IsHelloFor verifier.file.id verifier.statement t.commitment.setup.hello
   pub replies : RepliesAre verifier.file t.commitment.setup
   pub more : n < length (session_turns t)
   pub bytes : log ≡ turn_bytes (take n (session_turns t)) ++ bytes_from Prover rest

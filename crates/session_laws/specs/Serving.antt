@@ -2,7 +2,7 @@
 use Rattle.std.specs.Prelude.{◌≡◌, ℕ, List}
 use Rattle.zk_model.specs.Statement.{IsStatement}
 use Rattle.zk_model.specs.Files.{IsVerifierFile}
-use Rattle.zk_model.specs.Transcript.{Setup, Transcript, IsSetup, wanted_hello, spelling}
+use Rattle.zk_model.specs.Transcript.{Setup, Transcript, IsHelloFor, IsSetup, spelling}
 use Rattle.zk_model.specs.Frames.{AreElements}
 use Rattle.zk_model.specs.ServedVerifier.{VerifierTask, RepliesAre, IsServed}
 use Rattle.zk_model.specs.declared.Verdict.{Verdict}
@@ -14,13 +14,13 @@ pub record HasServedSession (task : VerifierTask) (setup : Setup) (corrections :
   pub served : IsServed task t verdict (spelling t)
   pub commitment : t.commitment ≡ record { setup = setup; corrections = corrections }
 
--- A setup with the wanted hello and the file's replies, and as many corrections as there are given values, are those of a
+-- A setup with a hello for the statement and the file's replies, and as many corrections as there are given values, are those of a
 -- session that the verifier serves. No number of sections or of opened wires is too large for it.
 abbrev pub ServedSessionExists : Type 0
 ServedSessionExists = (task : VerifierTask) (setup : Setup) (corrections : List ℕ)
     → IsVerifierFile task.file → IsStatement task.statement
     → IsSetup task.file.params task.statement.program setup
-    → setup.hello ≡ wanted_hello task.file.id task.statement
+    → IsHelloFor task.file.id task.statement setup.hello
     → RepliesAre task.file setup
     → AreElements task.statement.program.givens corrections
     → HasServedSession task setup corrections

@@ -1,31 +1,28 @@
 -- Why a session ends where it does.
-use Rattle.std.proofs.Common.{◌≡◌, ◌⊎◌, inl, inr, ℕ, ◌+◌, ◌≤◌, List, [], ◌++◌, flat_map, length, true, Option, Some, None, refl, ap, sym, ◌∙◌, subst, append_assoc, append-nil, length-append, arith}
+use Rattle.std.proofs.Common.{◌≡◌, ◌⊎◌, inl, inr, ℕ, ◌+◌, ◌≤◌, List, [], ◌++◌, flat_map, length, true, Option, Some, None, refl, ap, sym, ◌∙◌, subst, append_assoc, append-nil}
 use Rattle.zk_model.specs.Transcript.{Grant, IsGrant, bytes_from, turn_bytes, sent_by, reply_frame, corrections_frame, challenge_frame, sums_frame, openings_frame}
-use Rattle.zk_model.specs.Frames.{Frame}
+use Rattle.zk_model.specs.Frames.{Frame, frame_spelling}
 use Rattle.zk_model.specs.HonestProver.{IsWitness}
 use Rattle.zk_model.specs.Peers.{IsFromHonestProver, HasEndedHonestly}
 use Rattle.zk_model.specs.declared.Expect.{Expect}
 use Rattle.zk_model.specs.declared.Expect.TheVariants as expect
 use Rattle.zk_model.specs.declared.Side.{Side}
 use Rattle.zk_model.specs.declared.Side.TheVariants.{Prover, Verifier}
-use Rattle.zk_port.specs.Counts.{Rose}
 use Rattle.zk_port.specs.Logs.{appended, put_before}
-use Rattle.frame_link.specs.Sides.{peer_of}
 use Rattle.session_prover.proofs.Heard.{Hears}
-use Rattle.frame_link.specs.Lines.{LineState, counted_times, Came, Arrives, Fails, longest, IsUnfinished, IsCutShort, snapshot_of}
+use Rattle.frame_link.specs.Lines.{LineState, CountsFault, counted_times, IsUnfinished, IsCutShort, snapshot_of}
 use Rattle.frame_link.specs.Lines as lines
 use Rattle.frame_link.specs.declared.fault.LineFault.{LineFault}
 use Rattle.frame_link.specs.declared.fault.LineFault.TheVariants as fault
-use Rattle.proof_frames.specs.Readings.{Reading}
 use Rattle.session_core.specs.Jobs.{ProverJob}
 use Rattle.session_core.specs.Rounds.{round_turns}
 use Rattle.session_core.specs.Cores.{ProverStage, awaits_grant, awaits_replies, awaits_challenge, awaits_verdict, has_ended, prover_expects}
+use Rattle.session_driver.specs.Runs.{Moves, HasPassed, IsMissing, Lacks}
 use Rattle.session_prover.specs.declared.note.ProverOutcome.{ProverOutcome}
 use Rattle.session_prover.specs.Outcomes.{line_outcome}
-use Rattle.session_prover.specs.Stages.{answers_in, Claim, ClaimedFor, Course, IsLogAt, GoesWell, IsLineAt, greeted_log, granted_log, all_asks, sums_for, openings_for}
+use Rattle.session_prover.specs.Stages.{answers_in, Claim, ClaimedFor, IsLogAt, GoesWell, greeted_log, granted_log, all_asks, sums_for, openings_for}
 use Rattle.session_prover.specs.Notes.{task_of, IsGrantRead, IsAskedRight, SendsOnceClaimed, IsRelated, StopsBehind, told_by, IsOutcome, CountsOutcome, SendsHonestly, AnswersGrantPlace, IsLogged, IsEnded}
 use Rattle.session_prover.specs.Turns.{IsSound, IsBehindGrant, Comes}
-use Rattle.frame_link.proofs.LineLemmas.{appended_more, before_more}
 use Rattle.session_prover.proofs.Sides.{prover_hears, verifier_says}
 use Rattle.session_prover.proofs.Related.{read_is, related_at}
 use Rattle.session_prover.proofs.Waiting.{same_stage, turns_at, greeted_sent, greeted_heard, not_heard, has_answered, from_ended}
@@ -159,71 +156,41 @@ logged_whole job claim outcome log before after told honest claimed = record {
     none : log ++ bytes_from Prover [] ≡ log
     none = append-nil log
 
--- bytes of the verifier have come over a line that goes well
-pub record CameWell (first old new : LineState) (bytes : List ℕ) : Type 0 where
-  pub logged : new.log ≡ old.log ++ bytes_from Verifier bytes
-  pub heard : sent_by Verifier new.log ≡ sent_by Verifier old.log ++ bytes
-  pub count : length (sent_by Verifier new.log) ≡ length (sent_by Verifier old.log) + length bytes
-  pub told : new.told ≡ appended new.log first.told
-  pub came : first.to_come ≡ put_before (sent_by Verifier new.log) new.to_come
-  pub sends : new.sends ≡ counted_times (answers_in new.log) first.sends
-  pub side : new.side ≡ Prover
-  pub is_open : new.is_open ≡ true
-
-pub came_well : (first old new : LineState) (bytes : List ℕ) → GoesWell first old → Came bytes old new → CameWell first old new bytes
-came_well first old new bytes well came = record {
-  logged = logged;
-  heard = heard;
-  count = ap length heard ∙ length-append (sent_by Verifier old.log) bytes;
-  told = came.told ∙ (λ i. appended (bytes_from (peer_of (well.side i)) bytes) (well.told i))
-      ∙ appended_more old.log (bytes_from Verifier bytes) first.told ∙ ap (λ l. appended l first.told) (sym logged);
-  came = well.came ∙ ap (put_before (sent_by Verifier old.log)) came.came ∙ before_more (sent_by Verifier old.log) bytes new.to_come
-      ∙ ap (λ l. put_before l new.to_come) (sym heard);
-  sends = came.sends ∙ well.sends ∙ ap (λ (k : ℕ). counted_times k first.sends) (sym (ap answers_in logged ∙ answers_heard old.log bytes));
-  side = came.side ∙ well.side;
-  is_open = came.is_open ∙ well.is_open;
-}
-  where
-    logged : new.log ≡ old.log ++ bytes_from Verifier bytes
-    logged = came.logged ∙ ap (λ side. old.log ++ bytes_from (peer_of side) bytes) well.side
-
-    heard : sent_by Verifier new.log ≡ sent_by Verifier old.log ++ bytes
-    heard = ap (sent_by Verifier) logged ∙ verifier_says old.log bytes
-
 -- ---- a frame came, or none
 
--- a frame has come
-pub comes : (job : ProverJob) (course : Course) (stage : ProverStage) (awaited : Expect) (frame : Frame) (old new : LineState)
-    → IsLineAt job course stage old → Arrives awaited frame old new → Comes job course stage frame new
-comes job course stage awaited frame old new at arrives = record {
-  before = old.log;
-  waited = at.log;
-  logged = well.logged ∙ ap (λ l. old.log ++ bytes_from Verifier l) arrives.whole.spelled;
-  well = record {
-    received = arrives.read ∙ ap idle (ap (λ n. n + length arrives.bytes) (ap (λ (r : Reading). r.received) at.well.received) ∙ sym well.count);
-    told = well.told;
-    came = well.came;
-    sends = well.sends;
-    side = well.side;
-    is_open = well.is_open;
-    receives = omega (arith, arrives.receives, at.well.receives, well.count);
-    faults = arrives.unfailed ∙ at.well.faults;
-  };
-}
-  where
-    well : CameWell course.first old new arrives.bytes
-    well = came_well course.first old new arrives.bytes at.well arrives.came
+-- a first moment of a line of the prover's
+abbrev pub mine : LineState → LineState
+mine first = record first { side = Prover }
 
-    idle : ℕ → Reading
-    idle n = record { received = n; expected = None; taken = []; bad = None }
+-- what passed goes well
+pub well_of : (log : List (Side × ℕ)) (number : ℕ) (first now : LineState) → number ≡ answers_in log → HasPassed log number (mine first) now
+    → GoesWell (mine first) now
+well_of log number first now counts passed = record {
+  received = passed.reading ∙ (λ i. record { received = length (sent_by Verifier (sym passed.logged i)); expected = None; taken = []; bad = None });
+  told = passed.told ∙ ap (λ l. appended l first.told) (sym passed.logged);
+  came = passed.came ∙ ap (λ l. put_before (sent_by Verifier l) now.to_come) (sym passed.logged);
+  sends = passed.sends ∙ ap (λ (k : ℕ). counted_times k first.sends) (counts ∙ ap answers_in (sym passed.logged));
+  side = passed.side;
+  is_open = passed.is_open;
+  receives = subst (λ l. now.receives ≤ first.receives + length (sent_by Verifier l)) (sym passed.logged) passed.receives;
+  faults = passed.faults;
+}
+
+-- a frame has come
+pub comes : (job : ProverJob) (claim : Claim) (stage : ProverStage) (frame : Frame) (log : List (Side × ℕ)) (number : ℕ) (first now : LineState)
+    → IsLogAt job claim stage log → number ≡ answers_in log → HasPassed (log ++ bytes_from Verifier (frame_spelling frame)) number (mine first) now
+    → Comes job (record { first = mine first; claim = claim }) stage frame now
+comes job claim stage frame log number first now at counts passed = record {
+  before = log;
+  waited = at;
+  logged = passed.logged;
+  well = well_of (log ++ bytes_from Verifier (frame_spelling frame)) number first now (counts ∙ sym (answers_heard log (frame_spelling frame))) passed;
+}
 
 -- counts of a line's fault
-counts_line : (f : LineFault) (first old new : ℕ) → old ≡ first → old ≤ new → (lines.IsNoLink f → new ≡ old)
-    → CountsOutcome (line_outcome f) first new
-counts_line (fault.PeerEnded at) first old new same later unfailed = record { later = omega (arith, same, later); unfailed = λ no. unfailed tt ∙ same }
-counts_line (fault.BadFrame at) first old new same later unfailed = record { later = omega (arith, same, later); unfailed = λ no. unfailed tt ∙ same }
-counts_line fault.Link first old new same later unfailed = record { later = omega (arith, same, later); unfailed = λ no. absurd no }
-counts_line fault.NoMemory first old new same later unfailed = record { later = omega (arith, same, later); unfailed = λ no. unfailed tt ∙ same }
+counts_line : (f : LineFault) (first new : LineState) → CountsFault f first new → CountsOutcome (line_outcome f) first.faults new.faults
+counts_line fault.Link first new count = record { later = count.later; unfailed = λ no. absurd no }
+counts_line other first new count = record { later = count.later; unfailed = λ no. count.unfailed tt }
 
 -- what was sent is for an honest prover, whatever the fault
 sent_line : (f : LineFault) (job : ProverJob) (log : List (Side × ℕ))
@@ -235,64 +202,64 @@ sent_line fault.Link job log ended inputs wires witness = from_ended job inputs 
 sent_line fault.NoMemory job log ended inputs wires witness = from_ended job inputs log (ended inputs wires witness)
 
 -- none has come
-pub stops_taking : (job : ProverJob) (course : Course) (stage : ProverStage) (awaited : Expect) (f : LineFault) (old new : LineState)
-    → IsSound job → IsLineAt job course stage old → prover_expects job stage ≡ Some awaited → Fails awaited f old new
-    → IsEnded job course (line_outcome f) new
-stops_taking job course stage awaited f old new sound at expected fails = record {
-  outcome_is = by_fault f fails.broken fails.cut;
-  asked = subst (λ l. IsAskedRight job course.claim l) (sym well.logged) (asked_at job course.claim stage old.log (bytes_from Verifier fails.bytes) at.log);
-  honest = sent_line f job new.log ended;
+pub stops_taking : {S F : Type 0} (moves : Moves S F) (job : ProverJob) (claim : Claim) (stage : ProverStage) (log : List (Side × ℕ)) (number : ℕ) (mid other : S) (f : LineFault)
+    (first now : LineState) → IsSound job → IsLogAt job claim stage log → moves.expects mid ≡ prover_expects job stage → number ≡ answers_in log
+    → IsMissing moves log number mid other f (mine first) now → now.side ≡ Prover → now.is_open ≡ true
+    → IsEnded job (record { first = mine first; claim = claim }) (line_outcome f) now
+stops_taking moves job claim stage log number mid other f first now sound at same counts missing side is_open = record {
+  outcome_is = by_fault f missing.cause missing.cut;
+  asked = subst (λ l. IsAskedRight job claim l) (sym missing.logged) (asked_at job claim stage log (bytes_from Verifier missing.rest) at);
+  honest = sent_line f job now.log ended;
   claimed = claimed;
-  related = subst (IsRelated job) (sym well.logged) (related_at job course.claim stage old.log fails.bytes sound at.log);
-  answers = subst (AnswersGrantPlace job course.claim (line_outcome f)) (sym well.logged)
-      (answers_at job course.claim stage awaited old.log fails.bytes (line_outcome f) sound at.log expected fails.unfinished);
-  verdict = unread job (line_outcome f) new.log (record {
+  related = subst (IsRelated job) (sym missing.logged) (related_at job claim stage log missing.rest sound at);
+  answers = subst (AnswersGrantPlace job claim (line_outcome f)) (sym missing.logged)
+      (answers_at job claim stage missing.place log missing.rest (line_outcome f) sound at expected missing.unfinished);
+  verdict = unread job (line_outcome f) now.log (record {
     turn = turns_at job stage;
-    unheard = λ heard. not_heard job course.claim stage awaited old.log fails.bytes [] sound at.log expected fails.few fails.unfinished
-        (subst (λ l. Hears (task_of job []) l (turns_at job stage)) well.heard heard);
+    unheard = λ heard. not_heard job claim stage missing.place log missing.rest [] sound at expected missing.few missing.unfinished
+        (subst (λ l. Hears (task_of job []) l (turns_at job stage)) (ap (sent_by Verifier) missing.logged ∙ verifier_says log missing.rest) heard);
   });
-  sends = inl well.sends;
-  logged = logged_whole job course.claim (line_outcome f) new.log course.first.told new.told well.told
-      (λ inputs wires witness. from_ended job inputs new.log (ended inputs wires witness)) claimed;
-  came = well.came;
-  receives = omega (arith, fails.receives, at.well.receives, well.count);
-  count = counts_line f course.first.faults old.faults new.faults at.well.faults fails.count.later fails.count.unfailed;
-  side = well.side;
-  is_open = well.is_open;
+  sends = inl sends;
+  logged = logged_whole job claim (line_outcome f) now.log first.told now.told missing.told
+      (λ inputs wires witness. from_ended job inputs now.log (ended inputs wires witness)) claimed;
+  came = missing.came;
+  receives = missing.receives;
+  count = counts_line f (mine first) now missing.count;
+  side = side;
+  is_open = is_open;
 }
   where
-    well : CameWell course.first old new fails.bytes
-    well = came_well course.first old new fails.bytes at.well fails.came
+    expected : prover_expects job stage ≡ Some missing.place
+    expected = sym same ∙ missing.expected
 
-    ended : (inputs wires : List ℕ) → IsWitness job.statement inputs wires job.given → HasEndedHonestly (task_of job inputs) new.log
-    ended inputs wires witness = subst (λ l. HasEndedHonestly (task_of job inputs) l) (sym well.logged)
-        (has_answered job course.claim stage awaited old.log fails.bytes inputs wires sound at.log expected fails.few fails.unfinished witness)
+    sends : now.sends ≡ counted_times (answers_in now.log) first.sends
+    sends = missing.sends ∙ ap (λ (k : ℕ). counted_times k first.sends) (counts ∙ sym (ap answers_in missing.logged ∙ answers_heard log missing.rest))
 
-    claimed : SendsOnceClaimed job course.claim new.log
-    claimed = subst (λ l. SendsOnceClaimed job course.claim l) (sym well.logged) (once_claimed job course.claim stage old.log fails.bytes at.log)
+    ended : (inputs wires : List ℕ) → IsWitness job.statement inputs wires job.given → HasEndedHonestly (task_of job inputs) now.log
+    ended inputs wires witness = subst (λ l. HasEndedHonestly (task_of job inputs) l) (sym missing.logged)
+        (has_answered job claim stage missing.place log missing.rest inputs wires sound at expected missing.few missing.unfinished witness)
 
-    received : old.reading.received ≡ length (sent_by Verifier old.log)
-    received = ap (λ (r : Reading). r.received) at.well.received
+    claimed : SendsOnceClaimed job claim now.log
+    claimed = subst (λ l. SendsOnceClaimed job claim l) (sym missing.logged) (once_claimed job claim stage log missing.rest at)
 
-    stops_with : (Cause : Expect → List ℕ → Type 0) → Cause awaited fails.bytes → StopsBehind job course.claim new.log Cause
+    stops_with : (Cause : Expect → List ℕ → Type 0) → Cause missing.place missing.rest → StopsBehind job claim now.log Cause
     stops_with Cause cause = record {
       stage = stage;
-      before = old.log;
-      waited = at.log;
+      before = log;
+      waited = at;
       cause = cause;
-      logged = well.logged;
-      rest = fails.bytes;
-      expect = awaited;
-      few = fails.few;
+      logged = missing.logged;
+      rest = missing.rest;
+      expect = missing.place;
+      few = missing.few;
       expected = expected;
     }
 
-    by_fault : (f : LineFault) → lines.Breaks awaited fails.bytes old new f → (lines.IsNoBadByte f → IsCutShort awaited fails.bytes)
-        → IsOutcome job course.claim new.log
-        (told_by (snapshot_of course.first) (snapshot_of new)) (line_outcome f)
-    by_fault (fault.PeerEnded place_at) broken cut =
-        (stops_with _ (broken.1, broken.2), broken.0 ∙ ap (λ n. n + length fails.bytes) received ∙ sym well.count, broken.3, broken.4)
-    by_fault (fault.BadFrame place_at) broken cut =
-        (broken.0, stops_with _ (broken.1, (let is = broken.2 in omega (arith, is, received, well.count))))
-    by_fault fault.Link broken cut = (subst (λ n. Rose n new.faults) at.well.faults broken, inl (stops_with IsCutShort (cut tt), well.sends))
-    by_fault fault.NoMemory broken cut = inl (stops_with IsCutShort (cut tt))
+    by_fault : (f : LineFault) → Lacks missing.place missing.rest f (mine first) now → (lines.IsNoBadByte f → IsCutShort missing.place missing.rest)
+        → IsOutcome job claim now.log (told_by (snapshot_of (mine first)) (snapshot_of now)) (line_outcome f)
+    by_fault (fault.PeerEnded place_at) cause cut =
+        let begun = cut tt in
+        (stops_with _ (begun.goes_on, begun.short), cause.0, cause.1, cause.2)
+    by_fault (fault.BadFrame place_at) cause cut = (cause.0, stops_with _ (cause.1, cause.2))
+    by_fault fault.Link cause cut = (cause, inl (stops_with IsCutShort (cut tt), sends))
+    by_fault fault.NoMemory cause cut = inl (stops_with IsCutShort (cut tt))

@@ -1,8 +1,6 @@
 -- A greeting, and what comes in the grant's place.
-use Rattle.std.proofs.Common.{◌≡◌, inl, inr, ℕ, ◌+◌, ◌≤◌, List, [], ◌++◌, flat_map, length, Bool, true, false, nat_lt, Some, None, Result, Ok, Err, IfErr, refl, ap, sym, ◌∙◌, subst, append-nil, arith}
+use Rattle.std.proofs.Common.{◌≡◌, inl, inr, ℕ, ◌+◌, ◌≤◌, List, [], ◌++◌, flat_map, length, Bool, true, false, nat_lt, Some, None, Ok, refl, ap, sym, ◌∙◌, subst, append-nil, arith}
 use Rattle.std.proofs.lemmas.Bool.{ltb-true, ltb-false}
-use Rattle.std.specs.Prelude.{IfOk}
-use Rattle.zk_model.specs.declared.Span.{Span}
 use Rattle.zk_model.specs.Transcript.{Grant, IsGrant, bytes_from, sent_by, grant_frame, refuse_frame}
 use Rattle.zk_model.specs.View.{span_of}
 use Rattle.zk_model.specs.Frames.{Frame, grant, Allows, FitsGrant, FitsRefusal, frame_spelling}
@@ -10,53 +8,34 @@ use Rattle.zk_model.specs.HonestProver.{ProverTask, IsWitness, AreHonestBytes}
 use Rattle.zk_model.specs.Peers.{IsFromHonestProver, HasEndedHonestly}
 use Rattle.zk_model.specs.declared.Expect.TheVariants as expect
 use Rattle.zk_model.specs.declared.Side.TheVariants.{Prover, Verifier}
-use Rattle.zk_port.specs.Logs.{appended, put_before}
 use Rattle.claim_store.specs.declared.ClaimFault.{ClaimFault}
 use Rattle.claim_store.specs.declared.ClaimFault.TheVariants as refusal
-use Rattle.zk_model.specs.declared.Side.{Side}
-use Rattle.frame_link.specs.Lines.{LineState, Sends, counted_times, snapshot_of}
+use Rattle.frame_link.specs.Lines.{LineState, snapshot_of}
 use Rattle.frame_link.specs.declared.fault.LineFault.{LineFault}
-use Rattle.proof_frames.specs.Readings.{Reading}
 use Rattle.session_core.specs.Jobs.{ProverJob, Suits}
-use Rattle.session_core.specs.Cores.{ProverStage, awaits_grant}
+use Rattle.session_core.specs.Cores.{awaits_grant}
+use Rattle.session_driver.specs.Runs.{IsFresh}
+use Rattle.session_driver.proofs.Going.{none_passed}
 use Rattle.session_prover.specs.declared.note.ProverOutcome.{ProverOutcome}
 use Rattle.session_prover.specs.declared.note.ProverOutcome.TheVariants as outcome
 use Rattle.session_prover.specs.Outcomes.{line_outcome, claim_outcome}
-use Rattle.session_prover.specs.Stages.{answers_in, Claim, ClaimedFor, RefusedFor, Course, IsLogTaken, GoesWell, IsLineAt, IsLineTaken, greeting, greeted_log, granted_log}
+use Rattle.session_prover.specs.Stages.{Claim, RefusedFor, Course, IsLogTaken, GoesWell, greeting, greeted_log, granted_log}
 use Rattle.session_prover.specs.Notes.{task_of, IsRelated, IsOutcome, told_by, SendsHonestly, AnswersGrantPlace, IsEnded}
-use Rattle.session_prover.specs.Turns.{IsSound, SendStops, IsFreshLine, Comes, IsGrantTaken, IsNoGrant}
+use Rattle.session_prover.specs.Turns.{IsSound, SendStops, Comes, IsGrantTaken, IsNoGrant}
 use Rattle.frame_laws.proofs.SentBytes.{own_bytes}
-use Rattle.frame_link.proofs.LineLemmas.{appended_none, before_none}
-use Rattle.frame_link.proofs.AnswerLemmas.{one_send_more}
 use Rattle.session_prover.proofs.Sides.{prover_hears}
 use Rattle.session_prover.proofs.Heard.{Hears, honest_bytes}
 use Rattle.session_prover.proofs.Unheard.{one_grant}
-use Rattle.session_prover.proofs.Waiting.{greeted_sent, greeted_heard, granted_sent, granted_heard, from_ended}
-use Rattle.session_prover.proofs.Ending.{logged_whole}
+use Rattle.session_prover.proofs.Waiting.{greeted_sent, granted_sent, granted_heard, from_ended}
+use Rattle.session_prover.proofs.Ending.{mine, well_of, logged_whole}
 use Rattle.session_prover.proofs.Related.{suits_is, related_greeting, related_part}
 use Rattle.session_prover.proofs.Answering.{same_grant, no_refusal_is_grant, answer_exists, answer_is_honest}
 use Rattle.session_prover.proofs.GrantPlace.{refused_heard, same_code, answers_unread, answers_unsuited, answers_refusal, answers_unclaimed}
 use Rattle.session_prover.proofs.Stopping.{IsDue, stops_sending_at, taken_unheard}
 use Rattle.session_prover.proofs.Unread.{IsUnheard, unread}
-use Rattle.session_prover.proofs.Counting.{answers_first, frame_is_some}
+use Rattle.session_prover.proofs.Counting.{frame_is_some}
 
 -- ---- the greeting
-
--- nothing has passed
-fresh_well : (line : LineState) → IsFreshLine line → GoesWell line line
-fresh_well line fresh = record {
-  received = fresh.reading ∙ ap idle (ap length (ap (sent_by Verifier) (sym fresh.log)));
-  told = appended_none line.told ∙ ap (λ l. appended l line.told) (sym fresh.log);
-  came = before_none line.to_come ∙ ap (λ l. put_before (sent_by Verifier l) line.to_come) (sym fresh.log);
-  sends = ap (λ (l : List (Side × ℕ)). counted_times (answers_in l) line.sends) (sym fresh.log);
-  side = fresh.side;
-  is_open = fresh.is_open;
-  receives = omega arith;
-  faults = refl;
-}
-  where
-    idle : ℕ → Reading
-    idle n = record { received = n; expected = None; taken = []; bad = None }
 
 -- an honest prover sends nothing but the greeting, where no grant that fits was heard
 greets : (job : ProverJob) (inputs received : List ℕ) → (Hears (task_of job inputs) received 0 → ⊥)
@@ -77,39 +56,13 @@ greeting_due job claim sound unasked = record {
       (λ frame allowed none. let some = frame_is_some frame in let count = ap length none in absurd (omega (arith, some, count)));
 }
 
--- it is sent
-pub greeted : (job : ProverJob) (course : Course) (old new : LineState) → course.first ≡ old → course.claim.answer ≡ None → IsFreshLine old
-    → Sends (greeting job) old new → IsLineAt job course awaits_grant new
-greeted job course old new first unasked fresh sends = record {
-  log = (unasked, logged);
-  well = subst (λ (s : LineState). GoesWell s new) (sym first) (record {
-    received = sends.others.reading ∙ fresh.reading ∙ ap idle (ap length (sym heard));
-    told = sends.told ∙ ap (λ side. appended (bytes_from side (greeting job)) old.told) fresh.side ∙ ap (λ l. appended l old.told) (sym logged);
-    came = before_none old.to_come ∙ (λ i. put_before (sym heard i) (sym sends.others.to_come i));
-    sends = one_send_more 0 old.sends new.sends sends.sends
-        ∙ ap (λ (k : ℕ). counted_times k old.sends) (sym (ap answers_in logged ∙ answers_first (greeting job) (omega arith)));
-    side = sends.others.side ∙ fresh.side;
-    is_open = sends.others.is_open ∙ fresh.is_open;
-    receives = (let same = sends.others.receives in omega (arith, same));
-    faults = sends.unfailed;
-  });
-}
-  where
-    logged : new.log ≡ greeted_log job
-    logged = sends.logged ∙ (λ i. fresh.log i ++ bytes_from (fresh.side i) (greeting job))
-
-    heard : sent_by Verifier new.log ≡ []
-    heard = ap (sent_by Verifier) logged ∙ greeted_heard job
-
-    idle : ℕ → Reading
-    idle n = record { received = n; expected = None; taken = []; bad = None }
-
 -- it is not sent
-pub stops_greeting : (job : ProverJob) (course : Course) (f : LineFault) (old new : LineState) → IsSound job → course.first ≡ old
-    → course.claim.answer ≡ None → IsFreshLine old → SendStops (greeting job) f old new → IsEnded job course (line_outcome f) new
-stops_greeting job course f old new sound first unasked fresh stops =
-    stops_sending_at job course (greeting job) f old new (subst (λ (s : LineState). GoesWell s old) (sym first) (fresh_well old fresh))
-    (subst (λ l. IsDue job course.claim l (greeting job)) (sym fresh.log) (greeting_due job course.claim sound unasked)) (inl (unasked, fresh.log)) stops
+pub stops_greeting : (job : ProverJob) (claim : Claim) (f : LineFault) (first new : LineState) → IsSound job → claim.answer ≡ None → IsFresh (mine first)
+    → SendStops (greeting job) f (mine first) new → IsEnded job (record { first = mine first; claim = claim }) (line_outcome f) new
+stops_greeting job claim f first new sound unasked fresh stops =
+    stops_sending_at job (record { first = mine first; claim = claim }) (greeting job) f (mine first) new
+    (well_of [] 0 first (mine first) refl (none_passed (mine first) fresh))
+    (subst (λ l. IsDue job claim l (greeting job)) (sym fresh.log) (greeting_due job claim sound unasked)) (inl (unasked, fresh.log)) stops
     (subst (IsRelated job) (sym fresh.log) (related_part job [] (greeting job) refl))
     (subst (IsUnheard job) (sym fresh.log) (record { turn = 0; unheard = no_bytes (task_of job []) }))
 
@@ -217,17 +170,7 @@ ends_ungranted job course frame (outcome.PeerRefused code) new sound come allowe
       turn = 0;
       unheard = λ h. too_short [] (subst (λ l. Hears (task_of job []) l 0) (ap (sent_by Verifier) logged ∙ refused_heard job code) h);
     }
-ends_ungranted job course frame (outcome.Rejected code number) new sound come allowed is = absurd is
-ends_ungranted job course frame outcome.Accepted new sound come allowed is = absurd is
-ends_ungranted job course frame (outcome.PeerEnded at) new sound come allowed is = absurd is
-ends_ungranted job course frame outcome.Device new sound come allowed is = absurd is
-ends_ungranted job course frame (outcome.BadFrame at) new sound come allowed is = absurd is
-ends_ungranted job course frame outcome.Link new sound come allowed is = absurd is
-ends_ungranted job course frame (outcome.Broken first) new sound come allowed is = absurd is
-ends_ungranted job course frame outcome.NoMemory new sound come allowed is = absurd is
-ends_ungranted job course frame (outcome.OutOfRange total) new sound come allowed is = absurd is
-ends_ungranted job course frame (outcome.Overlap earlier) new sound come allowed is = absurd is
-ends_ungranted job course frame (outcome.Full slots) new sound come allowed is = absurd is
+ends_ungranted job course frame other new sound come allowed is = absurd is
 
 -- ---- the claim
 
@@ -241,17 +184,6 @@ granted_is job given suits within = record {
   count_most = suits.count_most;
   within = within;
 }
-
--- a grant that suits has some units
-pub some_units : (job : ProverJob) (given : Grant) → Suits job.file.params job.statement.program given → 1 ≤ given.count
-some_units job given suits = let count = suits.count in omega (arith, count)
-
--- a grant whose units are claimed is to be answered
-pub claimed_taken : (job : ProverJob) (course : Course) (given : Grant) (line : LineState) → Suits job.file.params job.statement.program given
-    → given.start + given.count ≤ job.file.params.total → IsGrantTaken job course.first given line → ClaimedFor course.claim given
-    → IsLineTaken job course awaits_grant (grant given) line
-claimed_taken job course given line suits within taken claimed =
-    record { log = (given, refl, claimed, granted_is job given suits within, taken.log); well = taken.well }
 
 -- the claimant has refused
 pub ends_unclaimed : (job : ProverJob) (course : Course) (given : Grant) (f : ClaimFault) (line : LineState) → IsSound job
@@ -324,37 +256,9 @@ ends_unclaimed job course given f line sound suits taken refused = record {
 
     caused : (f : ClaimFault) → RefusedFor course.claim given f → IsOutcome job course.claim line.log
         (told_by (snapshot_of course.first) (snapshot_of line)) (claim_outcome f)
-    caused (refusal.Broken first) refused = (given, suits, refused, taken.log)
-    caused (refusal.OutOfRange total) refused = (given, suits, refused, taken.log)
-    caused (refusal.Overlap earlier) refused = (given, suits, refused, taken.log)
-    caused (refusal.Full slots) refused = (given, suits, refused, taken.log)
-    caused refusal.Device refused = (given, suits, refused, taken.log)
     caused refusal.NoMemory refused = inr (inr (given, suits, refused, taken.log))
+    caused other refused = (given, suits, refused, taken.log)
 
     honest : (f : ClaimFault) → SendsHonestly job line.log (claim_outcome f)
-    honest (refusal.Broken first) inputs wires witness = (from inputs wires witness, sent)
-    honest (refusal.OutOfRange total) inputs wires witness = (from inputs wires witness, sent)
-    honest (refusal.Overlap earlier) inputs wires witness = (from inputs wires witness, sent)
-    honest (refusal.Full slots) inputs wires witness = (from inputs wires witness, sent)
-    honest refusal.Device inputs wires witness = (from inputs wires witness, sent)
     honest refusal.NoMemory inputs wires witness = from inputs wires witness
-
--- the same, where the prover waits for a grant
-pub claimed_at : (job : ProverJob) (course : Course) (stage : ProverStage) (given : Grant) (line : LineState) → stage ≡ awaits_grant
-    → Suits job.file.params job.statement.program given → given.start + given.count ≤ job.file.params.total
-    → IsGrantTaken job course.first given line → ClaimedFor course.claim given → IsLineTaken job course stage (grant given) line
-claimed_at job course stage given line there suits within taken claimed =
-    subst (λ p. IsLineTaken job course p (grant given) line) (sym there) (claimed_taken job course given line suits within taken claimed)
-
--- what a claimant answered, by cases
-pub claimed_by : (claim : Claim) (given : Grant) (result : Result Span ClaimFault) → claim.asked ≡ Some (given.start, given.count)
-    → claim.answer ≡ Some result → IfOk result (λ span. span.start ≡ given.start) → IfOk result (λ span. span.end ≡ given.start + given.count)
-    → IfOk result (λ _. ClaimedFor claim given)
-claimed_by claim given (Ok span) asked told first last =
-    record { asked = asked; answer = told ∙ (λ i. Some (Ok (record { start = first i; end = last i }))) }
-claimed_by claim given (Err f) asked told first last = tt
-
-pub refused_by : (claim : Claim) (given : Grant) (result : Result Span ClaimFault) → claim.asked ≡ Some (given.start, given.count)
-    → claim.answer ≡ Some result → IfErr result (RefusedFor claim given)
-refused_by claim given (Ok span) asked told = tt
-refused_by claim given (Err f) asked told = record { asked = asked; answer = told }
+    honest other inputs wires witness = (from inputs wires witness, sent)

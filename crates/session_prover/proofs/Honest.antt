@@ -12,6 +12,7 @@ use Rattle.zk_laws.proofs.OnePairs.{one_pairs}
 use Rattle.zk_laws.proofs.Views.{enough_pairs, rounds_are, view_exists}
 use Rattle.session_laws.proofs.Honest.{opened_macs}
 use Rattle.session_laws.proofs.Turns.{said, answered}
+use Rattle.frame_laws.proofs.Hellos.{wanted_is_hello}
 use Rattle.zk_model.specs.Field.{IsElement, ◌-ₚ◌}
 use Rattle.zk_model.specs.Mac.{Pair, pair_at, corrected_pairs}
 use Rattle.zk_model.specs.Files.{rounds_of}
@@ -41,7 +42,7 @@ made job given rounds pairs d wires element code number = record {
 pub setup_is : (job : ProverJob) (given : Grant) (rounds : List Round) → IsSound job → IsGrant job.file.params job.statement.program given
     → AreAskedRounds job given rounds → IsSetup job.file.params job.statement.program (setup_for job given rounds)
 setup_is job given rounds sound granted asked = record {
-  hello = record { id = sound.file.id; circuit = sound.stated.circuit; outputs = sound.stated.outputs; version = sound.stated.version };
+  hello = wanted_is_hello job.file.id job.statement sound.file.id sound.stated;
   grant = granted;
   round_count = asked.count;
   rounds = asked.ranged;

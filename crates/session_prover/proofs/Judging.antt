@@ -1,9 +1,9 @@
 -- A verdict has come.
-use Rattle.std.proofs.Common.{◌≡◌, inl, ℕ, zero, suc, ◌≤◌, ◌-◌, List, [], ◌∷◌, ◌++◌, Result, Ok, Err, IfErr, OnOk, refl, ap, sym, ◌∙◌, subst, append_assoc, append-nil, arith}
-use Rattle.std.specs.Prelude.{IsSomeAnd}
+use Rattle.std.proofs.Common.{◌≡◌, inl, ℕ, zero, suc, ◌≤◌, List, [], ◌∷◌, ◌++◌, refl, ap, sym, ◌∙◌, subst, append_assoc, append-nil, arith}
 use Rattle.std.proofs.lemmas.Grind.{flat_map-append}
 use Rattle.session_laws.proofs.Turns.{answered}
 use Rattle.zk_model.specs.Mac.{Pair}
+use Rattle.frame_laws.proofs.Hellos.{wanted_fits}
 use Rattle.zk_model.specs.Transcript.{Grant, Round, bytes_from, turn_bytes, sent_by, spelling, grant_frame, corrections_frame, challenge_frame, sums_frame, openings_frame, verdict_frame}
 use Rattle.zk_model.specs.Frames.{Frame, verdict, Allows, FitsVerdict, frame_spelling}
 use Rattle.zk_model.specs.HonestProver.{IsWitness, AreHonestBytes}
@@ -14,61 +14,19 @@ use Rattle.zk_model.specs.declared.Side.TheVariants.{Prover, Verifier}
 use Rattle.frame_link.specs.Lines.{LineState, snapshot_of}
 use Rattle.session_core.specs.Jobs.{ProverJob}
 use Rattle.session_core.specs.Rounds.{round_turns}
-use Rattle.session_core.specs.Cores.{ProverStage, awaits_grant, awaits_replies, awaits_challenge, awaits_verdict, has_ended, prover_expects}
+use Rattle.session_core.specs.Cores.{awaits_verdict}
 use Rattle.session_prover.specs.declared.note.ProverOutcome.{ProverOutcome}
 use Rattle.session_prover.specs.declared.note.ProverOutcome.TheVariants as outcome
 use Rattle.session_prover.specs.Outcomes.{verdict_outcome}
-use Rattle.session_prover.specs.Stages.{Course, IsOpenedLog, IsLineTaken, granted_log, opened_log, sums_for, openings_for}
+use Rattle.session_prover.specs.Stages.{Course, IsOpenedLog, granted_log, opened_log, sums_for, openings_for}
 use Rattle.session_prover.specs.Notes.{task_of, ReadsVerdict, IsAskedRight, SendsOnceClaimed, IsRelated, AnswersGrantPlace, IsOutcome, SendsHonestly, IsEnded, told_by}
-use Rattle.session_prover.specs.Turns.{IsSound, Expects, IsToAnswer, Comes, IsRejection}
+use Rattle.session_prover.specs.Turns.{IsSound, Comes, IsRejection}
 use Rattle.session_prover.proofs.Sides.{bytes_more, prover_hears, verifier_says}
 use Rattle.session_prover.proofs.Honest.{made, made_is, made_honest, finishes, all_sent}
 use Rattle.session_prover.proofs.Waiting.{opened_sent, opened_heard, from_ended}
 use Rattle.session_prover.proofs.Related.{related_at}
 use Rattle.session_prover.proofs.Ending.{answers_behind_claim, asked_at, once_claimed, logged_whole}
-use Rattle.session_prover.proofs.Replies.{replied_on}
 use Rattle.session_prover.proofs.Unread.{read_so}
-
--- replies or a challenge have come
-pub frame_taken : (job : ProverJob) (course : Course) (stage : ProverStage) (frame : Frame) (line : LineState) → IsToAnswer stage
-    → Comes job course stage frame line → IsSomeAnd (prover_expects job stage) (λ e. Allows e frame)
-    → IsLineTaken job course stage frame line
-frame_taken job course awaits_grant frame line answers come allowed = absurd answers
-frame_taken job course (awaits_replies given done pairs) frame line answers come (trees, is, are) = record {
-  log = (
-    trees,
-    come.waited.0,
-    is,
-    are,
-    come.waited.1,
-    come.waited.2,
-    come.logged ∙ (λ i. come.waited.3 i ++ bytes_from Verifier (frame_spelling (is i))) ∙ replied_on job given come.waited.0 trees,
-  );
-  well = come.well;
-}
-frame_taken job course (awaits_challenge given pairs wires) frame line answers come (element, is, ranged) = record {
-  log = (
-    element,
-    come.waited.0,
-    come.waited.1,
-    is,
-    ranged,
-    come.waited.2,
-    come.waited.3,
-    come.logged ∙ (λ i. come.waited.4 i ++ bytes_from Verifier (frame_spelling (is i))),
-  );
-  well = come.well;
-}
-frame_taken job course awaits_verdict frame line answers come allowed = absurd answers
-frame_taken job course has_ended frame line answers come allowed = absurd answers
-
--- where a frame is to be answered, one is expected
-pub expects_some : (job : ProverJob) (stage : ProverStage) → IsToAnswer stage → Expects job stage
-expects_some job awaits_grant answers = absurd answers
-expects_some job (awaits_replies given done pairs) answers = (expect.Reply job.file.params.height job.file.params.trees (given.count - done), refl)
-expects_some job (awaits_challenge given pairs wires) answers = (expect.Challenge, refl)
-expects_some job awaits_verdict answers = absurd answers
-expects_some job has_ended answers = absurd answers
 
 -- seven lists in a row, as turns after the first
 in_turns : {X : Type 0} (g r c b s o v : List X)
@@ -114,10 +72,11 @@ is_read job course frame code number line sound come fits is = record {
     t = made job opened.given opened.rounds opened.pairs opened.d opened.wires opened.element code number;
     in_order = record {
       stated = sound.stated;
-      hello = refl;
+      hello = wanted_fits job.file.id job.statement sound.stated;
       transcript = made_is job opened.given opened.rounds opened.pairs opened.d opened.wires opened.element code number sound opened.fixes opened.is fits.said fits.numbered;
       bytes = logged ∙ spelled job opened.given opened.rounds opened.pairs opened.d opened.wires opened.element code number;
     };
+    greeted = refl;
     honest = λ inputs wires witness. made_honest job opened.given opened.rounds opened.pairs opened.d opened.wires opened.element code number inputs wires opened.fixes witness;
     code_is = refl;
     number_is = refl;
@@ -203,22 +162,4 @@ pub ends_rejected : (job : ProverJob) (course : Course) (frame : Frame) (result 
 ends_rejected job course frame (outcome.Rejected code number) line sound come allowed (some, is) =
     let read = is_read job course frame code number line sound come (fits_of frame code number allowed is) is in
     ends_read job course frame (outcome.Rejected code number) code number line sound come read (is_rejected code number some) (some, read.reads) read.ended
-ends_rejected job course frame outcome.Accepted line sound come allowed is = absurd is
-ends_rejected job course frame (outcome.PeerEnded at) line sound come allowed is = absurd is
-ends_rejected job course frame (outcome.BadFrame at) line sound come allowed is = absurd is
-ends_rejected job course frame outcome.BadGrant line sound come allowed is = absurd is
-ends_rejected job course frame (outcome.PeerRefused code) line sound come allowed is = absurd is
-ends_rejected job course frame (outcome.Broken first) line sound come allowed is = absurd is
-ends_rejected job course frame (outcome.OutOfRange total) line sound come allowed is = absurd is
-ends_rejected job course frame (outcome.Overlap earlier) line sound come allowed is = absurd is
-ends_rejected job course frame (outcome.Full slots) line sound come allowed is = absurd is
-ends_rejected job course frame outcome.Device line sound come allowed is = absurd is
-ends_rejected job course frame outcome.Link line sound come allowed is = absurd is
-ends_rejected job course frame outcome.NoMemory line sound come allowed is = absurd is
-
--- how a session ended, by whether it was accepted
-pub ends_with : (job : ProverJob) (course : Course) (held : Result (Unit {0}) ProverOutcome) (result : ProverOutcome) (line : LineState)
-    → OnOk held (IsEnded job course outcome.Accepted line) → IfErr held (λ o. IsEnded job course o line)
-    → OnOk held (result ≡ outcome.Accepted) → IfErr held (λ o. result ≡ o) → IsEnded job course result line
-ends_with job course (Ok done) result line accepted ends is other = subst (λ o. IsEnded job course o line) (sym is) accepted
-ends_with job course (Err o) result line accepted ends is other = subst (λ r. IsEnded job course r line) (sym other) ends
+ends_rejected job course frame other line sound come allowed is = absurd is

@@ -19,4 +19,4 @@ mod Completed
 mod Counting
 mod Unread
 mod Replies
-pub mod Taking
+mod Leading

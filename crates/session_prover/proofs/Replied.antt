@@ -3,10 +3,10 @@ use Rattle.std.proofs.Common.{◌≡◌, ℕ, zero, suc, ◌≤◌, List, [], �
 use Rattle.std.specs.Prelude.{All}
 use Rattle.std.proofs.lemmas.List.Elements.{All-nil, All-cons}
 use Rattle.frame_laws.proofs.Codes.{same_front, many_code}
-use Rattle.frame_laws.proofs.FrameCodes.{grant_code, asks_code, replies_code}
+use Rattle.frame_laws.proofs.FrameCodes.{hello_code, grant_code, asks_code, replies_code}
 use Rattle.frame_laws.proofs.SentBytes.{sent_by-append}
 use Rattle.session_laws.proofs.Turns.{said, answered}
-use Rattle.session_laws.proofs.Sizes.{hello_length}
+use Rattle.frame_laws.proofs.Hellos.{wanted_is_hello}
 use Rattle.session_laws.proofs.Followed.{last_two}
 use Rattle.zk_model.specs.Program.{Program}
 use Rattle.zk_model.specs.Statement.{Statement}
@@ -108,9 +108,8 @@ one_replied job given round file t log (suc (suc m)) sound granted is extended t
     (subst (λ (g : Grant). All (IsRound job.file.params g) rounds) (sym both.0) transcript.commitment.setup.rounds)
     (subst (λ (g : Grant). All (λ q. q.replies ≡ round_replies file g q.asks) rounds) (sym both.0) served)
     (both.1 ∙ past_one (λ (turn : List ℕ × List ℕ). turn.1) (round_turns rounds) (last_two t) m turn_count)
-    ((same_front (greeting job) (hello_frame t.commitment.setup.hello) (flat_map ask_frame round.asks ++ has.later)
-    (said (take (suc m) (round_turns rounds ++ last_two t)) ++ w)
-    (hello_length (setup_for job given []).hello hello ∙ sym (hello_length t.commitment.setup.hello transcript.commitment.setup.hello))
+    ((hello_code (setup_for job given []).hello t.commitment.setup.hello (flat_map ask_frame round.asks ++ has.later)
+    (said (take (suc m) (round_turns rounds ++ last_two t)) ++ w) hello transcript.commitment.setup.hello
     (sym has.sent ∙ heard ∙ append_assoc (hello_frame t.commitment.setup.hello) (said (take (suc m) (round_turns rounds ++ last_two t))) w)).1
     ∙ ap (λ l. l ++ w) (past_one (λ (turn : List ℕ × List ℕ). turn.0) (round_turns rounds) (last_two t) m turn_count)
     ∙ append_assoc (said (round_turns rounds)) (said (take m (last_two t))) w)
@@ -125,7 +124,7 @@ one_replied job given round file t log (suc (suc m)) sound granted is extended t
     turn_count = round_count t.commitment.setup.rounds ∙ count
 
     hello : IsHello (setup_for job given []).hello
-    hello = record { id = sound.file.id; circuit = sound.stated.circuit; outputs = sound.stated.outputs; version = sound.stated.version }
+    hello = wanted_is_hello job.file.id job.statement sound.file.id sound.stated
 
     both : (given ≡ t.commitment.setup.grant)
         × (flat_map reply_frame round.replies ++ (has.came ++ z) ≡ answered (take (suc m) (round_turns t.commitment.setup.rounds ++ last_two t)))

@@ -1,6 +1,6 @@
 -- The replies of a round, unit by unit: how long they are, and the pairs that they make.
 use Rattle.std.proofs.Common.{◌≡◌, ℕ, zero, suc, ◌+◌, ◌*◌, ◌<◌, List, [], ◌∷◌, ◌++◌, flat_map, length, replicate, slice_index_or, refl, ap, sym, ◌∙◌, subst, append_assoc, append-nil, length-append, add-zero, arith}
-use Rattle.std.specs.Prelude.{All}
+use Rattle.std.specs.Prelude.{All, None}
 use Rattle.std.specs.List.{AllByRecursion}
 use Rattle.std.proofs.lemmas.List.{length-replicate}
 use Rattle.std.proofs.lemmas.Grind.{flat_map-append}
@@ -135,7 +135,7 @@ unit_pairs file unit trees is extended below are = (
     alone = record { start = unit; count = 1; section_length = 1 }
 
     hello : Hello
-    hello = record { id = []; circuit = []; outputs = []; version = 0 }
+    hello = record { id = []; circuit = []; outputs = []; version = 0; public = None }
 
     setup : Setup
     setup = record { hello = hello; grant = alone; rounds = record { asks = round_asks file alone; replies = trees ∷ [] } ∷ [] }

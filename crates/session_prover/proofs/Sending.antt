@@ -1,11 +1,13 @@
 -- Answers that are not sent.
-use Rattle.std.proofs.Common.{inl, inr, ℕ, List, [], take, drop, Result, Ok, Err, IfErr, refl, ap, sym, ◌∙◌, subst, arith}
+use Rattle.std.proofs.Common.{inl, inr, ℕ, List, [], take, drop, refl, ap, sym, ◌∙◌, subst, arith, ◌≡◌, ◌⊎◌, None, flat_map}
 use Rattle.std.proofs.lemmas.List.{take-map, take-append-drop}
 use Rattle.zk_port.specs.Logs.{appended}
-use Rattle.frame_link.specs.Lines.{LineState, SendFails, IsSendRefused}
+use Rattle.frame_link.specs.Lines.{LineState, IsSendRefused}
 use Rattle.frame_link.specs.declared.fault.LineFault.{LineFault}
 use Rattle.frame_link.specs.declared.fault.LineFault.TheVariants as fault
 use Rattle.frame_link.proofs.LineLemmas.{appended_none}
+use Rattle.zk_model.specs.Frames.{Frame, frame_spelling}
+use Rattle.session_driver.specs.Runs.{IsUnsent, TriesRefusal}
 use Rattle.session_prover.specs.Turns.{SendStops}
 
 -- want of memory before any send
@@ -34,13 +36,13 @@ stops_refused bytes f old new refused = record {
   count = refused.count;
 }
 
-pub stops_sending : (bytes : List ℕ) (f : LineFault) (old new : LineState) → SendFails bytes f old new → SendStops bytes f old new
-stops_sending bytes f old new (inl none) =
-    subst (λ (q : LineFault × LineState). SendStops bytes q.0 old q.1) (λ i. (sym none.0 i, sym none.1 i)) (stops_before bytes old)
-stops_sending bytes f old new (inr refused) = stops_refused bytes f old new refused
-
--- by what the send answered
-pub stops_by : {T : Type 0} (bytes : List ℕ) (result : Result T LineFault) (old new : LineState) → IfErr result (λ f. SendFails bytes f old new)
-    → IfErr result (λ f. SendStops bytes f old new)
-stops_by bytes (Ok value) old new fails = tt
-stops_by bytes (Err f) old new fails = stops_sending bytes f old new fails
+pub stops_sending : (frames : List Frame) (f : LineFault) (old new : LineState) → IsUnsent None frames f old new
+    → SendStops (flat_map frame_spelling frames) f old new
+stops_sending frames f old new unsent = either unsent.unsent
+  where
+    either : ((f ≡ fault.NoMemory) × TriesRefusal None old new) ⊎ IsSendRefused (flat_map frame_spelling frames) f old new
+        → SendStops (flat_map frame_spelling frames) f old new
+    either (inl none) =
+        subst (λ (q : LineFault × LineState). SendStops (flat_map frame_spelling frames) q.0 old q.1) (λ i. (sym none.0 i, sym none.1 i))
+        (stops_before (flat_map frame_spelling frames) old)
+    either (inr refused) = stops_refused (flat_map frame_spelling frames) f old new refused

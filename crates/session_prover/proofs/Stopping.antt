@@ -1,7 +1,7 @@
 -- Where a prover's answers stop.
-use Rattle.std.proofs.Common.{◌≡◌, ◌⊎◌, inl, inr, ℕ, ◌+◌, ◌-◌, ◌<◌, ◌≤◌, List, [], ◌∷◌, ◌++◌, flat_map, length, true, Some, None, refl, ap, sym, ◌∙◌, subst, append_assoc, append-nil, length-append, arith}
-use Rattle.zk_model.specs.Transcript.{Grant, IsGrant, bytes_from, turn_bytes, sent_by, grant_frame, reply_frame, corrections_frame, challenge_frame}
-use Rattle.zk_model.specs.Frames.{Frame, grant, replies, challenge, refuse, frame_spelling}
+use Rattle.std.proofs.Common.{◌≡◌, ◌⊎◌, inl, inr, ℕ, ◌+◌, ◌-◌, ◌<◌, ◌≤◌, List, [], ◌∷◌, ◌++◌, flat_map, length, true, Some, refl, ap, sym, ◌∙◌, subst, append_assoc, append-nil, length-append, arith}
+use Rattle.zk_model.specs.Transcript.{Grant, IsGrant, bytes_from, turn_bytes, sent_by, reply_frame, corrections_frame, challenge_frame}
+use Rattle.zk_model.specs.Frames.{Frame, grant, refuse, frame_spelling}
 use Rattle.zk_model.specs.declared.Expect.{Expect}
 use Rattle.zk_model.specs.declared.Expect.TheVariants as expect
 use Rattle.zk_model.specs.HonestProver.{IsWitness, AreHonestBytes}
@@ -14,7 +14,6 @@ use Rattle.frame_link.specs.Lines.{LineState, counted_times, snapshot_of}
 use Rattle.frame_link.specs.Lines as lines
 use Rattle.frame_link.specs.declared.fault.LineFault.{LineFault}
 use Rattle.frame_link.specs.declared.fault.LineFault.TheVariants as fault
-use Rattle.proof_frames.specs.Readings.{Reading}
 use Rattle.session_core.specs.Jobs.{ProverJob, Suits}
 use Rattle.session_core.specs.Rounds.{round_turns}
 use Rattle.session_core.specs.Cores.{ProverStage, awaits_grant, awaits_replies, awaits_challenge, awaits_verdict, has_ended, ProverAnswers, ProverRefuses, prover_expects}
@@ -23,23 +22,22 @@ use Rattle.session_core.specs.declared.fault.ProverFault.TheVariants as session
 use Rattle.session_prover.specs.declared.note.ProverOutcome.{ProverOutcome}
 use Rattle.session_prover.specs.declared.note.ProverOutcome.TheVariants.{NoMemory}
 use Rattle.session_prover.specs.Outcomes.{line_outcome, session_outcome}
-use Rattle.session_prover.specs.Stages.{answers_in, Claim, ClaimedFor, Course, IsLogAt, IsLogTaken, GoesWell, IsLineAt, IsLineTaken, all_asks, greeted_log, granted_log, replied_log, fixed_log}
+use Rattle.session_prover.specs.Stages.{answers_in, Claim, ClaimedFor, Course, IsLogTaken, GoesWell, IsLineTaken, all_asks, granted_log}
 use Rattle.session_prover.specs.Notes.{task_of, IsGrantRead, IsAskedRight, SendsOnceClaimed, IsRelated, IsAnswerDue, told_by, IsOutcome, CountsOutcome, SendsHonestly, SendsEach, AnswersGrantPlace, AnswersVerdict, IsLogged, IsEnded}
 use Rattle.session_prover.specs.Notes as notes
-use Rattle.session_prover.specs.Turns.{IsSound, IsBehindGrant, answers_left, FollowsStage, SendsAnswer, SendStops}
+use Rattle.session_prover.specs.Turns.{IsSound, IsBehindGrant, answers_left, FollowsStage, SendStops}
 use Rattle.frame_link.proofs.LineLemmas.{appended_more}
-use Rattle.frame_link.proofs.AnswerLemmas.{IsAnswered, is_answered, one_send_more}
+use Rattle.frame_link.proofs.AnswerLemmas.{one_send_more}
 use Rattle.session_prover.proofs.Sides.{prover_says, verifier_hears}
 use Rattle.session_prover.proofs.Related.{suits_is, read_is}
 use Rattle.session_prover.proofs.RelatedAnswers.{related_answer}
 use Rattle.session_prover.proofs.Answering.{same_grant, no_challenge_is_grant, no_replies_is_grant, no_refusal_is_grant, no_refusal_is_replies, no_refusal_is_challenge, IsGrantAnswer, grant_answer, answered, answer_exists, answer_is_honest}
 use Rattle.session_prover.proofs.GrantPlace.{answers_claimed}
 use Rattle.session_prover.proofs.Sending.{stops_before}
-use Rattle.session_prover.proofs.Counting.{EndsHeard, answers_more, frame_is_some, frames_some}
+use Rattle.session_prover.proofs.Counting.{frame_is_some}
 use Rattle.session_prover.proofs.Unread.{IsUnheard, unread}
 use Rattle.session_prover.proofs.Heard.{Hears}
 use Rattle.session_prover.proofs.Waiting.{turns_at, next_frame}
-use Rattle.session_prover.proofs.Replies.{replied_on}
 
 -- ---- where sending stops
 
@@ -62,16 +60,12 @@ counts_send fault.NoMemory old new cause first same count =
 
 -- how many frames an answer has at the least whose send fails so
 abbrev pub least_for : LineFault → ℕ
-least_for (fault.PeerEnded at) = 0
-least_for (fault.BadFrame at) = 0
 least_for fault.Link = 1
-least_for fault.NoMemory = 0
+least_for other = 0
 
 pub some_for : (f : LineFault) (count : ℕ) → 1 ≤ count → least_for f ≤ count
-some_for (fault.PeerEnded at) count some = omega arith
-some_for (fault.BadFrame at) count some = omega arith
 some_for fault.Link count some = some
-some_for fault.NoMemory count some = omega arith
+some_for other count some = omega arith
 
 pub stops_sending_at : (job : ProverJob) (course : Course) (bytes : List ℕ) (f : LineFault) (old new : LineState)
     → GoesWell course.first old → IsDue job course.claim old.log bytes → IsAnswerDue job course.claim (least_for f) old.log
@@ -208,67 +202,6 @@ answer_due job claim stage frame answer now log sound taken answers = record {
     read : (more : List (Side × ℕ)) → IsGrantRead job (log ++ more) u.given
     read more = read_is job u.given (log ++ more) (u.more ++ more) u.granted
         (ap (λ l. l ++ more) u.logged ∙ append_assoc (granted_log job u.given) u.more more)
-
--- a log with a frame that is to be answered ends with it
-ends_heard : (job : ProverJob) (claim : Claim) (stage : ProverStage) (frame : Frame) (log : List (Side × ℕ)) → IsLogTaken job claim stage frame log → EndsHeard log
-ends_heard job claim awaits_grant frame log (given, is, claimed, granted, at) =
-    record { before = greeted_log job; heard = grant_frame given; some = frame_is_some (grant given); is = at }
-ends_heard job claim (awaits_replies given done pairs) frame log (trees, came, is, are, claimed, some, at) = record {
-  before = replied_log job given came;
-  heard = reply_frame trees;
-  some = frame_is_some (replies trees);
-  is = at ∙ sym (replied_on job given came trees);
-}
-ends_heard job claim (awaits_challenge given pairs wires) frame log (element, rounds, d, is, ranged, claimed, fixes, at) =
-    record { before = fixed_log job given rounds d; heard = challenge_frame element; some = frame_is_some (challenge element); is = at }
-ends_heard job claim awaits_verdict frame log taken = absurd taken
-ends_heard job claim has_ended frame log taken = absurd taken
-
--- as many sends as answers
-sends_on : (log : List (Side × ℕ)) (answer : List Frame) (first old new : ℕ) → EndsHeard log → old ≡ counted_times (answers_in log) first
-    → ((answer ≡ []) × (new ≡ old)) ⊎ ((1 ≤ length answer) × (new ≡ counted true old))
-    → new ≡ counted_times (answers_in (log ++ bytes_from Prover (flat_map frame_spelling answer))) first
-sends_on log answer first old new heard counts (inl none) =
-    none.1 ∙ counts ∙ ap (λ (l : List (Side × ℕ)). counted_times (answers_in l) first)
-    (sym (ap (λ (a : List Frame). log ++ bytes_from Prover (flat_map frame_spelling a)) none.0 ∙ append-nil log))
-sends_on log answer first old new heard counts (inr some) =
-    one_send_more (answers_in log) first new (some.1 ∙ ap (counted true) counts)
-    ∙ ap (λ (k : ℕ). counted_times k first) (sym (answers_more log (flat_map frame_spelling answer) heard (frames_some answer some.0)))
-
--- an answer is sent
-pub goes_on : (job : ProverJob) (course : Course) (stage : ProverStage) (frame : Frame) (answer : List Frame) (now : ProverStage) (old new : LineState)
-    → IsSound job → IsLineTaken job course stage frame old → ProverAnswers job stage frame answer now → SendsAnswer answer old new
-    → IsLineAt job course now new
-goes_on job course stage frame answer now old new sound taken answers by = record {
-  log = subst (λ l. IsLogAt job course.claim now l) (sym logged) (answered job course.claim stage frame answer now old.log sound taken.log answers);
-  well = record {
-    received = sends.others.reading ∙ taken.well.received ∙ ap idle (ap length (sym heard));
-    told = sends.told ∙ (λ i. appended (bytes_from (taken.well.side i) bytes) (taken.well.told i))
-        ∙ appended_more old.log (bytes_from Prover bytes) course.first.told ∙ ap (λ l. appended l course.first.told) (sym logged);
-    came = taken.well.came ∙ (λ i. put_before (sym heard i) (sym sends.others.to_come i));
-    sends = sends_on old.log answer course.first.sends old.sends new.sends (ends_heard job course.claim stage frame old.log taken.log) taken.well.sends sends.sends
-        ∙ ap (λ (l : List (Side × ℕ)). counted_times (answers_in l) course.first.sends) (sym logged);
-    side = sends.others.side ∙ taken.well.side;
-    is_open = sends.others.is_open ∙ taken.well.is_open;
-    receives = (let same = sends.others.receives in let before = taken.well.receives in let count = ap length heard in omega (arith, same, before, count));
-    faults = sends.unfailed ∙ taken.well.faults;
-  };
-}
-  where
-    bytes : List ℕ
-    bytes = flat_map frame_spelling answer
-
-    sends : IsAnswered answer old new
-    sends = is_answered answer old new by
-
-    logged : new.log ≡ old.log ++ bytes_from Prover bytes
-    logged = sends.logged ∙ ap (λ side. old.log ++ bytes_from side bytes) taken.well.side
-
-    heard : sent_by Verifier new.log ≡ sent_by Verifier old.log
-    heard = ap (sent_by Verifier) logged ∙ verifier_hears old.log bytes
-
-    idle : ℕ → Reading
-    idle n = record { received = n; expected = None; taken = []; bad = None }
 
 -- where a prover waits then
 follows_to : (stage now later : ProverStage) → now ≡ later → IsBehindGrant later → answers_left later < answers_left stage → FollowsStage stage now

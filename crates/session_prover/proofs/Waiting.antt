@@ -1,14 +1,12 @@
 -- What an honest prover sends where it waits.
-use Rattle.std.proofs.Common.{◌≡◌, ℕ, suc, ◌+◌, ◌*◌, ◌≤◌, ◌^◌, List, [], ◌∷◌, ◌++◌, flat_map, length, ap, sym, ◌∙◌, subst, append-nil, append_assoc, length-append, arith, Option, Some, None}
+use Rattle.std.proofs.Common.{◌≡◌, ℕ, suc, ◌+◌, ◌*◌, ◌≤◌, ◌^◌, List, [], ◌∷◌, ◌++◌, flat_map, length, ap, sym, ◌∙◌, subst, append-nil, append_assoc, arith, Option, Some, None}
 use Rattle.std.proofs.lemmas.Nat.{mul-le}
-use Rattle.std.proofs.lemmas.List.Elements.{recursion_from_All}
 use Rattle.frame_laws.proofs.SentBytes.{sent_by-append, own_bytes, none_of_prover, sent_by-prover, sent_by-verifier}
 use Rattle.session_laws.proofs.Turns.{said, answered}
 use Rattle.zk_model.specs.Mac.{Pair}
 use Rattle.zk_model.specs.Check.{WirePairs}
 use Rattle.zk_model.specs.Files.{AreWithinLimits, rounds_of}
-use Rattle.zk_model.specs.Transcript.{Grant, TreeReply, Round, IsRound, bytes_from, turn_bytes, sent_by, grant_frame, ask_frame, reply_frame, corrections_frame, challenge_frame, sums_frame, openings_frame}
-use Rattle.zk_model.specs.Frames.{AreReplies}
+use Rattle.zk_model.specs.Transcript.{Grant, TreeReply, Round, bytes_from, turn_bytes, sent_by, grant_frame, ask_frame, reply_frame, corrections_frame, challenge_frame, sums_frame, openings_frame}
 use Rattle.zk_model.specs.HonestProver.{IsWitness, SentAfter, AreHonestBytes}
 use Rattle.zk_model.specs.Peers.{IsFromHonestProver, HasEndedHonestly}
 use Rattle.zk_model.specs.declared.Expect.{Expect}
@@ -26,7 +24,7 @@ use Rattle.session_prover.specs.Stages.{Claim, AreAskedRounds, IsLogAt, greeting
 use Rattle.session_prover.specs.Notes.{task_of}
 use Rattle.session_prover.specs.Turns.{IsSound}
 use Rattle.session_prover.proofs.Sides.{prover_says, verifier_says, prover_hears, verifier_hears}
-use Rattle.session_prover.proofs.Rounds.{unit_size, units_length, rounds_length, some_rounds}
+use Rattle.session_prover.proofs.Rounds.{unit_size, some_rounds}
 use Rattle.session_prover.proofs.Heard.{Hears, IsNextFrame, honest_bytes, next_grant, next_replies, next_challenge, next_verdict}
 use Rattle.session_prover.proofs.Honest.{fixable, asks_after, corrections_after, openings_after, all_sent}
 use Rattle.session_prover.proofs.Unheard.{unstarted}
@@ -128,41 +126,6 @@ few_of_unit params Extended limits =
 few_of_units : (params : Params) (n : ℕ) → AreWithinLimits params.kind params → n ≤ 4096 → n * unit_size params ≤ 2 ^ 32
 few_of_units params n limits few =
     let most = mul-le n (unit_size params) 4096 (2 ^ 20) few (few_of_unit params params.kind limits) in omega (arith, most)
-
-few_rounds : (job : ProverJob) (given : Grant) (rounds : List Round) → IsSound job → given.count ≤ 4096 → AreAskedRounds job given rounds
-    → length (answered (round_turns rounds)) ≤ 2 ^ 32
-few_rounds job given rounds sound few asked =
-    let whole = rounds_length job.file.params given rounds (recursion_from_All (IsRound job.file.params given) rounds asked.ranged) in
-    let most = few_of_units job.file.params given.count sound.file.params.limits few in
-    let one = mul-le (length rounds) (given.count * unit_size job.file.params) 1 (2 ^ 32) (one_round job.file.params.kind asked.count) most in
-    omega (arith, whole, one)
-  where
-    one_round : (kind : Kind) → length rounds ≡ rounds_of kind → length rounds ≤ 1
-    one_round Direct count = omega (arith, count)
-    one_round Extended count = omega (arith, count)
-
-pub few_heard : (job : ProverJob) (claim : Claim) (stage : ProverStage) (log : List (Side × ℕ)) → IsSound job → IsLogAt job claim stage log
-    → length (sent_by Verifier log) ≤ 2 ^ 33
-few_heard job claim awaits_grant log sound at =
-    let none = ap length (ap (sent_by Verifier) at.1 ∙ greeted_heard job) in omega (arith, none)
-few_heard job claim (awaits_replies given done pairs) log sound (came, claimed, some, at) =
-    let heard = ap length (ap (sent_by Verifier) at ∙ replied_heard job given came) in
-    let both = length-append (grant_frame given) (flat_map reply_frame came) in
-    let whole = units_length job.file.params came (recursion_from_All (AreReplies job.file.params.height job.file.params.trees) came some.each) in
-    let most = few_of_units job.file.params (length came) sound.file.params.limits (omega (arith, some.count, some.more, some.granted.count_most)) in
-    omega (arith, heard, both, whole, most)
-few_heard job claim (awaits_challenge given pairs wires) log sound (rounds, d, claimed, fixes, at) =
-    let heard = ap length (ap (sent_by Verifier) at ∙ fixed_heard job given rounds d) in
-    let both = length-append (grant_frame given) (answered (round_turns rounds)) in
-    let few = few_rounds job given rounds sound fixes.granted.count_most fixes.asked in
-    omega (arith, heard, both, few)
-few_heard job claim awaits_verdict log sound opened =
-    let heard = ap length (ap (sent_by Verifier) opened.logged ∙ opened_heard job opened.given opened.rounds opened.pairs opened.d opened.wires opened.element) in
-    let all = length-append (grant_frame opened.given ++ answered (round_turns opened.rounds)) (challenge_frame opened.element) in
-    let both = length-append (grant_frame opened.given) (answered (round_turns opened.rounds)) in
-    let few = few_rounds job opened.given opened.rounds sound opened.fixes.granted.count_most opened.fixes.asked in
-    omega (arith, heard, all, both, few)
-few_heard job claim has_ended log sound at = absurd at
 
 -- ---- what comes next, and what was sent
 

@@ -5,3 +5,4 @@ pub mod Turns
 pub mod Completing
 pub mod Stores
 pub mod Sessions
+pub mod Proving

@@ -5,7 +5,7 @@ use Rattle.zk_model.specs.Files.{VerifierFile, IsVerifierFile, AreDealt}
 use Rattle.zk_model.specs.Correlations.{IsProverView, span_keys}
 use Rattle.zk_model.specs.View.{span_of}
 use Rattle.zk_model.specs.ServedVerifier.{VerifierTask, RepliesAre}
-use Rattle.zk_model.specs.Transcript.{Grant, Round, Transcript, IsInOrder, BeginsWith, refuse_frame, bytes_from, sent_by}
+use Rattle.zk_model.specs.Transcript.{wanted_hello, Grant, Round, Transcript, IsInOrder, BeginsWith, refuse_frame, bytes_from, sent_by}
 use Rattle.zk_model.specs.Frames.{Frame, CanGoOn, IsFirstBad, FitsGrant, FitsRefusal, frame_length}
 use Rattle.zk_model.specs.HonestProver.{ProverTask, IsWitness, IsHonest, honest_corrections}
 use Rattle.zk_model.specs.Peers.{IsFromHonestProver, IsFromHonestVerifier, HasEndedHonestly}
@@ -65,11 +65,12 @@ SendsOnceClaimed job claim log = BeginsWith (greeting job) (sent_by Prover log)
 
 -- ---- the outcome
 
--- The log is that of a whole session about the job's statement, whose verdict has this code and this number; the prover is
--- honest in it, whatever values of wires and inputs its given values are of.
+-- The log is that of a whole session about the job's statement, whose verdict has this code and this number; it begins with the
+-- prover's own hello, and the prover is honest in it, whatever values of wires and inputs its given values are of.
 pub record ReadsVerdict (job : ProverJob) (log : List (Side × ℕ)) (code number : ℕ) : Type 0 where
   pub t : Transcript
   pub in_order : IsInOrder job.file.params job.file.id job.statement t log
+  pub greeted : t.commitment.setup.hello ≡ wanted_hello job.file.id job.statement
   pub honest : (inputs wires : List ℕ) → IsWitness job.statement inputs wires job.given → IsHonest (task_of job inputs) t
   pub code_is : t.code ≡ code
   pub number_is : t.number ≡ number

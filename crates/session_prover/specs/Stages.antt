@@ -206,11 +206,6 @@ pub record GoesWell (first now : LineState) : Type 0 where
   pub receives : now.receives ≤ first.receives + length (sent_by Verifier now.log)
   pub faults : now.faults ≡ first.faults
 
--- a line where a prover waits
-pub record IsLineAt (job : ProverJob) (course : Course) (stage : ProverStage) (now : LineState) : Type 0 where
-  pub log : IsLogAt job course.claim stage now.log
-  pub well : GoesWell course.first now
-
 -- a line where a frame is to be answered
 pub record IsLineTaken
     (job : ProverJob)

@@ -1,19 +1,18 @@
 -- What a prover's calls over a line require and make of it.
-use Rattle.std.specs.Prelude.{◌≡◌, ◌⊎◌, ℕ, ◌+◌, ◌-◌, ◌≤◌, ◌<◌, List, [], ◌++◌, flat_map, length, true, Some, None}
+use Rattle.std.specs.Prelude.{◌≡◌, ◌⊎◌, ℕ, ◌+◌, ◌-◌, ◌≤◌, ◌<◌, List, [], ◌++◌, length, true}
 use Rattle.zk_model.specs.Files.{IsProverFile}
 use Rattle.zk_model.specs.Statement.{IsStatement}
 use Rattle.zk_model.specs.Transcript.{Grant, BeginsWith, bytes_from}
 use Rattle.zk_model.specs.Frames.{Frame, grant, verdict, refuse, FitsGrant, frame_spelling}
-use Rattle.zk_model.specs.declared.Expect.{Expect}
 use Rattle.zk_model.specs.declared.Side.{Side}
-use Rattle.zk_model.specs.declared.Side.TheVariants.{Prover, Verifier}
+use Rattle.zk_model.specs.declared.Side.TheVariants.{Verifier}
 use Rattle.zk_port.specs.Counts.{counted}
 use Rattle.zk_port.specs.Logs.{appended}
-use Rattle.frame_link.specs.Lines.{LineState, Sends, OnlySends, IsSendCause, CountsFault}
+use Rattle.frame_link.specs.Lines.{LineState, OnlySends, IsSendCause, CountsFault}
 use Rattle.frame_link.specs.declared.fault.LineFault.{LineFault}
 use Rattle.frame_link.specs.declared.fault.LineFault.TheVariants.{NoMemory}
 use Rattle.session_core.specs.Jobs.{ProverJob, IsProverJob, Suits}
-use Rattle.session_core.specs.Cores.{ProverStage, awaits_grant, awaits_replies, awaits_challenge, awaits_verdict, has_ended, prover_expects}
+use Rattle.session_core.specs.Cores.{ProverStage, awaits_grant, awaits_replies, awaits_challenge, awaits_verdict, has_ended}
 use Rattle.session_prover.specs.declared.note.ProverOutcome.{ProverOutcome}
 use Rattle.session_prover.specs.declared.note.ProverOutcome.TheVariants.{BadGrant, PeerRefused, Rejected}
 use Rattle.session_prover.specs.Stages.{Course, IsLogAt, granted_log, GoesWell}
@@ -27,10 +26,6 @@ pub record IsSound (job : ProverJob) : Type 0 where
   pub givens : job.statement.program.givens ≤ MAX_WIRES
   pub products : length job.statement.program.products ≤ MAX_WIRES
   pub opened : length job.statement.program.opened ≤ MAX_WIRES
-
--- a frame is expected
-abbrev pub Expects : ProverJob → ProverStage → Type 0
-Expects job stage = (expect : Expect) × (prover_expects job stage ≡ Some expect)
 
 -- a grant is answered
 abbrev pub IsBehindGrant : ProverStage → Type 0
@@ -61,11 +56,6 @@ pub record FollowsStage (stage now : ProverStage) : Type 0 where
   pub behind : IsBehindGrant now
   pub fewer : answers_left now < answers_left stage
 
--- an answer was sent by one send, or has no frames
-abbrev pub SendsAnswer : List Frame → LineState → LineState → Type 0
-SendsAnswer answer old new =
-    ((answer ≡ []) × (new ≡ old)) ⊎ ((1 ≤ length answer) × Sends (flat_map frame_spelling answer) old new)
-
 -- These bytes were not sent: nothing of them is logged, and the link tells a first part of them, which is none where memory was
 -- missing before any send.
 pub record SendStops (bytes : List ℕ) (fault : LineFault) (old new : LineState) : Type 0 where
@@ -77,13 +67,6 @@ pub record SendStops (bytes : List ℕ) (fault : LineFault) (old new : LineState
   pub others : OnlySends old new
   pub cause : IsSendCause old new fault
   pub count : CountsFault fault old new
-
--- a line over which nothing has passed yet
-pub record IsFreshLine (now : LineState) : Type 0 where
-  pub log : now.log ≡ []
-  pub reading : now.reading ≡ record { received = 0; expected = None; taken = []; bad = None }
-  pub side : now.side ≡ Prover
-  pub is_open : now.is_open ≡ true
 
 -- a frame has come where a prover waits
 pub record Comes

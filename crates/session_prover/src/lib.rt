@@ -4,9 +4,9 @@
 #![tactic(auto)]
 
 mod claimant;
-mod course;
 mod note;
 mod prove;
+mod proving;
 mod store_claimant;
 
 pub use claimant::Claimant;

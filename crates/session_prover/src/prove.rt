@@ -10,86 +10,18 @@ ghost use Rattle.session_core.specs.Cores.{awaits_grant};
 ghost use Rattle.session_prover.specs.Stages.{ClaimedFor, RefusedFor};
 ghost use Rattle.session_prover.specs.Notes.{IsEnded, IsGranted, IsOutcome, AnswersGrantPlace, AnswersVerdict, SendsHonestly, SendsOnceClaimed, SendsEach, IsRelated, IsLogged, CountsOutcome, granted_of, told_by};
 ghost use Rattle.session_prover.specs.Completing.{Completes};
-ghost use Rattle.session_prover.specs.Turns.{IsSound, IsFreshLine};
+ghost use Rattle.session_prover.specs.Turns.{IsSound};
 ghost use Rattle.session_prover.specs.declared.note.ProverOutcome.TheVariants.{Accepted};
 
 use crate::claimant::Claimant;
-use crate::course::{answer_grant, greet, take_grant};
-use crate::note::{ProverNote, ProverOutcome};
-use claim_store::ClaimFault;
+use crate::note::ProverNote;
+use crate::proving::prove;
 use frame_link::Line;
-use proof_frames::{Frame, Grant};
-use session_core::{ProverCore, ProverJob};
+use session_core::ProverJob;
 use session_laws::honest_verdict;
 use std::alloc::Global;
-use zk_model::{Side, Span};
+use zk_model::Side;
 use zk_port::Link;
-
-/// Has the units of a grant claimed.
-fn claim_units<C: Claimant>(claimant: &mut C, grant: Grant) -> Result<Span, ClaimFault>
-    requires once { C.answer claimant.old ≡ None }
-    requires at_least_one { 1 ≤ grant.count }
-    ensures claimed { IfOk result (λ _. ClaimedFor
-        (record { asked = C.asked claimant.new; answer = C.answer claimant.new }) grant) }
-    ensures refused { IfErr result (RefusedFor
-        (record { asked = C.asked claimant.new; answer = C.answer claimant.new }) grant) }
-    ensures told { C.answer claimant.new ≡ Some result }
-    ensures asked { C.asked claimant.new ≡ Some (grant.start, grant.count) }
-    ensures moves { C.moves claimant.old grant.start grant.count result claimant.new }
-    ensures within { IfOk result (λ _. grant.start + grant.count ≤ C.total claimant.old) }
-{
-    claimant.claim(grant.start, grant.count)
-}
-
-/// A session over a line: the greeting, the claim of the units that are granted, and the answers to the grant and the
-/// challenge.
-fn run_session<C: Claimant, L: Link>(
-    alloc: Global,
-    job: &ProverJob<'_>,
-    core: &mut ProverCore<'_>,
-    greeting: Frame,
-    claimant: &mut C,
-    line: &mut Line<L>,
-    granted: &mut Option<Span>,
-) -> Result<(), ProverOutcome>
-    requires core { core.old ≡ record { job = job.now; stage = awaits_grant } }
-    requires greeting { frame_value greeting ≡ model.hello (wanted_hello job.now.file.id job.now.statement) }
-    requires sound { IsSound job.now }
-    requires fresh { IsFreshLine line.old }
-    requires unasked { C.answer claimant.old ≡ None }
-    requires total { C.total claimant.old ≤ job.now.file.params.total }
-    requires none { granted.old ≡ None }
-    ensures granted { granted.new ≡ granted_of (C.answer claimant.new) }
-    ensures moved { MatchOption (C.answer claimant.new) (claimant.new ≡ claimant.old)
-        (λ answer. IsSomeAnd (C.asked claimant.new)
-        (λ units. C.moves claimant.old units.0 units.1 answer claimant.new)) }
-    ensures accepted { OnOk result (IsEnded job.now (record {
-      first = line.old;
-      claim = record { asked = C.asked claimant.new; answer = C.answer claimant.new };
-    }) Accepted line.new) }
-    ensures ends { IfErr result (λ outcome. IsEnded job.now (record {
-      first = line.old;
-      claim = record { asked = C.asked claimant.new; answer = C.answer claimant.new };
-    }) outcome line.new) }
-{
-    greet(alloc, core, line, greeting)?;
-    let grant = take_grant(alloc, job, core, line)?;
-    let span = claim_units(claimant, grant)?;
-    *granted = Some(span);
-    answer_grant(alloc, core, line, grant)?;
-    Ok(())
-}
-
-/// How a session ended that is accepted, or did not come to that.
-fn outcome_of(held: Result<(), ProverOutcome>) -> ProverOutcome
-    ensures accepted { OnOk held (result ≡ Accepted) }
-    ensures other { IfErr held (λ outcome. result ≡ outcome) }
-{
-    match held {
-        Ok(()) => ProverOutcome::Accepted,
-        Err(outcome) => outcome,
-    }
-}
 
 /// Proves a job's statement to any verifier at the other end of a link (Weng, Yang, Katz and Wang, Wolverine, IEEE S&P 2021;
 /// Yang, Sarkar, Weng and Wang, QuickSilver, ACM CCS 2021). It claims the units that the verifier grants before it sends
@@ -139,23 +71,11 @@ pub fn prove_session<C: Claimant, L: Link>(
     let _total = job.file().total();
     let _opened = job.statement().program().opened();
     let mut line = Line::new(alloc, link, Side::Prover);
-    let (mut core, greeting) = ProverCore::new(job);
-    let mut granted = None;
-    let held = run_session(
-        alloc,
-        job,
-        &mut core,
-        greeting,
-        claimant,
-        &mut line,
-        &mut granted,
-    );
-    let outcome = outcome_of(held);
-    drop(core);
+    let course = prove(alloc, job, claimant, &mut line);
     let (link, log) = line.end();
     ProverNote {
-        granted,
-        outcome,
+        granted: course.granted,
+        outcome: course.outcome,
         log,
         link,
     }

@@ -25,7 +25,7 @@ honest_with : (prover : ProverJob) (job : VerifierJob) (start : ℕ) (seen : Lis
     (drop prover.statement.program.givens seen)
     → macs ≡ macs_of (opened_pairs prover.statement.program pairs)
     → IsWitness prover.statement inputs wires prover.given
-    → IsHonestWith (ends_of prover job) inputs wires (session_transcript job start rounds d both macs said)
+    → IsHonestWith (ends_of prover job) inputs wires (session_transcript job (wanted_hello job.task.file.id job.task.statement) start rounds d both macs said)
 honest_with prover job start seen rounds d both macs said pairs inputs wires stated same held fixed summed opened witness = record {
   honest = record {
     hello = λ i. wanted_hello (sym same i) (sym stated i);
@@ -49,7 +49,7 @@ honest_with prover job start seen rounds d both macs said pairs inputs wires sta
 -- all together
 pub session_is : (prover : ProverJob) (job : VerifierJob) (start : ℕ) (seen : List Pair) (rounds : List Round) (d : List ℕ) (both : List (ℕ × ℕ)) (macs : List ℕ) (judgement : Judgement) (pairs : WirePairs) (log : List (Side × ℕ))
     → prover.statement ≡ job.task.statement → prover.file.id ≡ job.task.file.id
-    → IsServed job.task (session_transcript job start rounds d both macs (verdict_in judgement)) (verdict_in judgement) log
+    → IsServed job.task (session_transcript job (wanted_hello job.task.file.id job.task.statement) start rounds d both macs (verdict_in judgement)) (verdict_in judgement) log
     → AreRoundsHeld prover.file job.task.file (granted_from job start) seen rounds
     → IsFixed prover.statement prover.given seen d pairs
     → both ≡ all_sums prover.statement.program job.section_length (challenge_coin job.task.file start) pairs
@@ -57,9 +57,9 @@ pub session_is : (prover : ProverJob) (job : VerifierJob) (start : ℕ) (seen : 
     → macs ≡ macs_of (opened_pairs prover.statement.program pairs)
     → IsSessionOf (ends_of prover job) (granted_from job start) (verdict_in judgement) log
 session_is prover job start seen rounds d both macs judgement pairs log stated same served held fixed summed opened = record {
-  t = session_transcript job start rounds d both macs (verdict_in judgement);
+  t = session_transcript job (wanted_hello job.task.file.id job.task.statement) start rounds d both macs (verdict_in judgement);
   granted = refl;
-  served = subst (λ (s : Statement). IsServed (record { file = job.task.file; statement = s }) (session_transcript job start rounds d both macs (verdict_in judgement)) (verdict_in judgement) log)
+  served = subst (λ (s : Statement). IsServed (record { file = job.task.file; statement = s }) (session_transcript job (wanted_hello job.task.file.id job.task.statement) start rounds d both macs (verdict_in judgement)) (verdict_in judgement) log)
       (sym stated) served;
   honest = λ inputs wires witness. honest_with prover job start seen rounds d both macs (verdict_in judgement) pairs inputs wires stated same held fixed summed opened witness;
 }

@@ -1,6 +1,6 @@
 -- A rehearsal's statement and witness, and what its session makes.
 use Rattle.std.proofs.Common.{◌≡◌, ℕ, ◌+◌, ◌-◌, ◌^◌, ◌≤◌, Bool, List, [], ◌++◌, map, take, drop, length, replicate, refl, sym, ◌∙◌, ap, subst, arith}
-use Rattle.std.proofs.lemmas.List.{length-map}
+use Rattle.std.proofs.Math.Seq.{take-append_seam, drop-append_seam}
 use Rattle.zk_model.specs.Bits.{from_bit}
 use Rattle.zk_model.specs.Circuit.{Circuit, IsWellFormed, AreWireBits, output_wire}
 use Rattle.zk_model.specs.Program.{Program, Solves, opened_values, correlations_needed}
@@ -20,7 +20,8 @@ use Rattle.zk_model.specs.declared.Verdict.TheVariants.{Accepted}
 use Rattle.circuit_laws.specs.Circuits.{BitsSolve}
 use Rattle.zk_laws.specs.Completeness.{HonestSessionIsAccepted}
 use Rattle.circuit_laws.proofs.BitsSolve.{value_of_bit}
-use Rattle.circuit_laws.proofs.Satisfied.{inputs_are, outputs_are}
+use Rattle.circuit_laws.proofs.Made.{bits_are_made}
+use Rattle.circuit_laws.proofs.Satisfied.{outputs_are}
 use Rattle.session_rehearsal.proofs.Spelled.{before_verdict, ends_with_verdict}
 use Rattle.session_core.specs.Ends.{whole_grant}
 use Rattle.session_rehearsal.specs.Holding.{BothEnds, IsSessionOf, ends_from}
@@ -50,56 +51,52 @@ granted_all program Extended section units some most counted few =
 -- ---- the witness
 
 -- bits of all wires are a witness
-pub witness_is : (circuit : Circuit) (digest : List ℕ) (inputs outputs bits : List Bool) → BitsSolve → IsWellFormed circuit → AreWireBits circuit inputs bits
-    → IsWitness (circuit_statement circuit digest outputs) (map from_bit inputs) (map from_bit bits) (products_of_bits 0 circuit bits)
-witness_is circuit digest inputs outputs bits law formed met =
-    let solved : Solves (circuit_program 0 circuit) [] (map from_bit bits) (products_of_bits 0 circuit bits) = law 0 circuit inputs bits formed (omega arith) met in
-    let all : circuit.inputs - 0 ≡ circuit.inputs = omega arith in
-    record {
-      solves = solved;
-      inputs_are =
-          sym solved.carried.inputs
-          ∙ inputs_are 0 (circuit.inputs - 0) bits (map from_bit bits) (sym (length-map bits from_bit)) (λ i below. value_of_bit bits (0 + i))
-          ∙ ap (λ n. map from_bit (take n bits)) all
-          ∙ ap (map from_bit) met.first;
-    }
+pub witness_is : (circuit : Circuit) (digest : List ℕ) (public inputs outputs bits : List Bool) → BitsSolve → IsWellFormed circuit
+    → length public ≤ circuit.inputs → AreWireBits circuit (public ++ inputs) bits
+    → IsWitness (circuit_statement circuit digest public outputs) (map from_bit inputs) (map from_bit bits) (products_of_bits (length public) circuit bits)
+witness_is circuit digest public inputs outputs bits law formed few met = record {
+  solves = subst (λ (l : List Bool). Solves (circuit_program (length public) circuit) (map from_bit l) (map from_bit bits) (products_of_bits (length public) circuit bits))
+      (take-append_seam public inputs) (law (length public) circuit (public ++ inputs) bits formed few met);
+  inputs_are = (bits_are_made (length public) circuit (public ++ inputs) bits formed few met).first ∙ ap (map from_bit) (drop-append_seam public inputs);
+}
 
 -- and give the claims
-claims_are : (circuit : Circuit) (bits : List Bool) → IsWellFormed circuit → length bits ≡ circuit.wires
-    → opened_values (circuit_program 0 circuit) (map from_bit bits) ≡ map from_bit (drop (output_wire circuit 0) bits)
-claims_are circuit bits formed whole =
-    outputs_are 0 circuit bits (map from_bit bits) whole formed.outputs_within (λ o below. value_of_bit bits (output_wire circuit o))
+claims_are : (circuit : Circuit) (public : ℕ) (bits : List Bool) → IsWellFormed circuit → length bits ≡ circuit.wires
+    → opened_values (circuit_program public circuit) (map from_bit bits) ≡ map from_bit (drop (output_wire circuit 0) bits)
+claims_are circuit public bits formed whole =
+    outputs_are public circuit bits (map from_bit bits) whole formed.outputs_within (λ o below. value_of_bit bits (output_wire circuit o))
 
 -- ---- the session
 
 -- what both ends of a rehearsal have, where these are the bits of all wires
-abbrev pub rehearsed_ends : Circuit → List Bool → Kind → ℕ → List ℕ → BothEnds
-rehearsed_ends circuit bits kind units seed =
-    ends_from (circuit_statement circuit (replicate 32 0) (drop (output_wire circuit 0) bits)) bits
+abbrev pub rehearsed_ends : Circuit → List Bool → List Bool → Kind → ℕ → List ℕ → BothEnds
+rehearsed_ends circuit public bits kind units seed =
+    ends_from (circuit_statement circuit (replicate 32 0) public (drop (output_wire circuit 0) bits)) bits
     (dealt_prover (rehearsed_params kind units) seed) (dealt_verifier (rehearsed_params kind units) seed)
 
 -- a rehearsal's session is that of an honest prover, and is accepted
-pub record IsAcceptedSession (circuit : Circuit) (inputs outputs : List Bool) (kind : Kind) (section units : ℕ) (seed : List ℕ) (verdict : Verdict) (log : List (Side × ℕ)) : Type 0 where
+pub record IsAcceptedSession (circuit : Circuit) (public inputs outputs : List Bool) (kind : Kind) (section units : ℕ) (seed : List ℕ) (verdict : Verdict) (log : List (Side × ℕ)) : Type 0 where
   pub transcript : Transcript
-  pub session : IsHonestSession (rehearsed_prover circuit inputs outputs kind units seed) (rehearsed_verifier circuit outputs kind units seed)
+  pub session : IsHonestSession (rehearsed_prover circuit public inputs outputs kind units seed) (rehearsed_verifier circuit public outputs kind units seed)
       (whole_grant units section) transcript verdict log
   pub accepted : verdict ≡ Accepted
 
-pub accepted_session : (circuit : Circuit) (inputs outputs bits : List Bool) (kind : Kind) (section units : ℕ) (seed : List ℕ) (verdict : Verdict) (log : List (Side × ℕ))
-    → BitsSolve → HonestSessionIsAccepted → IsWellFormed circuit → AreWireBits circuit inputs bits → outputs ≡ drop (output_wire circuit 0) bits
+pub accepted_session : (circuit : Circuit) (public inputs outputs bits : List Bool) (kind : Kind) (section units : ℕ) (seed : List ℕ) (verdict : Verdict) (log : List (Side × ℕ))
+    → BitsSolve → HonestSessionIsAccepted → IsWellFormed circuit → length public ≤ circuit.inputs
+    → AreWireBits circuit (public ++ inputs) bits → outputs ≡ drop (output_wire circuit 0) bits
     → AreRehearsedFiles kind units seed
-    → IsSessionOf (rehearsed_ends circuit bits kind units seed) (whole_grant units section) verdict log
-    → IsAcceptedSession circuit inputs outputs kind section units seed verdict log
-accepted_session circuit inputs outputs bits kind section units seed verdict log solve law formed met claimed files held =
+    → IsSessionOf (rehearsed_ends circuit public bits kind units seed) (whole_grant units section) verdict log
+    → IsAcceptedSession circuit public inputs outputs kind section units seed verdict log
+accepted_session circuit public inputs outputs bits kind section units seed verdict log solve law formed few met claimed files held =
     let last : List Bool = drop (output_wire circuit 0) bits in
-    let honest = held.honest (map from_bit inputs) (map from_bit bits) (witness_is circuit (replicate 32 0) inputs last bits solve formed met) in
-    let claims : opened_values (circuit_program 0 circuit) honest.honest.wires ≡ map from_bit last =
-    ap (opened_values (circuit_program 0 circuit)) honest.wires_are ∙ claims_are circuit bits formed met.whole in
-    let both = law (rehearsed_prover circuit inputs last kind units seed) (rehearsed_verifier circuit last kind units seed) held.t verdict log
+    let honest = held.honest (map from_bit inputs) (map from_bit bits) (witness_is circuit (replicate 32 0) public inputs last bits solve formed few met) in
+    let claims : opened_values (circuit_program (length public) circuit) honest.honest.wires ≡ map from_bit last =
+    ap (opened_values (circuit_program (length public) circuit)) honest.wires_are ∙ claims_are circuit (length public) bits formed met.whole in
+    let both = law (rehearsed_prover circuit public inputs last kind units seed) (rehearsed_verifier circuit public last kind units seed) held.t verdict log
     (record { statement = refl; prover_file = files.prover; verifier_file = files.verifier; dealt = files.dealt }) honest.honest claims held.served in
-    subst (λ (claim : List Bool). IsAcceptedSession circuit inputs claim kind section units seed verdict log) (sym claimed) (record {
+    subst (λ (claim : List Bool). IsAcceptedSession circuit public inputs claim kind section units seed verdict log) (sym claimed) (record {
       transcript = held.t;
-      session = subst (λ (grant : Grant). IsHonestSession (rehearsed_prover circuit inputs last kind units seed) (rehearsed_verifier circuit last kind units seed) grant held.t verdict log)
+      session = subst (λ (grant : Grant). IsHonestSession (rehearsed_prover circuit public inputs last kind units seed) (rehearsed_verifier circuit public last kind units seed) grant held.t verdict log)
           held.granted both.1;
       accepted = both.0;
     })

@@ -8,6 +8,7 @@ use Rattle.zk_model.specs.Correlations.{IsProverView}
 use Rattle.zk_model.specs.Transcript.{Hello, Grant, Round, Transcript, turn_bytes}
 use Rattle.zk_model.specs.HonestProver.{IsWitness, IsHonest, round_asks}
 use Rattle.zk_model.specs.ServedVerifier.{IsServed}
+use Rattle.wire_auth.specs.Values.{given_made}
 use Rattle.session_core.specs.Rounds.{round_turns, AreServedRounds}
 use Rattle.session_core.specs.Jobs.{ProverJob, VerifierJob}
 use Rattle.zk_model.specs.declared.Side.{Side}
@@ -29,7 +30,16 @@ ends_of prover verifier = record {
   verifier = verifier.task.file;
 }
 
--- what they have with this statement, these bits of all wires and these files
+-- what they have with this statement, these values of the private inputs and these files
+abbrev pub ends_with : Statement → List ℕ → ProverFile → VerifierFile → BothEnds
+ends_with statement inputs prover verifier = record {
+  statement = statement;
+  given = given_made statement.program statement.public inputs;
+  prover = prover;
+  verifier = verifier;
+}
+
+-- what they have with these bits of all wires
 abbrev pub ends_from : Statement → List Bool → ProverFile → VerifierFile → BothEnds
 ends_from statement bits prover verifier = record {
   statement = statement;

@@ -1,9 +1,9 @@
 -- What a rehearsal gives, and why there is none.
-use Rattle.std.specs.Prelude.{◌≡◌, ◌≢◌, ◌<◌, ◌≤◌, ℕ, List, ◌++◌, length, map, drop, replicate, Bool}
+use Rattle.std.specs.Prelude.{◌≡◌, ◌≢◌, ◌<◌, ◌≤◌, ℕ, List, [], ◌++◌, length, map, drop, replicate, Bool}
 use Rattle.zk_model.specs.Bits.{from_bit}
 use Rattle.zk_model.specs.Circuit.{Circuit, IsWellFormed, AreWireBits, Satisfies, output_wire}
 use Rattle.zk_model.specs.Program.{section_count, correlations_needed}
-use Rattle.zk_model.specs.Boolean.{circuit_products, circuit_program}
+use Rattle.zk_model.specs.Boolean.{private_inputs, circuit_products, circuit_program}
 use Rattle.zk_model.specs.Statement.{Statement, circuit_statement}
 use Rattle.zk_model.specs.Files.{IsProverFile, IsVerifierFile, AreDealt}
 use Rattle.zk_model.specs.Dealing.{dealt_prover, dealt_verifier}
@@ -19,8 +19,6 @@ use Rattle.zk_model.specs.declared.Side.{Side}
 use Rattle.zk_model.specs.declared.Side.TheVariants.{Verifier}
 use Rattle.zk_model.specs.declared.Verdict.{Verdict}
 use Rattle.zk_model.specs.declared.Verdict.TheVariants.{Accepted}
-use Rattle.bool_eval.specs.declared.EvalFault.{EvalFault}
-use Rattle.bool_eval.specs.declared.EvalFault.TheVariants as eval
 use Rattle.session_core.specs.Ends.{whole_grant}
 use Rattle.session_rehearsal.specs.declared.rehearsal.Rehearsal.{Rehearsal}
 use Rattle.session_rehearsal.specs.declared.rehearsal.RehearseFault.{RehearseFault}
@@ -34,27 +32,27 @@ rehearsed_params Direct total = record { kind = Direct; height = 0; trees = 0; b
 rehearsed_params Extended total = record { kind = Extended; height = 10; trees = 8; base = 64; total = total }
 
 -- the correlations of a session with sections of this many products
-abbrev pub rehearsal_need : Circuit → ℕ → ℕ
-rehearsal_need circuit section = correlations_needed (circuit_program 0 circuit) section
+abbrev pub rehearsal_need : Circuit → List Bool → ℕ → ℕ
+rehearsal_need circuit public section = correlations_needed (circuit_program (length public) circuit) section
 
 -- the units of this kind that give them; how many a file has in all does not matter
-abbrev pub rehearsal_units : Circuit → Kind → ℕ → ℕ
-rehearsal_units circuit kind section = units_for (rehearsed_params kind 0) (rehearsal_need circuit section)
+abbrev pub rehearsal_units : Circuit → List Bool → Kind → ℕ → ℕ
+rehearsal_units circuit public kind section = units_for (rehearsed_params kind 0) (rehearsal_need circuit public section)
 
--- what the prover has: the file of the seed for so many units of a kind, the circuit with 32 zero bytes for its digest, the outputs
--- that it claims, and its input bits
-abbrev pub rehearsed_prover : Circuit → List Bool → List Bool → Kind → ℕ → List ℕ → ProverTask
-rehearsed_prover circuit inputs outputs kind units seed = record {
+-- what the prover has: the file of the seed for so many units of a kind, the circuit with 32 zero bytes for its digest, the public
+-- bits, the outputs that it claims, and its private input bits
+abbrev pub rehearsed_prover : Circuit → List Bool → List Bool → List Bool → Kind → ℕ → List ℕ → ProverTask
+rehearsed_prover circuit public inputs outputs kind units seed = record {
   file = dealt_prover (rehearsed_params kind units) seed;
-  statement = circuit_statement circuit (replicate 32 0) outputs;
+  statement = circuit_statement circuit (replicate 32 0) public outputs;
   inputs = map from_bit inputs;
 }
 
 -- and what the verifier has
-abbrev pub rehearsed_verifier : Circuit → List Bool → Kind → ℕ → List ℕ → VerifierTask
-rehearsed_verifier circuit outputs kind units seed = record {
+abbrev pub rehearsed_verifier : Circuit → List Bool → List Bool → Kind → ℕ → List ℕ → VerifierTask
+rehearsed_verifier circuit public outputs kind units seed = record {
   file = dealt_verifier (rehearsed_params kind units) seed;
-  statement = circuit_statement circuit (replicate 32 0) outputs;
+  statement = circuit_statement circuit (replicate 32 0) public outputs;
 }
 
 -- the last frame of the log is the verifier's, and says this verdict
@@ -62,55 +60,52 @@ pub record EndsWithVerdict (verdict : Verdict) (log : List (Side × ℕ)) : Type
   pub before : List (Side × ℕ)
   pub ends : log ≡ before ++ bytes_from Verifier (verdict_frame (verdict_code verdict) (verdict_number verdict))
 
--- The outputs are the only ones that the circuit gives at these bits, the numbers are those of a session of these sections,
--- and the log is that of an honest prover and a verifier with the files that the seed gives, who accepts.
-pub record IsRehearsalOf (circuit : Circuit) (bits : List Bool) (kind : Kind) (section : ℕ) (seed : List ℕ) (r : Rehearsal) : Type 0 where
-  pub satisfied : Satisfies circuit bits r.outputs
-  pub only : (others : List Bool) → Satisfies circuit bits others → others ≡ r.outputs
-  pub products : r.products ≡ length (circuit_products 0 circuit)
-  pub sections : r.sections ≡ section_count (circuit_program 0 circuit) section
-  pub need : r.need ≡ rehearsal_need circuit section
-  pub units : r.units ≡ rehearsal_units circuit kind section
+-- The outputs are the only ones that the circuit gives at the public bits and then the private ones, the numbers are those of a
+-- session of these sections, and the log is that of an honest prover and a verifier with the files that the seed gives, who accepts.
+pub record IsRehearsalOf (circuit : Circuit) (public bits : List Bool) (kind : Kind) (section : ℕ) (seed : List ℕ) (r : Rehearsal) : Type 0 where
+  pub satisfied : Satisfies circuit (public ++ bits) r.outputs
+  pub only : (others : List Bool) → Satisfies circuit (public ++ bits) others → others ≡ r.outputs
+  pub products : r.products ≡ length (circuit_products (length public) circuit)
+  pub sections : r.sections ≡ section_count (circuit_program (length public) circuit) section
+  pub need : r.need ≡ rehearsal_need circuit public section
+  pub units : r.units ≡ rehearsal_units circuit public kind section
   pub units_most : r.units ≤ MAX_UNITS
   pub transcript : Transcript
   pub session : IsHonestSession
-      (rehearsed_prover circuit bits r.outputs kind r.units seed)
-      (rehearsed_verifier circuit r.outputs kind r.units seed)
+      (rehearsed_prover circuit public bits r.outputs kind r.units seed)
+      (rehearsed_verifier circuit public r.outputs kind r.units seed)
       (whole_grant r.units section)
       transcript r.verdict r.log
   pub ends : EndsWithVerdict r.verdict r.log
   pub accepted : r.verdict ≡ Accepted
 
--- the bits are not as many as the inputs
-pub record IsWrongLength (circuit : Circuit) (bits : List Bool) (need got : ℕ) : Type 0 where
-  pub needed : need ≡ circuit.inputs
+-- the bits are not as many as the private inputs
+pub record IsWrongLength (circuit : Circuit) (public bits : List Bool) (need got : ℕ) : Type 0 where
+  pub needed : need ≡ private_inputs (length public) circuit
   pub given : got ≡ length bits
   pub differ : need ≢ got
 
--- the bits are as many as the inputs, and the session takes too many units
-pub record IsTooLarge (circuit : Circuit) (bits : List Bool) (kind : Kind) (section need units : ℕ) : Type 0 where
-  pub inputs : length bits ≡ circuit.inputs
-  pub needed : need ≡ rehearsal_need circuit section
-  pub counted : units ≡ rehearsal_units circuit kind section
+-- the bits are as many as the private inputs, and the session takes too many units
+pub record IsTooLarge (circuit : Circuit) (public bits : List Bool) (kind : Kind) (section need units : ℕ) : Type 0 where
+  pub inputs : length bits ≡ private_inputs (length public) circuit
+  pub needed : need ≡ rehearsal_need circuit public section
+  pub counted : units ≡ rehearsal_units circuit public kind section
   pub many : MAX_UNITS < units
 
 -- why there is no rehearsal
-abbrev pub RehearseCause : Circuit → List Bool → Kind → ℕ → RehearseFault → Type 0
-RehearseCause circuit bits kind section (WrongLength need got) = IsWrongLength circuit bits need got
-RehearseCause circuit bits kind section (TooLarge need units) = IsTooLarge circuit bits kind section need units
-RehearseCause circuit bits kind section NoMemory = Unit {0}
+abbrev pub RehearseCause : Circuit → List Bool → List Bool → Kind → ℕ → RehearseFault → Type 0
+RehearseCause circuit public bits kind section (WrongLength need got) = IsWrongLength circuit public bits need got
+RehearseCause circuit public bits kind section (TooLarge need units) = IsTooLarge circuit public bits kind section need units
+RehearseCause circuit public bits kind section NoMemory = Unit {0}
 
--- what a fault of the evaluation makes
-abbrev pub eval_fault : EvalFault → RehearseFault
-eval_fault (eval.WrongLength need got) = WrongLength need got
-eval_fault eval.NoMemory = NoMemory
-
--- the statement is that the circuit gives these outputs, which are the last of the bits that it has on its wires at the inputs
-pub record IsClaimed (circuit : Circuit) (inputs bits outputs : List Bool) (statement : Statement) : Type 0 where
+-- the statement is that the circuit gives these outputs, which are the last of the bits that it has on its wires at the public
+-- inputs and then the private ones
+pub record IsClaimed (circuit : Circuit) (public inputs bits outputs : List Bool) (statement : Statement) : Type 0 where
   pub formed : IsWellFormed circuit
-  pub met : AreWireBits circuit inputs bits
+  pub few : length public ≤ circuit.inputs
+  pub met : AreWireBits circuit (public ++ inputs) bits
   pub last : outputs ≡ drop (output_wire circuit 0) bits
-  pub stated : statement ≡ circuit_statement circuit (replicate 32 0) outputs
+  pub stated : statement ≡ circuit_statement circuit (replicate 32 0) public outputs
 
 -- the two files that the seed gives are files as they are read, and dealt together
 pub record AreRehearsedFiles (kind : Kind) (units : ℕ) (seed : List ℕ) : Type 0 where

@@ -9,11 +9,11 @@ ghost use Rattle.zk_model.specs.declared.Side.{Side};
 ghost use Rattle.wire_auth.specs.Held.{items_in};
 ghost use Rattle.session_core.specs.Ends.{whole_grant};
 ghost use Rattle.session_core.specs.Jobs as jobs;
-ghost use Rattle.session_core.specs.Jobs.{AreValues, units_of_job, granted_from, prover_of};
+ghost use Rattle.session_core.specs.Jobs.{units_of_job, granted_from, prover_from};
 ghost use Rattle.session_core.specs.Fixing.{HoldsKeys};
 ghost use Rattle.session_rehearsal.specs.Exchanges.{IsNoted, IsShortExchange, AreShort, round_log};
 ghost use Rattle.session_rehearsal.specs.Answers.{IsAnswered, IsCounted};
-ghost use Rattle.session_rehearsal.specs.Holding.{AreRoundsHeld, HoldsRounds, IsSessionOf, ends_of, ends_from};
+ghost use Rattle.session_rehearsal.specs.Holding.{AreRoundsHeld, HoldsRounds, IsSessionOf, ends_of, ends_with};
 
 use dealer_files::{ProverFile, VerifierFile};
 use mersenne_field::{Fe, Pair};
@@ -67,22 +67,22 @@ pub(crate) struct OpenedSession<'v> {
 pub(crate) fn run_session(
     alloc: Global,
     statement: &Statement<'_>,
-    bits: &[bool],
+    inputs: &[Fe],
     prover_file: ProverFile,
     verifier_file: &VerifierFile,
     section: u32,
 ) -> Result<SessionValues, AllocError>
-    requires values { AreValues statement.now bits.now }
+    requires inputs { length inputs.now ≡ statement.now.program.inputs }
     requires dealt { AreDealt prover_file verifier_file.now }
     requires granted { IsGrant prover_file.params statement.now.program
         (whole_grant prover_file.params.total section) }
     ensures session { IfOk result (λ e. (log : List (Side × ℕ)) → IsNoted e log
-        → IsSessionOf (ends_from statement.now bits.now prover_file verifier_file.now)
+        → IsSessionOf (ends_with statement.now inputs.now prover_file verifier_file.now)
         (whole_grant prover_file.params.total section) e.verdict log) }
     ensures short { IfOk result IsShortExchange }
 {
     let verifier = VerifierJob::new(statement, verifier_file, section);
-    let answered = answer(alloc, statement, bits, &prover_file, &verifier)?;
+    let answered = answer(alloc, statement, inputs, &prover_file, &verifier)?;
     drop(prover_file);
     let exchange = judge(alloc, &verifier, answered)?;
     Ok(exchange)
@@ -92,19 +92,19 @@ pub(crate) fn run_session(
 fn answer<'v>(
     alloc: Global,
     statement: &Statement<'_>,
-    bits: &[bool],
+    inputs: &[Fe],
     prover_file: &ProverFile,
     verifier: &VerifierJob<'v>,
 ) -> Result<OpenedSession<'v>, AllocError>
-    requires values { AreValues statement.now bits.now }
+    requires inputs { length inputs.now ≡ statement.now.program.inputs }
     requires stated { statement.now ≡ verifier.now.task.statement }
     requires dealt { AreDealt prover_file.now verifier.now.task.file }
     requires within { units_of_job verifier.now ≤ verifier.now.task.file.params.total }
     ensures answered { IfOk result
-        (IsAnswered (prover_of statement.now bits.now prover_file.now) verifier.now) }
+        (IsAnswered (prover_from statement.now inputs.now prover_file.now) verifier.now) }
     ensures counted { IfOk result (IsCounted verifier.now) }
 {
-    let prover = ProverJob::new(statement, prover_file, bits);
+    let prover = ProverJob::new(statement, prover_file, inputs);
     let grant = verifier.grant(0);
     let established = establish(alloc, &prover, verifier, grant)?;
     let answered = open(alloc, &prover, verifier, grant, established)?;

@@ -3,7 +3,6 @@ ghost use Rattle.std.specs.Prelude.{◌≡◌};
 ghost use Rattle.session_rehearsal.specs.declared.rehearsal.RehearseFault.TheVariants.{NoMemory};
 
 use crate::bits::Bits;
-use bool_eval::EvalFault;
 use frame_link::Log;
 use std::alloc::AllocError;
 use thiserror::Error;
@@ -31,7 +30,7 @@ pub struct Rehearsal {
 /// Why there is no rehearsal.
 #[derive(Clone, Copy, Debug, PartialEq, Eq, Error)]
 pub enum RehearseFault {
-    /// The bits are not as many as the circuit's inputs: so many are needed, and so many were given.
+    /// The bits are not as many as the circuit's private inputs: so many are needed, and so many were given.
     #[error("{got} bits in place of {need}")]
     WrongLength { need: u64, got: u64 },
     /// The session takes so many correlations, and so many units, which are more than 4,096.
@@ -47,21 +46,5 @@ impl From<AllocError> for RehearseFault {
 
     fn from(_: AllocError) -> Self {
         RehearseFault::NoMemory
-    }
-}
-
-impl From<EvalFault> for RehearseFault {
-    ghost use Rattle.session_rehearsal.specs.Rehearsals.{eval_fault};
-
-    ghost from_gives = { λ fault e. e ≡ eval_fault fault };
-
-    fn from(fault: EvalFault) -> Self {
-        match fault {
-            EvalFault::WrongLength { need, got } => RehearseFault::WrongLength {
-                need: need as u64,
-                got: got as u64,
-            },
-            EvalFault::NoMemory => RehearseFault::NoMemory,
-        }
     }
 }

@@ -1,13 +1,16 @@
 // A rehearsal: files from a seed, and a session of both ends over them.
-ghost use Rattle.std.specs.Prelude.{◌≡◌, ◌≤◌, ◌^◌, ℕ, List, Bool, IfOk, IfErr};
+ghost use Rattle.std.specs.Prelude.{◌≡◌, ◌≤◌, ◌^◌, ℕ, List, Bool, ◌++◌, length, map, IfOk, IfErr};
+ghost use Rattle.zk_model.specs.Bits.{from_bit};
+ghost use Rattle.zk_model.specs.Boolean.{private_inputs};
+ghost use Rattle.zk_model.specs.Circuit.{AreWireBits};
 ghost use Rattle.zk_model.specs.Dealing.{dealt_prover, dealt_verifier};
 ghost use Rattle.zk_model.specs.Program.{correlations_needed};
 ghost use Rattle.zk_model.specs.Transcript.{units_for};
+ghost use Rattle.zk_model.specs.declared.Kind.{Kind};
 ghost use Rattle.zk_model.specs.declared.Side.{Side};
 ghost use Rattle.session_core.specs.Ends.{whole_grant};
-ghost use Rattle.session_core.specs.Jobs.{AreValues};
 ghost use Rattle.session_rehearsal.specs.Exchanges.{IsNoted, IsShortExchange};
-ghost use Rattle.session_rehearsal.specs.Holding.{IsSessionOf, ends_from};
+ghost use Rattle.session_rehearsal.specs.Holding.{IsSessionOf, ends_with};
 ghost use Rattle.session_rehearsal.specs.Rehearsals.{IsClaimed, IsRehearsalOf, RehearseCause, AreRehearsedFiles, rehearsed_params};
 ghost use Rattle.zk_model.specs.declared.limits.TheConstants.{MAX_SECTION_LENGTH, MAX_UNITS};
 
@@ -15,12 +18,14 @@ use crate::bits::Bits;
 use crate::exchange::{SessionValues, run_session};
 use crate::noting::note;
 use crate::rehearsal::{Rehearsal, RehearseFault};
-use bool_eval::{eval_wires, output_bits};
+use bool_eval::{EvalFault, eval_wires, output_bits};
 use bristol_reader::Circuit;
 use circuit_laws::{bits_solve, one_outcome};
 use dealer_files::deal;
-use session_core::{CircuitClaim, Statement, units_for, wire_bits_are_values};
+use mersenne_field::Fe;
+use session_core::{CircuitClaim, Statement, elements_of, units_for};
 use std::alloc::{AllocError, Global};
+use wire_auth::bits_make_products;
 use zk_laws::honest_session_is_accepted;
 use zk_model::{Kind, MAX_UNITS, Params};
 
@@ -46,7 +51,7 @@ fn rehearsed_params(kind: Kind, total: u64) -> Params
 fn exchange_dealt(
     alloc: Global,
     statement: &Statement<'_>,
-    bits: &[bool],
+    inputs: &[Fe],
     kind: Kind,
     section: u32,
     units: u64,
@@ -54,13 +59,13 @@ fn exchange_dealt(
 ) -> Result<SessionValues, AllocError>
     requires at_least_one { 1 ≤ section }
     requires at_most { section ≤ MAX_SECTION_LENGTH }
-    requires values { AreValues statement.now bits.now }
+    requires inputs { length inputs.now ≡ statement.now.program.inputs }
     requires units { units
         ≡ units_for (rehearsed_params kind 0) (correlations_needed statement.now.program section) }
     requires units_some { 1 ≤ units }
     requires units_most { units ≤ MAX_UNITS }
     ensures held { IfOk result (λ e. (log : List (Side × ℕ)) → IsNoted e log
-        → IsSessionOf (ends_from statement.now bits.now
+        → IsSessionOf (ends_with statement.now inputs.now
         (dealt_prover (rehearsed_params kind units) seed.now)
         (dealt_verifier (rehearsed_params kind units) seed.now))
         (whole_grant units section) e.verdict log) }
@@ -69,15 +74,15 @@ fn exchange_dealt(
 {
     let params = rehearsed_params(kind, units);
     let (prover, verifier) = deal(alloc, &params, seed)?;
-    let exchange = run_session(alloc, statement, bits, prover, &verifier, section)?;
+    let exchange = run_session(alloc, statement, inputs, prover, &verifier, section)?;
     Ok(exchange)
 }
 
-/// A rehearsal of a claim whose prover has these bits of all wires.
+/// A rehearsal of a claim whose prover has these values of its inputs.
 fn rehearse_claim(
     alloc: Global,
     claim: &CircuitClaim,
-    bits: &[bool],
+    inputs: &[Fe],
     outputs: Bits,
     kind: Kind,
     section: u32,
@@ -85,14 +90,15 @@ fn rehearse_claim(
 ) -> Result<Rehearsal, RehearseFault>
     requires at_least_one { 1 ≤ section }
     requires at_most { section ≤ MAX_SECTION_LENGTH }
-    requires values { AreValues claim.now bits.now }
-    ensures done { IfOk result (λ r. (circuit : Circuit) (inputs : List Bool)
-        → IsClaimed circuit inputs bits.now outputs claim.now
-        → IsRehearsalOf circuit inputs kind section seed.now r) }
-    ensures cause { IfErr result (λ fault. (circuit : Circuit) (inputs : List Bool)
-        → IsClaimed circuit inputs bits.now outputs claim.now
-        → RehearseCause circuit inputs kind section fault) }
+    requires inputs { length inputs.now ≡ claim.now.program.inputs }
+    ensures done { IfOk result (λ r. (circuit : Circuit) (public bits wires : List Bool)
+        → inputs.now ≡ map from_bit bits → IsClaimed circuit public bits wires outputs claim.now
+        → IsRehearsalOf circuit public bits kind section seed.now r) }
+    ensures cause { IfErr result (λ fault. (circuit : Circuit) (public bits wires : List Bool)
+        → IsClaimed circuit public bits wires outputs claim.now
+        → RehearseCause circuit public bits kind section fault) }
 {
+    bits_make_products();
     bits_solve();
     one_outcome();
     honest_session_is_accepted();
@@ -104,7 +110,7 @@ fn rehearse_claim(
     if units > MAX_UNITS {
         return Err(RehearseFault::TooLarge { need, units });
     }
-    let exchange = exchange_dealt(alloc, &statement, bits, kind, section, units, seed)?;
+    let exchange = exchange_dealt(alloc, &statement, inputs, kind, section, units, seed)?;
     let log = note(alloc, &exchange)?;
     Ok(Rehearsal {
         outputs,
@@ -117,29 +123,62 @@ fn rehearse_claim(
     })
 }
 
-/// Rehearses a session in which the prover claims what the circuit gives at these bits: the seed's files of this kind, as many
-/// units as the session takes, and both ends over a log. The circuit is given up once its program and its outputs are known. The
-/// bits must be as many as the circuit's inputs (else [`RehearseFault::WrongLength`]), and the units 4,096 at most (else
-/// [`RehearseFault::TooLarge`]).
+/// The bits that a circuit has on all its wires at these inputs, public ones and then private ones, which must be as many as
+/// there are (else [`RehearseFault::WrongLength`]).
+fn wires_at(
+    alloc: Global,
+    circuit: &Circuit,
+    public: &[bool],
+    bits: &[bool],
+) -> Result<Vec<bool>, RehearseFault>
+    requires { length public.now ≤ circuit.now.inputs }
+    ensures wires { IfOk result (λ wires.
+        AreWireBits circuit.now (public.now ++ bits.now) wires.items) }
+    ensures length { IfOk result (λ _. length bits.now ≡ private_inputs (length public.now) circuit.now) }
+    ensures cause { IfErr result (λ fault. (kind : Kind) (section : ℕ)
+        → RehearseCause circuit.now public.now bits.now kind section fault) }
+{
+    let need = circuit.inputs() - public.len();
+    let got = bits.len();
+    if need != got {
+        let (need, got) = (need as u64, got as u64);
+        return Err(RehearseFault::WrongLength { need, got });
+    }
+    let mut inputs = public.to_vec(alloc)?;
+    inputs.extend_from_slice(bits)?;
+    // There are as many bits as inputs, so memory alone can be missing.
+    match eval_wires(alloc, circuit, &inputs) {
+        Ok(wires) => Ok(wires),
+        Err(EvalFault::WrongLength { .. } | EvalFault::NoMemory) => Err(RehearseFault::NoMemory),
+    }
+}
+
+/// Rehearses a session in which the prover claims what the circuit gives at these bits, public ones and then private ones: the
+/// seed's files of this kind, as many units as the session takes, and both ends over a log. The circuit is given up once its
+/// program and its outputs are known. The private bits must be as many as the circuit's inputs that are not public (else
+/// [`RehearseFault::WrongLength`]), and the units 4,096 at most (else [`RehearseFault::TooLarge`]).
 pub fn rehearse(
     alloc: Global,
     circuit: Circuit,
+    public: &[bool],
     bits: &[bool],
     kind: Kind,
     section: u32,
     seed: &[u8; 32],
 ) -> Result<Rehearsal, RehearseFault>
+    requires public { length public.now ≤ circuit.inputs }
     requires at_least_one { 1 ≤ section }
     requires at_most { section ≤ MAX_SECTION_LENGTH }
-    ensures done { IfOk result (IsRehearsalOf circuit bits.now kind section seed.now) }
-    ensures cause { IfErr result (RehearseCause circuit bits.now kind section) }
+    ensures done { IfOk result (IsRehearsalOf circuit public.now bits.now kind section seed.now) }
+    ensures cause { IfErr result (RehearseCause circuit public.now bits.now kind section) }
 {
-    wire_bits_are_values();
     let _wires = circuit.wires();
-    let wires = eval_wires(alloc, &circuit, bits)?;
+    let wires = wires_at(alloc, &circuit, public, bits)?;
     let outputs = Bits::copied(alloc, output_bits(&circuit, &wires))?;
-    let claim = CircuitClaim::new(alloc, &circuit, [0; 32], outputs.as_slice())?;
+    let claim = CircuitClaim::new(alloc, &circuit, [0; 32], public, outputs.as_slice())?;
+    drop(wires);
     drop(circuit);
-    let rehearsal = rehearse_claim(alloc, &claim, &wires, outputs, kind, section, seed)?;
+    let inputs = elements_of(alloc, bits)?;
+    let rehearsal = rehearse_claim(alloc, &claim, &inputs, outputs, kind, section, seed)?;
     Ok(rehearsal)
 }

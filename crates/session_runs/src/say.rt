@@ -1,7 +1,7 @@
 // What came of a session, in words.
 use crate::piece_link::PieceLink;
 use frame_link::Log;
-use session_core::HelloDiffers;
+use session_core::{Digests, HelloDiffers};
 use session_prover::ProverOutcome;
 use session_verifier::VerifierOutcome;
 use sha2::{Digest, Sha256};
@@ -42,20 +42,20 @@ impl fmt::Display for Bits<'_> {
     }
 }
 
-/// Which field of a hello differs, what was wanted and what came.
+/// The digests of a statement, one after the other.
 #[derive(Clone, Copy)]
-struct Differing<'a> {
-    name: &'static str,
-    want: &'a [u8; 32],
-    got: &'a [u8; 32],
+struct HexDigests<'a> {
+    digests: &'a Digests,
 }
 
-impl fmt::Display for Differing<'_> {
+impl fmt::Display for HexDigests<'_> {
     fn fmt<W: fmt::Write>(&self, f: &mut fmt::Formatter<W>) -> fmt::Result {
-        let (name, want, got) = (self.name, self.want, self.got);
-        let want = Hex { bytes: want };
-        let got = Hex { bytes: got };
-        write!(f, "bad-hello {name} want={want} got={got}")
+        let digests = self.digests;
+        for digest in [&digests.circuit, &digests.outputs, &digests.public] {
+            let digest = Hex { bytes: digest };
+            write!(f, "{digest}")?;
+        }
+        Ok(())
     }
 }
 
@@ -101,18 +101,23 @@ pub enum Ending {
     Overlap(Span),
 }
 
-/// The first field of a hello that differs.
+/// What differs first in a hello, what was wanted and what came.
 fn write_hello<W: fmt::Write>(f: &mut fmt::Formatter<W>, differs: &HelloDiffers) -> fmt::Result {
-    let (name, want, got) = match differs {
-        HelloDiffers::Id { want, got } => ("id", want, got),
-        HelloDiffers::Circuit { want, got } => ("circuit", want, got),
-        HelloDiffers::Outputs { want, got } => ("outputs", want, got),
-        HelloDiffers::Version { want, got } => {
-            return write!(f, "bad-hello version want={want} got={got}");
+    match differs {
+        HelloDiffers::Id { want, got } => {
+            let want = Hex { bytes: want };
+            let got = Hex { bytes: got };
+            write!(f, "bad-hello id want={want} got={got}")
         }
-    };
-    let differing = Differing { name, want, got };
-    write!(f, "{differing}")
+        HelloDiffers::Version { want, got } => {
+            write!(f, "bad-hello version want={want} got={got}")
+        }
+        HelloDiffers::Statement { want, got } => {
+            let want = HexDigests { digests: want };
+            let got = HexDigests { digests: got };
+            write!(f, "bad-hello statement want={want} got={got}")
+        }
+    }
 }
 
 impl fmt::Display for Ending {

@@ -1,15 +1,14 @@
 // What both ends of a session have: a circuit, bits, claimed outputs and files.
-ghost use Rattle.std.specs.Prelude.{◌≡◌, ℕ, Bool, List, length, IfOk};
+ghost use Rattle.std.specs.Prelude.{◌≡◌, length, IfOk};
 ghost use Rattle.zk_model.specs.Files.{AreParams};
-ghost use Rattle.zk_model.specs.Statement.{circuit_statement};
-ghost use Rattle.session_core.specs.Jobs.{AreValues};
 
 use crate::scenario::{Dealing, Scenario};
 use anyhow::{Error, Result};
-use bool_eval::{eval, eval_wires};
+use bool_eval::{EvalFault, eval};
 use bristol_reader::Circuit;
 use command_words::read_bits;
-use session_core::wire_bits_are_values;
+use mersenne_field::Fe;
+use session_core::elements_of;
 use std::alloc::{AllocError, Global};
 use zk_model::{Kind, MAX_BASE, MAX_DEALT_UNITS, MAX_HEIGHT, MAX_TREES, Params};
 
@@ -59,15 +58,17 @@ pub fn claimed_outputs(
     Ok(outputs)
 }
 
-/// The bits of all wires of a circuit, which are values of every claim about it.
-pub fn wires_of(alloc: Global, circuit: &Circuit, bits: &[bool]) -> Result<Vec<bool>>
-    ensures { IfOk result (λ wires. (digest : List ℕ) (outputs : List Bool)
-        → AreValues (circuit_statement circuit.now digest outputs) wires.items) }
+/// The values of a circuit's inputs, of which these are the bits.
+pub fn input_values(alloc: Global, circuit: &Circuit, bits: &[bool]) -> Result<Vec<Fe>>
+    ensures { IfOk result (λ inputs. length inputs.items ≡ circuit.now.inputs) }
 {
-    wire_bits_are_values();
-    let _wires = circuit.wires();
-    let wires = eval_wires(alloc, circuit, bits)?;
-    Ok(wires)
+    let need = circuit.inputs();
+    let got = bits.len();
+    if need != got {
+        return Err(Error::from(EvalFault::WrongLength { need, got }));
+    }
+    let inputs = elements_of(alloc, bits)?;
+    Ok(inputs)
 }
 
 /// What the files of a scenario are dealt for.

@@ -9,7 +9,7 @@ use crate::program_ends::{Claimed, proof_lines, service_lines};
 use crate::runs::words_line;
 use crate::say::{Asked, Called, Ending, Judged, Logged, Units, prover_ending, verifier_ending};
 use crate::scenario::{End, Numbers, Scenario, Sweep};
-use crate::scene::{claimed_outputs, input_bits, params_of, wires_of};
+use crate::scene::{claimed_outputs, input_bits, input_values, params_of};
 use crate::units::{AskedUnits, NextUnits, claim_fault, lease_fault};
 use anyhow::{Error, Result};
 use bristol_reader::{Circuit, read};
@@ -380,12 +380,12 @@ fn circuit_lines<R: Threads + Wait + Sync>(
     requires { AreBytes 32 digest }
 {
     let bits = input_bits(alloc, circuit, scenario.bits)?;
-    let wires = wires_of(alloc, circuit, &bits)?;
+    let inputs = input_values(alloc, circuit, &bits)?;
     let outputs = claimed_outputs(alloc, circuit, scenario.outputs, &bits)?;
-    let claim = CircuitClaim::new(alloc, circuit, digest, &outputs)?;
+    let claim = CircuitClaim::new(alloc, circuit, digest, &[], &outputs)?;
     let statement = claim.statement();
     let (prover_file, verifier_file) = deal(alloc, &params_of(scenario)?, &SEED)?;
-    let prover = ProverJob::new(&statement, &prover_file, &wires);
+    let prover = ProverJob::new(&statement, &prover_file, &inputs);
     let section = section_of(scenario)?;
     let claimed = Claimed {
         scenario,
@@ -418,7 +418,7 @@ fn rehearsal_line(alloc: Global, scenario: &Scenario<'_>, circuit: Circuit) -> R
     let section = section_of(scenario)?;
     let bits = input_bits(alloc, &circuit, scenario.bits)?;
     let kind = params_of(scenario)?.kind;
-    let rehearsal = rehearse(alloc, circuit, &bits, kind, section, &SEED)?;
+    let rehearsal = rehearse(alloc, circuit, &[], &bits, kind, section, &SEED)?;
     let judged = Judged {
         verdict: rehearsal.verdict,
     };

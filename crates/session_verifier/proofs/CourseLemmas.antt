@@ -4,7 +4,8 @@ use Rattle.zk_model.specs.Field.{IsElement, from_word}
 use Rattle.zk_model.specs.Program.{section_count}
 use Rattle.zk_model.specs.Statement.{IsStatement}
 use Rattle.zk_model.specs.Files.{IsVerifierFile}
-use Rattle.zk_model.specs.Transcript.{Grant, Transcript, IsGrant, IsHello, BeginsWith, wanted_hello, hello_frame, ask_frame, sums_frame, openings_frame, verdict_frame, refuse_frame, bytes_from, turn_bytes, sent_by, spelling}
+use Rattle.frame_laws.proofs.Hellos.{fitting_is_hello}
+use Rattle.zk_model.specs.Transcript.{Grant, Transcript, IsGrant, IsHello, BeginsWith, hello_frame, ask_frame, sums_frame, openings_frame, verdict_frame, refuse_frame, bytes_from, turn_bytes, sent_by, spelling}
 use Rattle.zk_model.specs.Frames.{hello}
 use Rattle.zk_model.specs.declared.Expect.{Expect}
 use Rattle.zk_model.specs.declared.Expect.TheVariants as expect
@@ -31,7 +32,7 @@ use Rattle.session_core.proofs.Served.{AreRanged, served_is}
 use Rattle.frame_link.specs.Lines.{LinkSnapshot, IsCutShort}
 use Rattle.session_verifier.proofs.StageLemmas.{sent_answered}
 use Rattle.session_verifier.specs.Outcomes.{lease_outcome, lease_code, judgement_outcome}
-use Rattle.session_verifier.specs.Stages.{StopCause, StartsAt, IsStopped, StopsBehind, IsSent, IsFault, SendsUpTo, IsNoLink, CountsOutcome, IsLogAt, IsWholeHello, IsRefusalTried, IsRefusalSent, IsRefusalUnsent, IsRefusedGrant, IsGrantUnsent, LacksTheGrant, RefusesHello, IsWaiting, IsJudgedLog, IsCourse, first_turn, second_turn}
+use Rattle.session_verifier.specs.Stages.{Greeting, IsGreeted, StopCause, StartsAt, IsStopped, StopsBehind, IsSent, IsFault, SendsUpTo, IsNoLink, CountsOutcome, IsLogAt, IsWholeHello, IsRefusalTried, IsRefusalSent, IsRefusalUnsent, IsRefusedGrant, IsGrantUnsent, LacksTheGrant, RefusesHello, IsWaiting, IsJudgedLog, IsCourse, first_turn, second_turn}
 use Rattle.session_pool.specs.Notes.{granted_by}
 use Rattle.session_verifier.specs.Notes.{IsJudgedSession, JudgesRightly, IsShown, HasJudged, LacksMemory, RefusesNoLease, EndsBecause, LeasesBehindHello, Refuses, CountsFaults, ReceivesFew}
 use Rattle.session_verifier.specs.declared.note.VerifierOutcome.{VerifierOutcome}
@@ -174,7 +175,7 @@ pub judged_session : (job : VerifierJob) (span : Span) (granted : Option Span) (
     → IsJudgedLog job span.start judgement log → IsJudgedSession job granted judgement log
 judged_session job span granted judgement log known leased logged =
     let grant = grant_is job span.start known.is logged.within in
-    let t : Transcript = session_transcript job span.start logged.rounds logged.corrections logged.sums logged.openings (verdict_in judgement) in
+    let t : Transcript = session_transcript job logged.greeting.hello span.start logged.rounds logged.corrections logged.sums logged.openings (verdict_in judgement) in
     let ranged : AreRanged job span.start logged.corrections logged.sums logged.openings (verdict_in judgement) = record {
       corrections = logged.elements;
       challenge = coin_is_element _;
@@ -187,7 +188,7 @@ judged_session job span granted judgement log known leased logged =
       leased = leased;
       t = t;
       grant = refl;
-      served = served_is job span.start logged.rounds logged.corrections logged.sums logged.openings judgement log known.stated known.file known.is grant logged.served ranged
+      served = served_is job logged.greeting.hello span.start logged.rounds logged.corrections logged.sums logged.openings judgement log known.stated known.file known.is logged.greeting.fits grant logged.served ranged
           logged.judged logged.spelled;
       found = logged.judged;
     }
@@ -279,7 +280,7 @@ pub hello_sent : (job : VerifierJob) (stage : Expect) (rest : List ℕ) (outcome
 hello_sent job stage rest outcome first mid (inl sent) = sent.0
 hello_sent job stage rest outcome first mid (inr unsent) =
     let answer = unsent.1.1 in
-    absurd (omega (arith, answer.at_least_one, ap length answer.answers.1))
+    absurd (omega (arith, answer.at_least_one, ap length answer.answers.3))
 
 -- all bytes are the prover's
 pub none_answered : (log : List (Side × ℕ)) (rest : List ℕ) → log ≡ bytes_from Prover rest → sent_by Verifier log ≡ []
@@ -340,7 +341,7 @@ counts_refused : (job : VerifierJob) (code : ℕ) (outcome : VerifierOutcome) (f
     → CountsFaults outcome first now
 counts_refused job code outcome first now refuses is =
     counts_refusal code outcome first is.mid now refuses is.waiting.faults is.waiting.sent.sends
-    (none_answered is.mid.log (hello_frame (wanted_hello job.task.file.id job.task.statement)) is.waiting.log) is.refused
+    (none_answered is.mid.log (hello_frame is.waiting.log.greeting.hello) is.waiting.log.bytes) is.refused
 
 lease_refuses : (fault : LeaseFault) → Refuses (lease_outcome fault)
 lease_refuses (lease.Exhausted at count total) = tt
@@ -422,7 +423,7 @@ unmet_cause job NoMemory first mid now stopped (inl refused) =
       inr (inl (record {
         hello = refused.0.0;
         is = refused.0.1;
-        wanted = tt;
+        fits = tt;
         mid = mid;
         came = hello_bytes job NoMemory first mid stopped ∙ ap (bytes_from Prover) refused.0.2;
         told = sent.told;
@@ -471,10 +472,10 @@ judged_cause job answer judged.Accepted first now is = is
 judged_cause job answer (judged.RejectedSum section left right) first now is = is
 judged_cause job answer (judged.RejectedOpening output left right) first now is = is
 
--- the wanted hello is one
-pub wanted_is_hello : (job : VerifierJob) → IsKnown job → IsHello (wanted_hello job.task.file.id job.task.statement)
-wanted_is_hello job known =
-    record { id = known.file.id; circuit = known.stated.circuit; outputs = known.stated.outputs; version = known.stated.version }
+-- a hello for the job's file and statement is one
+pub greeting_is_hello : (job : VerifierJob) → IsKnown job → (greeting : Greeting job) → IsHello greeting.hello
+greeting_is_hello job known greeting =
+    fitting_is_hello job.task.file.id job.task.statement greeting.hello known.file.id known.stated greeting.fits
 
 unsent_cause : (job : VerifierJob) (span : Span) (outcome : VerifierOutcome) (first now : LinkSnapshot) → IsFault outcome → IsGrantUnsent job span.start outcome first now
     → EndsBecause job (Some (Ok span)) outcome first now
@@ -497,11 +498,11 @@ lacking_cause job span outcome first now known (inl lacks) =
     subst (λ o. EndsBecause job (Some (Ok span)) o first now) (sym lacks.0) (
       leased_is_not_refused span,
       inr (inl (record {
-        hello = wanted_hello job.task.file.id job.task.statement;
-        is = wanted_is_hello job known;
-        wanted = refl;
+        hello = is.waiting.log.greeting.hello;
+        is = greeting_is_hello job known is.waiting.log.greeting;
+        fits = is.waiting.log.greeting.fits;
         mid = is.mid;
-        came = is.waiting.log;
+        came = is.waiting.log.bytes;
         told = is.waiting.sent.told;
         unsent = is.waiting.sent.sends;
         unfailed = is.waiting.faults;
@@ -540,29 +541,41 @@ begins_first turn turns more log is =
 begins_before : (log more now front : List (Side × ℕ)) → now ≡ log ++ more → BeginsWith log front → BeginsWith now front
 begins_before log more now front is begun = (begun.0 ++ more, is ∙ ap (λ l. l ++ more) begun.1 ∙ append_assoc front begun.0 more)
 
+-- a log begins with a hello for the job's file and statement
+abbrev BeginsGreeted : VerifierJob → List (Side × ℕ) → Type 0
+BeginsGreeted job log = (greeting : Greeting job) × BeginsWith log (bytes_from Prover (hello_frame greeting.hello))
+
 begins_at : (job : VerifierJob) (start : ℕ) (stage : VerifierStage) (log : List (Side × ℕ)) → StartsAt start stage → IsLogAt job stage log
-    → BeginsWith log (bytes_from Prover (hello_frame (wanted_hello job.task.file.id job.task.statement)))
+    → BeginsGreeted job log
 begins_at job start awaits_hello log starts at = absurd starts
 begins_at job start owes_grant log starts at = absurd starts
-begins_at job start (awaits_asks begun asked) log starts at = begins_first (first_turn job begun) [] (bytes_from Prover (flat_map ask_frame asked)) log at.2
-begins_at job start (awaits_corrections begun) log starts at = begins_first (first_turn job begun) (round_turns at.rounds) [] log at.spelled
-begins_at job start (awaits_sums begun d) log starts at = begins_first (first_turn job begun) (round_turns at.1.rounds) (turn_bytes (second_turn job begun d ∷ [])) log at.1.spelled
-begins_at job start (awaits_openings begun d both) log starts at = begins_first (first_turn job begun) (round_turns at.2.rounds)
-    (turn_bytes (second_turn job begun d ∷ []) ++ bytes_from Prover (sums_frame both)) log at.2.spelled
+begins_at job start (awaits_asks begun asked) log starts at =
+    (at.greeting, begins_first (first_turn job at.greeting begun) [] (bytes_from Prover (flat_map ask_frame asked)) log at.spelled)
+begins_at job start (awaits_corrections begun) log starts at =
+    (at.greeting, begins_first (first_turn job at.greeting begun) (round_turns at.rounds) [] log at.spelled)
+begins_at job start (awaits_sums begun d) log starts at = (
+  at.1.greeting,
+  begins_first (first_turn job at.1.greeting begun) (round_turns at.1.rounds) (turn_bytes (second_turn job begun d ∷ [])) log at.1.spelled,
+)
+begins_at job start (awaits_openings begun d both) log starts at = (
+  at.2.greeting,
+  begins_first (first_turn job at.2.greeting begun) (round_turns at.2.rounds)
+      (turn_bytes (second_turn job begun d ∷ []) ++ bytes_from Prover (sums_frame both)) log at.2.spelled,
+)
 begins_at job start (has_judged begun judgement) log starts at = absurd starts
 begins_at job start has_refused log starts at = absurd starts
 
-begins_alone : (job : VerifierJob) (mid now : LinkSnapshot) → mid.log ≡ bytes_from Prover (hello_frame (wanted_hello job.task.file.id job.task.statement)) → IsAfter mid now
-    → BeginsWith now.log (bytes_from Prover (hello_frame (wanted_hello job.task.file.id job.task.statement)))
-begins_alone job mid now log is =
-    let front = bytes_from Prover (hello_frame (wanted_hello job.task.file.id job.task.statement)) in
-    begins_before mid.log (bytes_from Verifier is.answer) now.log front is.log ([], log ∙ sym (append-nil front))
+begins_alone : (job : VerifierJob) (mid now : LinkSnapshot) → IsGreeted job mid.log → IsAfter mid now → BeginsGreeted job now.log
+begins_alone job mid now at is =
+    let front = bytes_from Prover (hello_frame at.greeting.hello) in
+    (at.greeting, begins_before mid.log (bytes_from Verifier is.answer) now.log front is.log ([], at.bytes ∙ sym (append-nil front)))
 
 begins_lacking : (job : VerifierJob) (start : ℕ) (outcome : VerifierOutcome) (first now : LinkSnapshot) → LacksTheGrant job start outcome first now
-    → BeginsWith now.log (bytes_from Prover (hello_frame (wanted_hello job.task.file.id job.task.statement)))
+    → BeginsGreeted job now.log
 begins_lacking job start outcome first now (inl lacks) =
     begins_alone job lacks.1.mid now lacks.1.waiting.log (refused_after 4 lacks.1.mid now lacks.1.refused)
-begins_lacking job start outcome first now (inr unsent) = ([], unsent.log ∙ sym (append-nil (bytes_from Prover (hello_frame (wanted_hello job.task.file.id job.task.statement)))))
+begins_lacking job start outcome first now (inr unsent) =
+    (unsent.log.greeting, ([], unsent.log.bytes ∙ sym (append-nil (bytes_from Prover (hello_frame unsent.log.greeting.hello)))))
 
 pub leases_behind : (job : VerifierJob) (answer : Option (Result Span LeaseFault)) (granted : Option Span) (outcome : VerifierOutcome) (first now : LinkSnapshot)
     → IsCourse job answer granted outcome first now → LeasesBehindHello job answer now.log
@@ -574,18 +587,20 @@ leases_behind job (Some (Ok span)) granted outcome first now course = by_course 
   where
     by_course : (LacksTheGrant job span.start outcome first now ⊎ StopsBehind job span.start outcome first now
         ⊎ ((other : Judgement) × (outcome ≡ judgement_outcome other) × IsWaiting job (has_judged span.start other) first now))
-        → BeginsWith now.log (bytes_from Prover (hello_frame (wanted_hello job.task.file.id job.task.statement)))
+        → BeginsGreeted job now.log
     by_course (inl lacks) = begins_lacking job span.start outcome first now lacks
     by_course (inr (inl stops)) =
         let stopped = stops.stopped in
-        begins_before stopped.before (bytes_from Prover stopped.rest) now.log (bytes_from Prover (hello_frame (wanted_hello job.task.file.id job.task.statement))) stopped.log
-        (begins_at job span.start stops.stage stopped.before stops.behind stopped.waited)
+        let begun = begins_at job span.start stops.stage stopped.before stops.behind stopped.waited in
+        (begun.0, begins_before stopped.before (bytes_from Prover stopped.rest) now.log (bytes_from Prover (hello_frame begun.0.hello)) stopped.log begun.1)
     by_course (inr (inr found)) =
         let is = found.2.log in
-        let t = session_transcript job span.start is.rounds is.corrections is.sums is.openings (verdict_in found.0) in
-        begins_first (first_turn job span.start)
-        (round_turns is.rounds ++ second_turn job span.start is.corrections ∷ (sums_frame t.sums ++ openings_frame t.openings, verdict_frame t.code t.number) ∷ [])
-        [] now.log (is.spelled ∙ sym (append-nil (spelling t)))
+        let t = session_transcript job is.greeting.hello span.start is.rounds is.corrections is.sums is.openings (verdict_in found.0) in (
+          is.greeting,
+          begins_first (first_turn job is.greeting span.start)
+              (round_turns is.rounds ++ second_turn job span.start is.corrections ∷ (sums_frame t.sums ++ openings_frame t.openings, verdict_frame t.code t.number) ∷ [])
+              [] now.log (is.spelled ∙ sym (append-nil (spelling t))),
+        )
 
 -- ---- what an accepted session shows
 

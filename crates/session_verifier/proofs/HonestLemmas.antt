@@ -7,7 +7,10 @@ use Rattle.std.proofs.lemmas.List.Elements.{All-take}
 use Rattle.zk_model.specs.Program.{section_count}
 use Rattle.zk_model.specs.Statement.{Statement}
 use Rattle.zk_model.specs.Files.{rounds_of}
-use Rattle.zk_model.specs.Transcript.{Hello, Grant, TreeAsk, Round, Commitment, Transcript, IsRound, IsTranscript, BeginsWith, wanted_hello, hello_frame, ask_frame, corrections_frame, challenge_frame, sums_frame, openings_frame, verdict_frame, refuse_frame, bytes_from, sent_by, setup_turns}
+use Rattle.frame_laws.proofs.Hellos.{wanted_fits, wanted_is_hello}
+use Rattle.proof_frames.proofs.Decoding.{grows}
+use Rattle.proof_frames.proofs.Lengths.{whole_length}
+use Rattle.zk_model.specs.Transcript.{Hello, Grant, TreeAsk, Round, Commitment, Transcript, IsHello, IsHelloFor, IsRound, IsTranscript, BeginsWith, wanted_hello, hello_frame, ask_frame, corrections_frame, challenge_frame, sums_frame, openings_frame, verdict_frame, refuse_frame, bytes_from, sent_by, setup_turns}
 use Rattle.zk_model.specs.Frames.{Frame, hello, asks, corrections, sums, openings, frame_spelling, frame_length, Allows, AreAsks, AreElements, AreSums, CanGoOn}
 use Rattle.zk_model.specs.HonestProver.{ProverTask, SentAfter, AreHonestBytes}
 use Rattle.zk_model.specs.View.{verdict_code}
@@ -33,15 +36,16 @@ use Rattle.session_core.specs.Judgements.{verdict_in}
 use Rattle.session_core.specs.Cores.{VerifierStage, AreAsksSoFar, awaits_hello, owes_grant, awaits_asks, awaits_corrections, awaits_sums, awaits_openings, has_judged, has_refused, verifier_expects, DiffersFirst}
 use Rattle.session_core.specs.declared.judgement.Judgement.{Judgement}
 use Rattle.session_core.specs.declared.fault.HelloDiffers.{HelloDiffers}
-use Rattle.session_core.specs.declared.fault.HelloDiffers.TheVariants.{Id, Circuit, Outputs, Version}
+use Rattle.session_core.specs.declared.fault.HelloDiffers.TheVariants as differs
 use Rattle.session_verifier.specs.Outcomes.{judgement_outcome}
 use Rattle.frame_link.specs.Lines.{LinkSnapshot}
 use Rattle.session_verifier.specs.Stages.{StopCause, StartsAt, IsStopped, StopsBehind, IsFault, IsRefusalTried, IsRefusalSent, IsRefusalUnsent, LacksTheGrant, RefusesHello, IsWaiting, IsUnmet, IsCourse}
 use Rattle.session_verifier.specs.Notes.{IsPeerEnd, HasHonestPeer, Completes}
-use Rattle.session_verifier.proofs.StageLemmas.{one_expected, few_of, hello_in}
+use Rattle.session_verifier.proofs.StageLemmas.{one_expected, few_of}
+use Rattle.session_verifier.proofs.StopLemmas.{hello_in}
 use Rattle.session_verifier.proofs.CourseLemmas.{IsKnown, judged_session}
 use Rattle.session_verifier.proofs.RoundLemmas.{ask_length, asks_length}
-use Rattle.session_verifier.proofs.ServedLemmas.{IsCutOf, cut_of_stop, in_next, in_last, cut_asks, cut_corrections, cut_sums, cut_openings, hello_length, length_corrections, length_sums, length_openings, accepted_judgement}
+use Rattle.session_verifier.proofs.ServedLemmas.{IsCutOf, cut_of_stop, in_next, in_last, cut_asks, cut_corrections, cut_sums, cut_openings, length_corrections, length_sums, length_openings, accepted_judgement}
 use Rattle.session_verifier.specs.declared.note.VerifierOutcome.{VerifierOutcome}
 use Rattle.session_verifier.specs.declared.note.VerifierOutcome.TheVariants.{Accepted, RejectedSum, RejectedOpening, PeerEnded, BadFrame, BadHello, Exhausted, Device, Broken, Link, NoMemory}
 
@@ -55,7 +59,7 @@ record IsBegun (stage : Expect) (outcome : VerifierOutcome) (rest : List ℕ) : 
   begun : BeginsWith (frame_spelling frame ++ more) rest
   whole : IsPeerEnd outcome → length (frame_spelling frame) ≤ length rest
   most : length rest ≤ length (frame_spelling frame)
-  sized : frame_length stage rest ≡ length (frame_spelling frame)
+  sized : frame_length stage rest ≤ length (frame_spelling frame)
 
 -- so the frame can go on after any of them
 goes : (stage : Expect) (outcome : VerifierOutcome) (rest : List ℕ) → IsBegun stage outcome rest → (n : ℕ) → n ≤ length rest → CanGoOn stage (take n rest)
@@ -109,12 +113,13 @@ hello_alone : (prover : ProverTask) (received sent : List ℕ) (turns : ℕ) →
 hello_alone prover received sent zero other after = after
 hello_alone prover received sent (suc n) other after = absurd (other (ap (λ (l : List ℕ). get_or l 0 0) after.4.1))
 
--- no hello differs from itself
-never_differs : (wanted other : Hello) (differs : HelloDiffers) → other ≡ wanted → DiffersFirst wanted other differs → ⊥
-never_differs wanted other (Id want got) same first = first.2 (first.0 ∙ sym (ap (λ (h : Hello). h.id) same) ∙ sym first.1)
-never_differs wanted other (Circuit want got) same first = first.3 (first.1 ∙ sym (ap (λ (h : Hello). h.circuit) same) ∙ sym first.2)
-never_differs wanted other (Outputs want got) same first = first.4 (first.2 ∙ sym (ap (λ (h : Hello). h.outputs) same) ∙ sym first.3)
-never_differs wanted other (Version want got) same first = first.5 (first.3 ∙ sym (ap (λ (h : Hello). h.version) same) ∙ sym first.4)
+-- no hello for a statement differs
+never_differs : (id : List ℕ) (statement : Statement) (other : Hello) (differs : HelloDiffers) → IsHelloFor id statement other
+    → DiffersFirst id statement other differs → ⊥
+never_differs id statement other (differs.Id want got) fits first = first.2 (first.0 ∙ sym fits.id ∙ sym first.1)
+never_differs id statement other (differs.Version want got) fits first = first.3 (first.1 ∙ sym fits.version ∙ sym first.2)
+never_differs id statement other (differs.Statement want got) fits first =
+    first.4 (first.2 ∙ (λ i. record { circuit = sym fits.circuit i; outputs = sym fits.outputs i; public = sym fits.public i }) ∙ sym first.3)
 
 -- what a refusal, or nothing, stands after the hello's bytes
 record IsBehindHello (rest : List ℕ) (log : List (Side × ℕ)) : Type 0 where
@@ -141,35 +146,38 @@ sent_hello job prover rest sent log both behind bytes =
     ∙ (λ i. hello_frame (wanted_hello (both.dealt.id i) (both.statement i)))
 
 hello_begun : (job : VerifierJob) (prover : ProverTask) (outcome : VerifierOutcome) (rest : List ℕ) (log : List (Side × ℕ)) → IsKnown job
-    → HasHonestPeer job prover outcome log → IsBehindHello rest log → length rest ≤ 102 → IsBegun expect.Hello outcome rest
-hello_begun job prover outcome rest log known peer behind most =
+    → HasHonestPeer job prover outcome log → IsBehindHello rest log → IsBegun expect.Hello outcome rest
+hello_begun job prover outcome rest log known peer behind =
     let wanted = wanted_hello job.task.file.id job.task.statement in
+    let is : IsHello wanted = wanted_is_hello job.task.file.id job.task.statement known.file.id known.stated in
     let honest = peer.honest in
     let came = of_prover rest log behind in
+    let begun : hello_frame wanted ≡ rest ++ honest.2.0 =
+    sym (sent_hello job prover rest honest.0 log peer.counterparts behind honest.1) ∙ honest.2.1 ∙ ap (λ l. l ++ honest.2.0) came in
+    let whole : length (hello_frame wanted) ≡ frame_length expect.Hello (hello_frame wanted) =
+    whole_length expect.Hello (hello_frame wanted) (hello wanted) (record { allowed = (wanted, refl, is); spelled = refl }) in
     record {
       frame = hello wanted;
-      allowed = (wanted, refl, record { id = known.file.id; circuit = known.stated.circuit; outputs = known.stated.outputs; version = known.stated.version });
+      allowed = (wanted, refl, is);
       more = [];
-      begun = (
-        honest.2.0,
-        append-nil (hello_frame wanted) ∙ sym (sent_hello job prover rest honest.0 log peer.counterparts behind honest.1)
-            ∙ honest.2.1 ∙ ap (λ l. l ++ honest.2.0) came,
-      );
+      begun = (honest.2.0, append-nil (hello_frame wanted) ∙ begun);
       whole = λ ended. let same = ap length (sym came ∙ sent_hello job prover rest (sent_by Prover log) log peer.counterparts behind (peer.ended ended)) in omega (arith, same);
-      most = omega (arith, hello_length job known, most);
-      sized = sym (hello_length job known);
+      most = omega (arith, ap length begun, length-append rest honest.2.0);
+      sized = omega (arith, whole, ap (frame_length expect.Hello) begun, grows expect.Hello rest honest.2.0);
     }
 
 -- ... and a whole one is not refused
 hello_is_met : (job : VerifierJob) (outcome : VerifierOutcome) (rest : List ℕ) (first now : LinkSnapshot) (differs : HelloDiffers) → NoneBeginsAnother
-    → (is : IsBegun expect.Hello outcome rest) → is.frame ≡ hello (wanted_hello job.task.file.id job.task.statement) → is.more ≡ []
+    → IsKnown job → (is : IsBegun expect.Hello outcome rest) → is.frame ≡ hello (wanted_hello job.task.file.id job.task.statement) → is.more ≡ []
     → StopCause job awaits_hello rest first now (BadHello differs) → ⊥
-hello_is_met job outcome rest first now differs law is wanted nothing cause =
+hello_is_met job outcome rest first now differs law known is wanted nothing cause =
     let other = cause.1.0 in
     let begun : frame_spelling is.frame ≡ hello_frame other ++ is.begun.0 =
     sym (append-nil (frame_spelling is.frame)) ∙ ap (λ l. frame_spelling is.frame ++ l) (sym nothing) ∙ is.begun.1 ∙ ap (λ l. l ++ is.begun.0) cause.1.2 in
     let same : is.frame ≡ hello other = law expect.Hello is.frame (hello other) is.allowed (other, refl, cause.1.1) (is.begun.0, begun) in
-    never_differs (wanted_hello job.task.file.id job.task.statement) other differs (ap (hello_in other) (sym same ∙ wanted)) cause.1.3
+    let fits = subst (IsHelloFor job.task.file.id job.task.statement) (sym (ap (hello_in other) (sym same ∙ wanted)))
+    (wanted_fits job.task.file.id job.task.statement known.stated) in
+    never_differs job.task.file.id job.task.statement other differs fits cause.1.3
 
 -- whether an outcome is that the hello differs
 abbrev IsBadHello : VerifierOutcome → Type 0
@@ -209,7 +217,7 @@ unmet_completes job outcome prover first now law known unmet peer rose = by outc
           bytes = ap (λ (m : LinkSnapshot). m.log) same ∙ bytes other stopped ∙ sym (append-nil (bytes_from Prover stopped.rest));
         } in
         goes_on job awaits_hello stopped.rest first mid other expect.Hello refl
-        (hello_begun job prover other stopped.rest now.log known peer behind (few_of job awaits_hello other first mid stopped expect.Hello refl))
+        (hello_begun job prover other stopped.rest now.log known peer behind)
         (λ differs is cause. absurd (unlike differs is)) (λ more. rose (subst (λ (m : LinkSnapshot). Rose first.faults m.faults) (sym same) more)) stopped.cause
 
     differing : (differs : HelloDiffers) → IsStopped job awaits_hello (BadHello differs) first mid → IsRefusalTried 1 mid now
@@ -217,8 +225,8 @@ unmet_completes job outcome prover first now law known unmet peer rose = by outc
     differing differs stopped refused peer = either refused.sent
       where
         met : IsBehindHello stopped.rest now.log → ⊥
-        met behind = hello_is_met job (BadHello differs) stopped.rest first mid differs law
-            (hello_begun job prover (BadHello differs) stopped.rest now.log known peer behind (few_of job awaits_hello (BadHello differs) first mid stopped expect.Hello refl)) refl refl stopped.cause
+        met behind = hello_is_met job (BadHello differs) stopped.rest first mid differs law known
+            (hello_begun job prover (BadHello differs) stopped.rest now.log known peer behind) refl refl stopped.cause
 
         either : (IsRefusalSent 1 mid now ⊎ IsRefusalUnsent 1 mid now) → ⊥
         either (inl sent) = met (record {
@@ -393,7 +401,7 @@ asks_begun job start asked outcome rest left so said few = record {
       ap (λ k. k + length rest) (sym before) ∙ sym (length-append (flat_map ask_frame asked) rest) ∙ ap length last.2 ∙ asks_long job last.0 spoken in
       subst (λ k. k ≤ length rest) (sym sized) (one_left n (units_of_job job) per (length rest) so.more same);
   most = subst (λ k. length rest ≤ k) (sym sized) few;
-  sized = sym sized;
+  sized = omega (arith, sized);
 }
   where
     n : ℕ
@@ -527,7 +535,7 @@ behind_completes : (job : VerifierJob) (start : ℕ) (stage : VerifierStage) (pr
 behind_completes job start (awaits_asks begun asked) prover outcome first now ranges law turn ends known starts stopped peer rose =
     let stage = expect.Ask job.task.file.params.height job.task.file.params.trees (units_of_job job - length asked) in
     goes_on job (awaits_asks begun asked) stopped.rest first now outcome stage refl
-    (asks_begun job begun asked outcome stopped.rest (units_of_job job - length asked) stopped.waited.1
+    (asks_begun job begun asked outcome stopped.rest (units_of_job job - length asked) stopped.waited.so_far
     (honest_said job begun 1 (flat_map ask_frame asked ++ stopped.rest) prover outcome now.log turn ends known peer
     (cut_asks job begun asked stopped.rest now.log ranges law known (cut_of_stop job (awaits_asks begun asked) outcome first now stopped)))
     (few_of job (awaits_asks begun asked) outcome first now stopped stage refl))

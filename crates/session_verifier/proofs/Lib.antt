@@ -1,6 +1,7 @@
 pub mod RoundLemmas
 pub mod StageLemmas
-pub mod AskLemmas
+pub mod StopLemmas
+pub mod ServeLemmas
 pub mod CourseLemmas
 pub mod ServedLemmas
 pub mod HonestLemmas

@@ -6,7 +6,7 @@ use Rattle.std.proofs.lemmas.List.{nil_from_length}
 use Rattle.std.proofs.lemmas.List.Elements.{All-nil, All-from_recursion}
 use Rattle.zk_model.specs.Program.{Program}
 use Rattle.zk_model.specs.Files.{AreParams, rounds_of}
-use Rattle.zk_model.specs.Transcript.{Hello, Grant, TreeReply, Round, Setup, Transcript, IsHello, IsGrant, IsRound, IsSetup, IsTranscript, BeginsWith, wanted_hello, hello_frame, grant_frame, ask_frame, reply_frame, corrections_frame, challenge_frame, sums_frame, openings_frame, verdict_frame, refuse_frame, bytes_from, turn_bytes, setup_turns, session_turns, sent_by, spelling}
+use Rattle.zk_model.specs.Transcript.{Hello, Grant, TreeReply, Round, Setup, Transcript, IsHello, IsGrant, IsRound, IsSetup, IsTranscript, BeginsWith, hello_frame, grant_frame, ask_frame, reply_frame, corrections_frame, challenge_frame, sums_frame, openings_frame, verdict_frame, refuse_frame, bytes_from, turn_bytes, setup_turns, session_turns, sent_by, spelling}
 use Rattle.zk_model.specs.ServedVerifier.{RepliesAre, IsCutInTurn, ServesWith, round_replies}
 use Rattle.zk_model.specs.declared.Kind.TheVariants.{Direct, Extended}
 use Rattle.zk_model.specs.declared.Params.{Params}
@@ -23,7 +23,7 @@ use Rattle.session_laws.proofs.Followed.{same_asks}
 use Rattle.session_core.specs.Jobs.{VerifierJob, granted_from}
 use Rattle.session_verifier.specs.Notes.{IsUngranted, SendsRightly, KeepsKeys, refusal_of}
 use Rattle.session_verifier.proofs.RoundLemmas.{either_kind}
-use Rattle.session_verifier.proofs.ServedLemmas.{hello_length}
+use Rattle.session_verifier.proofs.ServedLemmas.{greeting_most}
 use Rattle.session_verifier.proofs.CourseLemmas.{IsKnown}
 use Rattle.session_verifier.specs.declared.note.VerifierOutcome.{VerifierOutcome}
 use Rattle.session_verifier.specs.declared.note.VerifierOutcome.TheVariants.{NoMemory}
@@ -235,11 +235,11 @@ told_replies job None outcome log setup known sends is begins extended = absurd 
 told_replies job (Some span) outcome log setup known (inl sends) is begins extended =
     served_replies job (granted_from job span.start) log setup known extended is begins sends
 told_replies job (Some span) outcome log setup known (inr refused) is begins extended = absurd (no_setup NoMemory log setup (record {
-  rest = hello_frame (wanted_hello job.task.file.id job.task.statement);
-  most = omega (arith, hello_length job known);
+  rest = hello_frame refused.1.0.hello;
+  most = greeting_most job known refused.1.0;
   answer = refuse_frame 4;
   refused = inr (4, refl, refl);
-  bytes = refused.1;
+  bytes = refused.1.1;
 }) begins)
 
 -- ---- the keys

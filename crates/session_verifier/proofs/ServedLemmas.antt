@@ -5,7 +5,7 @@ use Rattle.std.proofs.lemmas.List.{map-append, get_or-replicate, length-replicat
 use Rattle.zk_model.specs.Field.{IsElement}
 use Rattle.zk_model.specs.Program.{section_count}
 use Rattle.zk_model.specs.Files.{rounds_of}
-use Rattle.zk_model.specs.Transcript.{TreeAsk, Round, Setup, Commitment, Transcript, IsSetup, BeginsWith, wanted_hello, hello_frame, ask_frame, corrections_frame, sums_frame, openings_frame, verdict_frame, refuse_frame, bytes_from, turn_bytes, sent_by, session_turns, spelling}
+use Rattle.zk_model.specs.Transcript.{TreeAsk, Round, Setup, Commitment, Transcript, IsHello, IsSetup, BeginsWith, hello_frame, ask_frame, corrections_frame, sums_frame, openings_frame, verdict_frame, refuse_frame, bytes_from, turn_bytes, sent_by, session_turns, spelling}
 use Rattle.zk_model.specs.Frames.{AreElements}
 use Rattle.zk_model.specs.View.{verdict_code}
 use Rattle.zk_model.specs.ServedVerifier.{IsServed, IsAccepted, IsCutInTurn, ServesWith, challenge_coin}
@@ -19,6 +19,8 @@ use Rattle.session_laws.specs.Serving.{ServedSessionExists, HasServedSession}
 use Rattle.session_laws.specs.Cuts.{CutIsNotAccepted, VerdictIsSaid}
 use Rattle.session_laws.specs.Rounds.{RepliesAreInRange}
 use Rattle.session_laws.proofs.Sizes as sizes
+use Rattle.session_laws.proofs.Cut.{greeted, greeted_is}
+use Rattle.frame_laws.proofs.Hellos.{hello_most, long_hello, long_fits, fitting_is_hello, long_length}
 use Rattle.proof_frames.proofs.FrameLemmas.{length-elements, length-sums}
 use Rattle.lease_store.specs.declared.LeaseFault.{LeaseFault}
 use Rattle.lease_store.specs.declared.LeaseFault.TheVariants as lease
@@ -31,10 +33,10 @@ use Rattle.session_core.specs.declared.judgement.Judgement.TheVariants as judged
 use Rattle.session_verifier.specs.Outcomes.{judgement_outcome, lease_outcome, lease_code}
 use Rattle.session_verifier.proofs.RoundLemmas.{turns_append, some_rounds, asks_length}
 use Rattle.frame_link.specs.Lines.{LinkSnapshot, longest}
-use Rattle.session_verifier.specs.Stages.{first_turn, second_turn, StartsAt, IsLogAt, IsStopped, StopsBehind, IsRefusalTried, IsRefusalSent, IsRefusalUnsent, IsRefusedGrant, LacksTheGrant, RefusesHello, IsWaiting, IsCourse}
+use Rattle.session_verifier.specs.Stages.{Greeting, IsGreeted, first_turn, second_turn, StartsAt, IsLogAt, IsStopped, StopsBehind, IsRefusalTried, IsRefusalSent, IsRefusalUnsent, IsRefusedGrant, LacksTheGrant, RefusesHello, IsWaiting, IsCourse}
 use Rattle.session_verifier.specs.Notes.{IsUngranted, SendsRightly, AcceptsExactly, refusal_of, IsJudgedSession}
 use Rattle.session_verifier.proofs.StageLemmas.{few_of}
-use Rattle.session_verifier.proofs.CourseLemmas.{IsKnown, grant_is, judged_session, hello_bytes}
+use Rattle.session_verifier.proofs.CourseLemmas.{IsKnown, greeting_is_hello, grant_is, judged_session, hello_bytes}
 use Rattle.session_verifier.specs.declared.note.VerifierOutcome.{VerifierOutcome}
 use Rattle.session_verifier.specs.declared.note.VerifierOutcome.TheVariants.{Accepted, RejectedSum, RejectedOpening, PeerEnded, BadFrame, BadHello, Exhausted, Device, Broken, Link, NoMemory}
 
@@ -46,42 +48,41 @@ zeros count = record {
   ranged = λ k d below. subst IsElement (sym (get_or-replicate count k 0 d (omega (arith, below, length-replicate {A = ℕ} count 0)))) (omega arith);
 }
 
-abbrev pub setup_of : VerifierJob → ℕ → List Round → Setup
-setup_of job start rounds =
-    record { hello = wanted_hello job.task.file.id job.task.statement; grant = granted_from job start; rounds = rounds }
+abbrev pub setup_of : (job : VerifierJob) → Greeting job → ℕ → List Round → Setup
+setup_of job greeting start rounds = record { hello = greeting.hello; grant = granted_from job start; rounds = rounds }
 
-pub setup_is : (job : VerifierJob) (start : ℕ) (rounds : List Round) → IsKnown job → start + units_of_job job ≤ job.task.file.params.total
+pub setup_is : (job : VerifierJob) (greeting : Greeting job) (start : ℕ) (rounds : List Round) → IsKnown job → start + units_of_job job ≤ job.task.file.params.total
     → AreServedRounds job.task.file (granted_from job start) rounds
-    → IsSetup job.task.file.params job.task.statement.program (setup_of job start rounds)
-setup_is job start rounds known within served = record {
-  hello = record { id = known.file.id; circuit = known.stated.circuit; outputs = known.stated.outputs; version = known.stated.version };
+    → IsSetup job.task.file.params job.task.statement.program (setup_of job greeting start rounds)
+setup_is job greeting start rounds known within served = record {
+  hello = greeting_is_hello job known greeting;
   grant = grant_is job start known.is within;
   round_count = served.count;
   rounds = served.ranged;
 }
 
-pub goes_further : (job : VerifierJob) (start : ℕ) (rounds : List Round) (d : List ℕ) → ServedSessionExists → IsKnown job
+pub goes_further : (job : VerifierJob) (greeting : Greeting job) (start : ℕ) (rounds : List Round) (d : List ℕ) → ServedSessionExists → IsKnown job
     → start + units_of_job job ≤ job.task.file.params.total → AreServedRounds job.task.file (granted_from job start) rounds
-    → AreElements job.task.statement.program.givens d → HasServedSession job.task (setup_of job start rounds) d
-goes_further job start rounds d law known within served elements =
-    law job.task (setup_of job start rounds) d known.file known.stated (setup_is job start rounds known within served) refl served.replies elements
+    → AreElements job.task.statement.program.givens d → HasServedSession job.task (setup_of job greeting start rounds) d
+goes_further job greeting start rounds d law known within served elements =
+    law job.task (setup_of job greeting start rounds) d known.file known.stated (setup_is job greeting start rounds known within served) greeting.fits served.replies elements
 
 -- its turns
-abbrev pub front_of : VerifierJob → ℕ → List Round → List (List ℕ × List ℕ)
-front_of job start rounds = first_turn job start ∷ round_turns rounds
+abbrev pub front_of : (job : VerifierJob) → Greeting job → ℕ → List Round → List (List ℕ × List ℕ)
+front_of job greeting start rounds = first_turn job greeting start ∷ round_turns rounds
 
 abbrev pub last_turn : Transcript → List ℕ × List ℕ
 last_turn t = (sums_frame t.sums ++ openings_frame t.openings, verdict_frame t.code t.number)
 
-pub turns_are : (job : VerifierJob) (start : ℕ) (rounds : List Round) (d : List ℕ) (s : HasServedSession job.task (setup_of job start rounds) d)
-    → session_turns s.t ≡ front_of job start rounds ++ second_turn job start d ∷ last_turn s.t ∷ []
-turns_are job start rounds d s =
+pub turns_are : (job : VerifierJob) (greeting : Greeting job) (start : ℕ) (rounds : List Round) (d : List ℕ) (s : HasServedSession job.task (setup_of job greeting start rounds) d)
+    → session_turns s.t ≡ front_of job greeting start rounds ++ second_turn job start d ∷ last_turn s.t ∷ []
+turns_are job greeting start rounds d s =
     let coin : s.t.challenge ≡ challenge_coin job.task.file start = s.served.challenge ∙ ap (λ (c : Commitment). challenge_coin job.task.file c.setup.grant.start) s.commitment in
     λ i. session_turns (record s.t { commitment = s.commitment i; challenge = coin i })
 
-pub serves_with : (job : VerifierJob) (start : ℕ) (rounds : List Round) (d : List ℕ) (log : List (Side × ℕ)) (s : HasServedSession job.task (setup_of job start rounds) d)
+pub serves_with : (job : VerifierJob) (greeting : Greeting job) (start : ℕ) (rounds : List Round) (d : List ℕ) (log : List (Side × ℕ)) (s : HasServedSession job.task (setup_of job greeting start rounds) d)
     → BeginsWith (spelling s.t) log ⊎ IsCutInTurn s.t log → ServesWith job.task (granted_from job start) log
-serves_with job start rounds d log s bytes = record {
+serves_with job greeting start rounds d log s bytes = record {
   t = s.t;
   verdict = s.verdict;
   served = s.served;
@@ -114,10 +115,11 @@ in_last front second last n counted =
 
 -- a stop after the grant is a cut of a session that goes on: so many turns are whole, and then these bytes came
 pub record IsCutOf (job : VerifierJob) (start whole : ℕ) (rest : List ℕ) (log : List (Side × ℕ)) : Type 0 where
+  pub greeting : Greeting job
   pub rounds : List Round
   pub served : AreServedRounds job.task.file (granted_from job start) rounds
   pub d : List ℕ
-  pub session : HasServedSession job.task (setup_of job start rounds) d
+  pub session : HasServedSession job.task (setup_of job greeting start rounds) d
   pub more : whole < length (session_turns session.t)
   pub most : length rest ≤ length (slice_index_or (session_turns session.t) whole ([], [])).0
   pub bytes : log ≡ turn_bytes (take whole (session_turns session.t)) ++ bytes_from Prover rest
@@ -126,11 +128,12 @@ pub cut_in_turn : (job : VerifierJob) (start whole : ℕ) (rest : List ℕ) (log
 cut_in_turn job start whole rest log cut = record { whole = whole; more = cut.more; rest = rest; most = cut.most; bytes = cut.bytes }
 
 -- by its turns
-cut_at : (job : VerifierJob) (start : ℕ) (rounds : List Round) (d : List ℕ) (log : List (Side × ℕ)) (whole : ℕ) (rest : List ℕ) (turns : List (List ℕ × List ℕ))
-    → AreServedRounds job.task.file (granted_from job start) rounds → (s : HasServedSession job.task (setup_of job start rounds) d) → turns ≡ session_turns s.t
+cut_at : (job : VerifierJob) (greeting : Greeting job) (start : ℕ) (rounds : List Round) (d : List ℕ) (log : List (Side × ℕ)) (whole : ℕ) (rest : List ℕ) (turns : List (List ℕ × List ℕ))
+    → AreServedRounds job.task.file (granted_from job start) rounds → (s : HasServedSession job.task (setup_of job greeting start rounds) d) → turns ≡ session_turns s.t
     → whole < length turns → length rest ≤ length (slice_index_or turns whole ([], [])).0
     → log ≡ turn_bytes (take whole turns) ++ bytes_from Prover rest → IsCutOf job start whole rest log
-cut_at job start rounds d log whole rest turns served s are below most is = record {
+cut_at job greeting start rounds d log whole rest turns served s are below most is = record {
+  greeting = greeting;
   rounds = rounds;
   served = served;
   d = d;
@@ -150,19 +153,19 @@ pub length_openings : (macs : List ℕ) → length (openings_frame macs) ≡ 5 +
 length_openings macs = omega (arith, length-elements macs)
 
 -- how long the last turn is
-pub last_length : (job : VerifierJob) (start : ℕ) (rounds : List Round) (d : List ℕ) (s : HasServedSession job.task (setup_of job start rounds) d)
+pub last_length : (job : VerifierJob) (greeting : Greeting job) (start : ℕ) (rounds : List Round) (d : List ℕ) (s : HasServedSession job.task (setup_of job greeting start rounds) d)
     → (length (sums_frame s.t.sums) ≡ 5 + 16 * section_count job.task.statement.program job.section_length)
     × (length (openings_frame s.t.openings) ≡ 5 + 8 * length job.task.statement.program.opened)
-last_length job start rounds d s =
+last_length job greeting start rounds d s =
     let same = ap (λ (c : Commitment). section_count job.task.statement.program c.setup.grant.section_length) s.commitment in (
       length_sums s.t.sums ∙ ap (λ n. 5 + 16 * n) (s.served.in_order.transcript.sum_count ∙ same),
       length_openings s.t.openings ∙ ap (λ n. 5 + 8 * n) s.served.in_order.transcript.opening_count,
     )
 
 -- how many turns are the setup
-front_count : (job : VerifierJob) (start : ℕ) (rounds : List Round) → AreServedRounds job.task.file (granted_from job start) rounds
-    → length (front_of job start rounds) ≡ 1 + rounds_of job.task.file.params.kind
-front_count job start rounds served =
+front_count : (job : VerifierJob) (greeting : Greeting job) (start : ℕ) (rounds : List Round) → AreServedRounds job.task.file (granted_from job start) rounds
+    → length (front_of job greeting start rounds) ≡ 1 + rounds_of job.task.file.params.kind
+front_count job greeting start rounds served =
     let mapped : length (round_turns rounds) ≡ length rounds = length-map rounds _ in
     omega (arith, mapped, served.count)
 
@@ -208,23 +211,23 @@ asks_fit job start asked rest round rounds served so few =
     let fits = part_fits (length asked) (units_of_job job) per (length rest) so.more few in
     subst (λ n. n ≤ length (flat_map ask_frame round.asks)) (sym part) (subst (λ n. length asked * per + length rest ≤ n) (sym whole) fits)
 
-cut_in_asks : (job : VerifierJob) (start : ℕ) (asked : List (List TreeAsk)) (rest : List ℕ) (log : List (Side × ℕ)) (rounds : List Round) → ServedSessionExists → IsKnown job
+cut_in_asks : (job : VerifierJob) (greeting : Greeting job) (start : ℕ) (asked : List (List TreeAsk)) (rest : List ℕ) (log : List (Side × ℕ)) (rounds : List Round) → ServedSessionExists → IsKnown job
     → start + units_of_job job ≤ job.task.file.params.total → AreAsksSoFar job asked
     → length rest ≤ 5 + job.task.file.params.trees * (job.task.file.params.height + 8)
-    → log ≡ (turn_bytes (first_turn job start ∷ []) ++ bytes_from Prover (flat_map ask_frame asked)) ++ bytes_from Prover rest
+    → log ≡ (turn_bytes (first_turn job greeting start ∷ []) ++ bytes_from Prover (flat_map ask_frame asked)) ++ bytes_from Prover rest
     → AreServedRounds job.task.file (granted_from job start) rounds
     → IsCutOf job start 1 (flat_map ask_frame asked ++ rest) log
-cut_in_asks job start asked rest log [] law known within so few is served =
+cut_in_asks job greeting start asked rest log [] law known within so few is served =
     let none = served.count in
     let one = ap rounds_of so.extended in
     absurd (omega (arith, none, one))
-cut_in_asks job start asked rest log (round ∷ rounds) law known within so few is served =
+cut_in_asks job greeting start asked rest log (round ∷ rounds) law known within so few is served =
     let givens = job.task.statement.program.givens in
-    let s = goes_further job start (round ∷ rounds) (replicate givens 0) law known within served (zeros givens) in
-    let front = turn_bytes (first_turn job start ∷ []) in
-    cut_at job start (round ∷ rounds) (replicate givens 0) log 1 (flat_map ask_frame asked ++ rest)
-    (front_of job start (round ∷ rounds) ++ second_turn job start (replicate givens 0) ∷ last_turn s.t ∷ []) served s
-    (sym (turns_are job start (round ∷ rounds) (replicate givens 0) s)) (omega arith)
+    let s = goes_further job greeting start (round ∷ rounds) (replicate givens 0) law known within served (zeros givens) in
+    let front = turn_bytes (first_turn job greeting start ∷ []) in
+    cut_at job greeting start (round ∷ rounds) (replicate givens 0) log 1 (flat_map ask_frame asked ++ rest)
+    (front_of job greeting start (round ∷ rounds) ++ second_turn job start (replicate givens 0) ∷ last_turn s.t ∷ []) served s
+    (sym (turns_are job greeting start (round ∷ rounds) (replicate givens 0) s)) (omega arith)
     (asks_fit job start asked rest round rounds served so few)
     (is ∙ append_assoc front (bytes_from Prover (flat_map ask_frame asked)) (bytes_from Prover rest)
     ∙ ap (λ l. front ++ l) (sym (map-append (λ (byte : ℕ). (Prover, byte)) (flat_map ask_frame asked) rest)))
@@ -233,10 +236,10 @@ pub cut_asks : (job : VerifierJob) (start : ℕ) (asked : List (List TreeAsk)) (
     → IsKnown job → IsCutAt job (awaits_asks start asked) rest log → IsCutOf job start 1 (flat_map ask_frame asked ++ rest) log
 cut_asks job start asked rest log ranges law known stopped =
     let at = stopped.waited in
-    let some = some_rounds job start ranges (record { file = known.file; is = known.is }) at.0 in
-    cut_in_asks job start asked rest log some.0 law known at.0 at.1
+    let some = some_rounds job start ranges (record { file = known.file; is = known.is }) at.within in
+    cut_in_asks job at.greeting start asked rest log some.0 law known at.within at.so_far
     (stopped.few (expect.Ask job.task.file.params.height job.task.file.params.trees (units_of_job job - length asked)) refl)
-    (stopped.logged ∙ ap (λ l. l ++ bytes_from Prover rest) at.2) some.1
+    (stopped.logged ∙ ap (λ l. l ++ bytes_from Prover rest) at.spelled) some.1
 
 -- ---- after them
 
@@ -244,38 +247,39 @@ pub cut_corrections : (job : VerifierJob) (start : ℕ) (rest : List ℕ) (log :
     → IsCutAt job (awaits_corrections start) rest log → IsCutOf job start (1 + rounds_of job.task.file.params.kind) rest log
 cut_corrections job start rest log law known stopped =
     let at = stopped.waited in
+    let greeting = at.greeting in
     let givens = job.task.statement.program.givens in
-    let s = goes_further job start at.rounds (replicate givens 0) law known at.within at.served (zeros givens) in
-    let front = front_of job start at.rounds in
+    let s = goes_further job greeting start at.rounds (replicate givens 0) law known at.within at.served (zeros givens) in
+    let front = front_of job greeting start at.rounds in
     let second = second_turn job start (replicate givens 0) in
     let whole = 1 + rounds_of job.task.file.params.kind in
-    let next = in_next front second (last_turn s.t) whole (front_count job start at.rounds at.served) in
+    let next = in_next front second (last_turn s.t) whole (front_count job greeting start at.rounds at.served) in
     let few : length rest ≤ length second.0 =
     omega (arith, stopped.few (expect.Corrections givens) refl, length_corrections (replicate givens 0), length-replicate {A = ℕ} givens 0) in
-    cut_at job start at.rounds (replicate givens 0) log whole rest (front ++ second ∷ last_turn s.t ∷ []) at.served s
-    (sym (turns_are job start at.rounds (replicate givens 0) s)) next.0
+    cut_at job greeting start at.rounds (replicate givens 0) log whole rest (front ++ second ∷ last_turn s.t ∷ []) at.served s
+    (sym (turns_are job greeting start at.rounds (replicate givens 0) s)) next.0
     (subst (λ (turn : List ℕ × List ℕ). length rest ≤ length turn.0) (sym next.2) few)
     (stopped.logged ∙ ap (λ l. l ++ bytes_from Prover rest) (at.spelled ∙ append-nil (turn_bytes front))
     ∙ ap (λ l. turn_bytes l ++ bytes_from Prover rest) (sym next.1))
 
 -- a log that ends in the last turn of the prover
-cut_last : (job : VerifierJob) (start : ℕ) (rounds : List Round) (d rest : List ℕ) (log : List (Side × ℕ)) → ServedSessionExists → IsKnown job
+cut_last : (job : VerifierJob) (greeting : Greeting job) (start : ℕ) (rounds : List Round) (d rest : List ℕ) (log : List (Side × ℕ)) → ServedSessionExists → IsKnown job
     → start + units_of_job job ≤ job.task.file.params.total → AreServedRounds job.task.file (granted_from job start) rounds
     → AreElements job.task.statement.program.givens d
     → length rest ≤ 5 + 16 * section_count job.task.statement.program job.section_length + (5 + 8 * length job.task.statement.program.opened)
-    → log ≡ turn_bytes (front_of job start rounds ++ second_turn job start d ∷ []) ++ bytes_from Prover rest
+    → log ≡ turn_bytes (front_of job greeting start rounds ++ second_turn job start d ∷ []) ++ bytes_from Prover rest
     → IsCutOf job start (2 + rounds_of job.task.file.params.kind) rest log
-cut_last job start rounds d rest log law known within served elements most is =
-    let s = goes_further job start rounds d law known within served elements in
-    let front = front_of job start rounds in
+cut_last job greeting start rounds d rest log law known within served elements most is =
+    let s = goes_further job greeting start rounds d law known within served elements in
+    let front = front_of job greeting start rounds in
     let second = second_turn job start d in
     let whole = 2 + rounds_of job.task.file.params.kind in
-    let next = in_last front second (last_turn s.t) whole (omega (arith, front_count job start rounds served)) in
-    let long = last_length job start rounds d s in
+    let next = in_last front second (last_turn s.t) whole (omega (arith, front_count job greeting start rounds served)) in
+    let long = last_length job greeting start rounds d s in
     let few : length rest ≤ length (last_turn s.t).0 =
     omega (arith, most, long.0, long.1, length-append (sums_frame s.t.sums) (openings_frame s.t.openings)) in
-    cut_at job start rounds d log whole rest (front ++ second ∷ last_turn s.t ∷ []) served s
-    (sym (turns_are job start rounds d s)) next.0
+    cut_at job greeting start rounds d log whole rest (front ++ second ∷ last_turn s.t ∷ []) served s
+    (sym (turns_are job greeting start rounds d s)) next.0
     (subst (λ (turn : List ℕ × List ℕ). length rest ≤ length turn.0) (sym next.2) few)
     (is ∙ ap (λ l. turn_bytes l ++ bytes_from Prover rest) (sym next.1))
 
@@ -283,9 +287,10 @@ pub cut_sums : (job : VerifierJob) (start : ℕ) (d rest : List ℕ) (log : List
     → IsCutAt job (awaits_sums start d) rest log → IsCutOf job start (2 + rounds_of job.task.file.params.kind) rest log
 cut_sums job start d rest log law known stopped =
     let at = stopped.waited.1 in
-    cut_last job start at.rounds d rest log law known at.within at.served stopped.waited.0
+    let greeting = at.greeting in
+    cut_last job greeting start at.rounds d rest log law known at.within at.served stopped.waited.0
     (omega (arith, stopped.few (expect.Sums (section_count job.task.statement.program job.section_length)) refl))
-    (stopped.logged ∙ ap (λ l. l ++ bytes_from Prover rest) (at.spelled ∙ sym (turns_append (front_of job start at.rounds) (second_turn job start d ∷ []))))
+    (stopped.logged ∙ ap (λ l. l ++ bytes_from Prover rest) (at.spelled ∙ sym (turns_append (front_of job greeting start at.rounds) (second_turn job start d ∷ []))))
 
 -- four lists, put otherwise
 apart : {X : Type 0} (a b s r : List X) → (a ++ (b ++ s)) ++ r ≡ (a ++ b) ++ (s ++ r)
@@ -296,9 +301,10 @@ pub cut_openings : (job : VerifierJob) (start : ℕ) (d : List ℕ) (both : List
     → IsCutOf job start (2 + rounds_of job.task.file.params.kind) (sums_frame both ++ rest) log
 cut_openings job start d both rest log law known stopped =
     let at = stopped.waited.2 in
-    let front = front_of job start at.rounds in
+    let greeting = at.greeting in
+    let front = front_of job greeting start at.rounds in
     let second = second_turn job start d in
-    cut_last job start at.rounds d (sums_frame both ++ rest) log law known at.within at.served stopped.waited.0
+    cut_last job greeting start at.rounds d (sums_frame both ++ rest) log law known at.within at.served stopped.waited.0
     (omega (
       arith,
       stopped.few (expect.Openings (length job.task.statement.program.opened)) refl,
@@ -333,29 +339,16 @@ cut_behind job start has_refused rest log ranges law known starts stopped = absu
 
 -- ---- what the verifier sends
 
--- a hello has 102 bytes
-pub hello_length : (job : VerifierJob) → IsKnown job → length (hello_frame (wanted_hello job.task.file.id job.task.statement)) ≡ 102
-hello_length job known =
-    let id = job.task.file.id in
-    let circuit = job.task.statement.circuit in
-    let outputs = job.task.statement.outputs in
-    let version : List ℕ = job.task.statement.version ∷ [] in
-    omega (
-      arith,
-      length-append (id ++ circuit ++ outputs) version,
-      length-append (id ++ circuit) outputs,
-      length-append id circuit,
-      known.file.id.0,
-      known.stated.circuit.0,
-      known.stated.outputs.0,
-    )
+-- a hello for the job's file and statement has 134 bytes at most
+pub greeting_most : (job : VerifierJob) → IsKnown job → (greeting : Greeting job) → length (hello_frame greeting.hello) ≤ 134
+greeting_most job known greeting = hello_most greeting.hello (greeting_is_hello job known greeting)
 
 -- a refusal, or nothing, after the hello
-ungranted_alone : (outcome : VerifierOutcome) (rest : List ℕ) (log : List (Side × ℕ)) → length rest ≤ 102 → log ≡ bytes_from Prover rest → IsUngranted outcome log
+ungranted_alone : (outcome : VerifierOutcome) (rest : List ℕ) (log : List (Side × ℕ)) → length rest ≤ 134 → log ≡ bytes_from Prover rest → IsUngranted outcome log
 ungranted_alone outcome rest log most is =
     record { rest = rest; most = most; answer = []; refused = inl refl; bytes = is ∙ sym (append-nil (bytes_from Prover rest)) }
 
-ungranted_refused : (outcome : VerifierOutcome) (code : ℕ) (rest : List ℕ) (mid now : LinkSnapshot) → length rest ≤ 102 → refusal_of outcome ≡ Some code
+ungranted_refused : (outcome : VerifierOutcome) (code : ℕ) (rest : List ℕ) (mid now : LinkSnapshot) → length rest ≤ 134 → refusal_of outcome ≡ Some code
     → mid.log ≡ bytes_from Prover rest → IsRefusalTried code mid now → IsUngranted outcome now.log
 ungranted_refused outcome code rest mid now most of log refused = either refused.sent
   where
@@ -369,7 +362,7 @@ ungranted_refused outcome code rest mid now most of log refused = either refused
     }
     either (inr unsent) = ungranted_alone outcome rest now.log most (unsent.log ∙ log)
 
-ungranted : (outcome : VerifierOutcome) (rest : List ℕ) (mid now : LinkSnapshot) → length rest ≤ 102 → mid.log ≡ bytes_from Prover rest
+ungranted : (outcome : VerifierOutcome) (rest : List ℕ) (mid now : LinkSnapshot) → length rest ≤ 134 → mid.log ≡ bytes_from Prover rest
     → RefusesHello rest outcome mid now → IsUngranted outcome now.log
 ungranted (BadHello differs) rest mid now most log by = ungranted_refused (BadHello differs) 1 rest mid now most refl log by
 ungranted NoMemory rest mid now most log (inl refused) = ungranted_refused NoMemory 4 rest mid now most refl log refused.1
@@ -396,17 +389,18 @@ lease_refusal (lease.Broken at) = refl
 -- before the grant
 pub before_grant : (job : VerifierJob) (start : ℕ) (log : List (Side × ℕ)) → RepliesAreInRange → ServedSessionExists → IsKnown job
     → start + units_of_job job ≤ job.task.file.params.total
-    → log ≡ bytes_from Prover (hello_frame (wanted_hello job.task.file.id job.task.statement)) → ServesWith job.task (granted_from job start) log
+    → IsGreeted job log → ServesWith job.task (granted_from job start) log
 before_grant job start log ranges law known within is =
+    let greeting = is.greeting in
     let givens = job.task.statement.program.givens in
     let some = some_rounds job start ranges (record { file = known.file; is = known.is }) within in
-    let s = goes_further job start some.0 (replicate givens 0) law known within some.1 (zeros givens) in
-    let hello = bytes_from Prover (first_turn job start).0 in
-    let grant = bytes_from Verifier (first_turn job start).1 in
+    let s = goes_further job greeting start some.0 (replicate givens 0) law known within some.1 (zeros givens) in
+    let hello = bytes_from Prover (first_turn job greeting start).0 in
+    let grant = bytes_from Verifier (first_turn job greeting start).1 in
     let more = turn_bytes (round_turns some.0 ++ second_turn job start (replicate givens 0) ∷ last_turn s.t ∷ []) in
-    serves_with job start some.0 (replicate givens 0) log s (inl (
+    serves_with job greeting start some.0 (replicate givens 0) log s (inl (
       grant ++ more,
-      ap turn_bytes (turns_are job start some.0 (replicate givens 0) s) ∙ append_assoc hello grant more ∙ ap (λ l. l ++ (grant ++ more)) (sym is),
+      ap turn_bytes (turns_are job greeting start some.0 (replicate givens 0) s) ∙ append_assoc hello grant more ∙ ap (λ l. l ++ (grant ++ more)) (sym is.bytes),
     ))
 
 pub serves_judged : (job : VerifierJob) (span : Span) (judgement : Judgement) (log : List (Side × ℕ)) → IsJudgedSession job (Some span) judgement log
@@ -431,8 +425,12 @@ sends_refusal : (job : VerifierJob) (span : Span) (first now : LinkSnapshot) →
 sends_refusal job span first now ranges law known within is = either is.refused.sent
   where
     either : (IsRefusalSent 4 is.mid now ⊎ IsRefusalUnsent 4 is.mid now) → SendsRightly job (Some span) NoMemory now.log
-    either (inl sent) = inr (refl, sent.log ∙ ap (λ l. l ++ bytes_from Verifier (refuse_frame 4)) is.waiting.log)
-    either (inr unsent) = inl (before_grant job span.start now.log ranges law known within (unsent.log ∙ is.waiting.log))
+    either (inl sent) = inr (
+      refl,
+      (is.waiting.log.greeting, sent.log ∙ ap (λ l. l ++ bytes_from Verifier (refuse_frame 4)) is.waiting.log.bytes),
+    )
+    either (inr unsent) = inl (before_grant job span.start now.log ranges law known within
+        (record { greeting = is.waiting.log.greeting; bytes = unsent.log ∙ is.waiting.log.bytes }))
 
 sends_lacking : (job : VerifierJob) (span : Span) (outcome : VerifierOutcome) (first now : LinkSnapshot) → RepliesAreInRange → ServedSessionExists → IsKnown job
     → span.start + units_of_job job ≤ job.task.file.params.total → LacksTheGrant job span.start outcome first now → SendsRightly job (Some span) outcome now.log
@@ -450,8 +448,8 @@ sends_rightly job None granted outcome first now ranges law known course =
 sends_rightly job (Some (Err fault)) granted outcome first now ranges law known course =
     let is = course.1.refused in
     subst (λ g. SendsRightly job g outcome now.log) (sym course.0)
-    (ungranted_refused outcome (lease_code fault) (hello_frame (wanted_hello job.task.file.id job.task.statement)) is.mid now
-    (omega (arith, hello_length job known)) (ap refusal_of course.1.named ∙ lease_refusal fault) is.waiting.log is.refused)
+    (ungranted_refused outcome (lease_code fault) (hello_frame is.waiting.log.greeting.hello) is.mid now
+    (greeting_most job known is.waiting.log.greeting) (ap refusal_of course.1.named ∙ lease_refusal fault) is.waiting.log.bytes is.refused)
 sends_rightly job (Some (Ok span)) granted outcome first now ranges law known course =
     subst (λ g. SendsRightly job g outcome now.log) (sym course.0) (by_course course.1.course)
   where
@@ -465,21 +463,28 @@ sends_rightly job (Some (Ok span)) granted outcome first now ranges law known co
     by_course (inr (inl stops)) =
         let some = cut_behind job span.start stops.stage stops.stopped.rest now.log ranges law known stops.behind (cut_of_stop job stops.stage outcome first now stops.stopped) in
         let cut = some.cut in
-        inl (serves_with job span.start cut.rounds cut.d now.log cut.session (inr (cut_in_turn job span.start some.whole some.rest now.log cut)))
+        inl (serves_with job cut.greeting span.start cut.rounds cut.d now.log cut.session (inr (cut_in_turn job span.start some.whole some.rest now.log cut)))
     by_course (inr (inr found)) = inl (serves_judged job span found.0 now.log (judged_session job span (Some span) found.0 now.log known refl found.2.log))
 
 -- ---- no cut session is accepted
 
--- a hello of a session in order is the wanted one
-hello_of : (job : VerifierJob) (log : List (Side × ℕ)) → IsKnown job → (accepted : IsAccepted job.task log) → length (hello_frame accepted.t.commitment.setup.hello) ≡ 102
-hello_of job log known accepted = ap (λ h. length (hello_frame h)) accepted.in_order.hello ∙ hello_length job known
-
--- no part of the prover's first turn is accepted
-first_is_cut : (job : VerifierJob) (log : List (Side × ℕ)) (rest : List ℕ) → CutIsNotAccepted → IsKnown job → log ≡ bytes_from Prover rest → length rest ≤ 102
+-- no part of the prover's first turn is accepted, nor of that with the longest hello
+first_is_cut : (job : VerifierJob) (log : List (Side × ℕ)) (rest : List ℕ) → CutIsNotAccepted → IsKnown job → log ≡ bytes_from Prover rest → length rest ≤ 134
     → IsAccepted job.task log → ⊥
 first_is_cut job log rest law known is most accepted =
-    law job.task accepted.t log known.file.params accepted.in_order.transcript
-    (record { whole = 0; more = omega arith; rest = rest; most = omega (arith, most, hello_of job log known accepted); bytes = is }) accepted
+    let hello = long_hello job.task.file.id job.task.statement in
+    let greets : IsHello hello = fitting_is_hello job.task.file.id job.task.statement hello known.file.id known.stated
+    (long_fits job.task.file.id job.task.statement) in
+    law job.task (greeted hello accepted.t) log known.file.params
+    (greeted_is job.task.file.params job.task.statement.program hello accepted.t greets accepted.in_order.transcript)
+    (record {
+      whole = 0;
+      more = omega arith;
+      rest = rest;
+      most = omega (arith, most, long_length job.task.file.id job.task.statement known.file.id known.stated);
+      bytes = is;
+    })
+    accepted
 
 -- the verifier's first byte is that of a grant
 grant_first : (job : VerifierJob) (log : List (Side × ℕ)) (accepted : IsAccepted job.task log) → slice_index_or (sent_by Verifier log) 0 0 ≡ 2
@@ -522,13 +527,13 @@ accepts_exactly job (Some (Ok span)) granted outcome first now ranges law cut sa
   where
     refused_is_cut : IsRefusedGrant job 4 first now → IsAccepted job.task now.log → ⊥
     refused_is_cut is accepted = ungranted_is_cut job NoMemory now.log cut known
-        (ungranted_refused NoMemory 4 (hello_frame (wanted_hello job.task.file.id job.task.statement)) is.mid now
-        (omega (arith, hello_length job known)) refl is.waiting.log is.refused) accepted
+        (ungranted_refused NoMemory 4 (hello_frame is.waiting.log.greeting.hello) is.mid now
+        (greeting_most job known is.waiting.log.greeting) refl is.waiting.log.bytes is.refused) accepted
 
     lacking_is_cut : LacksTheGrant job span.start outcome first now → IsAccepted job.task now.log → ⊥
     lacking_is_cut (inl refused) accepted = refused_is_cut refused.1 accepted
-    lacking_is_cut (inr unsent) accepted = first_is_cut job now.log (hello_frame (wanted_hello job.task.file.id job.task.statement)) cut known
-        unsent.log (omega (arith, hello_length job known)) accepted
+    lacking_is_cut (inr unsent) accepted = first_is_cut job now.log (hello_frame unsent.log.greeting.hello) cut known
+        unsent.log.bytes (greeting_most job known unsent.log.greeting) accepted
 
     by_course : (LacksTheGrant job span.start outcome first now ⊎ StopsBehind job span.start outcome first now
         ⊎ ((other : Judgement) × (outcome ≡ judgement_outcome other) × IsWaiting job (has_judged span.start other) first now))

@@ -2,7 +2,7 @@
 use Rattle.std.proofs.Common.{◌≡◌, ◌⊎◌, inl, inr, ℕ, ◌+◌, ◌≤◌, List, [], ◌∷◌, ◌++◌, flat_map, take, drop, length, Option, Some, None, Result, Ok, Err, refl, ap, sym, ◌∙◌, subst, arith, append-nil, append_assoc}
 use Rattle.std.proofs.lemmas.List.{map-append, take-append-drop, take-map}
 use Rattle.zk_model.specs.Files.{rounds_of}
-use Rattle.zk_model.specs.Transcript.{BeginsWith, wanted_hello, hello_frame, grant_frame, refuse_frame, bytes_from, turn_bytes, session_turns, spelling}
+use Rattle.zk_model.specs.Transcript.{BeginsWith, hello_frame, grant_frame, refuse_frame, bytes_from, turn_bytes, session_turns, spelling}
 use Rattle.zk_model.specs.Frames.{Frame, frame_spelling}
 use Rattle.zk_model.specs.ServedVerifier.{IsServed, ServesWith}
 use Rattle.zk_model.specs.declared.Kind.TheVariants.{Direct, Extended}
@@ -25,7 +25,7 @@ use Rattle.session_verifier.specs.Stages.{IsHeldJob, IsLogAt, IsUnsent, IsAnswer
 use Rattle.session_verifier.specs.Notes.{refusal_of, BeginsRefusal, SendsRightly, TellsRightly, IsAllSent, IsTold}
 use Rattle.session_verifier.proofs.StageLemmas.{logs_on, grant_behind}
 use Rattle.session_verifier.proofs.RoundLemmas.{either_kind, behind_direct, behind_extended, turns_append}
-use Rattle.session_verifier.proofs.CourseLemmas.{IsKnown, judged_session, hello_sent, hello_bytes, wanted_is_hello}
+use Rattle.session_verifier.proofs.CourseLemmas.{IsKnown, judged_session, hello_sent, hello_bytes, greeting_is_hello}
 use Rattle.session_verifier.proofs.ServedLemmas.{IsCutOf, cut_of_log, cut_asks, cut_corrections, cut_sums, serves_with, sends_rightly, lease_refusal}
 use Rattle.session_verifier.specs.declared.note.VerifierOutcome.{VerifierOutcome}
 use Rattle.session_verifier.specs.declared.note.VerifierOutcome.TheVariants.{Accepted, RejectedSum, RejectedOpening, PeerEnded, BadFrame, BadHello, Exhausted, Device, Broken, Link, NoMemory}
@@ -57,7 +57,7 @@ serves_part : (job : VerifierJob) (start whole : ℕ) (log : List (Side × ℕ))
     → IsCutOf job start whole [] (log ++ bytes_from Verifier answer)
     → ServesWith job.task (granted_from job start) (log ++ bytes_from Verifier (take count answer))
 serves_part job start whole log answer count cut =
-    serves_with job start cut.rounds cut.d (log ++ bytes_from Verifier (take count answer)) cut.session
+    serves_with job cut.greeting start cut.rounds cut.d (log ++ bytes_from Verifier (take count answer)) cut.session
     (inl (part_begins (spelling cut.session.t) log answer count (turns_begin (session_turns cut.session.t) whole (log ++ bytes_from Verifier answer) cut.bytes)))
 
 -- a part of the verdict
@@ -261,12 +261,13 @@ fault_never (Exhausted at count total) is all = is
 fault_never Device is all = is
 fault_never (Broken at) is all = is
 
--- after the wanted hello
+-- after a hello for the statement
 tells_refused_grant : (job : VerifierJob) (outcome : VerifierOutcome) (code : ℕ) (first now : LinkSnapshot) → IsKnown job → refusal_of outcome ≡ Some code
     → IsRefusedGrant job code first now → TellsRefusal outcome first now
 tells_refused_grant job outcome code first now known of is =
-    tells_refusal outcome code (hello_frame (wanted_hello job.task.file.id job.task.statement)) first is.mid now
-    (wanted_hello job.task.file.id job.task.statement, wanted_is_hello job known, refl) of is.waiting.log is.waiting.sent.told is.refused
+    let greeting = is.waiting.log.greeting in
+    tells_refusal outcome code (hello_frame greeting.hello) first is.mid now
+    (greeting.hello, greeting_is_hello job known greeting, refl) of is.waiting.log.bytes is.waiting.sent.told is.refused
 
 -- a part of an answer is told
 told_part : (job : VerifierJob) (span : Span) (outcome : VerifierOutcome) (answers : ℕ) (answer : List ℕ) (first now : LinkSnapshot) → IsFault outcome
@@ -293,13 +294,13 @@ serves_of job span outcome log known (inl serves) = inl serves
 serves_of job span outcome log known (inr refused) = inr (
   refused.0,
   record {
-    rest = hello_frame (wanted_hello job.task.file.id job.task.statement);
-    hello = (wanted_hello job.task.file.id job.task.statement, wanted_is_hello job known, refl);
+    rest = hello_frame refused.1.0.hello;
+    hello = (refused.1.0.hello, greeting_is_hello job known refused.1.0, refl);
     code = 4;
     code_is = refl;
     answer = refuse_frame 4;
     begun = ([], sym (append-nil (refuse_frame 4)));
-    bytes = refused.1;
+    bytes = refused.1.1;
   },
 )
 

@@ -3,3 +3,4 @@ pub mod Stages
 pub mod Notes
 pub mod Sessions
 pub mod Laws
+pub mod Serving

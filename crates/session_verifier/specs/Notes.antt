@@ -4,7 +4,7 @@ use Rattle.zk_model.specs.Files.{ProverFile, IsProverFile, AreDealt}
 use Rattle.zk_model.specs.Mac.{Pair, AreKeysOf}
 use Rattle.zk_model.specs.Correlations.{IsProverView, span_keys}
 use Rattle.zk_model.specs.View.{ChecksHold, SaysVerdict, span_of}
-use Rattle.zk_model.specs.Transcript.{Hello, Setup, Transcript, IsHello, IsSetup, IsInOrder, BeginsWith, wanted_hello, hello_frame, refuse_frame, bytes_from, turn_bytes, setup_turns, sent_by}
+use Rattle.zk_model.specs.Transcript.{Hello, Setup, Transcript, IsHello, IsHelloFor, IsSetup, IsInOrder, BeginsWith, hello_frame, refuse_frame, bytes_from, turn_bytes, setup_turns, sent_by}
 use Rattle.zk_model.specs.ServedVerifier.{IsServed, IsAccepted, ServesWith, challenge_coin}
 use Rattle.zk_model.specs.declared.Side.{Side}
 use Rattle.zk_model.specs.declared.Side.TheVariants.{Prover, Verifier}
@@ -26,10 +26,10 @@ use Rattle.session_core.specs.Cores.{VerifierStage, awaits_hello, has_judged}
 use Rattle.session_core.specs.declared.judgement.Judgement.{Judgement}
 use Rattle.session_core.specs.declared.judgement.Judgement.TheVariants as judged
 use Rattle.session_verifier.specs.Outcomes.{lease_outcome, judgement_outcome}
-use Rattle.session_verifier.specs.Stages.{IsStopped, IsRefusalTried, IsRefusedGrant, IsGrantUnsent, IsWaiting, IsWholeHello}
+use Rattle.session_verifier.specs.Stages.{Greeting, IsStopped, IsRefusalTried, IsRefusedGrant, IsGrantUnsent, IsWaiting, IsWholeHello}
 use Rattle.session_verifier.specs.declared.note.VerifierOutcome.{VerifierOutcome}
 use Rattle.session_verifier.specs.declared.note.VerifierOutcome.TheVariants.{Accepted, RejectedSum, RejectedOpening, PeerEnded, BadFrame, BadHello, Exhausted, Device, Broken, Link, NoMemory}
-use Rattle.zk_model.specs.declared.limits.TheConstants.{HELLO_LENGTH}
+use Rattle.zk_model.specs.declared.limits.TheConstants.{LONG_HELLO_LENGTH}
 
 -- A whole session, with a grant of the units that were leased, that the verifier serves: it is in order, the challenge is its
 -- coin, and its verdict, which was sent, is that of its checks, with both sides of the equation that fails.
@@ -80,15 +80,15 @@ refusal_of outcome = None
 -- refusal of its outcome.
 pub record IsUngranted (outcome : VerifierOutcome) (log : List (Side × ℕ)) : Type 0 where
   pub rest : List ℕ
-  pub most : length rest ≤ HELLO_LENGTH
+  pub most : length rest ≤ LONG_HELLO_LENGTH
   pub answer : List ℕ
   pub refused : (answer ≡ []) ⊎ ((code : ℕ) × (refusal_of outcome ≡ Some code) × (answer ≡ refuse_frame code))
   pub bytes : log ≡ bytes_from Prover rest ++ bytes_from Verifier answer
 
--- these are bytes of the prover's hello, and a refusal of this code
+-- these are bytes of a hello for the job's file and statement, and a refusal of this code
 abbrev pub EndsByRefusal : VerifierJob → ℕ → List (Side × ℕ) → Type 0
-EndsByRefusal job code log =
-    log ≡ bytes_from Prover (hello_frame (wanted_hello job.task.file.id job.task.statement)) ++ bytes_from Verifier (refuse_frame code)
+EndsByRefusal job code log = (greeting : Greeting job)
+    × (log ≡ bytes_from Prover (hello_frame greeting.hello) ++ bytes_from Verifier (refuse_frame code))
 
 -- What the verifier sends: where units were leased, its part of a session that it serves with their grant, or of a beginning of
 -- one; or, where memory was missing for the grant, a refusal in its place.
@@ -143,14 +143,14 @@ abbrev pub FailsToGrant :
 FailsToGrant job answer outcome first now =
     (span : Span) × (answer ≡ Some (Ok span)) × IsGrantUnsent job span.start outcome first now
 
--- memory was missing in the grant's place, after a whole hello: refusal 4 was sent; units were leased only after the wanted one
+-- memory was missing in the grant's place, after a whole hello: refusal 4 was sent; units were leased only after one for the statement
 pub record LacksGrant
     (job : VerifierJob)
     (answer : Option (Result Span LeaseFault))
     (first now : LinkSnapshot) : Type 0 where
   pub hello : Hello
   pub is : IsHello hello
-  pub wanted : IfSome answer (λ _. hello ≡ wanted_hello job.task.file.id job.task.statement)
+  pub fits : IfSome answer (λ _. IsHelloFor job.task.file.id job.task.statement hello)
   pub mid : LinkSnapshot
   pub came : mid.log ≡ bytes_from Prover (hello_frame hello)
   pub told : mid.told ≡ appended mid.log first.told
@@ -196,10 +196,10 @@ EndsBecause job answer NoMemory first now =
     RefusesNoLease answer
     × (LacksMemory job first now ⊎ LacksGrant job answer first now ⊎ FailsToGrant job answer NoMemory first now)
 
--- no units are leased before the wanted hello came
+-- no units are leased before a hello for the job's file and statement came
 abbrev pub LeasesBehindHello : VerifierJob → Option (Result Span LeaseFault) → List (Side × ℕ) → Type 0
 LeasesBehindHello job answer log =
-    IfSome answer (λ _. BeginsWith log (bytes_from Prover (hello_frame (wanted_hello job.task.file.id job.task.statement))))
+    IfSome answer (λ _. (greeting : Greeting job) × BeginsWith log (bytes_from Prover (hello_frame greeting.hello)))
 
 -- no send was refused
 abbrev pub IsAllSent : VerifierOutcome → Type 0

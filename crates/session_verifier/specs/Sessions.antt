@@ -15,7 +15,7 @@ use Rattle.session_verifier.specs.declared.note.VerifierOutcome.{VerifierOutcome
 use Rattle.session_verifier.specs.declared.note.VerifierOutcome.TheVariants.{Accepted}
 
 -- A session about the job over a link that was fresh, and now tells this, in which the one who leases units answered so, if it was
--- asked: which units were granted, that a refused lease is the outcome, and that the wanted hello came before; that an outcome which judges is the verdict of the checks
+-- asked: which units were granted, that a refused lease is the outcome, and that a hello for the statement came before; that an outcome which judges is the verdict of the checks
 -- on a whole session, and that an accepted log has no other; what acceptance shows; what the verifier sent; that its keys fit the
 -- pairs of whatever prover; why the session ended; what the link tells beside the log; how often it failed; that it is ended; and
 -- that with an honest peer the session is accepted, unless memory was missing.

@@ -1,9 +1,9 @@
 -- How far a session is at the verifier: which frames are logged where it waits, and why it stops there.
-use Rattle.std.specs.Prelude.{◌≡◌, ◌⊎◌, ℕ, ◌+◌, ◌*◌, ◌≤◌, ◌<◌, List, [], ◌∷◌, ◌++◌, flat_map, take, length, true, Option, Some, None, IfSome, Result, Ok, Err}
+use Rattle.std.specs.Prelude.{◌≡◌, ◌⊎◌, ℕ, ◌+◌, ◌≤◌, ◌<◌, List, [], ◌∷◌, ◌++◌, flat_map, take, length, true, Option, Some, None, IfSome, Result, Ok, Err}
 use Rattle.zk_model.specs.Program.{section_count}
 use Rattle.zk_model.specs.Files.{IsVerifierFile, rounds_of}
-use Rattle.zk_model.specs.Transcript.{Hello, TreeAsk, Round, IsHello, wanted_hello, hello_frame, grant_frame, ask_frame, corrections_frame, challenge_frame, sums_frame, refuse_frame, bytes_from, turn_bytes, sent_by, spelling}
-use Rattle.zk_model.specs.Frames.{Frame, Allows, AreElements, AreSums, CanGoOn, IsWhole, IsFirstBad, frame_length, frame_spelling}
+use Rattle.zk_model.specs.Transcript.{Hello, TreeAsk, Round, IsHello, IsHelloFor, hello_frame, grant_frame, ask_frame, corrections_frame, challenge_frame, sums_frame, refuse_frame, bytes_from, turn_bytes, sent_by, spelling}
+use Rattle.zk_model.specs.Frames.{Frame, hello, Allows, AreElements, AreSums, CanGoOn, IsWhole, IsFirstBad, frame_length, frame_spelling}
 use Rattle.zk_model.specs.ServedVerifier.{challenge_coin}
 use Rattle.zk_model.specs.declared.Expect.{Expect}
 use Rattle.zk_model.specs.declared.Expect.TheVariants as expect
@@ -11,25 +11,38 @@ use Rattle.zk_model.specs.declared.Side.{Side}
 use Rattle.zk_model.specs.declared.Side.TheVariants.{Prover, Verifier}
 use Rattle.zk_port.specs.Counts.{Rose, counted}
 use Rattle.zk_port.specs.Logs.{appended, AppendsPart}
-use Rattle.frame_link.specs.Lines.{LineState, LinkSnapshot, Sends, SendFails, counted_times, longest, IsCutShort}
-use Rattle.frame_link.specs.declared.fault.LineFault.{LineFault}
+use Rattle.frame_link.specs.Lines.{LinkSnapshot, counted_times, longest, IsCutShort}
 use Rattle.session_core.specs.Jobs.{VerifierJob, IsVerifierJob, granted_from, units_of_job}
 use Rattle.session_core.specs.Judgements.{IsJudgement, session_transcript, verdict_in}
 use Rattle.session_core.specs.Rounds.{AreServedRounds, round_turns}
-use Rattle.session_core.specs.Cores.{VerifierStage, VerifierState, AreAsksSoFar, VerifierAnswers, awaits_hello, owes_grant, awaits_asks, awaits_corrections, awaits_sums, awaits_openings, has_judged, has_refused, verifier_expects, DiffersFirst}
+use Rattle.session_core.specs.Cores.{VerifierStage, AreAsksSoFar, VerifierAnswers, awaits_hello, owes_grant, awaits_asks, awaits_corrections, awaits_sums, awaits_openings, has_judged, has_refused, verifier_expects, DiffersFirst}
 use Rattle.session_core.specs.declared.judgement.Judgement.{Judgement}
 use Rattle.zk_model.specs.declared.Span.{Span}
 use Rattle.lease_store.specs.declared.LeaseFault.{LeaseFault}
 use Rattle.session_verifier.specs.Outcomes.{lease_outcome, lease_code, judgement_outcome}
 use Rattle.session_verifier.specs.declared.note.VerifierOutcome.{VerifierOutcome}
 use Rattle.session_verifier.specs.declared.note.VerifierOutcome.TheVariants.{Accepted, RejectedSum, RejectedOpening, PeerEnded, BadFrame, BadHello, Exhausted, Device, Broken, Link, NoMemory}
-use Rattle.zk_model.specs.declared.limits.TheConstants.{MAX_PAYLOAD}
 
 -- ---- the frames that are logged
 
--- the wanted hello, and the grant of the job's units from this one on
-abbrev pub first_turn : VerifierJob → ℕ → List ℕ × List ℕ
-first_turn job start = (hello_frame (wanted_hello job.task.file.id job.task.statement), grant_frame (granted_from job start))
+-- a hello for the job's file and statement
+pub record Greeting (job : VerifierJob) : Type 0 where
+  pub hello : Hello
+  pub fits : IsHelloFor job.task.file.id job.task.statement hello
+
+-- it alone came
+pub record IsGreeted (job : VerifierJob) (log : List (Side × ℕ)) : Type 0 where
+  pub greeting : Greeting job
+  pub bytes : log ≡ bytes_from Prover (hello_frame greeting.hello)
+
+-- a frame is such a hello
+pub record Greets (job : VerifierJob) (frame : Frame) : Type 0 where
+  pub greeting : Greeting job
+  pub is : frame ≡ hello greeting.hello
+
+-- it, and the grant of the job's units from this one on
+abbrev pub first_turn : (job : VerifierJob) → Greeting job → ℕ → List ℕ × List ℕ
+first_turn job greeting start = (hello_frame greeting.hello, grant_frame (granted_from job start))
 
 -- corrections, and the coin of the first unit
 abbrev pub second_turn : VerifierJob → ℕ → List ℕ → List ℕ × List ℕ
@@ -40,17 +53,26 @@ pub record IsHeldJob (job : VerifierJob) : Type 0 where
   pub file : IsVerifierFile job.task.file
   pub is : IsVerifierJob job
 
+-- a log from the grant of this unit on in which asks of fewer units came than it has
+pub record IsAskedLog (job : VerifierJob) (start : ℕ) (asked : List (List TreeAsk)) (log : List (Side × ℕ)) : Type 0 where
+  pub within : start + units_of_job job ≤ job.task.file.params.total
+  pub so_far : AreAsksSoFar job asked
+  pub greeting : Greeting job
+  pub spelled : log ≡ turn_bytes (first_turn job greeting start ∷ []) ++ bytes_from Prover (flat_map ask_frame asked)
+
 -- A log from the grant of this unit on in which the correlations are fixed: the first turn, in kind extended the round of all
 -- units with the file's replies, and then these bytes.
 pub record IsFixedLog (job : VerifierJob) (start : ℕ) (more log : List (Side × ℕ)) : Type 0 where
   pub within : start + units_of_job job ≤ job.task.file.params.total
+  pub greeting : Greeting job
   pub rounds : List Round
   pub served : AreServedRounds job.task.file (granted_from job start) rounds
-  pub spelled : log ≡ turn_bytes (first_turn job start ∷ round_turns rounds) ++ more
+  pub spelled : log ≡ turn_bytes (first_turn job greeting start ∷ round_turns rounds) ++ more
 
 -- a whole session with a grant from this unit on that was judged so: what the prover sent is as much as the statement wants, in range
 pub record IsJudgedLog (job : VerifierJob) (start : ℕ) (judgement : Judgement) (log : List (Side × ℕ)) : Type 0 where
   pub within : start + units_of_job job ≤ job.task.file.params.total
+  pub greeting : Greeting job
   pub rounds : List Round
   pub served : AreServedRounds job.task.file (granted_from job start) rounds
   pub corrections : List ℕ
@@ -60,17 +82,15 @@ pub record IsJudgedLog (job : VerifierJob) (start : ℕ) (judgement : Judgement)
   pub openings : List ℕ
   pub macs : AreElements (length job.task.statement.program.opened) openings
   pub judged : IsJudgement job.task
-      (session_transcript job start rounds corrections sums openings (verdict_in judgement)) judgement
-  pub spelled : log ≡ spelling (session_transcript job start rounds corrections sums openings (verdict_in judgement))
+      (session_transcript job greeting.hello start rounds corrections sums openings (verdict_in judgement)) judgement
+  pub spelled : log
+      ≡ spelling (session_transcript job greeting.hello start rounds corrections sums openings (verdict_in judgement))
 
 -- What is logged where a verifier waits: the frames that came, each turn with its answer; and how many came of the units' asks.
 abbrev pub IsLogAt : VerifierJob → VerifierStage → List (Side × ℕ) → Type 0
 IsLogAt job awaits_hello log = log ≡ []
-IsLogAt job owes_grant log = log ≡ bytes_from Prover (hello_frame (wanted_hello job.task.file.id job.task.statement))
-IsLogAt job (awaits_asks start asked) log =
-    (start + units_of_job job ≤ job.task.file.params.total)
-    × AreAsksSoFar job asked
-    × (log ≡ turn_bytes (first_turn job start ∷ []) ++ bytes_from Prover (flat_map ask_frame asked))
+IsLogAt job owes_grant log = IsGreeted job log
+IsLogAt job (awaits_asks start asked) log = IsAskedLog job start asked log
 IsLogAt job (awaits_corrections start) log = IsFixedLog job start [] log
 IsLogAt job (awaits_sums start d) log =
     AreElements job.task.statement.program.givens d
@@ -81,17 +101,6 @@ IsLogAt job (awaits_openings start d both) log =
     × IsFixedLog job start (turn_bytes (second_turn job start d ∷ []) ++ bytes_from Prover (sums_frame both)) log
 IsLogAt job (has_judged start judgement) log = IsJudgedLog job start judgement log
 IsLogAt job has_refused log = ⊥
-
--- how many frames of the prover are logged where a verifier waits, at most: after the grant one for each unit whose asks came
-abbrev pub frames_before : VerifierJob → VerifierStage → ℕ
-frames_before job awaits_hello = 0
-frames_before job owes_grant = 1
-frames_before job (awaits_asks start asked) = 1 + length asked
-frames_before job (awaits_corrections start) = 1 + units_of_job job
-frames_before job (awaits_sums start d) = 2 + units_of_job job
-frames_before job (awaits_openings start d both) = 3 + units_of_job job
-frames_before job (has_judged start judgement) = 4 + units_of_job job
-frames_before job has_refused = 4 + units_of_job job
 
 -- how many answers of the verifier are sent where it waits: the grant, in kind extended the replies, the challenge, and the verdict
 abbrev pub answers_before : VerifierJob → VerifierStage → ℕ
@@ -115,59 +124,6 @@ pub record IsUnsent (answers : ℕ) (answer : List ℕ) (first now : LinkSnapsho
   pub told : now.told ≡ appended (now.log ++ bytes_from Verifier (take count answer)) first.told
   pub sends : now.sends ≡ counted_times (answers + 1) first.sends
 
--- A line where a verifier waits, since a first moment: all that passed is logged, each answer was sent by one send, no frame is
--- under way, and there were at most as many receives as bytes came; nothing failed.
-pub record IsLineAt (job : VerifierJob) (stage : VerifierStage) (first now : LineState) : Type 0 where
-  pub log : IsLogAt job stage now.log
-  pub received : now.reading ≡ record { received = length (sent_by Prover now.log); expected = None; taken = []; bad = None }
-  pub few : length (sent_by Prover now.log) ≤ frames_before job stage * (MAX_PAYLOAD + 5)
-  pub told : now.told ≡ appended now.log first.told
-  pub sends : now.sends ≡ counted_times (answers_before job stage) first.sends
-  pub side : now.side ≡ Verifier
-  pub usable : now.is_open ≡ true
-  pub receives : now.receives ≤ first.receives + length (sent_by Prover now.log)
-  pub faults : now.faults ≡ first.faults
-
--- a frame is expected
-abbrev pub Expects : VerifierState → Type 0
-Expects state = (expect : Expect) × (verifier_expects state.job state.stage ≡ Some expect)
-
--- where a verifier waits once the asks of so many units have come
-abbrev pub BehindAsks : VerifierJob → ℕ → List (List TreeAsk) → VerifierStage → Type 0
-BehindAsks job start asked now =
-    ((length asked < units_of_job job) × (now ≡ awaits_asks start asked))
-    ⊎ ((length asked ≡ units_of_job job) × (now ≡ awaits_corrections start))
-
--- where a verifier waits next, once a frame has come and is answered
-abbrev pub FollowsStage : VerifierJob → VerifierStage → VerifierStage → Type 0
-FollowsStage job awaits_hello now = now ≡ owes_grant
-FollowsStage job owes_grant now = ⊥
-FollowsStage job (awaits_asks start asked) now = (trees : List TreeAsk) × BehindAsks job start (asked ++ trees ∷ []) now
-FollowsStage job (awaits_corrections start) now = (d : List ℕ) × (now ≡ awaits_sums start d)
-FollowsStage job (awaits_sums start d) now = (both : List (ℕ × ℕ)) × (now ≡ awaits_openings start d both)
-FollowsStage job (awaits_openings start d both) now = (judgement : Judgement) × (now ≡ has_judged start judgement)
-FollowsStage job (has_judged start judgement) now = ⊥
-FollowsStage job has_refused now = ⊥
-
--- how many frames of asks come after the grant: in kind extended one for each unit
-abbrev pub asks_due : VerifierJob → ℕ
-asks_due job = rounds_of job.task.file.params.kind * units_of_job job
-
--- where a verifier waits once so many of these frames have come
-abbrev pub AwaitsBehind : VerifierJob → ℕ → ℕ → VerifierStage → Type 0
-AwaitsBehind job start came now =
-    ((asked : List (List TreeAsk)) × (length asked ≡ came) × (came < asks_due job) × (now ≡ awaits_asks start asked))
-    ⊎ ((came ≡ asks_due job) × (now ≡ awaits_corrections start))
-
--- an answer was sent by one send, or has no frames
-abbrev pub SendsAnswer : List Frame → LineState → LineState → Type 0
-SendsAnswer answer old new =
-    ((answer ≡ []) × (new ≡ old)) ⊎ ((1 ≤ length answer) × Sends (flat_map frame_spelling answer) old new)
-
--- an answer, which has frames, was not sent
-abbrev pub AnswerFails : List Frame → LineFault → LineState → LineState → Type 0
-AnswerFails answer fault old new = (1 ≤ length answer) × SendFails (flat_map frame_spelling answer) fault old new
-
 -- ---- why it stops
 
 -- the place of the frame that is expected, and bytes that came of it
@@ -175,7 +131,7 @@ abbrev pub ExpectsThere : VerifierJob → VerifierStage → (Expect → Type 0) 
 ExpectsThere job stage P = (expect : Expect) × (verifier_expects job stage ≡ Some expect) × P expect
 
 -- Why a session stops after these bytes of the frame that is expected: the peer has ended and more is wanted; a byte is bad;
--- they are a hello that is not the wanted one; the link failed; memory was missing.
+-- they are a hello that differs; the link failed; memory was missing.
 abbrev pub StopCause : VerifierJob → VerifierStage → List ℕ → LinkSnapshot → LinkSnapshot → VerifierOutcome → Type 0
 StopCause job stage rest first now (PeerEnded at) =
     ExpectsThere job stage (λ expect. CanGoOn expect rest × (length rest < frame_length expect rest))
@@ -188,7 +144,7 @@ StopCause job stage rest first now (BadFrame at) =
 StopCause job stage rest first now (BadHello differs) =
     (stage ≡ awaits_hello)
     × ((other : Hello) × IsHello other × (rest ≡ hello_frame other)
-    × DiffersFirst (wanted_hello job.task.file.id job.task.statement) other differs)
+    × DiffersFirst job.task.file.id job.task.statement other differs)
 StopCause job stage rest first now Link = Rose first.faults now.faults
 StopCause job stage rest first now NoMemory = Unit {0}
 StopCause job stage rest first now Accepted = ⊥
@@ -271,11 +227,6 @@ pub record StopsBehind (job : VerifierJob) (start : ℕ) (outcome : VerifierOutc
   pub behind : StartsAt start stage
   pub stopped : IsStopped job stage outcome first now
 
--- a line that is still open for the verifier
-pub record IsUsable (line : LineState) : Type 0 where
-  pub side : line.side ≡ Verifier
-  pub open_still : line.is_open ≡ true
-
 -- ---- refusals
 
 -- a refusal of this code is logged, and the link tells it
@@ -326,7 +277,7 @@ pub record IsUnmet (job : VerifierJob) (outcome : VerifierOutcome) (first now : 
   pub stopped : IsStopped job awaits_hello outcome first mid
   pub refused : RefusesHello stopped.rest outcome mid now
 
--- after the wanted hello a refusal of this code was sent, in the grant's place
+-- after a hello for the statement a refusal of this code was sent, in the grant's place
 pub record IsRefusedGrant (job : VerifierJob) (code : ℕ) (first now : LinkSnapshot) : Type 0 where
   pub mid : LinkSnapshot
   pub waiting : IsWaiting job owes_grant first mid
@@ -337,7 +288,7 @@ pub record IsUnleased (job : VerifierJob) (fault : LeaseFault) (outcome : Verifi
   pub named : outcome ≡ lease_outcome fault
   pub refused : IsRefusedGrant job (lease_code fault) first now
 
--- after the wanted hello, the one send of the grant from this unit on was refused, and nothing followed
+-- after such a hello, the one send of the grant from this unit on was refused, and nothing followed
 pub record IsGrantUnsent (job : VerifierJob) (start : ℕ) (outcome : VerifierOutcome) (first now : LinkSnapshot) : Type 0 where
   pub fault : IsFault outcome
   pub log : IsLogAt job owes_grant now.log

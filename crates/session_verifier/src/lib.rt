@@ -2,7 +2,6 @@
 //! Wang, QuickSilver, ACM CCS 2021): it meets the hello, grants units, challenges, and judges; and it says what came of it.
 #![tactic(auto)]
 
-mod course;
 mod laws;
 mod note;
 mod serve;

@@ -21,7 +21,7 @@ pub enum VerifierOutcome {
     PeerEnded { at: u64 },
     /// The peer's byte at this place is the first after which no frame that is expected can follow.
     BadFrame { place: u64 },
-    /// The hello is not the wanted one.
+    /// The hello is not one for the verifier's file and statement.
     BadHello(HelloDiffers),
     /// The units that the session takes, from here on, would end above the total.
     Exhausted { at: u64, count: u32, total: u64 },

@@ -1,25 +1,48 @@
-// A verifier's session over a line.
-ghost use Rattle.std.specs.Prelude.{◌≡◌, ◌+◌, ◌≤◌, None, Some, IfSome, IfOk, IfErr, MatchOption};
-ghost use Rattle.frame_link.specs.Lines.{LineState, snapshot_of};
-ghost use Rattle.session_core.specs.Jobs.{units_of_job};
-ghost use Rattle.session_core.specs.Cores.{awaits_hello, owes_grant, behind_grant, awaits_corrections, has_judged};
-ghost use Rattle.session_verifier.specs.Outcomes.{lease_code};
-ghost use Rattle.session_verifier.specs.Stages.{asks_due, IsHeldJob, IsLineAt, IsUsable, IsCourse, IsGranted, StopsBehind};
+// The verifier's end of a session.
+ghost use Rattle.std.specs.Prelude.{◌≡◌, ◌+◌, ◌<◌, ◌≤◌, [], ◌∷◌, None, Some, map, length, All, IfSome, IsSome, IfOk, IfErr, OnOk, IsSomeAnd, MatchOption, IsTrue};
+ghost use Rattle.zk_model.specs.Frames as model;
+ghost use Rattle.zk_model.specs.Frames.{Allows};
+ghost use Rattle.zk_model.specs.declared.Expect.TheVariants as expect;
+ghost use Rattle.zk_model.specs.declared.Side.TheVariants.{Verifier};
+ghost use Rattle.frame_link.specs.Lines.{snapshot_of};
+ghost use Rattle.proof_frames.specs.Frames.{frame_value, IsShort};
+ghost use Rattle.session_core.specs.Jobs.{units_of_job, granted_from};
+ghost use Rattle.session_core.specs.Cores.{VerifierAnswers, VerifierRefuses, awaits_hello, owes_grant, behind_grant, judgement_at, verifier_expects};
+ghost use Rattle.session_driver.specs.Runs.{IsFresh};
+ghost use Rattle.session_driver.specs.declared.drive.Outcome.TheVariants.{Done};
+ghost use Rattle.session_verifier.specs.Outcomes.{hello_code, lease_code, session_outcome};
+ghost use Rattle.session_verifier.specs.Serving.{AnswersBehind, AreUnits, GrantsUnits, IsBehind, IsPlace, IsServing, IsToldAs, LacksGrantFrame, Leases, RefusesByCore, RefusesLease, frames_left, grants_of, lack_code_at, served, serves};
+ghost use Rattle.session_verifier.specs.Stages.{Greets, IsCourse, IsHeldJob};
+ghost use Rattle.session_verifier.specs.declared.note.VerifierOutcome.TheVariants.{NoMemory};
 
-use crate::course::{give_grant, judge, meet, refuse, take_asks};
 use crate::note::VerifierOutcome;
 use frame_link::Line;
 use lease_store::{Grantor, LeaseFault};
-use session_core::{Judgement, VerifierCore, VerifierJob};
-use std::alloc::Global;
-use zk_model::{Kind, Span};
+use proof_frames::Frame;
+use session_core::{VerifierCore, VerifierFault, VerifierJob};
+use session_driver::{Outcome, Party, Refusal, run};
+use session_laws::replies_are_in_range;
+use std::alloc::{AllocError, Global};
+use zk_model::{Expect, Span};
 use zk_port::{Gate, Link, Phase};
 
-/// What was granted, and how the session ended.
-#[derive(Clone, Copy, Debug, PartialEq, Eq)]
-pub(crate) struct Course {
-    pub(crate) granted: Option<Span>,
-    pub(crate) outcome: VerifierOutcome,
+/// A verifier's end of a session, as the driver leads it.
+#[derive(Drop)]
+pub(crate) struct Serving<'a, 'g, G> {
+    job: &'a VerifierJob<'a>,
+    core: VerifierCore<'a>,
+    gate: &'g G,
+    granted: Option<Span>,
+}
+
+/// The code of the refusal for a hello that is not met.
+fn code_for_hello(fault: &VerifierFault) -> u8
+    ensures { result ≡ hello_code fault.now }
+{
+    match fault {
+        VerifierFault::BadHello(_) => 1,
+        VerifierFault::NoMemory => 4,
+    }
 }
 
 /// The code of the refusal for units that are not leased.
@@ -32,69 +55,256 @@ fn code_for_lease(fault: &LeaseFault) -> u8
     }
 }
 
-/// How many frames of asks come after the grant: in kind extended one for each unit.
-fn asks_due(job: &VerifierJob<'_>) -> u32
-    ensures { result ≡ asks_due job.now }
+/// Has the core meet a hello.
+fn meet(
+    alloc: Global,
+    core: &mut VerifierCore<'_>,
+    frame: Frame,
+) -> Result<(), Refusal<VerifierOutcome>>
+    requires waits { core.old.stage ≡ awaits_hello }
+    requires expected { Allows expect.Hello (frame_value frame) }
+    ensures met { OnOk result (Greets core.old.job (frame_value frame)) }
+    ensures due { OnOk result (core.new ≡ record core.old { stage = owes_grant }) }
+    ensures refused { IfErr result (λ refusal. (fault : VerifierFault)
+        × VerifierRefuses core.old.job core.old.stage (frame_value frame) fault
+        × (refusal.fault ≡ session_outcome fault) × (refusal.code ≡ Some (hello_code fault))) }
 {
-    match job.file().params().kind {
-        Kind::Direct => 0,
-        Kind::Extended => job.units(),
+    match core.step(alloc, frame) {
+        Ok(_answer) => Ok(()),
+        Err(fault) => {
+            let code = Some(code_for_hello(&fault));
+            Err(Refusal {
+                fault: VerifierOutcome::from(fault),
+                code,
+            })
+        }
     }
 }
 
-/// The session after the grant of units from this one on.
-fn serve_turns<L: Link>(
+/// The frames of a grant that is due.
+fn grant_frames(
     alloc: Global,
     core: &mut VerifierCore<'_>,
-    line: &mut Line<L>,
-    asks: u32,
-    start: u64,
-) -> Result<Judgement, VerifierOutcome>
-    requires job { IsHeldJob core.old.job }
-    requires asks { asks ≡ asks_due core.old.job }
-    requires granted { core.old.stage ≡ behind_grant core.old.job start }
-    requires at { (first : LineState) × IsLineAt core.old.job core.old.stage first line.old }
-    ensures judged { IfOk result (λ judgement. (first : LineState)
-        → IsLineAt core.old.job core.old.stage first line.old
-        → IsLineAt core.old.job (has_judged start judgement) first line.new) }
-    ensures stops { IfErr result (λ outcome. (first : LineState)
-        → IsLineAt core.old.job core.old.stage first line.old
-        → StopsBehind core.old.job start outcome (snapshot_of first) (snapshot_of line.new)) }
-    ensures usable { IsUsable line.new }
-{
-    take_asks(alloc, core, line, asks, start)?;
-    judge(alloc, core, line, start)
-}
-
-/// The session once these units are leased: the grant, and the turns after it.
-fn serve_granted<L: Link>(
-    alloc: Global,
-    core: &mut VerifierCore<'_>,
-    line: &mut Line<L>,
-    asks: u32,
     span: Span,
-) -> VerifierOutcome
-    requires job { IsHeldJob core.old.job }
-    requires asks { asks ≡ asks_due core.old.job }
+) -> Result<Vec<Frame>, AllocError>
     requires due { core.old.stage ≡ owes_grant }
-    requires units { span.end ≡ span.start + units_of_job core.old.job }
-    requires within { span.end ≤ core.old.job.task.file.params.total }
-    requires room { 6 ≤ line.old.room }
-    requires at { (first : LineState) × IsLineAt core.old.job owes_grant first line.old }
-    ensures granted { (first : LineState) → IsLineAt core.old.job owes_grant first line.old
-        → IsGranted core.old.job span result (snapshot_of first) (snapshot_of line.new) }
-    ensures usable { IsUsable line.new }
+    requires are { AreUnits core.old.job span }
+    ensures frames { IfOk result (λ frames.
+        map frame_value frames.items ≡ model.grant (granted_from core.old.job span.start) ∷ []) }
+    ensures core { core.new ≡ record core.old { stage = behind_grant core.old.job span.start } }
 {
-    if let Err(outcome) = give_grant(alloc, core, line, span) {
-        return outcome;
-    }
-    match serve_turns(alloc, core, line, asks, span.start) {
-        Ok(judgement) => VerifierOutcome::from(judgement),
-        Err(outcome) => outcome,
+    let grant = core.grant(alloc, span);
+    let mut frames = Vec::new(alloc);
+    frames.push(grant)?;
+    Ok(frames)
+}
+
+/// Meets a hello, and has units leased, of which the gate is told: their grant is the answer.
+fn grant_units<R: Grantor, G: Gate>(
+    alloc: Global,
+    job: &VerifierJob<'_>,
+    core: &mut VerifierCore<'_>,
+    gate: &G,
+    granted: &mut Option<Span>,
+    grantor: &mut R,
+    frame: Frame,
+) -> Result<Vec<Frame>, Refusal<VerifierOutcome>>
+    requires job { core.old.job ≡ job.now }
+    requires ungranted { granted.old ≡ None }
+    requires place { IsPlace (grants_of R.answer R.asked R.total R.may R.moves) None core.old grantor.old }
+    requires expected { Allows expect.Hello (frame_value frame) }
+    ensures answered { IfOk result (λ answer. GrantsUnits (grants_of R.answer R.asked R.total R.may R.moves)
+        (served core.old granted.old grantor.old) (frame_value frame) (map frame_value answer.items)
+        (served core.new granted.new grantor.new)) }
+    ensures refused { IfErr result (λ refusal.
+        (serves (grants_of R.answer R.asked R.total R.may R.moves)).refuses
+        (served core.old granted.old grantor.old) (frame_value frame) refusal.fault refusal.code
+        (served core.new granted.new grantor.new)) }
+{
+    let _total = job.file().total();
+    meet(alloc, core, frame)?;
+    match grantor.grant(job.units()) {
+        Err(fault) => {
+            let code = Some(code_for_lease(&fault));
+            Err(Refusal {
+                fault: VerifierOutcome::from(fault),
+                code,
+            })
+        }
+        Ok(span) => {
+            gate.phase(Phase::Granted { start: span.start });
+            *granted = Some(span);
+            match grant_frames(alloc, core, span) {
+                Ok(frames) => Ok(frames),
+                Err(_) => Err(Refusal {
+                    fault: VerifierOutcome::NoMemory,
+                    code: Some(4),
+                }),
+            }
+        }
     }
 }
 
-/// The whole session.
+/// Has the core answer a frame after the grant.
+fn answer(
+    alloc: Global,
+    job: &VerifierJob<'_>,
+    core: &mut VerifierCore<'_>,
+    frame: Frame,
+    _span: Span,
+) -> Result<Vec<Frame>, Refusal<VerifierOutcome>>
+    requires job { core.old.job ≡ job.now }
+    requires behind { IsBehind _span.start core.old.stage }
+    requires expected { IsSomeAnd (verifier_expects core.old.job core.old.stage)
+        (λ place. Allows place (frame_value frame)) }
+    ensures answered { IfOk result (λ answer. VerifierAnswers core.old.job core.old.stage
+        (frame_value frame) (map frame_value answer.items) core.new.stage) }
+    ensures short { IfOk result (λ answer. All IsShort (map frame_value answer.items)) }
+    ensures refused { IfErr result (λ refusal. (fault : VerifierFault)
+        × VerifierRefuses core.old.job core.old.stage (frame_value frame) fault
+        × (refusal.fault ≡ session_outcome fault) × (refusal.code ≡ None)) }
+    ensures behind { OnOk result (IsBehind _span.start core.new.stage) }
+    ensures fewer { OnOk result
+        (frames_left core.new.job core.new.stage < frames_left core.old.job core.old.stage) }
+    ensures job { core.new.job ≡ core.old.job }
+{
+    replies_are_in_range();
+    let _total = job.file().total();
+    let _held = core.expects();
+    match core.step(alloc, frame) {
+        Ok(answer) => Ok(answer),
+        Err(fault) => Err(Refusal {
+            fault: VerifierOutcome::from(fault),
+            code: None,
+        }),
+    }
+}
+
+/// Takes a frame that is expected, and hands back what is answered.
+fn step<R: Grantor, G: Gate>(
+    alloc: Global,
+    job: &VerifierJob<'_>,
+    core: &mut VerifierCore<'_>,
+    gate: &G,
+    granted: &mut Option<Span>,
+    grantor: &mut R,
+    frame: Frame,
+) -> Result<Vec<Frame>, Refusal<VerifierOutcome>>
+    requires expected { IsSomeAnd (verifier_expects core.old.job core.old.stage)
+        (λ place. Allows place (frame_value frame)) }
+    requires holds { IsServing (grants_of R.answer R.asked R.total R.may R.moves) job.now
+        (served core.old granted.old grantor.old) }
+    ensures answered { IfOk result (λ answer.
+        (serves (grants_of R.answer R.asked R.total R.may R.moves)).answers
+        (served core.old granted.old grantor.old) (frame_value frame) (map frame_value answer.items)
+        (served core.new granted.new grantor.new)) }
+    ensures short { IfOk result (λ answer. All IsShort (map frame_value answer.items)) }
+    ensures refused { IfErr result (λ refusal.
+        (serves (grants_of R.answer R.asked R.total R.may R.moves)).refuses
+        (served core.old granted.old grantor.old) (frame_value frame) refusal.fault refusal.code
+        (served core.new granted.new grantor.new)) }
+    ensures coded { IfErr result (λ refusal.
+        IfSome refusal.code (λ _. IsSome (lack_code_at core.old.stage))) }
+    ensures fewer { OnOk result
+        (frames_left core.new.job core.new.stage < frames_left core.old.job core.old.stage) }
+    ensures holds { OnOk result (IsServing (grants_of R.answer R.asked R.total R.may R.moves) job.now
+        (served core.new granted.new grantor.new)) }
+{
+    match *granted {
+        None => grant_units(alloc, job, core, gate, granted, grantor, frame),
+        Some(span) => answer(alloc, job, core, frame, span),
+    }
+}
+
+impl<'a, 'g, R: Grantor, G: Gate> Party<R> for Serving<'a, 'g, G> {
+    ghost use Rattle.std.specs.Prelude.{[]};
+    ghost use Rattle.session_core.specs.Cores.{verifier_expects};
+    ghost use Rattle.session_verifier.specs.Serving.{IsServing, frames_left, grants_of, lack_code_at, served, serves};
+
+    type Fault = VerifierOutcome;
+
+    ghost holds = { λ s asked. IsServing (grants_of R.answer R.asked R.total R.may R.moves) s.job.now
+        (served s.core s.granted asked) };
+
+    ghost expects = { λ s. verifier_expects s.core.job s.core.stage };
+
+    ghost lack_code = { λ s. lack_code_at s.core.stage };
+
+    ghost greeting = { λ s. [] };
+
+    ghost answers = { λ s asked frame answer t then.
+        (serves (grants_of R.answer R.asked R.total R.may R.moves)).answers
+        (served s.core s.granted asked) frame answer (served t.core t.granted then) };
+
+    ghost refuses = { λ s asked frame fault code t then.
+        (serves (grants_of R.answer R.asked R.total R.may R.moves)).refuses
+        (served s.core s.granted asked) frame fault code (served t.core t.granted then) };
+
+    ghost left = { λ s. frames_left s.core.job s.core.stage };
+
+    fn expects(&self) -> Option<Expect> {
+        self.core.expects()
+    }
+
+    fn lack_code(&self) -> Option<u8> {
+        match self.core.expects() {
+            Some(Expect::Hello) => Some(4),
+            _ => None,
+        }
+    }
+
+    fn greeting(&self, alloc: Global) -> Result<Vec<Frame>, AllocError> {
+        Ok(Vec::new(alloc))
+    }
+
+    fn step(
+        &mut self,
+        alloc: Global,
+        asked: &mut R,
+        frame: Frame,
+    ) -> Result<Vec<Frame>, Refusal<VerifierOutcome>> {
+        step(
+            alloc,
+            self.job,
+            &mut self.core,
+            self.gate,
+            &mut self.granted,
+            asked,
+            frame,
+        )
+    }
+}
+
+/// What was granted, and how the session ended.
+#[derive(Clone, Copy, Debug, PartialEq, Eq)]
+pub(crate) struct Course {
+    pub(crate) granted: Option<Span>,
+    pub(crate) outcome: VerifierOutcome,
+}
+
+/// How a session ended for the verifier.
+fn outcome_of(core: &VerifierCore<'_>, outcome: Outcome<VerifierOutcome>) -> VerifierOutcome
+    requires judged { outcome ≡ Done → IsSome (judgement_at core.now.stage) }
+    ensures { IsToldAs core.now.stage outcome result }
+{
+    match outcome {
+        Outcome::Done => match core.judgement() {
+            Some(judgement) => VerifierOutcome::from(judgement),
+            None => unreachable!(),
+        },
+        Outcome::Refused { fault } => fault,
+        Outcome::Cut { fault } => VerifierOutcome::from(fault),
+    }
+}
+
+/// Tells the gate that a session has ended whose units were leased.
+fn tell_end<G: Gate>(gate: &G, granted: Option<Span>) {
+    if let Some(span) = granted {
+        gate.phase(Phase::Ended { start: span.start });
+    }
+}
+
+/// The whole session. The gate is told when units are leased, and when such a session has ended.
 pub(crate) fn serve<L: Link, R: Grantor, G: Gate>(
     alloc: Global,
     job: &VerifierJob<'_>,
@@ -105,41 +315,30 @@ pub(crate) fn serve<L: Link, R: Grantor, G: Gate>(
     requires once { R.answer grantor.old ≡ None }
     requires total { R.total grantor.old ≤ job.now.task.file.params.total }
     requires may { R.may grantor.old (units_of_job job.now) }
-    requires at { (first : LineState) × IsLineAt job.now awaits_hello first line.old }
+    requires fresh { IsFresh line.old }
+    requires side { line.old.side ≡ Verifier }
     ensures total_kept { R.total grantor.new ≡ R.total grantor.old }
     ensures asked { IfSome (R.answer grantor.new) (λ _. R.asked grantor.new ≡ Some (units_of_job job.now)) }
     ensures moved { MatchOption (R.answer grantor.new) (grantor.new ≡ grantor.old)
         (λ answer. R.moves grantor.old (units_of_job job.now) answer grantor.new) }
-    ensures course { (first : LineState) → IsLineAt job.now awaits_hello first line.old
-        → IsCourse job.now (R.answer grantor.new) result.granted result.outcome
-        (snapshot_of first) (snapshot_of line.new) }
-    ensures usable { IsUsable line.new }
+    ensures course { IsCourse job.now (R.answer grantor.new) result.granted result.outcome
+        (snapshot_of line.old) (snapshot_of line.new) }
+    ensures side { line.new.side ≡ Verifier }
+    ensures open_still { IsTrue line.new.is_open }
 {
+    replies_are_in_range();
     let _total = job.file().total();
-    let asks = asks_due(job);
-    let mut core = VerifierCore::new(&*job);
-    if let Err(outcome) = meet(alloc, &mut core, line) {
-        return Course {
-            granted: None,
-            outcome,
-        };
-    }
-    match grantor.grant(job.units()) {
-        Err(fault) => {
-            refuse(alloc, line, code_for_lease(&fault));
-            Course {
-                granted: None,
-                outcome: VerifierOutcome::from(fault),
-            }
-        }
-        Ok(span) => {
-            gate.phase(Phase::Granted { start: span.start });
-            let outcome = serve_granted(alloc, &mut core, line, asks, span);
-            gate.phase(Phase::Ended { start: span.start });
-            Course {
-                granted: Some(span),
-                outcome,
-            }
-        }
+    let _units = job.units();
+    let mut serving = Serving {
+        job: &*job,
+        core: VerifierCore::new(&*job),
+        gate,
+        granted: None,
+    };
+    let outcome = run(alloc, &mut serving, grantor, line);
+    tell_end(gate, serving.granted);
+    Course {
+        granted: serving.granted,
+        outcome: outcome_of(&serving.core, outcome),
     }
 }

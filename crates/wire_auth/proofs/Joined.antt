@@ -1,19 +1,20 @@
 -- Values and MACs, one by one.
-use Rattle.std.proofs.Common.{◌≡◌, ℕ, zero, suc, ◌<◌, ◌≤◌, ◌&&◌, Bool, true, false, All, List, [], ◌∷◌, length, take, get_or, refl, ap, sym, ◌∙◌, arith}
+use Rattle.std.proofs.Common.{◌≡◌, ℕ, zero, suc, ◌<◌, ◌≤◌, All, List, [], ◌∷◌, length, take, get_or, refl, ap, sym, ◌∙◌, arith, subst}
 use Rattle.std.specs.Prelude.{Some, slice_get, slice_index}
 use Rattle.std.proofs.lemmas.List.{length-map, get_or-map}
+use Rattle.std.proofs.Math.Seq.{take-length}
 use Rattle.std.proofs.lemmas.Option.{slice_get_within}
-use Rattle.std.proofs.lemmas.List.Elements.{All-head, All-tail, All-map, All-from_get_or}
+use Rattle.std.proofs.lemmas.List.Elements.{All-head, All-tail}
 use Rattle.mersenne_field.proofs.FieldLaws.{plus-minus}
-use Rattle.zk_model.specs.Bits.{from_bit}
-use Rattle.zk_model.specs.Boolean.{bits_of_products}
-use Rattle.zk_model.specs.Circuit.{bit_of}
 use Rattle.zk_model.specs.Field.{IsElement, ◌+ₚ◌, ◌-ₚ◌}
 use Rattle.zk_model.specs.HonestProver.{honest_corrections}
 use Rattle.zk_model.specs.Mac.{Pair, pair_at, values_of, macs_of, corrected_pairs}
 use Rattle.zk_model.specs.declared.Product.{Product}
-use Rattle.wire_auth.specs.Sides.{joined}
-use Rattle.wire_auth.proofs.Lengths.{length-bits_of_products, product_value}
+use Rattle.zk_model.specs.Program.{Program, Carries, AreMade}
+use Rattle.zk_model.specs.Check.{ArePairsOf}
+use Rattle.wire_auth.specs.Sides.{joined, pairs_from}
+use Rattle.wire_auth.specs.Values.{given_value, given_from}
+use Rattle.wire_auth.proofs.Making.{given_at, length-given_from}
 
 -- the pair at a place
 pub joined_at : (values macs : List ℕ) (i : ℕ) → i < length values → i < length macs
@@ -54,30 +55,54 @@ joined_is_corrected (x ∷ values) (pair ∷ dealt) elements =
     value_is : x ≡ pair.x +ₚ (x -ₚ pair.x)
     value_is = sym (plus-minus x pair.x (All-head IsElement x values elements))
 
--- the pair of the given value of product i: the product of its bits, and the MAC of the dealt pair
-pub given_at : (products : List Product) (bits : List Bool) (dealt : List Pair) (i : ℕ) (product : Product) (pair : Pair)
-    → slice_get products i ≡ Some product → i < length dealt → pair ≡ get_or dealt i pair
-    → pair_at (joined (bits_of_products products bits) (macs_of dealt)) i
-    ≡ record { x = from_bit (bit_of bits product.a && bit_of bits product.b); m = pair.m }
-given_at products bits dealt i product pair at within pair_is =
-    joined_at (bits_of_products products bits) (macs_of dealt) i
-    (omega (arith, slice_get_within products i product at, length-bits_of_products products bits))
+-- the pair of the given value of product i: its value, and the MAC of the dealt pair
+pub given_pair_at : (program : Program) (values : List ℕ) (dealt : List Pair) (i : ℕ) (product : Product) (pair : Pair)
+    → slice_get program.products i ≡ Some product → i < length dealt → pair ≡ get_or dealt i pair
+    → pair_at (joined (given_from program values) (macs_of dealt)) i
+    ≡ record { x = given_value program values product; m = pair.m }
+given_pair_at program values dealt i product pair at within pair_is =
+    joined_at (given_from program values) (macs_of dealt) i
+    (omega (arith, slice_get_within program.products i product at, length-given_from program values))
     (omega (arith, within, length-map dealt (λ (p : Pair). p.m)))
-    ∙ (λ j. record { x = value j; m = mac j })
+    ∙ (λ j. record { x = given_at program values i product at j; m = mac j })
   where
-    value : slice_index (bits_of_products products bits) i ≡ from_bit (bit_of bits product.a && bit_of bits product.b)
-    value = sym (product_value products bits i product at)
-
     mac : slice_index (macs_of dealt) i ≡ pair.m
     mac = get_or-map (λ (p : Pair). p.m) dealt i pair 0 within ∙ ap (λ (p : Pair). p.m) (sym pair_is)
 
--- bits are elements
-pub bit_is_element : (bit : Bool) → IsElement (from_bit bit)
-bit_is_element true = omega arith
-bit_is_element false = omega arith
+-- ---- the pairs of all wires
 
-pub products_are_elements : (products : List Product) (bits : List Bool) → All IsElement (bits_of_products products bits)
-products_are_elements products bits =
-    All-map IsElement (λ (product : Product). from_bit (bit_of bits product.a && bit_of bits product.b)) products
-    (All-from_get_or (λ (product : Product). IsElement (from_bit (bit_of bits product.a && bit_of bits product.b))) products (record { a = 0; b = 0; c = 0 })
-    (λ i below. bit_is_element _))
+-- the values of the given pairs
+pub given_values : (program : Program) (values : List ℕ) (dealt : List Pair) → length program.products ≡ program.givens
+    → program.givens ≤ length dealt → values_of (joined (given_from program values) (macs_of dealt)) ≡ given_from program values
+given_values program values dealt counted enough =
+    values_of-joined (given_from program values) (macs_of dealt)
+    (omega (arith, length-given_from program values, counted, enough, length-map dealt (λ (p : Pair). p.m)))
+
+-- and of the wires
+wire_values : (values macs : List ℕ) → length values ≡ length macs → values_of (joined values macs) ≡ values
+wire_values values macs same = values_of-joined values macs (omega (arith, same))
+
+-- what is made is so as pairs
+pub are_made : (program : Program) (public inputs values macs : List ℕ) (dealt : List Pair) → length program.products ≡ program.givens
+    → program.givens ≤ length dealt → length values ≡ length macs → AreMade program public inputs values (given_from program values)
+    → AreMade program public inputs (values_of (joined values macs)) (values_of (joined (given_from program values) (macs_of dealt)))
+are_made program public inputs values macs dealt counted enough same made =
+    subst (λ (l : List ℕ). AreMade program public inputs (values_of (joined values macs)) l) (sym (given_values program values dealt counted enough))
+    (subst (λ (l : List ℕ). AreMade program public inputs l (given_from program values)) (sym (wire_values values macs same)) made)
+
+-- values and MACs are pairs
+pub are_pairs : (program : Program) (public inputs values macs : List ℕ) (dealt : List Pair) → length program.products ≡ program.givens
+    → program.givens ≤ length dealt → length values ≡ length macs → AreMade program public inputs values (given_from program values)
+    → Carries 0 program public (take program.givens (macs_of dealt)) macs → ArePairsOf program public (pairs_from program values dealt macs)
+are_pairs program public inputs values macs dealt counted enough same made carried = record {
+  values = (are_made program public inputs values macs dealt counted enough same made).carried;
+  macs = subst (λ (l : List ℕ). Carries 0 program public l (macs_of (joined values macs))) (sym given_macs)
+      (subst (Carries 0 program public (take program.givens (macs_of dealt))) (sym wire_macs) carried);
+}
+  where
+    given_macs : macs_of (joined (given_from program values) (macs_of dealt)) ≡ take program.givens (macs_of dealt)
+    given_macs = macs_of-joined (given_from program values) (macs_of dealt)
+        ∙ ap (λ n. take n (macs_of dealt)) (length-given_from program values ∙ counted)
+
+    wire_macs : macs_of (joined values macs) ≡ macs
+    wire_macs = macs_of-joined values macs ∙ ap (λ n. take n macs) same ∙ take-length macs

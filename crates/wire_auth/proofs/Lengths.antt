@@ -1,13 +1,7 @@
 -- How many corrections, pairs and keys there are.
-use Rattle.std.proofs.Common.{◌≡◌, ℕ, zero, suc, ◌<◌, ◌≤◌, ◌+◌, ◌&&◌, Bool, List, [], ◌∷◌, ◌++◌, length, take, get_or, zip, arith, ap, refl, sym, ◌∙◌}
-use Rattle.std.specs.Prelude.{Some, slice_get}
-use Rattle.std.proofs.lemmas.Option.{slice_get_within, get_or_from_slice_get}
-use Rattle.std.proofs.lemmas.List.{length-map, take_more, get_or-map}
+use Rattle.std.proofs.Common.{◌≡◌, ℕ, zero, suc, ◌<◌, ◌≤◌, ◌+◌, List, [], ◌∷◌, ◌++◌, length, take, get_or, zip, arith, ap, refl, sym, ◌∙◌}
+use Rattle.std.proofs.lemmas.List.{length-map, take_more}
 use Rattle.std.proofs.lemmas.Slice.Zip.{length-zip}
-use Rattle.zk_model.specs.Bits.{from_bit}
-use Rattle.zk_model.specs.Boolean.{bits_of_products}
-use Rattle.zk_model.specs.Circuit.{bit_of}
-use Rattle.zk_model.specs.declared.Product.{Product}
 use Rattle.zk_model.specs.Mac.{Pair, corrected_key, corrected_keys}
 use Rattle.zk_model.specs.Field.{◌-ₚ◌}
 use Rattle.zk_model.specs.HonestProver.{honest_corrections}
@@ -39,17 +33,6 @@ next_correction values dealt i value pair below enough at pair_at =
 
     pair_is : get_or dealt i pair ≡ pair
     pair_is = sym pair_at
-
--- the product of a product's bits is that of its number
-pub product_value : (products : List Product) (bits : List Bool) (i : ℕ) (product : Product) → slice_get products i ≡ Some product
-    → from_bit (bit_of bits product.a && bit_of bits product.b) ≡ get_or (bits_of_products products bits) i 0
-product_value products bits i product at =
-    let below = slice_get_within products i product at in
-    ap (λ (p : Product). from_bit (bit_of bits p.a && bit_of bits p.b)) (sym (get_or_from_slice_get products i product product at))
-    ∙ sym (get_or-map (λ (p : Product). from_bit (bit_of bits p.a && bit_of bits p.b)) products i product 0 below)
-
-pub length-bits_of_products : (products : List Product) (bits : List Bool) → length (bits_of_products products bits) ≡ length products
-length-bits_of_products products bits = length-map products (λ (p : Product). from_bit (bit_of bits p.a && bit_of bits p.b))
 
 pub length-corrected_keys : (key : ℕ) (keys corrections : List ℕ) → length corrections ≤ length keys → length (corrected_keys key keys corrections) ≡ length corrections
 length-corrected_keys key keys corrections enough =

@@ -1,3 +1,4 @@
 pub mod Lengths
 pub mod Joined
 pub mod Setting
+pub mod Making

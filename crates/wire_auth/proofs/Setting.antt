@@ -4,6 +4,7 @@ use Rattle.std.proofs.Math.Seq.{take-nil, take-append_seam}
 use Rattle.std.specs.Prelude.{Some, slice_get, All}
 use Rattle.std.proofs.lemmas.List.{length-map, drop-take, drop_at, take_all}
 use Rattle.std.proofs.lemmas.Option.{slice_get-get_or}
+use Rattle.zk_model.specs.Program as model
 use Rattle.zk_model.specs.Program.{Program, IsProgram, IsStep, MeetsStep, step_value, Carries}
 use Rattle.zk_model.specs.Boolean.{once, less_once, less_twice}
 use Rattle.circuit_laws.proofs.Programs.{set_below, AreMet, met_more, first_kept}
@@ -55,12 +56,11 @@ pub record AreSoFar (program : Program) (one : ℕ) (given initial wires : List 
   pub first : take (program.public + program.inputs) wires ≡ take (program.public + program.inputs) initial
   pub met : AreMet one program given wires n
 
-pub one_more : (program : Program) (one : ℕ) (given initial wires now : List ℕ) (n out number : ℕ) (step : Step) → IsProgram program
-    → slice_get program.steps n ≡ Some (step_equation step)
-    → out ≡ (step_equation step).out → number ≡ step_value one wires given (step_equation step) → now ≡ set wires out number
+pub one_more : (program : Program) (one : ℕ) (given initial wires now : List ℕ) (n out number : ℕ) (equation : model.Step) → IsProgram program
+    → slice_get program.steps n ≡ Some equation
+    → out ≡ equation.out → number ≡ step_value one wires given equation → now ≡ set wires out number
     → AreSoFar program one given initial wires n → AreSoFar program one given initial now (n + 1)
-one_more program one given initial wires now n out number step formed at o k sets far =
-    let equation = step_equation step in
+one_more program one given initial wires now n out number equation formed at o k sets far =
     let same : now ≡ set wires equation.out (step_value one wires given equation) = sets ∙ (λ i. set wires (o i) (k i)) in
     subst (λ (l : List ℕ). AreSoFar program one given initial l (n + 1)) (sym same) (record {
       whole = length-set wires equation.out (step_value one wires given equation) ∙ far.whole;
@@ -69,7 +69,7 @@ one_more program one given initial wires now n out number step formed at o k set
     })
 
 -- all steps are met in the end
-all_met : (program : Program) (one : ℕ) (given wires : List ℕ) (n : ℕ) → n ≡ length program.steps
+pub all_met : (program : Program) (one : ℕ) (given wires : List ℕ) (n : ℕ) → n ≡ length program.steps
     → AreMet one program given wires n → All (MeetsStep one wires given) program.steps
 all_met program one given wires n end met k d below =
     met k (get_or program.steps k d) (omega (arith, end, below)) (slice_get-get_or program.steps k d below)

@@ -1,13 +1,12 @@
 -- What either end holds of a program's wires.
-use Rattle.std.specs.Prelude.{◌≡◌, ◌<◌, ℕ, Bool, List, length, map, zip, take, drop, slice_index}
-use Rattle.zk_model.specs.Bits.{from_bit}
-use Rattle.zk_model.specs.Boolean.{bits_of_products}
+use Rattle.std.specs.Prelude.{◌≡◌, ◌<◌, ℕ, List, length, map, zip, take, drop, slice_index}
 use Rattle.zk_model.specs.Field.{◌*ₚ◌}
 use Rattle.zk_model.specs.Mac.{Pair, macs_of}
 use Rattle.zk_model.specs.Program.{Program}
 use Rattle.zk_model.specs.Check.{WirePairs, WireKeys}
 use Rattle.field_program.specs.declared.step.Step.{Step}
 use Rattle.field_program.specs.declared.step.Step.TheVariants.{Const, Copy, Not, Mul, XorFrom}
+use Rattle.wire_auth.specs.Values.{given_from}
 
 -- a program with the pairs that were dealt, and those of its given values and of all its wires
 pub record ProverSide : Type 0 where
@@ -24,12 +23,12 @@ pub record VerifierSide : Type 0 where
 abbrev pub joined : List ℕ → List ℕ → List Pair
 joined values macs = map (λ q. record { x = q.0; m = q.1 }) (zip values macs)
 
--- the pairs of a program's given values and of its wires, where these are the bits of all wires, the pairs that were dealt
+-- the pairs of a program's given values and of its wires, where these are the values of all wires, the pairs that were dealt
 -- and the MACs of all wires: a given value has the MAC of the dealt pair
-abbrev pub pairs_from : Program → List Bool → List Pair → List ℕ → WirePairs
-pairs_from program bits dealt macs = record {
-  given = joined (bits_of_products program.products bits) (macs_of dealt);
-  wires = joined (map from_bit bits) macs;
+abbrev pub pairs_from : Program → List ℕ → List Pair → List ℕ → WirePairs
+pairs_from program values dealt macs = record {
+  given = joined (given_from program values) (macs_of dealt);
+  wires = joined values macs;
 }
 
 -- the wires that a step reads and sets are there

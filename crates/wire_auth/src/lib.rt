@@ -1,10 +1,11 @@
 //! Authenticated wires: from the pairs, or the keys, of a program's given values those of all its wires (Weng, Yang, Katz
 //! and Wang, Wolverine, IEEE S&P 2021; Yang, Sarkar, Weng and Wang, QuickSilver, ACM CCS 2021).
 //!
-//! `pairs` has `ProverWires`, `keys` has `VerifierWires`; `carrying` is what steps make of values, MACs and keys alike, `corrections` what
-//! makes pairs of the products of bits; `correlations` are those that were dealt or made, `triples` the wires of a product.
+//! `pairs` has `ProverWires`, `keys` has `VerifierWires`; `carrying` is what steps make of values, MACs and keys alike, `values` what
+//! public values and inputs make, `corrections` what makes pairs of given values; `correlations` are those that were dealt or made,
+//! `triples` the wires of a product.
 //!
-//!     let (wires, corrections) = ProverWires::run(alloc, program, public, bits, pairs)?;
+//!     let (wires, corrections) = ProverWires::run(alloc, program, public, inputs, pairs)?;
 //!     let keys = VerifierWires::run(alloc, program, public, keys, key, &corrections)?;
 #![tactic(auto)]
 
@@ -14,8 +15,10 @@ mod correlations;
 mod keys;
 mod pairs;
 mod triples;
+mod values;
 
 pub use correlations::Correlations;
 pub use keys::VerifierWires;
 pub use pairs::ProverWires;
 pub use triples::{KeyTriple, Triple};
+pub use values::bits_make_products;

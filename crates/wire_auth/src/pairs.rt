@@ -1,9 +1,7 @@
 // The prover's side: values and MACs of all wires.
-ghost use Rattle.std.specs.Prelude.{◌≡◌, ◌<◌, ◌≤◌, ℕ, List, length, map, take, IfOk, slice_get, Some};
-ghost use Rattle.zk_model.specs.Bits.{from_bit};
-ghost use Rattle.zk_model.specs.Boolean.{bits_of_products};
-ghost use Rattle.zk_model.specs.Program.{Carries};
-ghost use Rattle.zk_model.specs.Mac.{pair_at, macs_of, corrected_pairs};
+ghost use Rattle.std.specs.Prelude.{◌≡◌, ◌<◌, ◌≤◌, ℕ, List, length, take, IfOk, slice_get, Some};
+ghost use Rattle.zk_model.specs.Program.{AreMade, Carries};
+ghost use Rattle.zk_model.specs.Mac.{pair_at, values_of, macs_of, corrected_pairs};
 ghost use Rattle.zk_model.specs.Check.{ArePairsOf, product_triple, opened_pairs};
 ghost use Rattle.zk_model.specs.HonestProver.{honest_corrections};
 ghost use Rattle.wire_auth.specs.Held.{items_in};
@@ -11,21 +9,22 @@ ghost use Rattle.wire_auth.specs.Sides.{TakesWithin, IsBegun, IsTaken};
 ghost use Rattle.zk_model.specs.declared.Product as zk;
 
 use crate::carrying::{begun, known, step_number};
-use crate::corrections::{bit_product, corrections};
+use crate::corrections::corrections;
 use crate::correlations::Correlations;
 use crate::triples::Triple;
+use crate::values::{carry_values, given_value};
 use field_program::{FieldProgram, Step};
 use mersenne_field::{Fe, Pair};
 use std::alloc::{AllocError, Global};
 use std::marker::Model;
 
-/// The pairs, a value and its MAC, of a program's given values and of all its wires, whose values are bits (Weng, Yang, Katz
-/// and Wang, Wolverine, IEEE S&P 2021). It keeps the pairs of the session's correlations: the MAC of a given value is that
-/// of the pair that was corrected to it.
+/// The pairs, a value and its MAC, of a program's given values and of all its wires (Weng, Yang, Katz and Wang, Wolverine,
+/// IEEE S&P 2021). It keeps the pairs of the session's correlations: the MAC of a given value is that of the pair that was
+/// corrected to it.
 #[derive(Debug, Drop)]
 pub struct ProverWires<'a> {
     program: &'a FieldProgram,
-    bits: &'a [bool],
+    values: Vec<Fe>,
     dealt: Correlations<'a, Pair>,
     macs: Vec<Fe>,
 }
@@ -41,10 +40,10 @@ impl<'a> Model for ProverWires<'a> {
     ghost view = { λ w. record {
       program = w.program.now;
       dealt = items_in w.dealt;
-      pairs = pairs_from w.program.now w.bits.now (items_in w.dealt) w.macs.items;
+      pairs = pairs_from w.program.now w.values.items (items_in w.dealt) w.macs.items;
     } };
 
-    ghost invariant = { λ w. (length w.bits.now ≡ w.program.now.wires)
+    ghost invariant = { λ w. (length w.values.items ≡ w.program.now.wires)
         × (length w.macs.items ≡ w.program.now.wires)
         × (w.program.now.givens ≤ length (items_in w.dealt)) };
 }
@@ -103,11 +102,12 @@ fn carry_macs(
 }
 
 impl<'a> ProverWires<'a> {
-    /// The pairs of all wires of a program with these public values, and the corrections that turn the dealt pairs into ones
-    /// of the given values: for each the value less the dealt one.
+    /// The pairs of all wires of a program with these public values and private inputs, and the corrections that turn the dealt
+    /// pairs into ones of the given values: for each the value less the dealt one.
     ///
-    /// `bits` are the values of all wires: they follow from the public values and, for each product, that of its two wires.
-    /// `dealt` are the session's correlations, as many as `need` tells, or at least one for each given value.
+    /// The values of all wires are what the public values and the inputs make: each step sets its wire, and a given value beyond
+    /// the inputs is the product of its two wires. `dealt` are the session's correlations, as many as `need` tells, or at
+    /// least one for each given value.
     ///
     /// # Errors
     ///
@@ -116,28 +116,30 @@ impl<'a> ProverWires<'a> {
         alloc: Global,
         program: &'a FieldProgram,
         public: &[Fe],
-        bits: &'a [bool],
+        inputs: &[Fe],
         dealt: Correlations<'a, Pair>,
     ) -> Result<(ProverWires<'a>, Vec<Fe>), AllocError>
         requires public { length public.now ≡ program.now.public }
+        requires inputs { length inputs.now ≡ program.now.inputs }
         requires dealt { program.now.givens ≤ length (items_in dealt) }
-        requires values { Carries 1 program.now public.now (bits_of_products program.now.products bits.now)
-            (map from_bit bits.now) }
         ensures program { IfOk result (λ r. r.0.program ≡ program.now) }
         ensures dealt { IfOk result (λ r. r.0.dealt ≡ items_in dealt.entry) }
+        ensures made { IfOk result (λ r. AreMade program.now public.now inputs.now
+            (values_of r.0.pairs.wires) (values_of r.0.pairs.given)) }
         ensures corrections { IfOk result (λ r. r.1.items
-            ≡ honest_corrections (bits_of_products program.now.products bits.now) (items_in dealt.entry)) }
+            ≡ honest_corrections (values_of r.0.pairs.given) (items_in dealt.entry)) }
         ensures one_each { IfOk result (λ r. length r.1.items ≡ program.now.givens) }
-        ensures given { IfOk result (λ r. r.0.pairs.given ≡ corrected_pairs (items_in dealt.entry)
-            (honest_corrections (bits_of_products program.now.products bits.now) (items_in dealt.entry))) }
+        ensures given { IfOk result (λ r.
+            r.0.pairs.given ≡ corrected_pairs (items_in dealt.entry) r.1.items) }
         ensures carried { IfOk result (λ r. ArePairsOf program.now public.now r.0.pairs) }
     {
-        let corrections = corrections(alloc, program, bits, dealt.as_slice())?;
+        let values = carry_values(alloc, program, public, inputs)?;
+        let corrections = corrections(alloc, program, &values, dealt.as_slice())?;
         let given = &dealt.as_slice()[..program.givens()];
         let macs = carry_macs(alloc, program, public, given)?;
         let side = ProverWires {
             program,
-            bits,
+            values,
             dealt,
             macs,
         };
@@ -165,7 +167,7 @@ impl<'a> ProverWires<'a> {
         ensures { result ≡ pair_at self.now.pairs.wires wire }
     {
         Pair {
-            x: Fe::from_bit(self.bits[wire as usize]),
+            x: known(self.values[wire as usize]),
             m: known(self.macs[wire as usize]),
         }
     }
@@ -182,7 +184,7 @@ impl<'a> ProverWires<'a> {
             a: self.wire(product.a),
             b: self.wire(product.b),
             c: Pair {
-                x: bit_product(self.bits, product),
+                x: given_value(self.program, &self.values, product),
                 m: dealt.m,
             },
         }

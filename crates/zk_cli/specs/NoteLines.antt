@@ -9,18 +9,17 @@ use Rattle.std.specs.Fmt.{decimal}
 use Rattle.std.specs.List.{concat, list_any}
 use Rattle.zk_model.specs.declared.Span.{Span}
 use Rattle.session_core.specs.declared.fault.HelloDiffers.{HelloDiffers}
-use Rattle.session_core.specs.declared.fault.HelloDiffers.TheVariants.{Id, Circuit, Outputs, Version}
+use Rattle.session_core.specs.declared.fault.HelloDiffers.TheVariants as differs
 use Rattle.session_verifier.specs.declared.note.SessionNote.{SessionNote}
 use Rattle.zk_cli.specs.declared.note_lines.Failures.{Failures}
 use Rattle.session_verifier.specs.declared.note.VerifierOutcome.{VerifierOutcome}
 use Rattle.session_verifier.specs.declared.note.VerifierOutcome.TheVariants as ended
 
--- the field of a hello that differs
+-- what differs first in a hello
 abbrev pub field_words : HelloDiffers → List ℕ
-field_words (Id want got) = codes "id"
-field_words (Circuit want got) = codes "circuit"
-field_words (Outputs want got) = codes "outputs"
-field_words (Version want got) = codes "version"
+field_words (differs.Id want got) = codes "id"
+field_words (differs.Version want got) = codes "version"
+field_words (differs.Statement want got) = codes "statement"
 
 -- how a session ended
 abbrev pub outcome_words : VerifierOutcome → List ℕ
@@ -29,7 +28,7 @@ outcome_words (ended.RejectedSum section left right) = codes "rejected sum " ++ 
 outcome_words (ended.RejectedOpening output left right) = codes "rejected opening " ++ decimal output
 outcome_words (ended.PeerEnded at) = codes "ended " ++ decimal at
 outcome_words (ended.BadFrame place) = codes "frame " ++ decimal place
-outcome_words (ended.BadHello differs) = codes "hello " ++ field_words differs
+outcome_words (ended.BadHello first) = codes "hello " ++ field_words first
 outcome_words (ended.Exhausted at count total) =
     codes "exhausted " ++ decimal at ++ codes " " ++ decimal count ++ codes " " ++ decimal total
 outcome_words ended.Device = codes "device"

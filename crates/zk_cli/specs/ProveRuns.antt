@@ -21,7 +21,7 @@ use Rattle.zk_port.specs.Links.{LinkState}
 use Rattle.lease_core.specs.Spans.{span}
 use Rattle.claim_store.specs.Claims.{SaysClaims, first_met}
 use Rattle.dealer_files.specs.Faults.{IsDealtFile}
-use Rattle.session_core.specs.Jobs.{ProverJob, prover_of}
+use Rattle.session_core.specs.Jobs.{ProverJob, prover_from, prover_of}
 use Rattle.session_prover.specs.Completing.{HasHonestPeer}
 use Rattle.session_prover.specs.Notes.{IsGrantRead}
 use Rattle.session_prover.specs.Sessions.{IsNote}
@@ -58,6 +58,13 @@ pub record IsWitnessed (told : Option Files) (ask : ProveAsk) (circuit : Circuit
   pub satisfied : Satisfies circuit ask.bits ask.outputs
   pub witness : (file : ProverFile)
       → IsWitness statement (map from_bit ask.bits) (map from_bit wires) (prover_of statement wires file).given
+
+-- there are such a circuit and such bits, and with these values of the inputs a prover has the given values that the bits make
+pub record HasWitness (told : Option Files) (ask : ProveAsk) (statement : Statement) (inputs : List ℕ) : Type 0 where
+  pub circuit : Circuit
+  pub wires : List Bool
+  pub witnessed : IsWitnessed told ask circuit statement wires
+  pub proves : (file : ProverFile) → prover_from statement inputs file ≡ prover_of statement wires file
 
 -- where a shelf tells, the bytes under the name are those of this prover's file
 abbrev pub IsProverFileAt : Option Files → List ℕ → ProverFile → Type 0

@@ -1,5 +1,5 @@
 -- `rehearse CIRCUIT BITS [--section G] [--extended]`: what it hands back and says, and what it promises of its run.
-use Rattle.std.specs.Prelude.{◌≡◌, ◌⊎◌, ◌<◌, ◌≤◌, ℕ, List, ◌++◌, codes, Option}
+use Rattle.std.specs.Prelude.{◌≡◌, ◌⊎◌, ◌<◌, ◌≤◌, ℕ, List, [], ◌++◌, codes, Option}
 use Rattle.std.specs.Fmt.{decimal}
 use Rattle.zk_model.specs.Circuit.{Circuit}
 use Rattle.zk_model.specs.declared.Verdict.{Verdict}
@@ -45,15 +45,15 @@ rehearsal_lines r =
 -- defined ones, and its log is that of an honest session over the files of the seed
 abbrev pub IsRehearsed : Option Files → RehearseAsk → List ℕ → Rehearsal → Type 0
 IsRehearsed told ask seed r =
-    HasCircuit told ask.circuit (λ circuit. IsRehearsalOf circuit ask.bits ask.kind ask.section seed r)
+    HasCircuit told ask.circuit (λ circuit. IsRehearsalOf circuit [] ask.bits ask.kind ask.section seed r)
 
 -- why there is no rehearsal: the circuit has another number of inputs, takes too many units, or can't be had
 abbrev pub RehearseStop : RehearseAsk → ShelfChange → Refusal → Type 0
 RehearseStop ask shelf (WrongBits need got) =
-    HasCircuit shelf.old.told ask.circuit (λ circuit. IsWrongLength circuit ask.bits need got)
+    HasCircuit shelf.old.told ask.circuit (λ circuit. IsWrongLength circuit [] ask.bits need got)
 RehearseStop ask shelf (TooLarge need units) =
     HasCircuit shelf.old.told ask.circuit
-    (λ circuit. IsTooLarge circuit ask.bits ask.kind ask.section need units)
+    (λ circuit. IsTooLarge circuit [] ask.bits ask.kind ask.section need units)
 RehearseStop ask shelf stop = CircuitStop ask.circuit shelf stop
 
 -- a rehearsal is handed back, and its lines are written; or nothing is, and the line of a stop is, which has its cause
@@ -84,4 +84,4 @@ pub record Rehearses {L : Type 0} (ask : RehearseAsk) (seed : List ℕ) (part : 
   pub kept : OnlyLoads (IsName ask.circuit) run.shelf
   pub means : StatusMeans (Accepts part run.sink) (RehearseStop ask run.shelf) (IsName ask.circuit) run
   pub done : (circuit : Circuit) → IsReady run.shelf.old.told ask.circuit ask.bits circuit
-      → ¬ HasFailed (IsName ask.circuit) run → AnswersFor (rehearsal_units circuit ask.kind ask.section) run.status
+      → ¬ HasFailed (IsName ask.circuit) run → AnswersFor (rehearsal_units circuit [] ask.kind ask.section) run.status

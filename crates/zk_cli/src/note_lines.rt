@@ -14,15 +14,14 @@ use session_verifier::{SessionNote, VerifierOutcome};
 use std::alloc::{AllocError, Global};
 use zk_model::Span;
 
-/// The name of the field of a hello that differs.
+/// The name of what differs first in a hello.
 fn field_name(differs: &HelloDiffers) -> &'static str
     ensures { result.now ≡ field_words differs.now }
 {
     match differs {
         HelloDiffers::Id { .. } => "id",
-        HelloDiffers::Circuit { .. } => "circuit",
-        HelloDiffers::Outputs { .. } => "outputs",
         HelloDiffers::Version { .. } => "version",
+        HelloDiffers::Statement { .. } => "statement",
     }
 }
 

@@ -3,10 +3,9 @@ ghost use Rattle.std.specs.Prelude.{◌≡◌, IfOk, IfErr, OnOk, None, IfSome, 
 ghost use Rattle.zk_model.specs.Circuit.{Circuit, AreWireBits, output_wire};
 ghost use Rattle.zk_model.specs.declared.Side.TheVariants.{Prover};
 ghost use Rattle.zk_port.specs.Changes.{change};
-ghost use Rattle.session_core.specs.Jobs.{AreValues};
 ghost use Rattle.file_commands.specs.Journals.{IsJournalDisk, disk_change};
 ghost use Rattle.zk_cli.specs.ProveRuns.{BeginningStop, HoldsAsked, HoldsSession, LacksProof, Proves, ProveStop, prove_words};
-ghost use Rattle.zk_cli.specs.ProveRuns.{DiffersFirst, IsProveName, IsProverFileAt, IsWitnessed, WiresStop, WitnessStop};
+ghost use Rattle.zk_cli.specs.ProveRuns.{DiffersFirst, HasWitness, IsProveName, IsProverFileAt, WiresStop, WitnessStop};
 ghost use Rattle.file_commands.specs.Stops.{connect_refusal, FileStop};
 ghost use Rattle.file_commands.specs.Effects.{OnlyLoads, IsName, effects};
 
@@ -18,7 +17,8 @@ use circuit_laws::{bits_solve, one_outcome};
 use claim_store::claims_start_again;
 use dealer_files::{ProverFile, decode_prover};
 use file_commands::{Refusal, load_file, open_claims, read_circuit, say_stop};
-use session_core::{CircuitClaim, ProverJob, wire_bits_are_values};
+use mersenne_field::Fe;
+use session_core::{CircuitClaim, ProverJob, elements_of, input_bits_prove};
 use session_prover::{ProverNote, StoreClaimant, prove_session};
 use sha2::{Digest, Sha256};
 use std::alloc::Global;
@@ -34,11 +34,11 @@ pub struct ProveWords<'a> {
     pub outputs: &'a [bool],
 }
 
-/// A claim, and the bits of all wires that prove it.
+/// A claim, and the values of the inputs that prove it.
 #[derive(Drop)]
 struct Witness {
     claim: CircuitClaim,
-    wires: Vec<bool>,
+    inputs: Vec<Fe>,
 }
 
 /// The first place where two lists of one length differ.
@@ -64,6 +64,7 @@ fn satisfying_wires(
     ensures wires { IfOk result (λ wires. AreWireBits circuit.now words.now.bits.now wires.items) }
     ensures outputs { IfOk result (λ wires.
         drop (output_wire circuit.now 0) wires.items ≡ words.now.outputs.now) }
+    ensures inputs { IfOk result (λ _. length words.now.bits.now ≡ circuit.now.inputs) }
     ensures count { IfOk result (λ _. length words.now.outputs.now ≡ circuit.now.outputs) }
     ensures stop { IfErr result (WiresStop circuit.now (prove_words words.now)) }
 {
@@ -93,28 +94,30 @@ fn satisfying_wires(
     }
 }
 
-/// The claim that the words name, and the bits that prove it.
+/// The claim that the words name, and the values that prove it.
 fn load_witness<F: Shelf>(
     alloc: Global,
     shelf: &mut F,
     words: &ProveWords<'_>,
 ) -> Result<Witness, Refusal>
-    ensures witness { IfOk result (λ w. (circuit : Circuit)
-        × IsWitnessed (F.state shelf.old).told (prove_words words.now) circuit w.claim w.wires.items) }
-    ensures values { IfOk result (λ w. AreValues w.claim w.wires.items) }
+    ensures witness { IfOk result (λ w.
+        HasWitness (F.state shelf.old).told (prove_words words.now) w.claim w.inputs.items) }
+    ensures inputs { IfOk result (λ w. length w.inputs.items ≡ w.claim.program.inputs) }
     ensures stop { IfErr result (WitnessStop (prove_words words.now)
         (change (F.state shelf.old) (F.state shelf.new))) }
     ensures kept { OnlyLoads (IsName words.now.circuit.now) (change (F.state shelf.old) (F.state shelf.new)) }
     ensures quiet { OnOk result (F.state shelf.new ≡ F.state shelf.old) }
 {
     bits_solve();
-    wire_bits_are_values();
+    input_bits_prove();
     let text = load_file(alloc, shelf, words.circuit)?;
     let circuit = read_circuit(alloc, &text)?;
     let wires = satisfying_wires(alloc, &circuit, words)?;
+    drop(wires);
     let digest = Sha256::digest(&text);
-    let claim = CircuitClaim::new(alloc, &circuit, digest, words.outputs)?;
-    Ok(Witness { claim, wires })
+    let claim = CircuitClaim::new(alloc, &circuit, digest, &[], words.outputs)?;
+    let inputs = elements_of(alloc, words.bits)?;
+    Ok(Witness { claim, inputs })
 }
 
 /// The prover's file of this name.
@@ -173,9 +176,9 @@ fn load_all<F: Shelf>(
     shelf: &mut F,
     words: &ProveWords<'_>,
 ) -> Result<(Witness, ProverFile), Refusal>
-    ensures witness { IfOk result (λ r. (circuit : Circuit)
-        × IsWitnessed (F.state shelf.old).told (prove_words words.now) circuit r.0.claim r.0.wires.items) }
-    ensures values { IfOk result (λ r. AreValues r.0.claim r.0.wires.items) }
+    ensures witness { IfOk result (λ r.
+        HasWitness (F.state shelf.old).told (prove_words words.now) r.0.claim r.0.inputs.items) }
+    ensures inputs { IfOk result (λ r. length r.0.inputs.items ≡ r.0.claim.program.inputs) }
     ensures file { IfOk result (λ r. IsProverFileAt (F.state shelf.old).told words.now.file.now r.1) }
     ensures stop { IfErr result (λ stop. LacksProof (prove_words words.now)
         (change (F.state shelf.old) (F.state shelf.new)) stop) }
@@ -212,7 +215,7 @@ fn prove_files<F: Shelf, D: Door, B: Disk>(
         Err(refusal) => return Err((refusal, journal)),
     };
     let statement = witness.claim.statement();
-    let job = ProverJob::new(&statement, &file, &witness.wires);
+    let job = ProverJob::new(&statement, &file, &witness.inputs);
     prove_job(alloc, &job, words, journal, door)
 }
 

@@ -35,7 +35,7 @@ fn rehearse_file<F: Shelf>(
     ensures kept { OnlyLoads (IsName name.now) (change (F.state shelf.old) (F.state shelf.new)) }
 {
     let circuit = load_circuit(alloc, shelf, name)?;
-    match rehearse(alloc, circuit, bits, kind, section, seed) {
+    match rehearse(alloc, circuit, &[], bits, kind, section, seed) {
         Ok(rehearsal) => Ok(rehearsal),
         Err(RehearseFault::WrongLength { need, got }) => Err(Refusal::WrongBits { need, got }),
         Err(RehearseFault::TooLarge { need, units }) => Err(Refusal::TooLarge { need, units }),

@@ -65,7 +65,7 @@ fn load_claim<F: Shelf>(
         });
     }
     let digest = Sha256::digest(&text);
-    Ok(CircuitClaim::new(alloc, &circuit, digest, words.outputs)?)
+    Ok(CircuitClaim::new(alloc, &circuit, digest, &[], words.outputs)?)
 }
 
 /// The verifier's file of this name.

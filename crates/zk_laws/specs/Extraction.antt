@@ -73,5 +73,5 @@ ShowsBits circuit outputs (found_key_root polynomial) = Unit {0}
 abbrev pub FoundBits : Type 0
 FoundBits = (circuit : Circuit) (digest : List ℕ) (outputs : List Bool) (section_length challenge key : ℕ) (finding : Finding)
     → IsWellFormed circuit
-    → Shows (circuit_statement circuit digest outputs) section_length challenge key finding
+    → Shows (circuit_statement circuit digest [] outputs) section_length challenge key finding
     → ShowsBits circuit outputs finding

@@ -1,7 +1,7 @@
 -- Frames and journals at worked examples, by computation.
 use Rattle.std.proofs.Common.{◌≡◌, ◌++◌, true, [], ◌∷◌, flat_map, refl, replicate, length, take}
-use Rattle.std.specs.Prelude.{codes}
-use Rattle.zk_model.specs.Transcript.{Transcript, ask_frame, reply_frame, challenge_frame, corrections_frame, spelling, setup_turns, session_turns, turn_bytes}
+use Rattle.std.specs.Prelude.{Some, None, codes}
+use Rattle.zk_model.specs.Transcript.{Hello, Transcript, hello_frame, ask_frame, reply_frame, challenge_frame, corrections_frame, spelling, setup_turns, session_turns, turn_bytes}
 use Rattle.zk_model.specs.Journals.{blank_journal_bytes, ceiling_slots, claim_slots}
 use Rattle.zk_model.specs.declared.JournalKind.TheVariants.{Ceilings}
 
@@ -18,12 +18,24 @@ ask_length = refl
 reply_length : length (reply_frame (record { messages = record { left = replicate 16 0; right = replicate 16 0 } ∷ []; leaf_offset = 3 } ∷ [])) ≡ 45
 reply_length = refl
 
+-- a hello with a digest of public bits has 134 bytes, 129 of them after its head
+long_hello : Hello
+long_hello = record { id = replicate 32 1; circuit = replicate 32 2; outputs = replicate 32 3; version = 2; public = Some (replicate 32 4) }
+
+long_head : take 6 (hello_frame long_hello) ≡ 1 ∷ 129 ∷ 0 ∷ 0 ∷ 0 ∷ 1 ∷ []
+unfolding long_hello
+long_head = refl
+
+long_length : length (hello_frame long_hello) ≡ 134
+unfolding long_hello
+long_length = refl
+
 -- a session of the one AND in kind direct
 and_session : Transcript
 and_session = record {
   commitment = record {
     setup = record {
-      hello = record { id = replicate 32 1; circuit = replicate 32 2; outputs = replicate 32 3; version = 1 };
+      hello = record { id = replicate 32 1; circuit = replicate 32 2; outputs = replicate 32 3; version = 1; public = None };
       grant = record { start = 0; count = 1; section_length = 1048576 };
       rounds = [];
     };

@@ -3,7 +3,8 @@
 use Rattle.std.proofs.Common.{◌≡◌, ℕ, ◌<◌, ◌≤◌, [], ◌∷◌, refl, replicate, sym, subst, inl, inr, ◌⊎◌, lit<, lit≤, arith}
 use Rattle.std.proofs.lemmas.Bool.{cases_lt}
 use Rattle.std.proofs.lemmas.List.Elements.{All-from_recursion, All-nil}
-use Rattle.zk_model.proofs.ExampleTools.{one_only, bytes_of, made_once}
+use Rattle.sha2.specs.Sha256.{sha256}
+use Rattle.zk_model.proofs.ExampleTools.{one_only, bytes_of, empty_digest_fits, made_once}
 use Rattle.zk_model.proofs.ExampleProducts.{prover, verifier, dealt, pair, setup, seen}
 use Rattle.zk_model.specs.Field.{IsElement}
 use Rattle.zk_model.specs.Program.{Program, IsProduct, IsMadeOnce, IsSetInAll, IsProgram, MeetsStep}
@@ -54,7 +55,7 @@ twice_is_program = record {
 }
 
 abbrev statement : Statement
-statement = record { program = twice; public = []; claims = []; version = 1; circuit = replicate 32 2; outputs = replicate 32 3 }
+statement = record { program = twice; public = []; claims = []; circuit = replicate 32 2; outputs = replicate 32 3; public_digest = sha256 [] }
 
 stated : IsStatement statement
 stated = record {
@@ -63,9 +64,10 @@ stated = record {
   public = All-nil IsElement;
   claim_count = refl;
   claims = All-nil IsElement;
-  version = lit< tt;
   circuit = bytes_of 32 2 (lit< tt);
   outputs = bytes_of 32 3 (lit< tt);
+  public_digest = empty_digest_fits;
+  none_public = λ none. refl;
 }
 
 -- the inputs 1 and 1, and 3 and 0 in place of their product

@@ -8,7 +8,7 @@ use Rattle.rand_chacha.specs.Block.{block_word, double_rounds, column_round, dia
 use Rattle.rand_core.specs.Steps.{u32_at}
 use Rattle.zk_model.proofs.ExampleTools.{one_only, bytes_of, bytes_by_test, same_count}
 use Rattle.zk_model.proofs.ExamplePrograms.{and_program, and_solved}
-use Rattle.zk_model.proofs.ExampleSession.{statement, stated, session_of, hello_fits, transcript_of}
+use Rattle.zk_model.proofs.ExampleSession.{statement, stated, session_of, hello_fits, greets, transcript_of}
 use Rattle.zk_model.proofs.ExampleRound.{params, prover, verifier, grant, first_ask, second_ask, first_messages, first_reply, second_messages, second_reply, round, asked, replied}
 use Rattle.zk_model.proofs.ExampleFound.{pairs, seen}
 use Rattle.zk_model.specs.Field.{IsElement}
@@ -149,7 +149,7 @@ verifier_task = record { file = verifier; statement = statement }
 
 served : IsServed verifier_task session Accepted (spelling session)
 served = record {
-  in_order = record { stated = stated; hello = refl; transcript = transcript; bytes = refl };
+  in_order = record { stated = stated; hello = greets; transcript = transcript; bytes = refl };
   replies = All-from_recursion (λ r. r.replies ≡ round_replies verifier grant r.asks) setup.rounds (replied, tt);
   challenge = sym the_challenge;
   judged = record { keys = keys; carried = carried; judged = (sections_hold, openings_hold); said = record { code = refl; number = refl } };

@@ -1,7 +1,8 @@
 -- Sessions of kind direct about one product of field elements, under the key 5 and the challenge 2: what they are over.
 use Rattle.std.proofs.Common.{◌≡◌, ℕ, List, [], ◌∷◌, refl, replicate, lit<}
 use Rattle.std.proofs.lemmas.List.Elements.{All-from_recursion, All-nil}
-use Rattle.zk_model.proofs.ExampleTools.{one_only, bytes_of}
+use Rattle.sha2.specs.Sha256.{sha256}
+use Rattle.zk_model.proofs.ExampleTools.{one_only, bytes_of, empty_digest_fits}
 use Rattle.zk_model.proofs.ExampleFiles.{direct, prover_file_of, verifier_file_of, are_dealt}
 use Rattle.zk_model.proofs.ExamplePrograms.{takes_given, multiply, multiply_is_program}
 use Rattle.zk_model.specs.Field.{IsElement}
@@ -39,9 +40,9 @@ claiming claim = record {
   program = multiply;
   public = [];
   claims = claim ∷ [];
-  version = 1;
   circuit = replicate 32 2;
   outputs = replicate 32 3;
+  public_digest = sha256 [];
 }
 
 stated : (claim : ℕ) → IsElement claim → IsStatement (claiming claim)
@@ -51,9 +52,10 @@ stated claim element = record {
   public = All-nil IsElement;
   claim_count = refl;
   claims = All-from_recursion IsElement (claim ∷ []) (element, tt);
-  version = lit< tt;
   circuit = bytes_of 32 2 (lit< tt);
   outputs = bytes_of 32 3 (lit< tt);
+  public_digest = empty_digest_fits;
+  none_public = λ none. refl;
 }
 
 abbrev pub setup : Statement → Setup

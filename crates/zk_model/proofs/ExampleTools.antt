@@ -1,11 +1,12 @@
 -- What the examples are proved with.
-use Rattle.std.proofs.Common.{◌≡◌, ℕ, zero, suc, ◌+◌, ◌<◌, ◌≤◌, true, List, [], ◌∷◌, map, flat_map, length, replicate, length-append, ◌∙◌, ap, subst, inl, inr, arith}
+use Rattle.std.proofs.Common.{◌≡◌, ℕ, zero, suc, ◌+◌, ◌<◌, ◌≤◌, true, List, [], ◌∷◌, map, flat_map, length, replicate, length-append, refl, ◌∙◌, ap, subst, inl, inr, arith}
 use Rattle.std.specs.Prelude.{Some, slice_get, nat_lt}
 use Rattle.std.specs.List.{list_all}
 use Rattle.std.proofs.lemmas.List.{length-map, length-replicate}
 use Rattle.std.proofs.lemmas.List.Elements.{All-replicate}
 use Rattle.std.proofs.lemmas.List.Sums.{AllPass-from_list_all}
 use Rattle.std.proofs.lemmas.Bool.{ltb-true}
+use Rattle.sha2.specs.Sha256.{sha256, digest_bytes, hash_after, compress, rounds, schedule, first_words}
 use Rattle.zk_model.specs.Bytes.{AreBytes}
 use Rattle.zk_model.specs.Program.{Program, IsSet, IsMadeOnce}
 use Rattle.zk_model.specs.Files.{rounds_of}
@@ -52,6 +53,11 @@ bytes_of n byte fits = (length-replicate n byte, All-replicate (λ b. b < 256) n
 
 pub bytes_by_test : (n : ℕ) (bytes : List ℕ) → length bytes ≡ n → list_all (λ byte. nat_lt byte 256) bytes ≡ true → AreBytes n bytes
 bytes_by_test n bytes count test = (count, λ k d below. ltb-true _ _ (AllPass-from_list_all (λ byte. nat_lt byte 256) bytes test k d below))
+
+-- the digest of the empty text
+pub empty_digest_fits : AreBytes 32 (sha256 [])
+unfolding sha256 digest_bytes hash_after compress rounds schedule first_words
+empty_digest_fits = bytes_by_test 32 (sha256 []) refl refl
 
 -- ---- programs
 

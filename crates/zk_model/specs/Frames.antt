@@ -6,7 +6,7 @@ use Rattle.zk_model.specs.declared.Expect.{Expect}
 use Rattle.zk_model.specs.declared.Expect.TheVariants as expect
 use Rattle.zk_model.specs.declared.FrameKind.{FrameKind}
 use Rattle.zk_model.specs.declared.FrameKind.TheVariants as kind
-use Rattle.zk_model.specs.declared.limits.TheConstants.{HELLO_LENGTH}
+use Rattle.zk_model.specs.declared.limits.TheConstants.{HELLO_LENGTH, LONG_HELLO_LENGTH}
 
 -- ---- frames as values
 
@@ -114,10 +114,12 @@ pub record IsFirstBad (place : Expect) (bytes : List ℕ) (n : ℕ) : Type 0 whe
 abbrev pub elements_length : ℕ → ℕ
 elements_length count = 5 + 8 * count
 
--- The length of the frame that begins with these bytes. Where the place allows two lengths, one byte decides between them,
--- and without it the length is taken to be 1.
+-- The length of the frame that begins with these bytes. Where the place allows two lengths, one byte decides between them: of a
+-- hello the first of the length, 97 or 129, and in a grant's place the kind. Without it the frame is taken to end there.
 abbrev pub frame_length : Expect → List ℕ → ℕ
-frame_length expect.Hello bytes = HELLO_LENGTH
+frame_length expect.Hello [] = 2
+frame_length expect.Hello (first ∷ []) = 2
+frame_length expect.Hello (first ∷ low ∷ bytes) = if nat_eq low 129 then LONG_HELLO_LENGTH else HELLO_LENGTH
 frame_length expect.Grant [] = 1
 frame_length expect.Grant (first ∷ bytes) = if nat_eq first 10 then 6 else 21
 frame_length (expect.Ask height trees left) bytes = 5 + trees * (height + 8)

@@ -123,6 +123,25 @@ pub record IsSolvedBy (program : Program) (public inputs claims : List ℕ) : Ty
   pub first : take program.inputs given ≡ inputs
   pub last : opened_values program wires ≡ claims
 
+-- ---- what inputs make
+
+-- a term takes an input, or the value of a product whose factors the first n steps set
+abbrev pub IsMadeBefore : Program → ℕ → Term → Type 0
+IsMadeBefore program n term = (number : ℕ) (product : Product) → slice_get program.products number ≡ Some product
+    → product.c ≡ term.place → program.inputs ≤ term.place → IsSet program n product.a × IsSet program n product.b
+
+-- no step takes the value of a product before its factors are set
+abbrev pub IsOrdered : Program → Type 0
+IsOrdered program = (n : ℕ) (step : Step) → slice_get program.steps n ≡ Some step → All (IsMadeBefore program n) step.given
+
+-- What public values and private inputs make: the values of the wires follow from the public and the given ones; the inputs are
+-- the first given values, and each other is the product of its two wires.
+pub record AreMade (program : Program) (public inputs wires given : List ℕ) : Type 0 where
+  pub carried : Carries 1 program public given wires
+  pub count : length given ≡ program.givens
+  pub first : take program.inputs given ≡ inputs
+  pub others : All (λ product. program.inputs ≤ product.c → Multiplies wires given product) program.products
+
 -- ---- counts
 
 -- the least number of parts of this size that hold n

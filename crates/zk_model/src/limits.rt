@@ -18,8 +18,11 @@ pub const MAX_VALUES: u32 = 1024;
 /// Bytes of a frame's payload.
 pub const MAX_PAYLOAD: usize = 1 << 24;
 
-/// Bytes of a hello: five of its head, 97 of its payload.
+/// Bytes of a hello without a digest of public bits: five of its head, 97 of its payload.
 pub const HELLO_LENGTH: usize = 102;
+
+/// Bytes of a hello with one: its payload has 129.
+pub const LONG_HELLO_LENGTH: usize = 134;
 
 /// Bytes of a file that is loaded.
 pub const FILE_LIMIT: u64 = 67_108_864;

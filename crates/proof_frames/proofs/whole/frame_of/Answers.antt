@@ -4,8 +4,18 @@ use Rattle.std.proofs.lemmas.List.{take_all}
 use Rattle.zk_model.specs.declared.Expect.{Expect}
 use Rattle.proof_frames.specs.Rooms.{HasTreeRooms, HasAskRooms, HasReplyRooms}
 use Rattle.proof_frames.specs.Shapes.{FitsTrees}
-use Rattle.proof_frames.proofs.Finished.{hello_finished, grant_finished, ask_trees, reply_trees, corrections_finished, sums_finished, openings_finished, verdict_finished}
+use Rattle.proof_frames.proofs.Finished.{hello_held, hello_finished, grant_finished, ask_trees, reply_trees, corrections_finished, sums_finished, openings_finished, verdict_finished}
 use Rattle.proof_frames.proofs.whole.frame_of.Goals as goal
+
+pub hello_of-requires-clause-short : goal.hello_of-requires-clause-short
+hello_of-requires-clause-short c =
+    let held = c.args.held.now in
+    (hello_held c.args.place held.start.items held.elements.items held.part.items c.deref.result.now c.in-Hello.is c.deref.ensures.value c.requires.holds.begun c.requires.whole).0
+
+pub hello_of-requires-clause-long : goal.hello_of-requires-clause-long
+hello_of-requires-clause-long c =
+    let held = c.args.held.now in
+    (hello_held c.args.place held.start.items held.elements.items held.part.items c.deref.result.now c.in-Hello.is c.deref.ensures.value c.requires.holds.begun c.requires.whole).1
 
 pub returns-in-Hello-clause-frame : goal.returns-in-Hello-clause-frame
 returns-in-Hello-clause-frame c =

@@ -2,7 +2,8 @@ use Rattle.std.proofs.Common.{◌≡◌, ◌∷◌, ◌<◌, ◌^◌, ℕ, List,
 use Rattle.zk_model.specs.Field.{IsElement}
 use Rattle.zk_model.specs.Files.{IsVerifierFile}
 use Rattle.zk_model.specs.Statement.{Statement, IsStatement}
-use Rattle.zk_model.specs.Transcript.{Grant, IsGrant, bytes_from, hello_frame, grant_frame, turn_bytes, wanted_hello, spelling}
+use Rattle.zk_model.specs.Transcript.{Hello, Grant, IsGrant, bytes_from, hello_frame, grant_frame, turn_bytes, wanted_hello, spelling}
+use Rattle.frame_laws.proofs.Hellos.{wanted_fits}
 use Rattle.zk_model.specs.View.{verdict_code, verdict_number}
 use Rattle.zk_model.specs.declared.Side.TheVariants.{Prover, Verifier}
 use Rattle.zk_model.specs.declared.Verdict.{Verdict}
@@ -39,6 +40,7 @@ returns-clause-short c =
 pub returns-clause-session : goal.returns-clause-session
 returns-clause-session c prover log stated dealt answered noted =
     let job : VerifierJob = c.args.verifier.now in
+    let wanted : Hello = wanted_hello job.task.file.id job.task.statement in
     let a = c.args.answered in
     let rounds = answered.held.rounds in
     let judgement = c.in_ok-judgement.judgement in
@@ -61,13 +63,13 @@ returns-clause-session c prover log stated dealt answered noted =
       openings = record { counted = c.requires.counted.openings; ranged = noted.openings };
       number = subst (λ (v : Verdict). verdict_number v < 2 ^ 32) frame_value noted.number;
     } in
-    let found : IsJudgement job.task (session_transcript job 0 rounds d both macs (verdict_in judgement)) judgement =
-    subst (λ (q : List ℕ × List (ℕ × ℕ) × List ℕ). IsJudgement job.task (session_transcript job 0 rounds q.0 q.1 q.2 (verdict_in judgement)) judgement)
-    (λ i. (c.deref.ensures.value i, c.deref-2.ensures.value i, c.deref-3.ensures.value i)) (c.in_ok-judgement.ensures rounds) in
+    let found : IsJudgement job.task (session_transcript job wanted 0 rounds d both macs (verdict_in judgement)) judgement =
+    subst (λ (q : List ℕ × List (ℕ × ℕ) × List ℕ). IsJudgement job.task (session_transcript job wanted 0 rounds q.0 q.1 q.2 (verdict_in judgement)) judgement)
+    (λ i. (c.deref.ensures.value i, c.deref-2.ensures.value i, c.deref-3.ensures.value i)) (c.in_ok-judgement.ensures wanted rounds) in
     let hello = answered.hello ∙ (λ i. wanted_hello (dealt.id i) (stated i)) in
-    let spells : log ≡ spelling (session_transcript job 0 rounds d both macs (verdict_in judgement)) =
+    let spells : log ≡ spelling (session_transcript job wanted 0 rounds d both macs (verdict_in judgement)) =
     noted.log_is
-    ∙ log_spelled (session_transcript job 0 rounds d both macs (verdict_in judgement)) (round_turns rounds) a.hello a.grant
+    ∙ log_spelled (session_transcript job wanted 0 rounds d both macs (verdict_in judgement)) (round_turns rounds) a.hello a.grant
     (bytes_from Prover (flat_map frame_spelling (map frame_said a.asked.items)))
     (bytes_from Verifier (flat_map frame_spelling (map frame_said a.replied.items)))
     a.challenge (verdict_code c.verdict.result) (verdict_number c.verdict.result)
@@ -78,7 +80,8 @@ returns-clause-session c prover log stated dealt answered noted =
     subst (λ (g : Grant). AreRoundsHeld prover.file job.task.file g seen rounds) grant answered.held.held in
     subst (λ (v : Verdict). IsSessionOf (ends_of prover job) (granted_from job 0) v log) (sym frame_value)
     (session_is prover job 0 seen rounds d both macs judgement pairs log stated dealt.id
-    (served_is job 0 rounds d both macs judgement log is_stated (subst IsVerifierFile c.file.ensures.file c.total-total.ensures.file) is granted at.served ranged found spells)
+    (served_is job wanted 0 rounds d both macs judgement log is_stated (subst IsVerifierFile c.file.ensures.file c.total-total.ensures.file) is
+    (wanted_fits job.task.file.id job.task.statement is_stated) granted at.served ranged found spells)
     at
     answered.fixed
     (answered.sums ∙ (λ i. all_sums prover.statement.program (grant i).section_length (coin i) pairs

@@ -2,8 +2,8 @@ use Rattle.std.proofs.Common.{◌≡◌, ◌≤◌, ap, sym, subst, arith}
 use Rattle.zk_model.specs.declared.Params.{Params}
 use Rattle.session_core.specs.Ends.{whole_grant}
 use Rattle.zk_model.specs.Files.{AreDealt}
-use Rattle.session_core.specs.Jobs.{VerifierJob, granted_from, units_of_job, prover_of}
-use Rattle.session_rehearsal.specs.Holding.{IsSessionOf, ends_of, ends_from}
+use Rattle.session_core.specs.Jobs.{VerifierJob, granted_from, units_of_job, prover_from}
+use Rattle.session_rehearsal.specs.Holding.{IsSessionOf, ends_of, ends_with}
 use Rattle.session_rehearsal.proofs.Held.{units_of_pair}
 use Rattle.session_rehearsal.proofs.exchange.run_session.Goals as goal
 
@@ -36,10 +36,10 @@ pub returns-clause-session : goal.returns-clause-session
 returns-clause-session c log noted =
     let units = units_of_pair c.args.prover_file.params c.args.verifier_file.now.params c.args.statement.now.program c.args.prover_file.params.total c.args.section
     c.requires.dealt.params c.requires.granted in
-    let prover = prover_of c.args.statement.now c.args.bits.now c.args.prover_file in
+    let prover = prover_from c.args.statement.now c.args.inputs.now c.args.prover_file in
     let made = c.new-verifier.ensures in
     subst (λ n. IsSessionOf
-    (ends_from c.args.statement.now c.args.bits.now c.args.prover_file c.args.verifier_file.now)
+    (ends_with c.args.statement.now c.args.inputs.now c.args.prover_file c.args.verifier_file.now)
     (whole_grant n c.args.section) c.in_ok-exchange.exchange.verdict log) units
     (subst (λ (j : VerifierJob). IsSessionOf (ends_of prover j) (granted_from j 0) c.in_ok-exchange.exchange.verdict log) made
     (c.in_ok-exchange.ensures.session prover log

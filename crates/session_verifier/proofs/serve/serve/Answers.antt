@@ -1,19 +1,67 @@
-use Rattle.std.proofs.Common.{◌≡◌, ap, sym, ◌∙◌, subst, refl, Some, Option, Result}
-use Rattle.zk_model.specs.declared.Span.{Span}
-use Rattle.frame_link.specs.Lines.{snapshot_of}
-use Rattle.session_core.specs.Jobs.{VerifierJob}
-use Rattle.session_core.specs.Cores.{VerifierState, awaits_hello, owes_grant}
-use Rattle.lease_store.specs.declared.LeaseFault.{LeaseFault}
-use Rattle.session_verifier.specs.Stages.{IsLineAt, IsCourse, IsGranted}
+use Rattle.std.proofs.Common.{◌≡◌, [], None, subst}
+use Rattle.zk_model.specs.Files.{IsVerifierFile}
+use Rattle.frame_link.specs.Lines.{LineState}
+use Rattle.session_core.specs.Cores.{VerifierState}
+use Rattle.session_core.specs.Jobs.{units_of_job}
+use Rattle.session_driver.specs.Runs.{IsRun}
+use Rattle.session_driver.specs.declared.drive.Outcome.{Outcome}
+use Rattle.session_driver.proofs.Derived.{run_seen}
+use Rattle.session_verifier.specs.Serving.{Grants, Served, grants_of, served, serves}
+use Rattle.session_verifier.specs.Stages.{IsHeldJob}
+use Rattle.session_verifier.specs.declared.note.VerifierOutcome.{VerifierOutcome}
+use Rattle.session_verifier.specs.declared.serve.Serving.{Serving}
+use Rattle.session_verifier.proofs.ServeLemmas.{is_course, lease_told, lease_total, lease_asked, lease_moved, done_judged}
+use Rattle.session_verifier.proofs.serve.serve.Given.{Over}
 use Rattle.session_verifier.proofs.serve.serve.Goals as goal
 
+-- a verifier's end and the one who leases units, as definitions see them
+abbrev grants : (g : Over) → Grants g.row.R.Denot
+grants g = grants_of g.R.Grantor.answer g.R.Grantor.asked g.R.Grantor.total g.R.Grantor.may g.R.Grantor.moves
+
+abbrev view : (g : Over) → Serving g.row.G.Denot × g.row.R.Denot → Served g.row.R.Denot
+view g s = served s.0.core s.0.granted s.1
+
+-- a run from a core that waits for the hello
+run_from : (g : Over) (core start : VerifierState) (grantor : g.row.R.Denot) (new : Served g.row.R.Denot) (outcome : Outcome VerifierOutcome) (first now : LineState)
+    → core ≡ start → IsRun (serves (grants g)) [] (served core None grantor) new outcome first now
+    → IsRun (serves (grants g)) [] (served start None grantor) new outcome first now
+run_from g core start grantor new outcome first now is run = subst (λ (s : VerifierState). IsRun (serves (grants g)) [] (served s None grantor) new outcome first now) is run
+
+pub outcome_of-requires : goal.outcome_of-requires
+outcome_of-requires g c =
+    let held : IsHeldJob c.args.job.now = record { file = subst IsVerifierFile c.file.ensures.file c.total-total.ensures.file; is = c.file.ensures.job } in
+    let run = run_from g c.new.result _ c.args.grantor.now _ c.run-outcome.result _ _ c.new.ensures
+    (run_seen (view g) (serves (grants g)) [] _ _ c.run-outcome.result _ _ c.run-outcome.ensures.run) in
+    record { judged = done_judged (grants g) c.args.grantor.now c.requires.once c.replies_are_in_range.ensures c.args.job.now held _ c.run-outcome.result _ _ c.requires.side run }
+
 pub returns-clause-course : goal.returns-clause-course
-returns-clause-course g c first at =
-    let job : c.meet.new.core.job ≡ c.args.job.now = c.in_default.ensures.job ∙ ap (λ (s : VerifierState). s.job) c.new-core.ensures in
-    let there = c.in_default.ensures.goes_on first (subst (λ (s : VerifierState). IsLineAt s.job awaits_hello first c.args.line.now) (sym c.new-core.ensures) at) in
-    let waits : IsLineAt c.meet.new.core.job owes_grant first c.meet.new.line =
-    subst (λ (j : VerifierJob). IsLineAt j owes_grant first c.meet.new.line) (sym c.in_default.ensures.job) there in
-    let granted = c.serve_granted-outcome.ensures.granted first waits in
-    subst (λ (a : Option (Result Span LeaseFault)). IsCourse c.args.job.now a (Some c.in-Ok.span) c.serve_granted-outcome.result (snapshot_of first) (snapshot_of c.serve_granted-outcome.new.line))
-    (sym (c.grant.ensures.told ∙ ap Some c.in-Ok.is))
-    (refl, subst (λ (j : VerifierJob). IsGranted j c.in-Ok.span c.serve_granted-outcome.result (snapshot_of first) (snapshot_of c.serve_granted-outcome.new.line)) job granted)
+returns-clause-course g c =
+    let held : IsHeldJob c.args.job.now = record { file = subst IsVerifierFile c.file.ensures.file c.total-total.ensures.file; is = c.file.ensures.job } in
+    let run = run_from g c.new.result _ c.args.grantor.now _ c.run-outcome.result _ _ c.new.ensures
+    (run_seen (view g) (serves (grants g)) [] _ _ c.run-outcome.result _ _ c.run-outcome.ensures.run) in
+    is_course (grants g) c.args.grantor.now c.requires.once c.replies_are_in_range.ensures c.args.job.now held _ c.run-outcome.result _ _ c.requires.side run
+    c.outcome_of.result c.outcome_of.ensures
+
+pub returns-clause-total_kept : goal.returns-clause-total_kept
+returns-clause-total_kept g c =
+    let held : IsHeldJob c.args.job.now = record { file = subst IsVerifierFile c.file.ensures.file c.total-total.ensures.file; is = c.file.ensures.job } in
+    let run = run_from g c.new.result _ c.args.grantor.now _ c.run-outcome.result _ _ c.new.ensures
+    (run_seen (view g) (serves (grants g)) [] _ _ c.run-outcome.result _ _ c.run-outcome.ensures.run) in
+    lease_total (grants g) (units_of_job c.args.job.now) c.args.grantor.now c.run-outcome.new.asked
+    (lease_told (grants g) c.args.grantor.now c.requires.once c.replies_are_in_range.ensures c.args.job.now held _ c.run-outcome.result _ _ c.requires.side run)
+
+pub returns-clause-asked : goal.returns-clause-asked
+returns-clause-asked g c =
+    let held : IsHeldJob c.args.job.now = record { file = subst IsVerifierFile c.file.ensures.file c.total-total.ensures.file; is = c.file.ensures.job } in
+    let run = run_from g c.new.result _ c.args.grantor.now _ c.run-outcome.result _ _ c.new.ensures
+    (run_seen (view g) (serves (grants g)) [] _ _ c.run-outcome.result _ _ c.run-outcome.ensures.run) in
+    lease_asked (grants g) (units_of_job c.args.job.now) c.args.grantor.now c.run-outcome.new.asked
+    (lease_told (grants g) c.args.grantor.now c.requires.once c.replies_are_in_range.ensures c.args.job.now held _ c.run-outcome.result _ _ c.requires.side run)
+
+pub returns-clause-moved : goal.returns-clause-moved
+returns-clause-moved g c =
+    let held : IsHeldJob c.args.job.now = record { file = subst IsVerifierFile c.file.ensures.file c.total-total.ensures.file; is = c.file.ensures.job } in
+    let run = run_from g c.new.result _ c.args.grantor.now _ c.run-outcome.result _ _ c.new.ensures
+    (run_seen (view g) (serves (grants g)) [] _ _ c.run-outcome.result _ _ c.run-outcome.ensures.run) in
+    lease_moved (grants g) (units_of_job c.args.job.now) c.args.grantor.now c.run-outcome.new.asked
+    (lease_told (grants g) c.args.grantor.now c.requires.once c.replies_are_in_range.ensures c.args.job.now held _ c.run-outcome.result _ _ c.requires.side run)

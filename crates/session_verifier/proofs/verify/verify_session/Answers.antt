@@ -5,7 +5,6 @@ use Rattle.zk_model.specs.Program.{Program}
 use Rattle.zk_model.specs.declared.Side.TheVariants.{Verifier}
 use Rattle.frame_link.specs.Lines.{LineState, LinkSnapshot, snapshot, snapshot_of}
 use Rattle.session_verifier.specs.Stages.{IsCourse}
-use Rattle.session_verifier.proofs.StageLemmas.{line_begins, ends_for}
 use Rattle.session_verifier.proofs.CourseLemmas.{IsKnown, answers_lease, granted_is, judges_rightly, receives_few, counts_faults, leases_behind, ends_because, is_shown}
 use Rattle.session_verifier.proofs.HonestLemmas.{AreLaws, completes}
 use Rattle.session_verifier.proofs.ServedLemmas.{sends_rightly, accepts_exactly}
@@ -34,13 +33,16 @@ now_of g c = snapshot Verifier c.end-link.result.1 (g.L.Link.state c.end-link.re
 -- it is a course of the job
 course_of : (g : Over) (c : goal.After-end-link g) → IsCourse c.args.job.now (g.R.Grantor.answer c.serve-course.new.grantor) c.serve-course.result.granted c.serve-course.result.outcome (first_of g c) (now_of g c)
 course_of g c =
-    let first : LineState = c.new-line.result in
-    let is = c.new-line.ensures in
-    let begun = line_begins c.args.job.now first (ap (λ (l : LineState). l.log) is) (ap (λ (l : LineState). l.reading) is)
-    (ap (λ (l : LineState). l.side) is) (ap (λ (l : LineState). l.is_open) is ∙ c.requires.open) in
-    let ended = ends_for c.serve-course.new.line c.end-link.result.1 (g.L.Link.state c.end-link.result.0) c.serve-course.ensures.usable.side c.end-link.ensures.passed in
+    let ended = ap (λ s. snapshot s c.end-link.result.1 (g.L.Link.state c.end-link.result.0)) (sym c.serve-course.ensures.side) ∙ c.end-link.ensures.passed in
     subst (λ (q : LinkSnapshot × LinkSnapshot). IsCourse c.args.job.now (g.R.Grantor.answer c.serve-course.new.grantor) c.serve-course.result.granted c.serve-course.result.outcome q.0 q.1)
-    (λ i. (ap snapshot_of is i, sym ended i)) (c.serve-course.ensures.course first begun)
+    (λ i. (ap snapshot_of c.new-line.ensures i, sym ended i)) c.serve-course.ensures.course
+
+pub serve-course-requires-clause-fresh : goal.serve-course-requires-clause-fresh
+serve-course-requires-clause-fresh g c = record {
+  log = ap (λ (l : LineState). l.log) c.new-line.ensures;
+  reading = ap (λ (l : LineState). l.reading) c.new-line.ensures;
+  is_open = ap (λ (l : LineState). l.is_open) c.new-line.ensures ∙ c.requires.open;
+}
 
 pub returns-clause-granted : goal.returns-clause-granted
 returns-clause-granted g c = granted_is c.args.job.now (g.R.Grantor.answer c.serve-course.new.grantor) c.serve-course.result.granted c.serve-course.result.outcome (first_of g c) (now_of g c) (course_of g c)

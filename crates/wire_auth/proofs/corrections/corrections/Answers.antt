@@ -1,39 +1,65 @@
-use Rattle.std.proofs.Common.{◌∙◌, ◌++◌, [], ◌∷◌, arith, length, take, ap, sym}
+use Rattle.std.proofs.Common.{◌≡◌, ◌<◌, ◌≤◌, ◌+◌, ◌∙◌, ◌++◌, ℕ, [], ◌∷◌, arith, length, take, ap, sym, subst, ⊎_elim}
+use Rattle.std.specs.Prelude.{slice_index}
+use Rattle.std.proofs.lemmas.Bool.{cases_lt}
 use Rattle.std.proofs.lemmas.List.{take_all}
-use Rattle.zk_model.specs.Boolean.{bits_of_products}
-use Rattle.zk_model.specs.Field.{◌-ₚ◌}
+use Rattle.std.proofs.lemmas.List.Elements.{All-from_get_or}
+use Rattle.zk_model.specs.Field.{IsElement, ◌-ₚ◌}
 use Rattle.zk_model.specs.Mac.{Pair}
 use Rattle.zk_model.specs.HonestProver.{honest_corrections}
-use Rattle.wire_auth.proofs.Lengths.{length-honest_corrections, length-bits_of_products, next_correction, product_value}
+use Rattle.wire_auth.specs.Values.{given_from}
+use Rattle.wire_auth.proofs.Lengths.{length-honest_corrections, next_correction}
+use Rattle.wire_auth.proofs.Making.{given_at, length-given_from}
 use Rattle.wire_auth.proofs.corrections.corrections.Goals as goal
+
+-- one more of the given values is an element
+one_more : (P : ℕ → Type 0) (n : ℕ) → ((k : ℕ) → k < n → P k) → P n → (k : ℕ) → k < n + 1 → P k
+one_more P n before now k below = ⊎_elim
+    (λ less. before k less)
+    (λ past. let same : n ≡ k = omega (arith, past, below) in subst P same now)
+    (cases_lt k n)
 
 pub loop-i-preserved : goal.loop-i-preserved
 loop-i-preserved c =
-    let sized = length-bits_of_products c.args.program.now.products c.args.bits.now in
-    c.in_ok-push.ensures.items
-    ∙ (λ j. c.loop-i.invariant j ++ c.sub.ensures j ∷ [])
-    ∙ ap (λ (p : Pair). take c.loop-i.i (honest_corrections (bits_of_products c.args.program.now.products c.args.bits.now) c.args.dealt.now) ++ (c.bit_product.result -ₚ p.x) ∷ []) c.pair.view_is
-    ∙ sym (next_correction (bits_of_products c.args.program.now.products c.args.bits.now) c.args.dealt.now c.loop-i.i c.bit_product.result c.index-dealt-i.result
-    (omega (arith, sized, c.loop-i-test.true, c.products-i-end.ensures.count))
-    (omega (arith, sized, c.product.ensures.held.counted, c.requires.dealt))
-    (c.bit_product.ensures ∙ product_value c.args.program.now.products c.args.bits.now c.loop-i.i c.product.result c.product.ensures.product)
-    c.index-dealt-i.is)
+    let given = given_from c.args.program.now c.args.values.now in
+    let sized = length-given_from c.args.program.now c.args.values.now in
+    let value : c.given_value.result ≡ slice_index given c.loop-i.i =
+    c.given_value.ensures.value ∙ sym (given_at c.args.program.now c.args.values.now c.loop-i.i c.product.result c.product.ensures.product) in
+    record {
+      so_far = c.in_ok-push.ensures.items
+          ∙ (λ j. c.loop-i.invariant.so_far j ++ c.sub.ensures j ∷ [])
+          ∙ ap (λ (p : Pair). take c.loop-i.i (honest_corrections given c.args.dealt.now) ++ (c.given_value.result -ₚ p.x) ∷ []) c.pair.view_is
+          ∙ sym (next_correction given c.args.dealt.now c.loop-i.i c.given_value.result c.index-dealt-i.result
+          (omega (arith, sized, c.loop-i-test.true, c.products-i-end.ensures.count))
+          (omega (arith, sized, c.product.ensures.held.counted, c.requires.dealt))
+          value c.index-dealt-i.is);
+      elements = one_more (λ k. IsElement (slice_index given k)) c.loop-i.i c.loop-i.invariant.elements
+          (subst IsElement value c.given_value.ensures.element);
+    }
 
 pub returns-clause-corrections : goal.returns-clause-corrections
 returns-clause-corrections c =
-    let sized = length-bits_of_products c.args.program.now.products c.args.bits.now in
-    let counted = length-honest_corrections (bits_of_products c.args.program.now.products c.args.bits.now) c.args.dealt.now
+    let given = given_from c.args.program.now c.args.values.now in
+    let sized = length-given_from c.args.program.now c.args.values.now in
+    let counted = length-honest_corrections given c.args.dealt.now
     (omega (arith, sized, c.products.ensures.held.counted, c.requires.dealt)) in
-    c.loop-i.invariant
-    ∙ take_all c.loop-i.i (honest_corrections (bits_of_products c.args.program.now.products c.args.bits.now) c.args.dealt.now)
+    c.loop-i.invariant.so_far
+    ∙ take_all c.loop-i.i (honest_corrections given c.args.dealt.now)
     (omega (arith, sized, counted, c.loop-i-test.false, c.products-i-end.ensures.count))
 
 pub returns-clause-one_each : goal.returns-clause-one_each
 returns-clause-one_each c =
-    let sized = length-bits_of_products c.args.program.now.products c.args.bits.now in
-    let counted = length-honest_corrections (bits_of_products c.args.program.now.products c.args.bits.now) c.args.dealt.now
+    let given = given_from c.args.program.now c.args.values.now in
+    let sized = length-given_from c.args.program.now c.args.values.now in
+    let counted = length-honest_corrections given c.args.dealt.now
     (omega (arith, sized, c.products.ensures.held.counted, c.requires.dealt)) in
-    ap length c.loop-i.invariant
-    ∙ ap length (take_all c.loop-i.i (honest_corrections (bits_of_products c.args.program.now.products c.args.bits.now) c.args.dealt.now)
+    ap length c.loop-i.invariant.so_far
+    ∙ ap length (take_all c.loop-i.i (honest_corrections given c.args.dealt.now)
     (omega (arith, sized, counted, c.loop-i-test.false, c.products-i-end.ensures.count)))
     ∙ counted ∙ sized ∙ c.products.ensures.held.counted
+
+pub returns-clause-elements : goal.returns-clause-elements
+returns-clause-elements c =
+    let given = given_from c.args.program.now c.args.values.now in
+    let sized = length-given_from c.args.program.now c.args.values.now in
+    All-from_get_or IsElement given 0 (λ k below.
+    c.loop-i.invariant.elements k (omega (arith, sized, below, c.loop-i-test.false, c.products-i-end.ensures.count)))

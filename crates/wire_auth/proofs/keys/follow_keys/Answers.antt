@@ -14,7 +14,7 @@ returns c public begun =
 pub loop-k-preserved : goal.loop-k-preserved
 loop-k-preserved c =
     one_more c.args.program.now c.args.key c.args.given.now c.args.begun.items c.loop-k.wires.items _
-    c.loop-k.k c.out.result c.step_number-number.result c.step-step.result
+    c.loop-k.k c.out.result c.step_number-number.result (step_equation c.step-step.result)
     c.step-step.ensures.held.formed c.step-step.ensures.step c.out.ensures
     (c.step_number-number.ensures c.args.given.now c.taken_key.ensures
     ∙ ap (λ (l : List ℕ). step_value c.args.key l c.args.given.now (step_equation c.step-step.result)) c.deref.ensures.value)

@@ -18,7 +18,7 @@ step_number-number-requires c =
 pub loop-k-preserved : goal.loop-k-preserved
 loop-k-preserved c =
     one_more c.args.program.now 0 (macs_of c.args.dealt.now) c.args.begun.items c.loop-k.wires.items _
-    c.loop-k.k c.out.result c.step_number-number.result c.step-step.result
+    c.loop-k.k c.out.result c.step_number-number.result (step_equation c.step-step.result)
     c.step-step.ensures.held.formed c.step-step.ensures.step c.out.ensures
     (c.step_number-number.ensures (macs_of c.args.dealt.now) c.taken_mac.ensures
     ∙ ap (λ (l : List ℕ). step_value 0 l (macs_of c.args.dealt.now) (step_equation c.step-step.result)) c.deref.ensures.value)

@@ -1,11 +1,26 @@
 use Rattle.std.proofs.Common.{◌≡◌, ℕ, ◌%◌, ◌-◌, ◌+◌, List, ◌++◌, ◌∷◌, [], length, refl, ap, sym, ◌∙◌, arith, subst}
 use Rattle.std.proofs.lemmas.Bool.{false≢true}
 use Rattle.zk_model.specs.Frames.{CanGoOn}
-use Rattle.proof_frames.specs.Shapes.{IsHeld, level_width, level_most, spelled}
+use Rattle.proof_frames.specs.Shapes.{IsHeld, told, level_width, level_most, spelled}
+use Rattle.proof_frames.proofs.Lengths.{few_levels}
 use Rattle.proof_frames.proofs.TreeLemmas.{follows}
 use Rattle.proof_frames.proofs.Ends.{tree_ends}
 use Rattle.proof_frames.proofs.Steps.{trees_held, tree_step, start_more, only_raw}
 use Rattle.proof_frames.proofs.held.Held.take_tree_byte.Goals as goal
+
+pub overflow_add-at : goal.overflow_add-at
+overflow_add-at c =
+    let old = c.args.self.now in
+    let few = few_levels c.args.place (told c.args.place old.start.items) c.args.trees c.args.height c.args.level (length old.start.items)
+    c.requires.holds.short c.requires.shape (omega (arith, old.start.ok.0)) (omega (arith, old.start.ok.0)) in
+    omega (arith, few, c.width-width.ensures)
+
+pub may_follow-requires-clause-small : goal.may_follow-requires-clause-small
+may_follow-requires-clause-small c =
+    let old = c.args.self.now in
+    let few = few_levels c.args.place (told c.args.place old.start.items) c.args.trees c.args.height c.args.level (length old.start.items)
+    c.requires.holds.short c.requires.shape (omega (arith, old.start.ok.0)) (omega (arith, old.start.ok.0)) in
+    omega (arith, few, c.width-width.ensures)
 
 pub returns-then-not-may_follow : goal.returns-then-not-may_follow
 returns-then-not-may_follow c =

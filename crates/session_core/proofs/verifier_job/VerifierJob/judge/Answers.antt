@@ -46,7 +46,7 @@ returns c =
     let givens : c.givens.result ≡ job.task.statement.program.givens = c.givens.ensures.count ∙ ap (λ (p : Program). p.givens) program in
     let public : c.public-public.result.now ≡ job.task.statement.public = c.public-public.ensures.public ∙ ap (λ (j : VerifierJob). j.task.statement.public) view in
     let spanned = c.requires.keys.spanned in
-    λ rounds. judged_taken job c.args.start rounds c.args.corrections.now c.args.sums.now c.args.openings.now c.in_ok-wires.wires
+    λ greeting rounds. judged_taken job greeting c.args.start rounds c.args.corrections.now c.args.sums.now c.args.openings.now c.in_ok-wires.wires
     c.from-section.result c.challenge-challenge.result c.key-key.result c.masks_of-masks.result.now c.claims-claims.result.now c.judgement_of-judgement.result
     (c.in_ok-wires.ensures.program ∙ program)
     section c.challenge-challenge.ensures key

@@ -1,13 +1,12 @@
-use Rattle.std.proofs.Common.{◌≡◌, ◌<◌, ◌∙◌, ◌&&◌, arith, length, ap, sym}
+use Rattle.std.proofs.Common.{◌≡◌, ◌<◌, ◌∙◌, arith, length, ap, sym}
 use Rattle.std.specs.Prelude.{Some, slice_get, slice_index_or}
 use Rattle.std.proofs.lemmas.Option.{get_or_from_slice_get}
-use Rattle.zk_model.specs.Bits.{from_bit}
-use Rattle.zk_model.specs.Circuit.{bit_of}
 use Rattle.zk_model.specs.Mac.{pair_at}
 use Rattle.zk_model.specs.declared.Product as zk
 use Rattle.wire_auth.specs.Held.{items_in}
 use Rattle.wire_auth.specs.Sides.{ProverSide}
-use Rattle.wire_auth.proofs.Joined.{given_at}
+use Rattle.wire_auth.specs.Values.{given_value}
+use Rattle.wire_auth.proofs.Joined.{given_pair_at}
 use Rattle.wire_auth.proofs.pairs.ProverWires.triple.Goals as goal
 
 pub returns : goal.returns
@@ -45,13 +44,14 @@ returns c product at = λ j. record { a = a_is j; b = b_is j; c = c_is j }
         ∙ (λ j. slice_index_or ((c.dealt.ensures.dealt ∙ ap (λ (side : ProverSide). side.dealt) (sym c.self.view_is)) j)
         ((ap (λ (p : zk.Product). p.c) same ∙ number) j) c.index-dealt-product.result)
 
-    c_is : record { x = c.bit_product.result; m = c.dealt-2.inside.m } ≡ pair_at c.args.self.now.pairs.given product.c
+    c_is : record { x = c.given_value.result; m = c.dealt-2.inside.m } ≡ pair_at c.args.self.now.pairs.given product.c
     c_is =
         (λ j. record {
-          x = (c.bit_product.ensures ∙ ap (λ (p : zk.Product). from_bit (bit_of c.self.inside.bits.now p.a && bit_of c.self.inside.bits.now p.b)) same) j;
+          x = (c.given_value.ensures.value
+              ∙ (λ k. given_value c.self.inside.program.now (c.deref.ensures.value k) (same k))) j;
           m = (c.dealt-2.view_is j).m;
         })
-        ∙ sym (given_at c.self.inside.program.now.products c.self.inside.bits.now (items_in c.self.inside.dealt) c.args.i product c.index-dealt-product.result inside_at within dealt_is)
+        ∙ sym (given_pair_at c.self.inside.program.now c.self.inside.values.items (items_in c.self.inside.dealt) c.args.i product c.index-dealt-product.result inside_at within dealt_is)
         ∙ (λ j. pair_at (c.self.view_is j).pairs.given (number_back j))
       where
         number_back : c.args.i ≡ product.c

@@ -1,0 +1,166 @@
+-- A session goes on by one turn.
+use Rattle.std.proofs.Common.{◌≡◌, ℕ, ◌+◌, ◌*◌, ◌^◌, ◌≤◌, ◌<◌, List, [], ◌∷◌, ◌++◌, flat_map, length, None, refl, ap, sym, ◌∙◌, subst, arith, append-nil, length-append}
+use Rattle.zk_model.specs.Transcript.{bytes_from, sent_by}
+use Rattle.zk_model.specs.Frames.{Frame, IsWhole, frame_spelling}
+use Rattle.zk_model.specs.declared.Expect.{Expect}
+use Rattle.zk_model.specs.declared.Expect.TheVariants as places
+use Rattle.zk_model.specs.declared.Side.{Side}
+use Rattle.zk_port.specs.Logs.{appended, put_before}
+use Rattle.proof_frames.specs.Readings.{Reading, IsShortPlace}
+use Rattle.proof_frames.proofs.Lengths.{whole_length}
+use Rattle.frame_link.specs.Sides.{peer_of}
+use Rattle.frame_link.specs.Lines.{LineState, Arrives, longest}
+use Rattle.frame_link.proofs.LineLemmas.{appended_none, appended_more, before_none, before_more, frame_most}
+use Rattle.frame_link.proofs.AnswerLemmas.{IsAnswered, is_answered}
+use Rattle.session_driver.specs.Sayings.{Turn, said, sends_of, sends_in}
+use Rattle.session_driver.specs.Runs.{Moves, IsTurn, Goes, IsFresh, HasPassed, SendsAll, TurnGoes, Runs}
+use Rattle.session_driver.proofs.Bytes.{came_more, came_same, whole_more, sends_more, sends_counted}
+
+-- ---- turns in order
+
+pub goes_more : {S F : Type 0} (moves : Moves S F) (old mid new : S) (turns : List Turn) (turn : Turn) → Goes moves old turns mid
+    → IsTurn moves mid turn new → Goes moves old (turns ++ turn ∷ []) new
+goes_more moves old mid new [] turn went is = (new, subst (λ s. IsTurn moves s turn new) went is, refl)
+goes_more moves old mid new (first ∷ turns) turn went is = (went.0, went.1, goes_more moves went.0 mid new turns turn went.2 is)
+
+-- ---- what has passed
+
+-- nothing yet
+pub none_passed : (first : LineState) → IsFresh first → HasPassed [] 0 first first
+none_passed first fresh = record {
+  logged = fresh.log;
+  reading = fresh.reading;
+  told = appended_none first.told;
+  came = before_none first.to_come;
+  side = refl;
+  is_open = fresh.is_open;
+  sends = refl;
+  receives = omega arith;
+  faults = refl;
+}
+
+-- the same, where there is other room in the log
+pub passed_with_room : (log : List (Side × ℕ)) (sends room : ℕ) (first was : LineState) → HasPassed log sends first was
+    → HasPassed log sends first (record was { room = room })
+passed_with_room log sends room first was passed = record {
+  logged = passed.logged;
+  reading = passed.reading;
+  told = passed.told;
+  came = passed.came;
+  side = passed.side;
+  is_open = passed.is_open;
+  sends = passed.sends;
+  receives = passed.receives;
+  faults = passed.faults;
+}
+
+-- a frame more that came
+pub passed_heard : (log : List (Side × ℕ)) (sends : ℕ) (first was heard : LineState) (place : Expect) (frame : Frame)
+    → HasPassed log sends first was → Arrives place frame was heard
+    → HasPassed (log ++ bytes_from (peer_of first.side) (frame_spelling frame)) sends first heard
+passed_heard log sends first was heard place frame passed arrives =
+    let bytes = arrives.bytes in
+    let more = came_more first.side log bytes in
+    let counted = ap length more ∙ length-append (sent_by (peer_of first.side) log) bytes in
+    let received = ap (λ n. n + length bytes) (ap (λ (r : Reading). r.received) passed.reading) ∙ sym counted in
+    subst (λ l. HasPassed (log ++ bytes_from (peer_of first.side) l) sends first heard) arrives.whole.spelled (record {
+      logged = arrives.came.logged ∙ (λ i. passed.logged i ++ bytes_from (peer_of (passed.side i)) bytes);
+      reading = arrives.read ∙ (λ i. record { received = received i; expected = None; taken = []; bad = None });
+      told = arrives.came.told ∙ (λ i. appended (bytes_from (peer_of (passed.side i)) bytes) (passed.told i))
+          ∙ appended_more log (bytes_from (peer_of first.side) bytes) first.told;
+      came = passed.came ∙ ap (put_before (sent_by (peer_of first.side) log)) arrives.came.came
+          ∙ before_more (sent_by (peer_of first.side) log) bytes heard.to_come
+          ∙ ap (λ l. put_before l heard.to_come) (sym more);
+      side = arrives.came.side ∙ passed.side;
+      is_open = arrives.came.is_open ∙ passed.is_open;
+      sends = arrives.came.sends ∙ passed.sends;
+      receives = omega (arith, arrives.receives, passed.receives, counted);
+      faults = arrives.unfailed ∙ passed.faults;
+    })
+
+-- and frames that were sent
+pub passed_sent : (log : List (Side × ℕ)) (sends : ℕ) (first was now : LineState) (frames : List Frame) → HasPassed log sends first was
+    → SendsAll frames was now → HasPassed (log ++ said first.side frames) (sends + sends_of frames) first now
+passed_sent log sends first was now frames passed sent = answered (is_answered frames was now sent)
+  where
+    answered : IsAnswered frames was now → HasPassed (log ++ said first.side frames) (sends + sends_of frames) first now
+    answered by =
+        let same = came_same first.side log (flat_map frame_spelling frames) in
+        record {
+          logged = by.logged ∙ (λ i. passed.logged i ++ said (passed.side i) frames);
+          reading = by.others.reading ∙ passed.reading ∙ (λ i. record { received = length (sym same i); expected = None; taken = []; bad = None });
+          told = by.told ∙ (λ i. appended (said (passed.side i) frames) (passed.told i)) ∙ appended_more log (said first.side frames) first.told;
+          came = passed.came ∙ (λ i. put_before (sym same i) (sym by.others.to_come i));
+          side = by.others.side ∙ passed.side;
+          is_open = by.others.is_open ∙ passed.is_open;
+          sends = sends_counted frames sends first.sends was.sends now.sends passed.sends by.sends;
+          receives = omega (arith, by.others.receives, passed.receives, ap length same);
+          faults = by.unfailed ∙ passed.faults;
+        }
+
+-- ---- runs
+
+-- the greeting is sent
+pub runs_begin : {S F : Type 0} (moves : Moves S F) (greeting : List Frame) (old : S) (first now : LineState) → IsFresh first
+    → SendsAll greeting first now → Runs moves greeting old old first now
+runs_begin moves greeting old first now fresh sent =
+    let none : 0 + sends_of greeting ≡ sends_in greeting [] = omega arith in
+    record {
+      turns = [];
+      went = refl;
+      passed = subst (λ (q : List (Side × ℕ) × ℕ). HasPassed q.0 q.1 first now) (λ i. (sym (append-nil (said first.side greeting)) i, none i))
+          (passed_sent [] 0 first first now greeting (none_passed first fresh) sent);
+    }
+
+-- and a turn after others
+pub runs_on : {S F : Type 0} (moves : Moves S F) (greeting : List Frame) (old mid new : S) (first was now : LineState)
+    → Runs moves greeting old mid first was → TurnGoes moves mid new was now → Runs moves greeting old new first now
+runs_on moves greeting old mid new first was now runs goes =
+    let heard = passed_heard _ _ first (record was { room = goes.room }) goes.heard goes.is.place goes.turn.frame
+    (passed_with_room _ _ goes.room first was runs.passed) goes.arrives in
+    record {
+      turns = runs.turns ++ goes.turn ∷ [];
+      went = goes_more moves old mid new runs.turns goes.turn runs.went goes.is;
+      passed = subst (λ (q : List (Side × ℕ) × ℕ). HasPassed q.0 q.1 first now)
+          (λ i. (whole_more first.side greeting runs.turns goes.turn i, sym (sends_more greeting runs.turns goes.turn) i))
+          (passed_sent _ _ first goes.heard now goes.turn.answer heard goes.sends);
+    }
+
+-- ---- how much came
+
+-- a place that is short has no longer frames
+longest_short : (place : Expect) → IsShortPlace place → longest place ≤ 2 ^ 24 + 5
+longest_short places.Hello short = omega arith
+longest_short places.Grant short = omega arith
+longest_short places.Challenge short = omega arith
+longest_short places.Verdict short = omega arith
+longest_short (places.Ask height trees left) short = short
+longest_short (places.Reply height trees left) short = short
+longest_short (places.Corrections count) short = short
+longest_short (places.Sums sections) short = short
+longest_short (places.Openings count) short = short
+
+frame_short : (place : Expect) (bytes : List ℕ) (frame : Frame) → IsShortPlace place → IsWhole place bytes frame → length bytes ≤ 2 ^ 24 + 5
+frame_short place bytes frame short whole =
+    omega (arith, whole_length place bytes frame whole, frame_most place bytes, longest_short place short)
+
+-- a turn takes at most a frame's bytes
+pub few_more : {S F : Type 0} (moves : Moves S F) (old new : S) (line now : LineState) (left fewer most : ℕ) → TurnGoes moves old new line now
+    → fewer < left → line.reading.received + left * (2 ^ 24 + 5) ≤ most → now.reading.received + fewer * (2 ^ 24 + 5) ≤ most
+few_more moves old new line now left fewer most goes less few =
+    let answered = is_answered goes.turn.answer goes.heard now goes.sends in
+    omega (
+      arith,
+      ap (λ (r : Reading). r.received) answered.others.reading,
+      ap (λ (r : Reading). r.received) goes.arrives.read,
+      frame_short goes.is.place goes.arrives.bytes goes.turn.frame goes.short goes.arrives.whole,
+      less,
+      few,
+    )
+
+-- none came before the greeting
+pub few_first : (greeting : List Frame) (left : ℕ) (first now : LineState) → IsFresh first → SendsAll greeting first now
+    → now.reading.received + left * (2 ^ 24 + 5) ≤ left * (2 ^ 24 + 5)
+few_first greeting left first now fresh sent =
+    let answered = is_answered greeting first now sent in
+    omega (arith, ap (λ (r : Reading). r.received) answered.others.reading, ap (λ (r : Reading). r.received) fresh.reading)

@@ -1,0 +1,262 @@
+-- A session over a line: the frames that were taken and answered, in order, and how it stopped.
+use Rattle.std.specs.Prelude.{◌≡◌, ◌⊎◌, ℕ, ◌+◌, ◌≤◌, List, [], ◌++◌, ◌∷◌, flat_map, length, true, Option, None, Some, IfSome}
+use Rattle.zk_model.specs.Transcript.{bytes_from, sent_by, refuse_frame}
+use Rattle.zk_model.specs.Frames.{Frame, Allows, IsFirstBad, frame_spelling}
+use Rattle.zk_model.specs.declared.Expect.{Expect}
+use Rattle.zk_model.specs.declared.Side.{Side}
+use Rattle.zk_port.specs.Counts.{Rose}
+use Rattle.zk_port.specs.Logs.{appended, put_before}
+use Rattle.proof_frames.specs.Readings.{IsShortPlace}
+use Rattle.frame_link.specs.Sides.{peer_of}
+use Rattle.frame_link.specs.Lines.{LineState, Arrives, Fails, Sends, IsSendRefused, CountsFault, IsCutShort, IsNoBadByte, IsUnfinished, counted_times, longest}
+use Rattle.frame_link.specs.declared.fault.LineFault.{LineFault}
+use Rattle.frame_link.specs.declared.fault.LineFault.TheVariants.{PeerEnded, BadFrame, Link, NoMemory}
+use Rattle.session_driver.specs.Sayings.{Turn, whole_log, sends_in}
+use Rattle.session_driver.specs.declared.drive.Outcome.{Outcome}
+use Rattle.session_driver.specs.declared.drive.Outcome.TheVariants.{Done, Refused, Cut}
+
+-- ---- the end of a session
+
+-- What an end of a session does: which frame it expects; where its place may be answered by a refusal, the code of the one that
+-- goes out if memory is missing for the answer; with what it answers a frame, and where that leads; and why it refuses one, with
+-- the code of the refusal that goes out, if one does.
+pub record Moves (S F : Type 0) : Type 1 where
+  pub expects : S → Option Expect
+  pub lack_code : S → Option ℕ
+  pub answers : S → Frame → List Frame → S → Type 0
+  pub refuses : S → Frame → F → Option ℕ → S → Type 0
+
+-- of an end and the one whom it asks, as one state
+abbrev pub moves_of : {S O F : Type 0} → (S → Option Expect) → (S → Option ℕ) → (S → O → Frame → List Frame → S → O → Type 0)
+    → (S → O → Frame → F → Option ℕ → S → O → Type 0) → Moves (S × O) F
+moves_of expects lack_code answers refuses = record {
+  expects = λ s. expects s.0;
+  lack_code = λ s. lack_code s.0;
+  answers = λ s frame answer t. answers s.0 s.1 frame answer t.0 t.1;
+  refuses = λ s frame fault code t. refuses s.0 s.1 frame fault code t.0 t.1;
+}
+
+-- of states that are seen as others
+abbrev pub seen_as : {S T F : Type 0} → (S → T) → Moves T F → Moves S F
+seen_as view moves = record {
+  expects = λ s. moves.expects (view s);
+  lack_code = λ s. moves.lack_code (view s);
+  answers = λ s frame answer t. moves.answers (view s) frame answer (view t);
+  refuses = λ s frame fault code t. moves.refuses (view s) frame fault code (view t);
+}
+
+-- ---- turns
+
+-- a frame came where it was expected, and was answered
+pub record IsTurn {S F : Type 0} (moves : Moves S F) (old : S) (turn : Turn) (new : S) : Type 0 where
+  pub place : Expect
+  pub expected : moves.expects old ≡ Some place
+  pub allowed : Allows place turn.frame
+  pub answered : moves.answers old turn.frame turn.answer new
+
+-- one turn after another
+abbrev pub Goes : {S F : Type 0} → Moves S F → S → List Turn → S → Type 0
+Goes moves old [] new = new ≡ old
+Goes {S} moves old (turn ∷ turns) new = (mid : S) × IsTurn moves old turn mid × Goes moves mid turns new
+
+-- ---- lines
+
+-- a line over which nothing is logged or read yet
+pub record IsFresh (line : LineState) : Type 0 where
+  pub log : line.log ≡ []
+  pub reading : line.reading ≡ record { received = 0; expected = None; taken = []; bad = None }
+  pub is_open : line.is_open ≡ true
+
+-- What passed since a first moment: all of it is logged, and the link tells it, in so many sends and at most as many receives as
+-- bytes came; no frame is under way, and nothing failed.
+pub record HasPassed (log : List (Side × ℕ)) (number : ℕ) (first now : LineState) : Type 0 where
+  pub logged : now.log ≡ log
+  pub reading : now.reading ≡ record { received = length (sent_by (peer_of first.side) log); expected = None; taken = []; bad = None }
+  pub told : now.told ≡ appended log first.told
+  pub came : first.to_come ≡ put_before (sent_by (peer_of first.side) log) now.to_come
+  pub side : now.side ≡ first.side
+  pub is_open : now.is_open ≡ true
+  pub sends : now.sends ≡ counted_times number first.sends
+  pub receives : now.receives ≤ first.receives + length (sent_by (peer_of first.side) log)
+  pub faults : now.faults ≡ first.faults
+
+-- frames were sent by one send, or there are none
+abbrev pub SendsAll : List Frame → LineState → LineState → Type 0
+SendsAll frames old new = ((frames ≡ []) × (new ≡ old)) ⊎ ((1 ≤ length frames) × Sends (flat_map frame_spelling frames) old new)
+
+-- A refusal of this code went out by one send, if there is a code, or that send was refused.
+abbrev pub TriesRefusal : Option ℕ → LineState → LineState → Type 0
+TriesRefusal None old new = new ≡ old
+TriesRefusal (Some code) old new =
+    Sends (refuse_frame code) old new ⊎ ((fault : LineFault) × IsSendRefused (refuse_frame code) fault old new)
+
+-- Frames were not sent: memory was missing before, and a refusal of this code went out in their place, if there is a code; or their
+-- one send was refused.
+pub record IsUnsent (code : Option ℕ) (frames : List Frame) (fault : LineFault) (old new : LineState) : Type 0 where
+  pub at_least_one : 1 ≤ length frames
+  pub unsent :
+      ((fault ≡ NoMemory) × TriesRefusal code old new)
+      ⊎ IsSendRefused (flat_map frame_spelling frames) fault old new
+
+-- ---- one turn over a line
+
+-- a frame came and was answered, once there was room in the log for so many bytes
+pub record TurnGoes {S F : Type 0} (moves : Moves S F) (old new : S) (line now : LineState) : Type 0 where
+  pub turn : Turn
+  pub is : IsTurn moves old turn new
+  pub short : IsShortPlace is.place
+  pub room : ℕ
+  pub heard : LineState
+  pub arrives : Arrives is.place turn.frame (record line { room = room }) heard
+  pub sends : SendsAll turn.answer heard now
+
+-- a frame came and was answered, but the answer was not sent
+pub record LeavesUnsent {S F : Type 0} (moves : Moves S F) (old new : S) (fault : LineFault) (line now : LineState) : Type 0 where
+  pub turn : Turn
+  pub is : IsTurn moves old turn new
+  pub room : ℕ
+  pub heard : LineState
+  pub arrives : Arrives is.place turn.frame (record line { room = room }) heard
+  pub unsent : IsUnsent (moves.lack_code old) turn.answer fault heard now
+
+-- the frame that was expected did not come
+pub record LacksFrame {S F : Type 0} (moves : Moves S F) (old new : S) (fault : LineFault) (line now : LineState) : Type 0 where
+  pub same : new ≡ old
+  pub place : Expect
+  pub expected : moves.expects old ≡ Some place
+  pub room : ℕ
+  pub fails : Fails place fault (record line { room = room }) now
+
+-- a frame came, and was refused
+pub record RefusesFrame {S F : Type 0} (moves : Moves S F) (old new : S) (fault : F) (line now : LineState) : Type 0 where
+  pub place : Expect
+  pub expected : moves.expects old ≡ Some place
+  pub frame : Frame
+  pub room : ℕ
+  pub heard : LineState
+  pub arrives : Arrives place frame (record line { room = room }) heard
+  pub code : Option ℕ
+  pub refused : moves.refuses old frame fault code new
+  pub tried : TriesRefusal code heard now
+
+-- a turn that stopped so
+abbrev pub TurnStops : {S F : Type 0} → Moves S F → S → S → Outcome F → LineState → LineState → Type 0
+TurnStops moves old new Done line now = ⊥
+TurnStops moves old new (Refused fault) line now = RefusesFrame moves old new fault line now
+TurnStops moves old new (Cut fault) line now = LeavesUnsent moves old new fault line now ⊎ LacksFrame moves old new fault line now
+
+-- ---- whole runs
+
+-- so many turns passed, in order, and this is where they led
+pub record Runs {S F : Type 0} (moves : Moves S F) (greeting : List Frame) (old mid : S) (first was : LineState) : Type 0 where
+  pub turns : List Turn
+  pub went : Goes moves old turns mid
+  pub passed : HasPassed (whole_log first.side greeting turns) (sends_in greeting turns) first was
+
+-- nothing more was expected
+pub record IsOver {S F : Type 0} (moves : Moves S F) (log : List (Side × ℕ)) (number : ℕ) (mid new : S) (first now : LineState) : Type 0 where
+  pub same : new ≡ mid
+  pub expected : moves.expects new ≡ None
+  pub passed : HasPassed log number first now
+
+-- a frame came, and was refused; the refusal that went out is logged, or not
+pub record IsRefusal
+    {S F : Type 0}
+    (moves : Moves S F)
+    (log : List (Side × ℕ))
+    (number : ℕ)
+    (mid new : S)
+    (fault : F)
+    (first now : LineState) : Type 0 where
+  pub place : Expect
+  pub expected : moves.expects mid ≡ Some place
+  pub frame : Frame
+  pub allowed : Allows place frame
+  pub heard : LineState
+  pub passed : HasPassed (log ++ bytes_from (peer_of first.side) (frame_spelling frame)) number first heard
+  pub code : Option ℕ
+  pub refused : moves.refuses mid frame fault code new
+  pub tried : TriesRefusal code heard now
+
+-- Why no frame came: the peer has ended; one of the bytes that came is bad; the link failed; memory was missing.
+abbrev pub Lacks : Expect → List ℕ → LineFault → LineState → LineState → Type 0
+Lacks place rest (PeerEnded at) first now =
+    (at ≡ length (sent_by (peer_of first.side) now.log))
+    × IfSome now.ended (λ ended. ended ≡ true)
+    × IfSome now.to_come (λ bytes. bytes ≡ [])
+Lacks place rest (BadFrame at) first now =
+    (n : ℕ) × IsFirstBad place rest n × (at + length rest ≡ length (sent_by (peer_of first.side) now.log) + n)
+Lacks place rest Link first now = Rose first.faults now.faults
+Lacks place rest NoMemory first now = Unit {0}
+
+-- the frame that was expected did not come, but these bytes of it, which are no whole one; nothing more was sent
+pub record IsMissing
+    {S F : Type 0}
+    (moves : Moves S F)
+    (log : List (Side × ℕ))
+    (number : ℕ)
+    (mid new : S)
+    (fault : LineFault)
+    (first now : LineState) : Type 0 where
+  pub same : new ≡ mid
+  pub place : Expect
+  pub expected : moves.expects mid ≡ Some place
+  pub rest : List ℕ
+  pub few : length rest ≤ longest place
+  pub unfinished : IsUnfinished place rest
+  pub cut : IsNoBadByte fault → IsCutShort place rest
+  pub logged : now.log ≡ log ++ bytes_from (peer_of first.side) rest
+  pub told : now.told ≡ appended now.log first.told
+  pub came : first.to_come ≡ put_before (sent_by (peer_of first.side) now.log) now.to_come
+  pub sends : now.sends ≡ counted_times number first.sends
+  pub receives : now.receives ≤ first.receives + length (sent_by (peer_of first.side) now.log) + 1
+  pub cause : Lacks place rest fault first now
+  pub count : CountsFault fault first now
+
+-- a frame came and was answered, but the answer was not sent
+pub record IsUnanswered
+    {S F : Type 0}
+    (moves : Moves S F)
+    (log : List (Side × ℕ))
+    (number : ℕ)
+    (mid new : S)
+    (fault : LineFault)
+    (first now : LineState) : Type 0 where
+  pub turn : Turn
+  pub is : IsTurn moves mid turn new
+  pub heard : LineState
+  pub passed : HasPassed (log ++ bytes_from (peer_of first.side) (frame_spelling turn.frame)) number first heard
+  pub unsent : IsUnsent (moves.lack_code mid) turn.answer fault heard now
+
+-- the greeting was not sent, and no turn passed
+pub record IsUngreeted {S : Type 0} (greeting : List Frame) (turns : List Turn) (mid new : S) (fault : LineFault) (first now : LineState) : Type 0 where
+  pub none : turns ≡ []
+  pub same : new ≡ mid
+  pub fresh : IsFresh first
+  pub unsent : IsUnsent None greeting fault first now
+
+-- how a session stopped after these turns
+abbrev pub StopsBy : {S F : Type 0} → Moves S F → List Frame → List Turn → S → S → Outcome F → LineState → LineState → Type 0
+StopsBy moves greeting turns mid new Done first now =
+    IsOver moves (whole_log first.side greeting turns) (sends_in greeting turns) mid new first now
+StopsBy moves greeting turns mid new (Refused fault) first now =
+    IsRefusal moves (whole_log first.side greeting turns) (sends_in greeting turns) mid new fault first now
+StopsBy moves greeting turns mid new (Cut fault) first now =
+    IsMissing moves (whole_log first.side greeting turns) (sends_in greeting turns) mid new fault first now
+    ⊎ IsUnanswered moves (whole_log first.side greeting turns) (sends_in greeting turns) mid new fault first now
+    ⊎ IsUngreeted greeting turns mid new fault first now
+
+-- A whole session: these turns passed, in order, and are logged; and then it stopped so. The line is still open.
+pub record IsRun
+    {S F : Type 0}
+    (moves : Moves S F)
+    (greeting : List Frame)
+    (old new : S)
+    (outcome : Outcome F)
+    (first now : LineState) : Type 0 where
+  pub turns : List Turn
+  pub mid : S
+  pub went : Goes moves old turns mid
+  pub stops : StopsBy moves greeting turns mid new outcome first now
+  pub side : now.side ≡ first.side
+  pub is_open : now.is_open ≡ true

@@ -1,0 +1,178 @@
+-- What a prover's end of a session does: it has the units of a grant claimed that suits, and answers as the core does, up to the
+-- verdict.
+use Rattle.std.specs.Prelude.{◌≡◌, ◌⊎◌, ℕ, ◌+◌, ◌≤◌, List, [], Bool, true, false, Option, None, Some, Result, Ok, Err}
+use Rattle.zk_model.specs.Transcript.{Grant, wanted_hello}
+use Rattle.zk_model.specs.Frames.{Frame, hello, grant, verdict}
+use Rattle.zk_model.specs.View.{span_of}
+use Rattle.zk_model.specs.declared.Expect.{Expect}
+use Rattle.zk_model.specs.declared.Side.{Side}
+use Rattle.zk_model.specs.declared.Span.{Span}
+use Rattle.claim_store.specs.declared.ClaimFault.{ClaimFault}
+use Rattle.session_core.specs.Jobs.{ProverJob, Suits}
+use Rattle.session_core.specs.Cores.{ProverStage, ProverState, ProverAnswers, ProverRefuses, awaits_grant, awaits_verdict, prover_expects}
+use Rattle.session_core.specs.declared.fault.ProverFault.{ProverFault}
+use Rattle.session_driver.specs.Runs.{Moves}
+use Rattle.session_driver.specs.declared.drive.Outcome.{Outcome}
+use Rattle.session_driver.specs.declared.drive.Outcome.TheVariants.{Done, Refused, Cut}
+use Rattle.session_prover.specs.declared.note.ProverOutcome.{ProverOutcome}
+use Rattle.session_prover.specs.declared.note.ProverOutcome.TheVariants.{Accepted}
+use Rattle.session_prover.specs.Outcomes.{claim_outcome, line_outcome, session_outcome}
+use Rattle.session_prover.specs.Stages.{Claim, IsLogAt}
+use Rattle.session_prover.specs.Turns.{IsSound, IsToAnswer, IsNoGrant, IsRejection, answers_left}
+
+-- ---- who claims units
+
+-- what one who claims units tells: what it was asked for and answered, of how many it claims, and what an answer makes of it
+pub record Claims (C : Type 0) : Type 1 where
+  pub asked : C → Option (ℕ × ℕ)
+  pub answer : C → Option (Result Span ClaimFault)
+  pub total : C → ℕ
+  pub moves : C → ℕ → ℕ → Result Span ClaimFault → C → Type 0
+
+-- by these
+abbrev pub claims_of : {C : Type 0} → (C → Option (ℕ × ℕ)) → (C → Option (Result Span ClaimFault)) → (C → ℕ)
+    → (C → ℕ → ℕ → Result Span ClaimFault → C → Type 0) → Claims C
+claims_of asked answer total moves = record { asked = asked; answer = answer; total = total; moves = moves }
+
+-- what it was asked for, and answered
+abbrev pub claim_of : {C : Type 0} → Claims C → C → Claim
+claim_of claims claimant = record { asked = claims.asked claimant; answer = claims.answer claimant }
+
+-- it was asked for the units of this grant, and answered so
+pub record Claimed {C : Type 0} (claims : Claims C) (given : Grant) (answer : Result Span ClaimFault) (old new : C) : Type 0 where
+  pub asked : claims.asked new ≡ Some (given.start, given.count)
+  pub told : claims.answer new ≡ Some answer
+  pub moves : claims.moves old given.start given.count answer new
+
+-- ---- the prover's end
+
+-- a prover's core, the units that were granted, whether a verdict was read that every check holds, and the one who claims units
+pub record Proved (C : Type 0) : Type 0 where
+  pub core : ProverState
+  pub granted : Option Span
+  pub accepted : Bool
+  pub claimant : C
+
+-- by these
+abbrev pub proved : {C : Type 0} → ProverState → Option Span → Bool → C → Proved C
+proved core granted accepted claimant = record { core = core; granted = granted; accepted = accepted; claimant = claimant }
+
+-- the greeting of a job, as a frame
+abbrev pub greeting_frame : ProverJob → Frame
+greeting_frame job = hello (wanted_hello job.file.id job.statement)
+
+-- the frame that it expects: none once it is accepted
+abbrev pub proving_expects : Bool → ProverState → Option Expect
+proving_expects true core = None
+proving_expects false core = prover_expects core.job core.stage
+
+-- how many frames it takes yet, at most
+abbrev pub frames_left : Bool → ProverStage → ℕ
+frames_left true stage = 0
+frames_left false stage = answers_left stage + 1
+
+-- A grant came that suits, and lies in the file; its units were claimed, and it is answered.
+pub record AnswersClaimed {C : Type 0} (claims : Claims C) (old : Proved C) (frame : Frame) (answer : List Frame) (new : Proved C) : Type 0 where
+  pub waits : old.core.stage ≡ awaits_grant
+  pub given : Grant
+  pub is : frame ≡ grant given
+  pub suits : Suits old.core.job.file.params old.core.job.statement.program given
+  pub within : given.start + given.count ≤ old.core.job.file.params.total
+  pub claimed : Claimed claims given (Ok (span_of given)) old.claimant new.claimant
+  pub answers : ProverAnswers old.core.job awaits_grant frame answer new.core.stage
+  pub job : new.core.job ≡ old.core.job
+  pub granted : new.granted ≡ Some (span_of given)
+  pub accepted : new.accepted ≡ false
+
+-- replies came, or the challenge
+pub record AnswersBehind {C : Type 0} (old : Proved C) (frame : Frame) (answer : List Frame) (new : Proved C) : Type 0 where
+  pub behind : IsToAnswer old.core.stage
+  pub answers : ProverAnswers old.core.job old.core.stage frame answer new.core.stage
+  pub job : new.core.job ≡ old.core.job
+  pub granted : new.granted ≡ old.granted
+  pub accepted : new.accepted ≡ false
+  pub claimant : new.claimant ≡ old.claimant
+
+-- a verdict came that every check holds
+pub record ReadsAcceptance {C : Type 0} (old : Proved C) (frame : Frame) (answer : List Frame) (new : Proved C) : Type 0 where
+  pub waits : old.core.stage ≡ awaits_verdict
+  pub number : ℕ
+  pub is : frame ≡ verdict 0 number
+  pub none : answer ≡ []
+  pub becomes : new ≡ record old { accepted = true }
+
+-- a grant that does not suit came, or a refusal
+pub record TurnsAway {C : Type 0} (old : Proved C) (frame : Frame) (outcome : ProverOutcome) (new : Proved C) : Type 0 where
+  pub waits : old.core.stage ≡ awaits_grant
+  pub is : IsNoGrant old.core.job frame outcome
+  pub granted : new.granted ≡ old.granted
+  pub claimant : new.claimant ≡ old.claimant
+
+-- a grant came that suits, and its units were not claimed
+pub record RefusesClaim {C : Type 0} (claims : Claims C) (old : Proved C) (frame : Frame) (outcome : ProverOutcome) (new : Proved C) : Type 0 where
+  pub waits : old.core.stage ≡ awaits_grant
+  pub given : Grant
+  pub is : frame ≡ grant given
+  pub suits : Suits old.core.job.file.params old.core.job.statement.program given
+  pub fault : ClaimFault
+  pub claimed : Claimed claims given (Err fault) old.claimant new.claimant
+  pub outcome_is : outcome ≡ claim_outcome fault
+  pub granted : new.granted ≡ old.granted
+
+-- its units were claimed, but the core refuses to answer it
+pub record LacksAnswer {C : Type 0} (claims : Claims C) (old : Proved C) (frame : Frame) (outcome : ProverOutcome) (new : Proved C) : Type 0 where
+  pub waits : old.core.stage ≡ awaits_grant
+  pub given : Grant
+  pub is : frame ≡ grant given
+  pub suits : Suits old.core.job.file.params old.core.job.statement.program given
+  pub within : given.start + given.count ≤ old.core.job.file.params.total
+  pub claimed : Claimed claims given (Ok (span_of given)) old.claimant new.claimant
+  pub fault : ProverFault
+  pub refuses : ProverRefuses old.core.job awaits_grant frame fault
+  pub outcome_is : outcome ≡ session_outcome fault
+  pub granted : new.granted ≡ Some (span_of given)
+
+-- the core refuses replies, or the challenge
+pub record RefusesBehind {C : Type 0} (old : Proved C) (frame : Frame) (outcome : ProverOutcome) (new : Proved C) : Type 0 where
+  pub behind : IsToAnswer old.core.stage
+  pub fault : ProverFault
+  pub refuses : ProverRefuses old.core.job old.core.stage frame fault
+  pub outcome_is : outcome ≡ session_outcome fault
+  pub granted : new.granted ≡ old.granted
+  pub claimant : new.claimant ≡ old.claimant
+
+-- a verdict came that a check does not hold
+pub record ReadsRejection {C : Type 0} (old : Proved C) (frame : Frame) (outcome : ProverOutcome) (new : Proved C) : Type 0 where
+  pub waits : old.core.stage ≡ awaits_verdict
+  pub is : IsRejection frame outcome
+  pub granted : new.granted ≡ old.granted
+  pub claimant : new.claimant ≡ old.claimant
+
+-- why it takes a frame for the last
+abbrev pub Stops : {C : Type 0} → Claims C → Proved C → Frame → ProverOutcome → Proved C → Type 0
+Stops claims old frame outcome new =
+    TurnsAway old frame outcome new ⊎ RefusesClaim claims old frame outcome new ⊎ LacksAnswer claims old frame outcome new
+    ⊎ RefusesBehind old frame outcome new ⊎ ReadsRejection old frame outcome new
+
+-- what a prover's end does; it sends no refusals
+abbrev pub proves : {C : Type 0} → Claims C → Moves (Proved C) ProverOutcome
+proves claims = record {
+  expects = λ s. proving_expects s.accepted s.core;
+  lack_code = λ s. None;
+  answers = λ s frame answer t. AnswersClaimed claims s frame answer t ⊎ AnswersBehind s frame answer t ⊎ ReadsAcceptance s frame answer t;
+  refuses = λ s frame outcome code t. (code ≡ None) × Stops claims s frame outcome t;
+}
+
+-- what holds of it between its steps: it is about the job, and there is a log that leads to where it waits
+pub record IsProving {C : Type 0} (claims : Claims C) (job : ProverJob) (now : Proved C) : Type 0 where
+  pub job_is : now.core.job ≡ job
+  pub sound : IsSound job
+  pub total : claims.answer now.claimant ≡ None → claims.total now.claimant ≤ job.file.params.total
+  pub log : List (Side × ℕ)
+  pub at : now.accepted ≡ false → IsLogAt job (claim_of claims now.claimant) now.core.stage log
+
+-- the outcome by which a session is noted that stopped so
+abbrev pub outcome_told : Outcome ProverOutcome → ProverOutcome
+outcome_told Done = Accepted
+outcome_told (Refused fault) = fault
+outcome_told (Cut fault) = line_outcome fault

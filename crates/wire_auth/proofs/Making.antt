@@ -1,0 +1,254 @@
+-- Public values and private inputs make the values of all wires, step by step.
+use Rattle.std.proofs.Common.{◌≡◌, ◌≢◌, ℕ, zero, suc, ◌+◌, ◌*◌, ◌-◌, ◌%◌, ◌<◌, ◌≤◌, ⊎_elim, inl, List, [], ◌++◌, map, length, take, drop, get_or, set, replicate, refl, sym, ap, ◌∙◌, arith, subst, get_or-set_other, length-append, length-drop}
+use Rattle.std.specs.Prelude.{Some, All, slice_get, slice_index}
+use Rattle.std.specs.List.{range_with_len}
+use Rattle.std.proofs.lemmas.Bool.{cases_lt, cond_below, cond_above}
+use Rattle.std.proofs.lemmas.List.{length-map, length-replicate, length-take-le, get_or-map, get_or-take, get_or-drop, take_all, ext_get_or}
+use Rattle.std.proofs.lemmas.List.FromFn.{length-range_with_len}
+use Rattle.std.proofs.lemmas.Option.{slice_get_within, slice_get-get_or, get_or_from_slice_get}
+use Rattle.zk_model.specs.Bits.{from_bit}
+use Rattle.zk_model.specs.Field.{prime, ◌*ₚ◌}
+use Rattle.zk_model.specs.Program.{Term, Step, Program, IsProgram, IsProduct, IsSet, IsMadeBefore, AreMade, weighted, step_value}
+use Rattle.zk_model.specs.Circuit.{Circuit, IsWellFormed}
+use Rattle.zk_model.specs.Boolean.{circuit_program}
+use Rattle.circuit_laws.proofs.Programs.{set_below, set_later, weighted_same}
+use Rattle.circuit_laws.proofs.CircuitIsProgram.{circuit_is_program, numbered, nth_value}
+use Rattle.circuit_laws.proofs.Ordered.{circuit_is_ordered}
+use Rattle.circuit_laws.proofs.Made.{one_made, bits_are_made}
+use Rattle.field_program.specs.Programs.{IsSmallProgram}
+use Rattle.wire_auth.specs.Sides.{IsBegun}
+use Rattle.wire_auth.specs.Values.{given_value, given_from, CanBeMade, with_step, after_steps, first_values, wires_made, given_made, MadeExist, BitsMakeProducts}
+use Rattle.wire_auth.proofs.Setting.{AreSoFar, one_more, all_met, still_begun, begin_filled}
+use Rattle.zk_model.specs.declared.Product.{Product}
+
+abbrev no_product : Product
+no_product = record { a = 0; b = 0; c = 0 }
+
+-- a program that is held can be made
+pub can_be_made : (program : Program) → IsSmallProgram program → CanBeMade program
+can_be_made program held = record { formed = held.formed; ordered = held.ordered; counted = held.counted; numbered = held.numbered }
+
+-- the factors of a product are wires
+pub factors_within : (program : Program) (i : ℕ) (product : Product) → IsProgram program → slice_get program.products i ≡ Some product
+    → (product.a < program.wires) × (product.b < program.wires)
+factors_within program i product formed at =
+    let is : IsProduct program product =
+    subst (IsProduct program) (get_or_from_slice_get program.products i product product at)
+    (formed.products i product (slice_get_within program.products i product at)) in
+    (set_below program (length program.steps) product.a formed is.left, set_below program (length program.steps) product.b formed is.right)
+
+-- ---- given values
+
+value_of_input : (program : Program) (values : List ℕ) (product : Product) → product.c < program.inputs
+    → given_value program values product ≡ slice_index values (program.public + product.c)
+value_of_input program values product below =
+    sym (cond_below product.c program.inputs (slice_index values (program.public + product.c)) (slice_index values product.a *ₚ slice_index values product.b) below)
+
+value_of_product : (program : Program) (values : List ℕ) (product : Product) → program.inputs ≤ product.c
+    → given_value program values product ≡ slice_index values product.a *ₚ slice_index values product.b
+value_of_product program values product low =
+    sym (cond_above product.c program.inputs (slice_index values (program.public + product.c)) (slice_index values product.a *ₚ slice_index values product.b)
+    (slice_index values product.a *ₚ slice_index values product.b) low refl)
+
+-- given value i is that of product i
+pub given_at : (program : Program) (values : List ℕ) (i : ℕ) (product : Product) → slice_get program.products i ≡ Some product
+    → slice_index (given_from program values) i ≡ given_value program values product
+given_at program values i product at =
+    get_or-map (given_value program values) program.products i product 0 (slice_get_within program.products i product at)
+    ∙ ap (given_value program values) (get_or_from_slice_get program.products i product product at)
+
+pub length-given_from : (program : Program) (values : List ℕ) → length (given_from program values) ≡ length program.products
+length-given_from program values = length-map program.products (given_value program values)
+
+-- the first are the inputs
+first_given : (program : Program) (values : List ℕ) → CanBeMade program → length values ≡ program.wires
+    → take program.inputs (given_from program values) ≡ take program.inputs (drop program.public values)
+first_given program values held whole =
+    ext_get_or 0 (take program.inputs given) (take program.inputs (drop program.public values)) (few ∙ sym many) (λ i below.
+    let less : i < program.inputs = omega (arith, few, below) in
+    let product = get_or program.products i no_product in
+    let at : slice_get program.products i ≡ Some product = slice_get-get_or program.products i no_product (omega (arith, held.counted, held.formed.inputs, less)) in
+    let number : product.c ≡ i = held.numbered i product at in
+    get_or-take program.inputs given i 0 less
+    ∙ given_at program values i product at
+    ∙ value_of_input program values product (omega (arith, number, less))
+    ∙ ap (λ n. slice_index values (program.public + n)) number
+    ∙ sym (get_or-drop program.public values i 0)
+    ∙ sym (get_or-take program.inputs (drop program.public values) i 0 less))
+  where
+    given : List ℕ
+    given = given_from program values
+
+    few : length (take program.inputs given) ≡ program.inputs
+    few = length-take-le program.inputs given (omega (arith, length-given_from program values, held.counted, held.formed.inputs))
+
+    many : length (take program.inputs (drop program.public values)) ≡ program.inputs
+    many = length-take-le program.inputs (drop program.public values) (omega (arith, length-drop program.public values, held.formed.first, whole))
+
+-- ---- one step more
+
+-- a wire that is set early is not the one that a later step sets
+apart : (program : Program) (k n wire : ℕ) (later : Step) → IsProgram program → k ≤ n → slice_get program.steps n ≡ Some later
+    → IsSet program k wire → wire ≢ later.out
+apart program k n wire later formed before is set same =
+    (formed.steps n later is).once (subst (IsSet program n) same (set_later program k n wire before set))
+
+-- what an early step takes stays where a later one sets its wire
+given_kept : (program : Program) (values : List ℕ) (k n number : ℕ) (term : Term) (later : Step) → CanBeMade program → k ≤ n
+    → slice_get program.steps n ≡ Some later → term.place < program.givens → IsMadeBefore program k term
+    → slice_index (given_from program (set values later.out number)) term.place ≡ slice_index (given_from program values) term.place
+given_kept program values k n number term later held before is within made =
+    given_at program now term.place product at
+    ∙ ⊎_elim
+    (λ input.
+    value_of_input program now product input
+    ∙ kept (program.public + product.c) (inl (omega (arith, input)))
+    ∙ sym (value_of_input program values product input))
+    (λ low.
+    let sets = made term.place product at same (omega (arith, low, same)) in
+    value_of_product program now product low
+    ∙ (λ i. kept product.a sets.0 i *ₚ kept product.b sets.1 i)
+    ∙ sym (value_of_product program values product low))
+    (cases_lt product.c program.inputs)
+    ∙ sym (given_at program values term.place product at)
+  where
+    now : List ℕ
+    now = set values later.out number
+
+    product : Product
+    product = get_or program.products term.place no_product
+
+    at : slice_get program.products term.place ≡ Some product
+    at = slice_get-get_or program.products term.place no_product (omega (arith, held.counted, within))
+
+    same : product.c ≡ term.place
+    same = held.numbered term.place product at
+
+    kept : (wire : ℕ) → IsSet program k wire → slice_index now wire ≡ slice_index values wire
+    kept wire set = get_or-set_other values later.out wire number 0 (apart program k n wire later held.formed before is set)
+
+-- values of all wires, of which the first are as they were, that meet the first n steps with the given values that they make
+abbrev pub AreMadeSoFar : Program → List ℕ → List ℕ → ℕ → Type 0
+AreMadeSoFar program initial values n = AreSoFar program 1 (given_from program values) initial values n
+
+pub made_more : (program : Program) (initial values now : List ℕ) (n out number : ℕ) (step : Step) → CanBeMade program
+    → slice_get program.steps n ≡ Some step → out ≡ step.out → number ≡ step_value 1 values (given_from program values) step
+    → now ≡ set values out number → AreMadeSoFar program initial values n → AreMadeSoFar program initial now (n + 1)
+made_more program initial values now n out number step held at o k sets far = record {
+  whole = next.whole;
+  first = next.first;
+  met = λ j other below there. next.met j other below there ∙ taken j other below there;
+}
+  where
+    next : AreSoFar program 1 (given_from program values) initial now (n + 1)
+    next = one_more program 1 (given_from program values) initial values now n out number step held.formed at o k sets far
+
+    same : set values step.out number ≡ now
+    same = ap (λ w. set values w number) (sym o) ∙ sym sets
+
+    -- what these steps take is the same
+    taken : (j : ℕ) (other : Step) → j < n + 1 → slice_get program.steps j ≡ Some other
+        → step_value 1 now (given_from program values) other ≡ step_value 1 now (given_from program now) other
+    taken j other below there = ap (λ sum. (weighted now other.wires + sum + other.constant * 1) % prime)
+        (weighted_same (given_from program values) (given_from program now) other.given (λ i d less.
+        sym (given_kept program values j n number (get_or other.given i d) step held (omega (arith, below)) at
+        ((held.formed.steps j other there).takes i d less) (held.ordered j other there i d less))
+        ∙ ap (λ l. slice_index (given_from program l) (get_or other.given i d).place) same))
+
+-- all is made in the end
+pub all_made : (program : Program) (public inputs initial values : List ℕ) (n : ℕ) → CanBeMade program → n ≡ length program.steps
+    → length inputs ≡ program.inputs → AreMadeSoFar program initial values n → IsBegun 1 program public inputs initial
+    → AreMade program public inputs values (given_from program values)
+all_made program public inputs initial values n held end counted far begun =
+    let now = still_begun 1 program public inputs initial values begun far.whole far.first in
+    let firsts = first_given program values held far.whole in
+    record {
+      carried = record {
+        whole = now.whole;
+        constants = now.constants;
+        inputs = sym firsts;
+        steps = all_met program 1 (given_from program values) values n end far.met;
+      };
+      count = length-given_from program values ∙ held.counted;
+      first = firsts ∙ now.inputs ∙ take_all program.inputs inputs (omega (arith, counted));
+      others = λ i d below low.
+          let product = get_or program.products i d in
+          let at : slice_get program.products i ≡ Some product = slice_get-get_or program.products i d below in
+          ap (slice_index (given_from program values)) (held.numbered i product at)
+          ∙ given_at program values i product at
+          ∙ value_of_product program values product low;
+    }
+
+-- ---- the one list
+
+after_made : (program : Program) (initial : List ℕ) (n : ℕ) → CanBeMade program → length initial ≡ program.wires → n ≤ length program.steps
+    → AreMadeSoFar program initial (after_steps program initial n) n
+after_made program initial zero held whole within = record { whole = whole; first = refl; met = λ k step below. elim below [ ] }
+after_made program initial (suc n) held whole within =
+    let step = get_or program.steps n (record { out = 0; wires = []; given = []; constant = 0 }) in
+    let at : slice_get program.steps n ≡ Some step = slice_get-get_or program.steps n (record { out = 0; wires = []; given = []; constant = 0 }) (omega (arith, within)) in
+    let values = after_steps program initial n in
+    let more : n + 1 ≡ suc n = omega arith in
+    subst (AreMadeSoFar program initial (with_step program values step)) more
+    (made_more program initial values (with_step program values step) n step.out (step_value 1 values (given_from program values) step) step held at refl refl refl
+    (after_made program initial n held whole (omega (arith, within))))
+
+begins : (program : Program) (public inputs : List ℕ) → IsProgram program → length public ≡ program.public → length inputs ≡ program.inputs
+    → IsBegun 1 program public inputs (first_values program public inputs)
+begins program public inputs formed p few =
+    begin_filled 1 program public inputs inputs first (first_values program public inputs) rest program.wires p few
+    (take_all program.inputs inputs (omega (arith, few))) formed refl refl
+    (ap (λ l. l ++ rest) (sym (take_all program.wires first short))) whole
+  where
+    first : List ℕ
+    first = map (λ value. value *ₚ 1) public ++ inputs
+
+    rest : List ℕ
+    rest = replicate (program.wires - (length public + length inputs)) 0
+
+    counted : length first ≡ length public + length inputs
+    counted = length-append (map (λ value. value *ₚ 1) public) inputs ∙ ap (λ n. n + length inputs) (length-map public (λ value. value *ₚ 1))
+
+    short : length first ≤ program.wires
+    short = omega (arith, counted, p, few, formed.first)
+
+    whole : length (first ++ rest) ≡ program.wires
+    whole = omega (arith, length-append first rest, length-replicate {A = ℕ} (program.wires - (length public + length inputs)) 0, counted, p, few, formed.first)
+
+pub made_exist : MadeExist
+unfolding given_made wires_made
+made_exist program public inputs held p few =
+    let begun = begins program public inputs held.formed p few in
+    all_made program public inputs (first_values program public inputs) (after_steps program (first_values program public inputs) (length program.steps))
+    (length program.steps) held refl few (after_made program (first_values program public inputs) (length program.steps) held begun.whole (omega arith)) begun
+
+-- ---- circuits
+
+circuit_can_be_made : (public : ℕ) (circuit : Circuit) → IsWellFormed circuit → public ≤ circuit.inputs → CanBeMade (circuit_program public circuit)
+circuit_can_be_made public circuit formed few = record {
+  formed = circuit_is_program public circuit formed few;
+  ordered = circuit_is_ordered public circuit formed few;
+  counted =
+      sym (length-map (circuit_program public circuit).products (λ product. product.c))
+      ∙ ap length (numbered public circuit) ∙ length-range_with_len 0 (circuit_program public circuit).givens;
+  numbered = λ i product at. nth_value (circuit_program public circuit).products (circuit_program public circuit).givens i product (numbered public circuit) at;
+}
+
+pub bits_make_products : BitsMakeProducts
+bits_make_products public circuit inputs bits formed few met =
+    let program = circuit_program public circuit in
+    let held = circuit_can_be_made public circuit formed few in
+    let made = bits_are_made public circuit inputs bits formed few met in
+    let known = map from_bit (take public inputs) in
+    let private = map from_bit (drop public inputs) in
+    one_made program known private (wires_made program known private) (given_made program known private) (map from_bit bits) _ held.formed held.ordered
+    (made_exist program known private held known_count private_count) made
+  where
+    counted : length inputs ≡ circuit.inputs
+    counted = ap length (sym met.first) ∙ length-take-le circuit.inputs bits (let whole = met.whole in omega (arith, whole, formed.inputs_within))
+
+    known_count : length (map from_bit (take public inputs)) ≡ public
+    known_count = length-map (take public inputs) from_bit ∙ length-take-le public inputs (omega (arith, counted, few))
+
+    private_count : length (map from_bit (drop public inputs)) ≡ circuit.inputs - public
+    private_count = length-map (drop public inputs) from_bit ∙ length-drop public inputs ∙ ap (λ n. n - public) counted
