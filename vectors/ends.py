@@ -25,7 +25,7 @@ from common import (
     words,
     xor,
 )
-from session import LONG, Claim, Extended, bits_of_wires, carried, coded, grown, leaf, products_of, punctured
+from session import LONG, Claim, Extended, Product, bits_of_wires, carried, coded, grown, leaf, products_of, punctured
 
 MOST_UNITS = 4096
 MOST_RECEIVED = 4096
@@ -46,9 +46,12 @@ class Job(NamedTuple):
     total: int
     section: int
 
+    def products(self) -> List[Product]:
+        return products_of(self.claim.circuit, self.claim.public)
+
     def need(self, section: int) -> int:
         """How many correlations a session with sections of this length takes."""
-        products = len(products_of(self.claim.circuit))
+        products = len(self.products())
         return products + -(-products // section)
 
     def units(self, section: int) -> int:
@@ -57,11 +60,11 @@ class Job(NamedTuple):
         return max(1, -(-self.need(section) // size))
 
     def digests(self) -> bytes:
-        """The digests of its statement: of the circuit's text, of the claimed outputs, and of no public bits."""
-        return self.claim.digest + sha256("".join(map(str, self.outputs)).encode()) + sha256(b"")
+        """The digests of its statement: of the circuit's text, of the claimed outputs, and of the public bits."""
+        return self.claim.digest + sha256("".join(map(str, self.outputs)).encode()) + self.claim.public_digest()
 
     def hello(self) -> bytes:
-        return frame(1, FILE_ID + self.digests()[:64] + bytes([1]))
+        return self.claim.hello(list(self.outputs))
 
 
 # ---- frames that a place allows
@@ -354,8 +357,8 @@ def take_keys(end: End, job: Job, start: int, count: int) -> List[int]:
 
 def judge(job: Job, dealt_keys: List[int], given: List[int], challenge: int, sums: List[int], macs: List[int]):
     """The code and the number of a verdict, and the outcome."""
-    circuit, products = job.claim.circuit, products_of(job.claim.circuit)
-    keys = carried(circuit, given, KEY)
+    circuit, products = job.claim.circuit, job.products()
+    keys = carried(job.claim, given, KEY)
     for s, first in enumerate(range(0, len(products), job.section)):
         left = dealt_keys[len(products) + s]
         for j, (a, b) in enumerate(products[first : first + job.section], 1):
@@ -372,7 +375,7 @@ def judge(job: Job, dealt_keys: List[int], given: List[int], challenge: int, sum
 
 
 def verify_steps(end: End, job: Job, grant: Grant) -> None:
-    products = len(products_of(job.claim.circuit))
+    products = len(job.products())
     compare_hello(end, job, end.take(HELLO))
     start, count = lease(end, job, grant)
     keys = take_keys(end, job, start, count)
@@ -436,9 +439,9 @@ def take_pairs(end: End, job: Job, start: int, count: int) -> List[Tuple[int, in
 
 def answers(job: Job, section: int, pairs: List[Tuple[int, int]], challenge: int) -> bytes:
     """The frames of sums and openings."""
-    circuit, products = job.claim.circuit, products_of(job.claim.circuit)
+    circuit, products = job.claim.circuit, job.products()
     given = [m for _, m in pairs[: len(products)]]
-    w, m = bits_of_wires(job.claim), carried(circuit, given, 0)
+    w, m = bits_of_wires(job.claim), carried(job.claim, given, 0)
     sums = []
     for s, first in enumerate(range(0, len(products), section)):
         v, u = pairs[len(products) + s]
@@ -457,7 +460,7 @@ def prove_steps(end: End, job: Job, claim: Claimant) -> None:
     claim_units(end, claim, start, count)
     pairs = take_pairs(end, job, start, count)
     bits = bits_of_wires(job.claim)
-    products = products_of(job.claim.circuit)
+    products = job.products()
     end.send(frame(5, elements([(bits[a] * bits[b] - x) % P for (a, b), (x, _) in zip(products, pairs)])))
     [challenge] = read_elements(end.take(CHALLENGE))
     end.send(answers(job, section, pairs, challenge))

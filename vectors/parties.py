@@ -184,7 +184,7 @@ class DealtRoom(Room):
 
     def frames(self) -> List[Tuple[int, int]]:
         """The kinds of the frames of a whole log, and the lengths of their payloads."""
-        products, params = len(products_of(self.job.claim.circuit)), self.job.params
+        products, params = len(self.job.products()), self.job.params
         lengths = [(1, 97), (2, 16)]
         if params is not None:
             lengths += [(3, params.trees * (params.height + 8))] * self.size

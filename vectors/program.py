@@ -154,31 +154,39 @@ def load_circuit(outside: Outside, name: str) -> bristol.Circuit:
     return found
 
 
-def need_of(circuit: bristol.Circuit, section: int) -> Tuple[int, int, int]:
+def check_public(circuit: bristol.Circuit, public: List[int]) -> None:
+    if len(public) > circuit.inputs:
+        raise Stopped(f"refused public {circuit.inputs} {len(public)}", 3)
+
+
+def need_of(circuit: bristol.Circuit, public: List[int], section: int) -> Tuple[int, int, int]:
     """How many products, sections and correlations a session has."""
-    products = len(products_of(circuit))
+    products = len(products_of(circuit, len(public)))
     sections = -(-products // section)
     return products, sections, products + sections
 
 
-def outputs_of(circuit: bristol.Circuit, bits: List[int]) -> str:
-    if len(bits) != circuit.inputs:
-        raise Stopped(f"refused bits {circuit.inputs} {len(bits)}", 3)
-    return bristol.word_of(bristol.evaluate(circuit, bits))
+def outputs_of(circuit: bristol.Circuit, public: List[int], bits: List[int]) -> str:
+    """What a circuit gives at these public bits and private ones."""
+    check_public(circuit, public)
+    if len(bits) != circuit.inputs - len(public):
+        raise Stopped(f"refused bits {circuit.inputs - len(public)} {len(bits)}", 3)
+    return bristol.word_of(bristol.evaluate(circuit, public + bits))
 
 
 def run_eval(outside: Outside, words: List[str]) -> Came:
     (name, word), _ = sorted_words(words, [], [])
     bits = read_bits(word)
-    return Came(outside.say(outputs_of(load_circuit(outside, name), bits) + "\n", 0), "plain")
+    return Came(outside.say(outputs_of(load_circuit(outside, name), [], bits) + "\n", 0), "plain")
 
 
 def run_rehearse(outside: Outside, words: List[str]) -> Came:
-    (name, word), options = sorted_words(words, ["--section"], ["--extended"])
+    (name, word), options = sorted_words(words, ["--section", "--public"], ["--extended"])
     bits, section = read_bits(word), read_number(options.get("--section", str(LONG)), 1, LONG)
+    public = read_bits(options.get("--public", "none"))
     circuit = load_circuit(outside, name)
-    outputs = outputs_of(circuit, bits)
-    products, sections, need = need_of(circuit, section)
+    outputs = outputs_of(circuit, public, bits)
+    products, sections, need = need_of(circuit, public, section)
     units = max(1, -(-need // (8 * 1024 if "--extended" in options else 64)))
     if units > MOST_UNITS:
         raise Stopped(f"too large {need} {units}", 9)
@@ -266,6 +274,7 @@ class Service(NamedTuple):
 
     file: str
     circuit: str
+    public: List[int]
     outputs: List[int]
     sessions: int
     section: int
@@ -273,22 +282,26 @@ class Service(NamedTuple):
 
 
 def read_service(words: List[str]) -> Service:
-    (_, file, circuit, word), options = sorted_words(words, ["--sessions", "--workers", "--section", "--logs"], [])
+    names = ["--sessions", "--workers", "--section", "--logs", "--public"]
+    (_, file, circuit, word), options = sorted_words(words, names, [])
     sessions = read_number(options["--sessions"], 1, 65536)
     read_number(options.get("--workers", "4"), 1, 1024)
     section = read_number(options.get("--section", str(LONG)), 1, LONG)
-    return Service(file, circuit, read_bits(word), sessions, section, options.get("--logs"))
+    public = read_bits(options.get("--public", "none"))
+    return Service(file, circuit, public, read_bits(word), sessions, section, options.get("--logs"))
 
 
 def served_job(outside: Outside, service: Service) -> Job:
     """What the sessions of a service are about."""
-    outputs, section = service.outputs, service.section
+    public, outputs, section = service.public, service.outputs, service.section
     text = outside.files.get(service.circuit, b"")
     circuit = load_circuit(outside, service.circuit)
+    check_public(circuit, public)
     if len(outputs) != circuit.outputs:
         raise Stopped(f"refused outputs {circuit.outputs} {len(outputs)}", 3)
     params = read_dealt(1, outside.load(service.file))
-    job = Job(Claim(circuit, sha256(text), []), tuple(outputs), extended_of(params), params.total, section)
+    claim = Claim(circuit, sha256(text), public, len(public))
+    job = Job(claim, tuple(outputs), extended_of(params), params.total, section)
     if job.units(section) > MOST_UNITS:
         raise Stopped(f"too large {job.need(section)} {job.units(section)}", 9)
     return job
@@ -531,23 +544,39 @@ def proved_line(outcome: str, units: str, faults: int) -> Tuple[str, int]:
     return line.format(units=units, faults=faults, **fields) + "\n", status
 
 
-def proved_job(outside: Outside, file: str, name: str, bits: List[int], outputs: List[int]) -> Job:
+class Proof(NamedTuple):
+    """What the words of a proof name."""
+
+    file: str
+    circuit: str
+    public: List[int]
+    bits: List[int]
+    outputs: List[int]
+
+
+def read_proof(words: List[str]) -> Proof:
+    (_, file, circuit, bits, outputs), options = sorted_words(words, ["--public"], [])
+    return Proof(file, circuit, read_bits(options.get("--public", "none")), read_bits(bits), read_bits(outputs))
+
+
+def proved_job(outside: Outside, proof: Proof) -> Job:
     """What the session of a prover is about; the length of sections is that of its grant."""
+    file, name, public, bits, outputs = proof
     text = outside.files.get(name, b"")
     circuit = load_circuit(outside, name)
-    given = read_bits(outputs_of(circuit, bits))
+    given = read_bits(outputs_of(circuit, public, bits))
     if len(outputs) != circuit.outputs:
         raise Stopped(f"refused outputs {circuit.outputs} {len(outputs)}", 3)
     differing = [output for output in range(circuit.outputs) if given[output] != outputs[output]]
     if differing:
         raise Stopped(f"unsatisfied {differing[0]}", 1)
     params = read_dealt(0, outside.load(file))
-    return Job(Claim(circuit, sha256(text), bits), tuple(outputs), extended_of(params), params.total, LONG)
+    claim = Claim(circuit, sha256(text), public + bits, len(public))
+    return Job(claim, tuple(outputs), extended_of(params), params.total, LONG)
 
 
 def run_prove(outside: Outside, words: List[str], peers: List[Link]) -> Came:
-    (_, file, name, bits, outputs), _ = sorted_words(words, [], [])
-    job = proved_job(outside, file, name, read_bits(bits), read_bits(outputs))
+    job = proved_job(outside, read_proof(words))
     claims = open_claims(outside.disk, job.total)
     if outside.is_failing("door") or not peers:
         raise Stopped("failed door", 4)

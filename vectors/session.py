@@ -41,11 +41,24 @@ class Extended(NamedTuple):
 
 
 class Claim(NamedTuple):
-    """A circuit, the digest of its file that a hello has, and the prover's bits."""
+    """A circuit, the digest of its file that a hello has, the input bits, and how many of the first are public."""
 
     circuit: Circuit
     digest: bytes
     bits: List[int]
+    public: int = 0
+
+    def public_bits(self) -> List[int]:
+        return self.bits[: self.public]
+
+    def public_digest(self) -> bytes:
+        return sha256("".join(map(str, self.public_bits())).encode())
+
+    def hello(self, outputs: List[int]) -> bytes:
+        """The hello about these outputs: in the long form exactly where there are public bits."""
+        digests = self.digest + sha256("".join(map(str, outputs)).encode())
+        form = bytes([2]) + self.public_digest() if self.public else bytes([1])
+        return frame(1, FILE_ID + digests + form)
 
 
 # ---- extension
@@ -150,16 +163,17 @@ class Product(NamedTuple):
     b: int
 
 
-def products_of(circuit: Circuit) -> List[Product]:
-    """Each input wire times itself, then the two wires of each XOR and AND."""
-    bit_checks = [Product(wire, wire) for wire in range(circuit.inputs)]
+def products_of(circuit: Circuit, public: int) -> List[Product]:
+    """Each private input wire times itself, then the two wires of each XOR and AND."""
+    bit_checks = [Product(wire, wire) for wire in range(public, circuit.inputs)]
     return bit_checks + [Product(*gate.inputs) for gate in circuit.gates if gate.name in ("XOR", "AND")]
 
 
-def carried(circuit: Circuit, given: List[int], one: int) -> List[int]:
+def carried(claim: Claim, given: List[int], one: int) -> List[int]:
     """A number for each wire, from one for each product: values where `one` is 1, MACs where it is 0, keys where it is the key."""
-    wires = given[: circuit.inputs] + [0] * (circuit.wires - circuit.inputs)
-    rest = iter(given[circuit.inputs :])
+    circuit, private = claim.circuit, claim.circuit.inputs - claim.public
+    wires = [bit * one for bit in claim.public_bits()] + given[:private] + [0] * (circuit.wires - circuit.inputs)
+    rest = iter(given[private:])
     for name, reads, output in circuit.gates:
         if name == "EQ":
             wires[output] = reads[0] * one
@@ -208,7 +222,7 @@ def correlations(params: Optional[Extended], need: int, wrong: Optional[str]) ->
 
 def session(claim: Claim, params: Optional[Extended], section: int, wrong: Optional[str] = None) -> Session:
     """A session over files of just the units that it takes. `wrong` names what is wrong with the first unit's ask."""
-    circuit, products = claim.circuit, products_of(claim.circuit)
+    circuit, products = claim.circuit, products_of(claim.circuit, claim.public)
     sections = [products[i : i + section] for i in range(0, len(products), section)]
     units, rounds, made = correlations(params, len(products) + len(sections), wrong)
     bits = bits_of_wires(claim)
@@ -216,7 +230,7 @@ def session(claim: Claim, params: Optional[Extended], section: int, wrong: Optio
     corrections = [(value - c.x) % P for value, c in zip(values, made)]
     given_macs = [c.m for c in made[: len(products)]]
     given_keys = [(c.k + d * KEY) % P for c, d in zip(made, corrections)]
-    w, m, k = (carried(circuit, given, one) for given, one in ((values, 1), (given_macs, 0), (given_keys, KEY)))
+    w, m, k = (carried(claim, given, one) for given, one in ((values, 1), (given_macs, 0), (given_keys, KEY)))
     challenge = from_word(word(VERIFIER_COINS, 1, 0))
     sums, sides = [], []
     for s, part in enumerate(sections):
@@ -231,8 +245,7 @@ def session(claim: Claim, params: Optional[Extended], section: int, wrong: Optio
         sides.append((left % P, (u + v * KEY) % P))
     opened = range(circuit.wires - circuit.outputs, circuit.wires)
     assert wrong or all(k[o] == (m[o] + bits[o] * KEY) % P for o in opened)
-    digest = sha256("".join(str(bits[o]) for o in opened).encode())
-    greeting = frame(1, FILE_ID + claim.digest + digest + bytes([1]))
+    greeting = claim.hello([bits[o] for o in opened])
     grant = frame(2, struct.pack("<QII", 0, units, section))
     answers = [frame(5, elements(corrections)), frame(6, element(challenge)), frame(7, elements(sums))]
     return Session([greeting, grant, *rounds, *answers, frame(8, elements([m[o] for o in opened]))], sides)

@@ -90,7 +90,7 @@ class Scenario(NamedTuple):
         assert isinstance(circuit, bristol.Circuit)
         pattern = self.words.get("bits", "1")
         bits = [int(pattern[i % len(pattern)]) for i in range(circuit.inputs)]
-        claim = Claim(circuit, digest or sha256(CIRCUITS[name]), bits)
+        claim = Claim(circuit, digest or sha256(CIRCUITS[name]), bits, self.number("public", 0))
         outputs = self.words.get("outputs")
         claimed = bristol.evaluate(circuit, bits) if outputs is None else map(int, outputs)
         return Job(claim, tuple(claimed), self.params(), self.number("units", 1), self.number("section", LONG))
@@ -236,7 +236,8 @@ def words_line(scenario: Scenario) -> str:
     words = scenario.words["words"].split(",")
     if "BITS" in words:
         pattern = scenario.words.get("bits", "1")
-        words[words.index("BITS")] = "".join(pattern[i % len(pattern)] for i in range(circuit.inputs))
+        private = range(scenario.number("public", 0), circuit.inputs)
+        words[words.index("BITS")] = "".join(pattern[i % len(pattern)] for i in private)
     return run_line(scenario, "", words, [])
 
 
@@ -245,7 +246,12 @@ def service_words(scenario: Scenario, job: Job) -> List[str]:
     words += ["--sessions", scenario.words.get("sessions", "1"), "--section", str(job.section)]
     for name in ("workers", "logs"):
         words += [f"--{name}", scenario.words[name]] if name in scenario.words else []
-    return words
+    return words + public_words(job)
+
+
+def public_words(job: Job) -> List[str]:
+    """The option of public bits, where there are some."""
+    return ["--public", bristol.word_of(job.claim.public_bits())] if job.claim.public else []
 
 
 def service_lines(scenario: Scenario, job: Job) -> List[str]:
@@ -265,7 +271,7 @@ def service_lines(scenario: Scenario, job: Job) -> List[str]:
 
 def proof_lines(scenario: Scenario, job: Job, honest: bytes) -> List[str]:
     words = ["prove", "here", "x.prover", scenario.words.get("circuit", "and.txt")]
-    words += [bristol.word_of(job.claim.bits), bristol.word_of(list(job.outputs))]
+    words += [bristol.word_of(job.claim.bits[job.claim.public :]), bristol.word_of(list(job.outputs))] + public_words(job)
     lines = []
     for name, script, failing in cases_of(scenario, script_of(scenario, honest)):
         link = Link(script, scenario.number("pieces", MOST_RECEIVED), failing)
@@ -360,6 +366,56 @@ def wrong_greeters() -> List[Scenario]:
     scenarios += [line("verifier", keep=0, more=greetings[0].hex(), pieces=pieces) for pieces in (1, 3, 134)]
     scenarios += [line("verifier", keep=0, more=greetings[0][:count].hex()) for count in (1, 2, 3, 102, 133, 134)]
     return scenarios + [line("verifier", set=f"{place}:{byte}") for place, byte in ((101, 2), (1, 98), (1, 128), (1, 129), (1, 0), (2, 1))]
+
+
+PUBLIC = {"public": 1}
+
+
+def public_sessions() -> List[Scenario]:
+    """Sessions about public bits: with honest peers, with peers that end or change a byte, and with peers that greet for other bits."""
+    scenarios = [line("both", **PUBLIC, bits=bits) for bits in ("11", "10", "01")]
+    scenarios += [line("both", public=2, bits="11"), line("both", **PUBLIC, more="00", pieces=3)]
+    scenarios += [line("both", circuit="five_gates.txt", bits="1101", public=public, section=2) for public in range(1, 5)]
+    scenarios += [line("both", **TEN_UNITS, public=public, units=10) for public in (64, 128)]
+    scenarios.append(line("both", circuit="chain.txt", bits="10", public=1, section=1000, **EIGHT_TREES))
+    scenarios += [line("both", **PUBLIC, **ONE_TREE, more="00"), line("rehearsal", **PUBLIC), line("rehearsal", public=2, **EIGHT_TREES)]
+    scenarios.append(line("rehearsal", **TEN_UNITS, public=64))
+    sent = hold(line("verifier", **PUBLIC).job())[0]
+    assert len(sent) == 189
+    scenarios += [line("verifier", **PUBLIC, cut="133..157"), line("verifier", **PUBLIC, change="100..139:1")]
+    scenarios += [line(end, **PUBLIC, fail="1..9") for end in ("verifier", "prover")]
+    scenarios.append(line("verifier", **PUBLIC, outputs="0"))
+    # The peers of statements with other public bits, or with none.
+    others = [hold(line("verifier", public=public, bits=bits).job())[0] for public, bits in ((0, "11"), (1, "01"), (2, "11"))]
+    scenarios += [line("verifier", **PUBLIC, keep=0, more=other.hex()) for other in others]
+    return scenarios + [line("verifier", public=2, keep=0, more=sent.hex()), line("verifier", keep=0, more=sent.hex(), pieces=1)]
+
+
+def public_runs() -> List[Scenario]:
+    """Runs about public bits, and words and circuits that have no such bits."""
+    words = ["rehearse and.txt 1 --public 1", "rehearse --public 10 and.txt none", "rehearse and.txt 11 --public none"]
+    words += ["rehearse and.txt 1 --public 111", "rehearse and.txt 11 --public 1", "rehearse and.txt 1 --public none"]
+    words += ["rehearse and.txt 1 --public", "rehearse and.txt 1 --public 2", "rehearse and.txt 1 --public  --extended"]
+    words += ["rehearse and.txt 1 --public 1 --public 1", "eval and.txt 1 --public 1", "deal x --units 1 --public 1"]
+    words += [f"{SERVE} --public {bits}" for bits in ("1", "111", "2", "none --public none")]
+    words += ["serve here missing and.txt 10 --sessions 1 --public 111", "serve here missing and.txt 10 --sessions 1 --public 11"]
+    prove = "prove here x.prover and.txt"
+    words += [f"{prove} 1 1 --public 1", f"{prove} 1 1 --public 0", f"{prove} 1 10 --public 1", f"{prove} 1 1 --public 111"]
+    words += [f"{prove} 11 1 --public 1", f"{prove} none 1 --public 1", f"{prove} 1 1 --public x", f"{prove} none 1 --public 11"]
+    scenarios = [run(each) for each in words]
+    scenarios.append(run("rehearse chain.txt BITS --section 1 --public 1", circuit="chain.txt", bits="10", public=1))
+    circuit = "more_inputs.txt"
+    return scenarios + [run(f"rehearse {circuit} BITS --section 1 --public 1", circuit=circuit, public=1)]
+
+
+def public_ends() -> List[Scenario]:
+    """Services and proofs about public bits."""
+    scenarios = [line("service", **PUBLIC), line("service", **PUBLIC, **ONE_TREE), served(3, **PUBLIC, units=32, logs="l", show="l.0,l.2,disk")]
+    scenarios += [line("service", **PUBLIC, fail="1..10"), line("service", **PUBLIC, outputs=0), line("service", public=2, cut="133..136")]
+    scenarios += [served(2, **TEN_UNITS, public=64, units=32), line("service", circuit="chain.txt", bits="10", public=1, section=1, units=128)]
+    scenarios += [proof(**PUBLIC, show="disk"), proof(**PUBLIC, **ONE_TREE), proof(public=2, bits="10"), proof(**PUBLIC, fail="1..9")]
+    scenarios.append(proof(circuit="chain.txt", bits="10", public=1, section=1000, **EIGHT_TREES))
+    return scenarios + [proof(**TEN_UNITS, public=64, units=32, start=5), proof(**PUBLIC, outputs=0)]
 
 
 def wrong_askers() -> List[Scenario]:
@@ -707,6 +763,7 @@ def all_scenarios() -> List[Scenario]:
     parts += [leases(), failing_services(), logged_services()]
     parts += [honest_proofs(), unsuited_grants(), taken_units(), wrong_verdicts(), failing_proofs()]
     parts += [false_proofs(), stopped_proofs(), words_of_no_proof(), journals_of_claims()]
+    parts += [public_sessions(), public_runs(), public_ends()]
     return [scenario for part in parts for scenario in part]
 
 

@@ -250,17 +250,17 @@ def rehearse_words(file: str, bits: str) -> str:
     return f"rehearse {file} {bits} --section 1"
 
 
-def rehearse_run(case: Case, section: Optional[int] = 1, extended: bool = False) -> Run:
-    """A rehearsal in sections of so many products, or of the greatest length, over files of either kind."""
+def rehearse_run(case: Case, section: Optional[int] = 1, extended: bool = False, public: int = 0) -> Run:
+    """A rehearsal in sections of so many products, or of the greatest length, over files of either kind, with so many public bits."""
     circuit = bristol.read((DATA / case.file).read_bytes())
     assert isinstance(circuit, bristol.Circuit)
-    products = circuit.inputs + sum(gate.name in ("XOR", "AND") for gate in circuit.gates)
+    products = circuit.inputs - public + sum(gate.name in ("XOR", "AND") for gate in circuit.gates)
     sections = -(-products // (section or 2**20))
     need = products + sections
     units = max(1, -(-need // (8 * 1024 if extended else 64)))
     counts = f"products {products} sections {sections} correlations {need} units {units}"
-    words = f"rehearse {case.file} {case.bits}" + (f" --section {section}" if section else "")
-    words += " --extended" if extended else ""
+    words = f"rehearse {case.file} {case.bits[public:] or 'none'}" + (f" --section {section}" if section else "")
+    words += (" --extended" if extended else "") + (f" --public {case.bits[:public]}" if public else "")
     return Run(words, [f"outputs {case.outputs}", counts, "accepted"], 0)
 
 
@@ -319,6 +319,16 @@ def extensions() -> List[Run]:
         Run(rehearse_words(FAULTS[0][0], FAULTS[0][1]) + " --extended", [line], 3),
         Run(rehearse_words("and.txt", "1") + " --extended", ["refused bits 2 1"], 3),
     ]
+
+
+def public_bits() -> List[Run]:
+    """Rehearsals of which some input bits are public: one, half, all; and the key of AES."""
+    small = [case for case in small_cases() if case.file in ("and.txt", "gates.txt")]
+    adder = next(case for case in small_cases() if case.file == "adder64.txt")
+    runs = [rehearse_run(case, None, public=public) for case in small for public in (1, 2)]
+    runs += [rehearse_run(adder, 7, public=public) for public in (1, 64, 127, 128)]
+    runs += [rehearse_run(aes_case(*given), 1000, extended, 128) for given in (AES_B, AES_C_1) for extended in (False, True)]
+    return runs + [Run("rehearse and.txt 1 --public 101", ["refused public 2 3"], 3)]
 
 
 def dealings() -> List[Run]:
@@ -424,7 +434,7 @@ def all_runs() -> List[Run]:
     for case in small_cases():
         runs += [eval_run(case.file, case.bits, case.outputs, 0), rehearse_run(case)]
     runs += [eval_run(case.file, case.bits, case.outputs, 0) for case in aes]
-    runs += [rehearse_run(aes[1])] + refusals() + orders() + sections() + extensions() + dealings()
+    runs += [rehearse_run(aes[1])] + refusals() + orders() + sections() + extensions() + public_bits() + dealings()
     return runs + services() + proofs() + too_large()
 
 

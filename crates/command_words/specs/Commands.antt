@@ -15,13 +15,14 @@ named_options options =
     serve_options options.sessions options.workers options.section (option_map (λ logs. logs.now) options.logs)
 
 abbrev pub ask_of : Command → Ask
-ask_of (Rehearse circuit bits kind section) = rehearse (rehearse_ask circuit.now bits.items kind section)
+ask_of (Rehearse circuit public bits kind section) =
+    rehearse (rehearse_ask circuit.now public.items bits.items kind section)
 ask_of (Eval circuit bits) = eval (eval_ask circuit.now bits.items)
 ask_of (Deal name params) = deal (deal_ask name.now params)
-ask_of (Serve address file circuit outputs options) =
-    serve (serve_ask address.now file.now circuit.now outputs.items (named_options options))
-ask_of (Prove address file circuit bits outputs) =
-    prove (prove_ask address.now file.now circuit.now bits.items outputs.items)
+ask_of (Serve address file circuit public outputs options) =
+    serve (serve_ask address.now file.now circuit.now public.items outputs.items (named_options options))
+ask_of (Prove address file circuit public bits outputs) =
+    prove (prove_ask address.now file.now circuit.now public.items bits.items outputs.items)
 
 -- a section has so many products
 pub record IsSectionSize (section : ℕ) : Type 0 where
@@ -38,8 +39,8 @@ pub record AreServeLimits (options : ServeOptions) : Type 0 where
 
 -- the numbers that a command names are within their limits
 abbrev pub IsWithinLimits : Command → Type 0
-IsWithinLimits (Rehearse circuit bits kind section) = IsSectionSize section
+IsWithinLimits (Rehearse circuit public bits kind section) = IsSectionSize section
 IsWithinLimits (Eval circuit bits) = Unit {0}
 IsWithinLimits (Deal name params) = AreParams params
-IsWithinLimits (Serve address file circuit outputs options) = AreServeLimits (named_options options)
-IsWithinLimits (Prove address file circuit bits outputs) = Unit {0}
+IsWithinLimits (Serve address file circuit public outputs options) = AreServeLimits (named_options options)
+IsWithinLimits (Prove address file circuit public bits outputs) = Unit {0}

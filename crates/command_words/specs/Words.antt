@@ -20,16 +20,18 @@ use Rattle.command_words.specs.declared.words.TheConstants.{MAX_SESSIONS}
 abbrev pub texts : List (String Global) → List (List ℕ)
 texts words = map (λ w. string_bytes w) words
 
--- what the words of a rehearsal name: the circuit's file, the bits, the kind of the dealt files, and how many products a section
--- has
+-- what the words of a rehearsal name: the circuit's file, the public input bits and the private ones, the kind of the dealt files, and
+-- how many products a section has
 pub record RehearseAsk : Type 0 where
   pub circuit : List ℕ
+  pub public : List Bool
   pub bits : List Bool
   pub kind : Kind
   pub section : ℕ
 
-abbrev pub rehearse_ask : List ℕ → List Bool → Kind → ℕ → RehearseAsk
-rehearse_ask circuit bits kind section = record { circuit = circuit; bits = bits; kind = kind; section = section }
+abbrev pub rehearse_ask : List ℕ → List Bool → List Bool → Kind → ℕ → RehearseAsk
+rehearse_ask circuit public bits kind section =
+    record { circuit = circuit; public = public; bits = bits; kind = kind; section = section }
 
 -- what the words of an evaluation name: the circuit's file and the bits
 pub record EvalAsk : Type 0 where
@@ -59,30 +61,33 @@ abbrev pub serve_options : ℕ → ℕ → ℕ → Option (List ℕ) → ServeOp
 serve_options sessions workers section logs =
     record { sessions = sessions; workers = workers; section = section; logs = logs }
 
--- what the words of a verifier that serves name: where provers connect, the verifier's file, the circuit's file, the claimed outputs,
--- and the options
+-- what the words of a verifier that serves name: where provers connect, the verifier's file, the circuit's file, the public input bits,
+-- the claimed outputs, and the options
 pub record ServeAsk : Type 0 where
   pub address : List ℕ
   pub file : List ℕ
   pub circuit : List ℕ
+  pub public : List Bool
   pub outputs : List Bool
   pub options : ServeOptions
 
-abbrev pub serve_ask : List ℕ → List ℕ → List ℕ → List Bool → ServeOptions → ServeAsk
-serve_ask address file circuit outputs options =
-    record { address = address; file = file; circuit = circuit; outputs = outputs; options = options }
+abbrev pub serve_ask : List ℕ → List ℕ → List ℕ → List Bool → List Bool → ServeOptions → ServeAsk
+serve_ask address file circuit public outputs options =
+    record { address = address; file = file; circuit = circuit; public = public; outputs = outputs; options = options }
 
--- what the words of a prover name: where the verifier listens, the prover's file, the circuit's file, the input bits and the claimed outputs
+-- what the words of a prover name: where the verifier listens, the prover's file, the circuit's file, the public input bits and the
+-- private ones, and the claimed outputs
 pub record ProveAsk : Type 0 where
   pub address : List ℕ
   pub file : List ℕ
   pub circuit : List ℕ
+  pub public : List Bool
   pub bits : List Bool
   pub outputs : List Bool
 
-abbrev pub prove_ask : List ℕ → List ℕ → List ℕ → List Bool → List Bool → ProveAsk
-prove_ask address file circuit bits outputs =
-    record { address = address; file = file; circuit = circuit; bits = bits; outputs = outputs }
+abbrev pub prove_ask : List ℕ → List ℕ → List ℕ → List Bool → List Bool → List Bool → ProveAsk
+prove_ask address file circuit public bits outputs =
+    record { address = address; file = file; circuit = circuit; public = public; bits = bits; outputs = outputs }
 
 -- what can be asked for
 pub data Ask : Type 0 where
@@ -101,10 +106,15 @@ abbrev pub length_of : Option (List ℕ) → Option ℕ
 length_of None = Some MAX_SECTION_LENGTH
 length_of (Some word) = number_within 1 MAX_SECTION_LENGTH word
 
-abbrev pub rehearse_options : List (List ℕ)
-rehearse_options = codes "--section" ∷ codes "--extended" ∷ []
+-- the public bits that a word says, or none
+abbrev pub public_of : Option (List ℕ) → Option (List Bool)
+public_of None = Some []
+public_of (Some word) = bits_of word
 
--- `[--section G] [--extended]`, and nothing else: the section's length
+abbrev pub rehearse_options : List (List ℕ)
+rehearse_options = codes "--section" ∷ codes "--extended" ∷ codes "--public" ∷ []
+
+-- `[--section G] [--extended] [--public BITS]`, and nothing else: the section's length
 abbrev pub section_of : List Word → Option ℕ
 section_of options =
     if stand_once_among rehearse_options options then length_of (option_named (codes "--section") options)
@@ -114,11 +124,12 @@ section_of options =
 abbrev pub rehearsed_kind : List Word → Kind
 rehearsed_kind options = if is_some (option_named (codes "--extended") options) then Extended else Direct
 
--- `rehearse CIRCUIT BITS [--section G] [--extended]`
+-- `rehearse CIRCUIT BITS [--section G] [--extended] [--public BITS]`
 abbrev pub rehearse_of : List (List ℕ) → List Word → Option Ask
 rehearse_of (circuit ∷ bits ∷ []) options =
-    option_and_then (λ section. option_map (λ read. rehearse (rehearse_ask circuit read (rehearsed_kind options) section))
-    (bits_of bits)) (section_of options)
+    option_and_then (λ section. option_and_then (λ public. option_map
+    (λ read. rehearse (rehearse_ask circuit public read (rehearsed_kind options) section))
+    (bits_of bits)) (public_of (option_named (codes "--public") options))) (section_of options)
 rehearse_of positional options = None
 
 -- `eval CIRCUIT BITS`
@@ -179,9 +190,10 @@ workers_of None = Some 4
 workers_of (Some word) = number_within 1 MAX_PASSES word
 
 abbrev pub served_options : List (List ℕ)
-served_options = codes "--sessions" ∷ codes "--workers" ∷ codes "--section" ∷ codes "--logs" ∷ []
+served_options =
+    codes "--sessions" ∷ codes "--workers" ∷ codes "--section" ∷ codes "--logs" ∷ codes "--public" ∷ []
 
--- `--sessions N [--workers W] [--section G] [--logs PREFIX]`, and nothing else
+-- `--sessions N [--workers W] [--section G] [--logs PREFIX] [--public BITS]`, and nothing else, without the bits
 abbrev pub serve_options_of : List Word → Option ServeOptions
 serve_options_of options =
     if stand_once_among served_options options
@@ -191,18 +203,25 @@ serve_options_of options =
     (workers_of (option_named (codes "--workers") options))) (sessions_of options)
     else None
 
--- `serve ADDRESS FILE CIRCUIT OUTPUTS --sessions N [--workers W] [--section G] [--logs PREFIX]`
+-- `serve ADDRESS FILE CIRCUIT OUTPUTS --sessions N [--workers W] [--section G] [--logs PREFIX] [--public BITS]`
 abbrev pub serve_of : List (List ℕ) → List Word → Option Ask
 serve_of (address ∷ file ∷ circuit ∷ outputs ∷ []) options =
-    option_and_then (λ found. option_map (λ read. serve (serve_ask address file circuit read found))
-    (bits_of outputs)) (serve_options_of options)
+    option_and_then (λ found. option_and_then (λ public. option_map
+    (λ read. serve (serve_ask address file circuit public read found))
+    (bits_of outputs)) (public_of (option_named (codes "--public") options))) (serve_options_of options)
 serve_of positional options = None
 
--- `prove ADDRESS FILE CIRCUIT BITS OUTPUTS`
+abbrev pub prove_options : List (List ℕ)
+prove_options = codes "--public" ∷ []
+
+-- `prove ADDRESS FILE CIRCUIT BITS OUTPUTS [--public BITS]`
 abbrev pub prove_of : List (List ℕ) → List Word → Option Ask
-prove_of (address ∷ file ∷ circuit ∷ bits ∷ outputs ∷ []) [] =
-    option_and_then (λ read. option_map (λ claimed. prove (prove_ask address file circuit read claimed)) (bits_of outputs))
-    (bits_of bits)
+prove_of (address ∷ file ∷ circuit ∷ bits ∷ outputs ∷ []) options =
+    if stand_once_among prove_options options
+    then option_and_then (λ public. option_and_then (λ read. option_map
+    (λ claimed. prove (prove_ask address file circuit public read claimed)) (bits_of outputs)) (bits_of bits))
+    (public_of (option_named (codes "--public") options))
+    else None
 prove_of positional options = None
 
 -- what the words ask for, if they are valid

@@ -55,6 +55,7 @@ fn is_valued(word: &str) -> bool
         || word == "--sessions"
         || word == "--workers"
         || word == "--logs"
+        || word == "--public"
 }
 
 /// Whether the word is an option that stands by itself.

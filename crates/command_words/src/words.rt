@@ -1,7 +1,7 @@
 // What the words of a command line ask for.
 ghost use Rattle.std.specs.Prelude.{◌≡◌, ◌≤◌, ◌^◌, ◌↔◌, map, codes, IfOk, IfSome, IsTrue};
 ghost use Rattle.std.specs.Option.{option_map};
-ghost use Rattle.command_words.specs.Words.{texts, asked, eval_of, rehearse_of, rehearsed_kind, section_of, length_of};
+ghost use Rattle.command_words.specs.Words.{texts, asked, eval_of, rehearse_of, rehearsed_kind, section_of, length_of, public_of};
 ghost use Rattle.command_words.specs.Words.{prove_of, serve_of, serve_options_of, sessions_of, workers_of};
 ghost use Rattle.command_words.specs.Words.{deal_of, params_of, direct_params, extended_of};
 ghost use Rattle.zk_model.specs.FileFaults.{file_length};
@@ -42,9 +42,10 @@ pub struct ServedOptions<'a> {
 /// A command with its words.
 #[derive(Debug, Drop)]
 pub enum Command<'a> {
-    /// `rehearse CIRCUIT BITS [--section G] [--extended]`
+    /// `rehearse CIRCUIT BITS [--section G] [--extended] [--public BITS]`
     Rehearse {
         circuit: &'a str,
+        public: Vec<bool>,
         bits: Vec<bool>,
         kind: Kind,
         section: u32,
@@ -59,19 +60,21 @@ pub enum Command<'a> {
         name: &'a str,
         params: Params,
     },
-    /// `serve ADDRESS FILE CIRCUIT OUTPUTS --sessions N [--workers W] [--section G] [--logs PREFIX]`
+    /// `serve ADDRESS FILE CIRCUIT OUTPUTS --sessions N [--workers W] [--section G] [--logs PREFIX] [--public BITS]`
     Serve {
         address: &'a str,
         file: &'a str,
         circuit: &'a str,
+        public: Vec<bool>,
         outputs: Vec<bool>,
         options: ServedOptions<'a>,
     },
-    /// `prove ADDRESS FILE CIRCUIT BITS OUTPUTS`
+    /// `prove ADDRESS FILE CIRCUIT BITS OUTPUTS [--public BITS]`
     Prove {
         address: &'a str,
         file: &'a str,
         circuit: &'a str,
+        public: Vec<bool>,
         bits: Vec<bool>,
         outputs: Vec<bool>,
     },
@@ -102,7 +105,7 @@ pub fn read_words(alloc: Global, words: &[String]) -> Result<Option<Command<'_>>
     }
 }
 
-/// `CIRCUIT BITS [--section G] [--extended]`
+/// `CIRCUIT BITS [--section G] [--extended] [--public BITS]`
 fn read_rehearse<'a>(
     alloc: Global,
     positional: &[&'a str],
@@ -118,11 +121,15 @@ fn read_rehearse<'a>(
     let Some(section) = read_section(options) else {
         return Ok(None);
     };
+    let Some(public) = read_public(alloc, options)? else {
+        return Ok(None);
+    };
     let Some(bits) = read_bits(alloc, word)? else {
         return Ok(None);
     };
     Ok(Some(Command::Rehearse {
         circuit,
+        public,
         bits,
         kind: read_kind(options),
         section,
@@ -151,12 +158,23 @@ fn read_eval<'a>(
     Ok(Some(Command::Eval { circuit, bits }))
 }
 
-/// The length of a section: the value of `--section`, beside which only `--extended` may stand, or else the greatest.
+/// The public input bits: those of the first `--public`, or else none.
+fn read_public(alloc: Global, options: &[Named]) -> Result<Option<Vec<bool>>, AllocError>
+    ensures { IfOk result (λ found. option_map (λ bits. bits.items) found
+        ≡ public_of (option_named (codes "--public") (map word_of options.now))) }
+{
+    match find_option(options, "--public") {
+        Some(word) => read_bits(alloc, word),
+        None => Ok(Some(Vec::new(alloc))),
+    }
+}
+
+/// The length of a section: the value of `--section`, beside which only `--extended` and `--public` may stand, or else the greatest.
 fn read_section(options: &[Named]) -> Option<u32>
     ensures value { result ≡ section_of (map word_of options.now) }
     ensures size { IfSome result IsSectionSize }
 {
-    if !are_once(options, &["--section", "--extended"]) {
+    if !are_once(options, &["--section", "--extended", "--public"]) {
         return None;
     }
     read_length(options)
@@ -183,7 +201,7 @@ fn read_length(options: &[Named]) -> Option<u32>
     Some(read_number(value, 1, u64::from(MAX_SECTION_LENGTH))? as u32)
 }
 
-/// `ADDRESS FILE CIRCUIT OUTPUTS --sessions N [--workers W] [--section G] [--logs PREFIX]`
+/// `ADDRESS FILE CIRCUIT OUTPUTS --sessions N [--workers W] [--section G] [--logs PREFIX] [--public BITS]`
 fn read_serve<'a>(
     alloc: Global,
     positional: &[&'a str],
@@ -196,7 +214,10 @@ fn read_serve<'a>(
     let [address, file, circuit, word] = positional else {
         return Ok(None);
     };
-    let Some(options) = read_serve_options(options) else {
+    let Some(found) = read_serve_options(options) else {
+        return Ok(None);
+    };
+    let Some(public) = read_public(alloc, options)? else {
         return Ok(None);
     };
     let Some(outputs) = read_bits(alloc, word)? else {
@@ -206,12 +227,13 @@ fn read_serve<'a>(
         address,
         file,
         circuit,
+        public,
         outputs,
-        options,
+        options: found,
     }))
 }
 
-/// `ADDRESS FILE CIRCUIT BITS OUTPUTS`, and no option
+/// `ADDRESS FILE CIRCUIT BITS OUTPUTS [--public BITS]`
 fn read_prove<'a>(
     alloc: Global,
     positional: &[&'a str],
@@ -224,9 +246,12 @@ fn read_prove<'a>(
     let [address, file, circuit, bits, outputs] = positional else {
         return Ok(None);
     };
-    if !options.is_empty() {
+    if !are_once(options, &["--public"]) {
         return Ok(None);
     }
+    let Some(public) = read_public(alloc, options)? else {
+        return Ok(None);
+    };
     let Some(bits) = read_bits(alloc, bits)? else {
         return Ok(None);
     };
@@ -237,17 +262,21 @@ fn read_prove<'a>(
         address,
         file,
         circuit,
+        public,
         bits,
         outputs,
     }))
 }
 
-/// `--sessions N`, and at most `--workers W`, `--section G` and `--logs PREFIX` beside it.
+/// `--sessions N`, and at most `--workers W`, `--section G`, `--logs PREFIX` and `--public BITS` beside it; the bits apart.
 fn read_serve_options<'a>(options: &[Named<'a>]) -> Option<ServedOptions<'a>>
     ensures value { option_map named_options result ≡ serve_options_of (map word_of options.now) }
     ensures limits { IfSome result (λ found. AreServeLimits (named_options found)) }
 {
-    if !are_once(options, &["--sessions", "--workers", "--section", "--logs"]) {
+    if !are_once(
+        options,
+        &["--sessions", "--workers", "--section", "--logs", "--public"],
+    ) {
         return None;
     }
     let sessions = read_sessions(options)?;

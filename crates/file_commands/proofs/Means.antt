@@ -46,6 +46,7 @@ high_stop stop.Usage high = omega arith
 high_stop (stop.BadText fault) high = omega arith
 high_stop (stop.BadFile fault) high = elim (file_status fault) [ inl e ↦ omega (arith, e) | inr e ↦ omega (arith, e) ]
 high_stop (stop.TooLong limit) high = omega arith
+high_stop (stop.ManyPublic inputs got) high = omega arith
 high_stop (stop.WrongBits need got) high = omega arith
 high_stop (stop.WrongOutputs need got) high = omega arith
 high_stop (stop.Unsatisfied output) high = absurd high
@@ -123,6 +124,7 @@ stop_means Does Cause IsNamed run asked undoored undisked satisfied failed says 
       | inr e ↦ inr (inr (inr (inl (at ∙ e))))
     ]
     of_stop (stop.TooLong limit) cause at = inr (inl (at, (stop.TooLong limit, cause, refl)))
+    of_stop (stop.ManyPublic inputs got) cause at = inr (inl (at, (stop.ManyPublic inputs got, cause, refl)))
     of_stop (stop.WrongBits need got) cause at = inr (inl (at, (stop.WrongBits need got, cause, refl)))
     of_stop (stop.WrongOutputs need got) cause at = inr (inl (at, (stop.WrongOutputs need got, cause, refl)))
     of_stop stop.DoorFailed cause at = absurd (undoored cause)
@@ -143,6 +145,7 @@ no_nine Cause small found = of_stop found.0 found.1 found.2
     of_stop (stop.BadText fault) cause at = omega (arith, at)
     of_stop (stop.BadFile fault) cause at = elim (file_status fault) [ inl e ↦ omega (arith, at, e) | inr e ↦ omega (arith, at, e) ]
     of_stop (stop.TooLong limit) cause at = omega (arith, at)
+    of_stop (stop.ManyPublic inputs got) cause at = omega (arith, at)
     of_stop (stop.WrongBits need got) cause at = omega (arith, at)
     of_stop (stop.WrongOutputs need got) cause at = omega (arith, at)
     of_stop (stop.Unsatisfied output) cause at = omega (arith, at)

@@ -1,10 +1,12 @@
 -- What a run says and answers, why it stops, and what is known of the files that it loads.
-use Rattle.std.specs.Prelude.{◌≡◌, ◌≢◌, ◌⊎◌, ◌≤◌, ℕ, List, [], length, ◌++◌, codes, Bool, Option, None}
+use Rattle.std.specs.Prelude.{◌≡◌, ◌≢◌, ◌⊎◌, ◌<◌, ◌≤◌, ℕ, List, length, ◌++◌, codes, Bool, Option, None}
 use Rattle.std.specs.Prelude.{nat_le, if◌then◌else◌}
 use Rattle.std.specs.Fmt.{decimal}
 use Rattle.sha2.specs.Sha256.{sha256}
 use Rattle.zk_model.specs.Bristol.{IsText}
 use Rattle.zk_model.specs.Circuit.{Circuit}
+use Rattle.zk_model.specs.FileBytes.{prover_file_bytes, verifier_file_bytes}
+use Rattle.zk_model.specs.Files.{ProverFile, VerifierFile, IsProverFile, IsVerifierFile}
 use Rattle.zk_model.specs.Statement.{Statement, circuit_statement}
 use Rattle.zk_model.specs.declared.ReadFault.{ReadFault}
 use Rattle.zk_model.specs.declared.ReadFault.TheVariants as text
@@ -81,6 +83,7 @@ stop_line stop.Usage = codes "usage: zk deal, eval, rehearse, prove, serve or au
 stop_line (stop.BadText fault) = fault_line fault
 stop_line (stop.BadFile fault) = file_line fault
 stop_line (stop.TooLong limit) = refused_line (codes "TooLong 0") limit
+stop_line (stop.ManyPublic inputs got) = pair_line (codes "refused public") inputs got
 stop_line (stop.WrongBits need got) = pair_line (codes "refused bits") need got
 stop_line (stop.WrongOutputs need got) = pair_line (codes "refused outputs") need got
 stop_line (stop.Unsatisfied output) = codes "unsatisfied " ++ decimal output ++ codes "\n"
@@ -100,6 +103,7 @@ stop_status (stop.BadText fault) = 3
 stop_status (stop.BadFile file.NoMemory) = 7
 stop_status (stop.BadFile fault) = 3
 stop_status (stop.TooLong limit) = 3
+stop_status (stop.ManyPublic inputs got) = 3
 stop_status (stop.WrongBits need got) = 3
 stop_status (stop.WrongOutputs need got) = 3
 stop_status (stop.Unsatisfied output) = 1
@@ -172,10 +176,28 @@ abbrev pub CircuitStop : List ℕ → ShelfChange → Refusal → Type 0
 CircuitStop name shelf (stop.BadText fault) = HasText shelf.old.told name (λ text. IsOnlyFault text fault)
 CircuitStop name shelf other = LoadStop name shelf other
 
+-- where a shelf tells, the bytes under the name are those of this dealt file
+abbrev pub IsProverFileAt : Option Files → List ℕ → ProverFile → Type 0
+IsProverFileAt told name file = HasText told name (λ bytes. (prover_file_bytes file ≡ bytes) × IsProverFile file)
+
+abbrev pub IsVerifierFileAt : Option Files → List ℕ → VerifierFile → Type 0
+IsVerifierFileAt told name file = HasText told name (λ bytes. (verifier_file_bytes file ≡ bytes) × IsVerifierFile file)
+
 -- why there is no dealt file of this side under the name: its bytes are none, and this is the first fault; or it can't be loaded
 abbrev pub FileStop : Side → List ℕ → ShelfChange → Refusal → Type 0
 FileStop side name shelf (stop.BadFile fault) = HasText shelf.old.told name (λ bytes. IsFirstFault side bytes fault)
 FileStop side name shelf other = LoadStop name shelf other
+
+-- there are more public bits than the circuit has inputs
+pub record HasFewInputs (circuit : Circuit) (public : List Bool) (inputs got : ℕ) : Type 0 where
+  pub has : inputs ≡ circuit.inputs
+  pub given : got ≡ length public
+  pub beyond : inputs < got
+
+-- why a circuit can't have these public bits
+abbrev pub PublicStop : Circuit → List Bool → Refusal → Type 0
+PublicStop circuit public (stop.ManyPublic inputs got) = HasFewInputs circuit public inputs got
+PublicStop circuit public other = ⊥
 
 -- a shelf that tells has this circuit under the name, and the bits fit it
 pub record IsReady (told : Option Files) (name : List ℕ) (bits : List Bool) (circuit : Circuit) : Type 0 where
@@ -183,14 +205,20 @@ pub record IsReady (told : Option Files) (name : List ℕ) (bits : List Bool) (c
   pub file : IsCircuitFile told name circuit
   pub inputs : length bits ≡ circuit.inputs
 
--- where a shelf tells, the text under the name says this circuit, which has as many outputs as are claimed; and this is the statement that
--- some inputs give them, with the digest of the text
-pub record IsClaim (told : Option Files) (name : List ℕ) (outputs : List Bool) (circuit : Circuit) (statement : Statement) : Type 0 where
+-- where a shelf tells, the text under the name says this circuit, which has at least as many inputs as there are public bits, and as many
+-- outputs as are claimed; and this is the statement that with the public bits some private ones give them, with the digest of the text
+pub record IsClaim
+    (told : Option Files)
+    (name : List ℕ)
+    (public outputs : List Bool)
+    (circuit : Circuit)
+    (statement : Statement) : Type 0 where
   pub text : List ℕ
   pub loaded : IsLoaded told name text
   pub says : IsText circuit text
+  pub few : length public ≤ circuit.inputs
   pub count : length outputs ≡ circuit.outputs
-  pub statement_is : statement ≡ circuit_statement circuit (sha256 text) [] outputs
+  pub statement_is : statement ≡ circuit_statement circuit (sha256 text) public outputs
 
 -- ---- why a door gives no link
 

@@ -1,11 +1,11 @@
 // Files that are loaded, and circuits that stand as such.
-ghost use Rattle.std.specs.Prelude.{◌≡◌, ◌⊎◌, IfOk, IfErr, OnOk};
+ghost use Rattle.std.specs.Prelude.{◌≡◌, ◌⊎◌, ◌≤◌, length, IfOk, IfErr, OnOk};
 ghost use Rattle.zk_model.specs.Bristol.{IsText};
 ghost use Rattle.zk_model.specs.declared.ReadFault.{ReadFault};
 ghost use Rattle.zk_port.specs.Changes.{change};
 ghost use Rattle.bristol_reader.specs.Reads.{IsOnlyFault};
 ghost use Rattle.file_commands.specs.Effects.{OnlyLoads, IsName};
-ghost use Rattle.file_commands.specs.Stops.{IsLoaded, IsCircuitFile, LoadStop, CircuitStop};
+ghost use Rattle.file_commands.specs.Stops.{IsLoaded, IsCircuitFile, LoadStop, CircuitStop, PublicStop};
 ghost use Rattle.file_commands.specs.declared.refusal.Refusal.TheVariants as stops;
 
 use crate::refusal::Refusal;
@@ -41,6 +41,18 @@ pub fn read_circuit(alloc: Global, text: &[u8]) -> Result<Circuit, Refusal>
         Err(ReadError::Fault(fault)) => Err(Refusal::BadText(fault)),
         Err(ReadError::NoMemory) => Err(Refusal::NoMemory),
     }
+}
+
+/// Whether the circuit has as many inputs as there are public bits, at least.
+pub fn check_public(circuit: &Circuit, public: &[bool]) -> Result<(), Refusal>
+    ensures fits { OnOk result (length public.now ≤ circuit.now.inputs) }
+    ensures stop { IfErr result (PublicStop circuit.now public.now) }
+{
+    let (inputs, got) = (circuit.inputs() as u64, public.len() as u64);
+    if got > inputs {
+        return Err(Refusal::ManyPublic { inputs, got });
+    }
+    Ok(())
 }
 
 /// The circuit that the file of this name says.

@@ -10,7 +10,7 @@ mod journal_file;
 mod refusal;
 mod saying;
 
-pub use circuit_file::{load_circuit, load_file, read_circuit};
+pub use circuit_file::{check_public, load_circuit, load_file, read_circuit};
 pub use deal_command::run_deal;
 pub use eval_command::run_eval;
 pub use journal_file::{open_ceilings, open_claims};

@@ -17,6 +17,8 @@ pub enum Refusal {
     BadFile(FileFault),
     /// A file has more bytes than this.
     TooLong { limit: u64 },
+    /// There are `got` public bits, and no more than so many inputs.
+    ManyPublic { inputs: u64, got: u64 },
     /// There are `got` bits in place of `need`.
     WrongBits { need: u64, got: u64 },
     /// There are `got` claimed outputs in place of `need`.

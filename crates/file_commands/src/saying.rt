@@ -91,6 +91,7 @@ fn write_stop(alloc: Global, stop: Refusal) -> Result<String, AllocError>
         Refusal::BadText(fault) => write_fault(alloc, fault),
         Refusal::BadFile(fault) => write_file_fault(alloc, fault),
         Refusal::TooLong { limit } => write_refused(alloc, "TooLong 0", limit),
+        Refusal::ManyPublic { inputs, got } => write_pair(alloc, "refused public", inputs, got),
         Refusal::WrongBits { need, got } => write_pair(alloc, "refused bits", need, got),
         Refusal::WrongOutputs { need, got } => write_pair(alloc, "refused outputs", need, got),
         Refusal::Unsatisfied { output } => Ok(format!(in alloc; "unsatisfied {output}\n")?),
@@ -116,6 +117,7 @@ fn status_of(stop: Refusal) -> u8
         Refusal::BadText(_)
         | Refusal::BadFile(_)
         | Refusal::TooLong { .. }
+        | Refusal::ManyPublic { .. }
         | Refusal::WrongBits { .. }
         | Refusal::WrongOutputs { .. }
         | Refusal::JournalShort { .. }

@@ -18,7 +18,7 @@ use Rattle.zk_cli.specs.ServedNotes.{IsHeadline}
 -- wire is as claimed
 pub record HeadlineFinds {told : Option Files} {ask : ServeAsk} {granted : Option Span} {log : List (Side × ℕ)}
     (shown : IsHeadline told ask granted log) (prover : ProverFile) : Type 0 where
-  pub shows : ShowsOutputs shown.circuit ask.outputs prover shown.job.task.file.key shown.job.task.statement shown.t
+  pub shows : ShowsOutputs shown.circuit ask.public ask.outputs prover shown.job.task.file.key shown.job.task.statement shown.t
   pub solves : (view : View) → IsView prover shown.job.task.statement shown.t.commitment view
       → AllWithoutError shown.job.task.statement.program shown.t.commitment view
       → Solves shown.job.task.statement.program shown.job.task.statement.public

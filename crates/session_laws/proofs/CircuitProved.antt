@@ -1,5 +1,5 @@
 -- A prover whose input bits make a circuit give the claimed outputs has a witness, and gives the claims.
-use Rattle.std.proofs.Common.{◌≡◌, ℕ, List, [], ◌∷◌, map, drop, length, get_or, refl, sym, ◌∙◌, ap, subst, arith}
+use Rattle.std.proofs.Common.{◌≡◌, ℕ, ◌≤◌, List, [], ◌∷◌, ◌++◌, map, drop, length, get_or, refl, sym, ◌∙◌, ap, subst, arith}
 use Rattle.std.specs.Prelude.{Bool, true, false}
 use Rattle.session_laws.specs.Peers.{HasWitness, GivesClaims}
 use Rattle.session_laws.specs.Circuits.{CircuitIsProved}
@@ -31,36 +31,40 @@ same_bits (x ∷ xs) (y ∷ ys) same =
     λ i. first i ∷ rest i
 
 -- a prover of the outputs of a circuit
-abbrev circuit_prover : ProverFile → Circuit → List ℕ → List Bool → List Bool → ProverTask
-circuit_prover file circuit digest inputs outputs =
-    record { file = file; statement = circuit_statement circuit digest [] outputs; inputs = map from_bit inputs }
+abbrev circuit_prover : ProverFile → Circuit → List ℕ → List Bool → List Bool → List Bool → ProverTask
+circuit_prover file circuit digest public inputs outputs =
+    record { file = file; statement = circuit_statement circuit digest public outputs; inputs = map from_bit inputs }
 
-has_witness : (file : ProverFile) (circuit : Circuit) (digest : List ℕ) (inputs outputs : List Bool) → IsWellFormed circuit
-    → Satisfies circuit inputs outputs → HasWitness (circuit_prover file circuit digest inputs outputs)
-has_witness file circuit digest inputs outputs formed satisfied = record {
+has_witness : (file : ProverFile) (circuit : Circuit) (digest : List ℕ) (public inputs outputs : List Bool) → IsWellFormed circuit
+    → length public ≤ circuit.inputs → Satisfies circuit (public ++ inputs) outputs
+    → HasWitness (circuit_prover file circuit digest public inputs outputs)
+has_witness file circuit digest public inputs outputs formed few satisfied = record {
   wires = solved.wires;
   given = solved.given;
   witness = record { solves = solved.solved; inputs_are = solved.first };
 }
   where
-    solved : IsSolvedBy (circuit_program 0 circuit) [] (map from_bit inputs) (map from_bit outputs)
-    solved = satisfied_is_solved circuit [] inputs outputs formed (omega arith) satisfied
+    solved : IsSolvedBy (circuit_program (length public) circuit) (map from_bit public) (map from_bit inputs) (map from_bit outputs)
+    solved = satisfied_is_solved circuit public inputs outputs formed few satisfied
 
-gives_claims : (file : ProverFile) (circuit : Circuit) (digest : List ℕ) (inputs outputs : List Bool) → IsWellFormed circuit
-    → Satisfies circuit inputs outputs → GivesClaims (circuit_prover file circuit digest inputs outputs)
-gives_claims file circuit digest inputs outputs formed satisfied wires given witness =
-    bits.claims_are ∙ ap (map from_bit) (one_outcome circuit inputs bits.output_bits outputs formed theirs satisfied)
+gives_claims : (file : ProverFile) (circuit : Circuit) (digest : List ℕ) (public inputs outputs : List Bool) → IsWellFormed circuit
+    → length public ≤ circuit.inputs → Satisfies circuit (public ++ inputs) outputs
+    → GivesClaims (circuit_prover file circuit digest public inputs outputs)
+gives_claims file circuit digest public inputs outputs formed few satisfied wires given witness =
+    bits.claims_are ∙ ap (map from_bit) (one_outcome circuit (public ++ inputs) bits.output_bits outputs formed theirs satisfied)
   where
-    bits : AreSatisfying circuit [] (map from_bit inputs) (opened_values (circuit_program 0 circuit) wires)
-    bits = solved_is_satisfied circuit [] (map from_bit inputs) (opened_values (circuit_program 0 circuit) wires) formed (omega arith)
+    bits : AreSatisfying circuit public (map from_bit inputs) (opened_values (circuit_program (length public) circuit) wires)
+    bits = solved_is_satisfied circuit public (map from_bit inputs) (opened_values (circuit_program (length public) circuit) wires) formed few
         (record { wires = wires; given = given; solved = witness.solves; first = witness.inputs_are; last = refl })
 
-    theirs : Satisfies circuit inputs bits.output_bits
-    theirs = subst (λ (input_bits : List Bool). Satisfies circuit input_bits bits.output_bits)
+    theirs : Satisfies circuit (public ++ inputs) bits.output_bits
+    theirs = subst (λ (input_bits : List Bool). Satisfies circuit (public ++ input_bits) bits.output_bits)
         (sym (same_bits inputs bits.input_bits bits.inputs_are)) bits.satisfied
 
 pub circuit_is_proved : CircuitIsProved
-circuit_is_proved circuit digest inputs outputs prover formed satisfied statement_is inputs_are =
+circuit_is_proved circuit digest public inputs outputs prover formed few satisfied statement_is inputs_are =
     subst (λ (task : ProverTask). HasWitness task × GivesClaims task)
-    (λ i. record { file = prover.file; statement = sym statement_is i; inputs = sym inputs_are i })
-    (has_witness prover.file circuit digest inputs outputs formed satisfied, gives_claims prover.file circuit digest inputs outputs formed satisfied)
+    (λ i. record { file = prover.file; statement = sym statement_is i; inputs = sym inputs_are i }) (
+      has_witness prover.file circuit digest public inputs outputs formed few satisfied,
+      gives_claims prover.file circuit digest public inputs outputs formed few satisfied,
+    )

@@ -19,6 +19,7 @@
 //! |---|---|---|
 //! | `circuit=NAME` | the circuit, of whose text a hello has the digest | `and.txt` |
 //! | `bits=BITS` | the prover's bits: these over and over | `1` |
+//! | `public=N` | how many of the first bits are public | 0 |
 //! | `outputs=BITS` | the claimed outputs | those of the bits |
 //! | `section=G` | how many products a section has | 2^20 |
 //! | `files=T,H,K` | extended files of T trees of height H and base K | direct ones |
@@ -39,7 +40,7 @@
 //!
 //! | Word | What it says | Else |
 //! |---|---|---|
-//! | `words=WORD,WORD..` | its words; `BITS` stands for the bits of the circuit's inputs | of a service and of a proof those of the scenario |
+//! | `words=WORD,WORD..` | its words; `BITS` stands for the private bits of the circuit's inputs | of a service and of a proof those of the scenario |
 //! | `tail=TEXT` | text behind the circuit's, in which `_` is a space | none |
 //! | `size=N` | the size up to which line feeds follow the circuit's text | its own |
 //! | `ceilings=N` | the ceilings up to this one stand in the verifier's journal | none |

@@ -4,15 +4,17 @@ use crate::say::Bits;
 use crate::scenario::Scenario;
 use crate::sessions::{Case, cases_of, link_of};
 use anyhow::Result;
+use command_words::write_bits;
 use lease_journal::JournalKind;
 use std::alloc::Global;
 use std::sync::Wait;
 use std::thread::Threads;
 
-/// A scenario, and the outputs that are claimed in it.
+/// A scenario, its public bits, and the outputs that are claimed in it.
 #[derive(Clone, Copy)]
 pub struct Claimed<'a, 'b> {
     pub scenario: &'a Scenario<'b>,
+    pub public: &'a [bool],
     pub outputs: &'a [bool],
 }
 
@@ -25,9 +27,20 @@ fn push_option(alloc: Global, words: &mut Vec<String>, name: &str, value: &str) 
     Ok(())
 }
 
-/// The words of a service about these outputs.
-fn service_words(alloc: Global, scenario: &Scenario<'_>, outputs: &[bool]) -> Result<Vec<String>> {
-    let outputs = Bits { bits: outputs };
+/// Adds the option of public bits, where there are some.
+fn push_public(alloc: Global, words: &mut Vec<String>, public: &[bool]) -> Result<()> {
+    if !public.is_empty() {
+        push_option(alloc, words, "--public", &write_bits(alloc, public)?)?;
+    }
+    Ok(())
+}
+
+/// The words of a service about a claim.
+fn service_words(alloc: Global, claimed: &Claimed<'_, '_>) -> Result<Vec<String>> {
+    let scenario = claimed.scenario;
+    let outputs = Bits {
+        bits: claimed.outputs,
+    };
     let (circuit, section) = (scenario.circuit, scenario.section);
     let line = format!(in alloc; "serve,here,x.verifier,{circuit},{outputs},--section,{section}")?;
     let mut words = words_of(alloc, scenario, &line)?;
@@ -39,6 +52,7 @@ fn service_words(alloc: Global, scenario: &Scenario<'_>, outputs: &[bool]) -> Re
     ] {
         push_option(alloc, &mut words, name, value)?;
     }
+    push_public(alloc, &mut words, claimed.public)?;
     Ok(words)
 }
 
@@ -90,8 +104,8 @@ pub fn service_lines<R: Threads + Wait + Sync>(
     claimed: &Claimed<'_, '_>,
     honest: &[Vec<u8>],
 ) -> Result<String> {
-    let Claimed { scenario, outputs } = *claimed;
-    let words = service_words(alloc, scenario, outputs)?;
+    let scenario = claimed.scenario;
+    let words = service_words(alloc, claimed)?;
     let script = match honest.get(scenario.service.peer as usize) {
         Some(script) => script.as_slice(),
         None => &[],
@@ -124,11 +138,14 @@ pub fn proof_lines<R: Threads + Wait + Sync>(
     claimed: &Claimed<'_, '_>,
     honest: &[u8],
 ) -> Result<String> {
-    let Claimed { scenario, outputs } = *claimed;
-    let outputs = Bits { bits: outputs };
+    let scenario = claimed.scenario;
+    let outputs = Bits {
+        bits: claimed.outputs,
+    };
     let circuit = scenario.circuit;
     let line = format!(in alloc; "prove,here,x.prover,{circuit},BITS,{outputs}")?;
-    let words = words_of(alloc, scenario, &line)?;
+    let mut words = words_of(alloc, scenario, &line)?;
+    push_public(alloc, &mut words, claimed.public)?;
     let mut lines = String::new(alloc);
     for case in &cases_of(alloc, scenario, honest)? {
         lines.push_str(&proof_line(rt, alloc, scenario, &words, case)?)?;

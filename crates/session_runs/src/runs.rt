@@ -155,7 +155,7 @@ pub fn given_of(alloc: Global, scenario: &Scenario<'_>, kind: JournalKind) -> Re
     Ok(Given { files, journal })
 }
 
-/// The words of a line, with commas between them; `BITS` stands for the bits of the circuit's inputs.
+/// The words of a line, with commas between them; `BITS` stands for the private bits of the circuit's inputs.
 pub fn words_of(alloc: Global, scenario: &Scenario<'_>, line: &str) -> Result<Vec<String>> {
     let mut words = Vec::new(alloc);
     for word in line.split(',') {
@@ -169,8 +169,9 @@ fn word_of(alloc: Global, scenario: &Scenario<'_>, word: &str) -> Result<String>
         return Ok(String::from_str(alloc, word)?);
     }
     let circuit = read(alloc, scenario.text)?;
-    let bits = input_bits(alloc, &circuit, scenario.bits)?;
-    Ok(write_bits(alloc, &bits)?)
+    let bits = input_bits(alloc, &circuit, scenario)?;
+    let (_, private) = bits.all.split_at(bits.public);
+    Ok(write_bits(alloc, private)?)
 }
 
 /// What a run hands back.

@@ -103,6 +103,7 @@ pub struct Scenario<'a> {
     pub circuit: &'a str,
     pub text: &'a [u8],
     pub bits: &'a str,
+    pub public: usize,
     pub outputs: Option<&'a str>,
     pub section: u32,
     pub dealing: Dealing,
@@ -124,6 +125,7 @@ fn plain(end: End) -> Scenario<'static> {
         circuit: "and.txt",
         text: &[],
         bits: "1",
+        public: 0,
         outputs: None,
         section: 1 << 20,
         dealing: Dealing::Direct,
@@ -291,6 +293,7 @@ fn set_word<'a>(scenario: &mut Scenario<'a>, name: &str, value: &'a str) -> Resu
     match name {
         "circuit" => scenario.circuit = value,
         "bits" => scenario.bits = value,
+        "public" => scenario.public = value.parse::<usize>()?,
         "outputs" => scenario.outputs = Some(value),
         "section" => scenario.section = value.parse::<u32>()?,
         "files" => scenario.dealing = read_dealing(value)?,

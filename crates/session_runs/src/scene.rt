@@ -1,14 +1,12 @@
 // What both ends of a session have: a circuit, bits, claimed outputs and files.
-ghost use Rattle.std.specs.Prelude.{◌≡◌, length, IfOk};
+ghost use Rattle.std.specs.Prelude.{◌≡◌, ◌≤◌, length, IfOk};
 ghost use Rattle.zk_model.specs.Files.{AreParams};
 
 use crate::scenario::{Dealing, Scenario};
 use anyhow::{Error, Result};
-use bool_eval::{EvalFault, eval};
+use bool_eval::eval;
 use bristol_reader::Circuit;
 use command_words::read_bits;
-use mersenne_field::Fe;
-use session_core::elements_of;
 use std::alloc::{AllocError, Global};
 use zk_model::{Kind, MAX_BASE, MAX_DEALT_UNITS, MAX_HEIGHT, MAX_TREES, Params};
 
@@ -32,10 +30,25 @@ fn word_bits(alloc: Global, word: &str) -> Result<Vec<bool>> {
     }
 }
 
+/// The bits of a circuit's inputs, and how many of the first are public.
+#[derive(Drop)]
+pub struct InputBits {
+    pub all: Vec<bool>,
+    pub public: usize,
+}
+
 /// The bits of a circuit's inputs: those of the word over and over.
-pub fn input_bits(alloc: Global, circuit: &Circuit, word: &str) -> Result<Vec<bool>> {
-    let bits = word_bits(alloc, word)?;
-    Ok(repeated(alloc, &bits, circuit.inputs())?)
+pub fn input_bits(alloc: Global, circuit: &Circuit, scenario: &Scenario<'_>) -> Result<InputBits>
+    ensures whole { IfOk result (λ bits. length bits.all.items ≡ circuit.now.inputs) }
+    ensures few { IfOk result (λ bits. bits.public ≤ circuit.now.inputs) }
+{
+    let public = scenario.public;
+    let bits = word_bits(alloc, scenario.bits)?;
+    let all = repeated(alloc, &bits, circuit.inputs())?;
+    if all.len() != circuit.inputs() || public > all.len() {
+        return Err(Error::msg("another number of bits"));
+    }
+    Ok(InputBits { all, public })
 }
 
 /// The claimed outputs: those of the word, or what the circuit gives at the bits.
@@ -56,19 +69,6 @@ pub fn claimed_outputs(
         return Err(Error::msg("another number of outputs"));
     }
     Ok(outputs)
-}
-
-/// The values of a circuit's inputs, of which these are the bits.
-pub fn input_values(alloc: Global, circuit: &Circuit, bits: &[bool]) -> Result<Vec<Fe>>
-    ensures { IfOk result (λ inputs. length inputs.items ≡ circuit.now.inputs) }
-{
-    let need = circuit.inputs();
-    let got = bits.len();
-    if need != got {
-        return Err(Error::from(EvalFault::WrongLength { need, got }));
-    }
-    let inputs = elements_of(alloc, bits)?;
-    Ok(inputs)
 }
 
 /// What the files of a scenario are dealt for.

@@ -9,7 +9,7 @@ use crate::program_ends::{Claimed, proof_lines, service_lines};
 use crate::runs::words_line;
 use crate::say::{Asked, Called, Ending, Judged, Logged, Units, prover_ending, verifier_ending};
 use crate::scenario::{End, Numbers, Scenario, Sweep};
-use crate::scene::{claimed_outputs, input_bits, input_values, params_of};
+use crate::scene::{claimed_outputs, input_bits, params_of};
 use crate::units::{AskedUnits, NextUnits, claim_fault, lease_fault};
 use anyhow::{Error, Result};
 use bristol_reader::{Circuit, read};
@@ -17,7 +17,7 @@ use claim_store::ClaimFault;
 use dealer_files::deal;
 use frame_link::Log;
 use lease_store::LeaseFault;
-use session_core::{CircuitClaim, ProverJob, TooLarge, VerifierJob};
+use session_core::{CircuitClaim, ProverJob, TooLarge, VerifierJob, elements_of};
 use session_prover::{ProverNote, prove_session};
 use session_rehearsal::rehearse;
 use session_verifier::{SessionNote, verify_session};
@@ -379,16 +379,18 @@ fn circuit_lines<R: Threads + Wait + Sync>(
 ) -> Result<String>
     requires { AreBytes 32 digest }
 {
-    let bits = input_bits(alloc, circuit, scenario.bits)?;
-    let inputs = input_values(alloc, circuit, &bits)?;
-    let outputs = claimed_outputs(alloc, circuit, scenario.outputs, &bits)?;
-    let claim = CircuitClaim::new(alloc, circuit, digest, &[], &outputs)?;
+    let bits = input_bits(alloc, circuit, scenario)?;
+    let (public, private) = bits.all.split_at(bits.public);
+    let inputs = elements_of(alloc, private)?;
+    let outputs = claimed_outputs(alloc, circuit, scenario.outputs, &bits.all)?;
+    let claim = CircuitClaim::new(alloc, circuit, digest, public, &outputs)?;
     let statement = claim.statement();
     let (prover_file, verifier_file) = deal(alloc, &params_of(scenario)?, &SEED)?;
     let prover = ProverJob::new(&statement, &prover_file, &inputs);
     let section = section_of(scenario)?;
     let claimed = Claimed {
         scenario,
+        public,
         outputs: &outputs,
     };
     match VerifierJob::fit(&statement, &verifier_file, section) {
@@ -416,9 +418,10 @@ fn unfit_lines<R: Threads + Wait + Sync>(
 /// The line of a rehearsal.
 fn rehearsal_line(alloc: Global, scenario: &Scenario<'_>, circuit: Circuit) -> Result<String> {
     let section = section_of(scenario)?;
-    let bits = input_bits(alloc, &circuit, scenario.bits)?;
+    let bits = input_bits(alloc, &circuit, scenario)?;
+    let (public, private) = bits.all.split_at(bits.public);
     let kind = params_of(scenario)?.kind;
-    let rehearsal = rehearse(alloc, circuit, &[], &bits, kind, section, &SEED)?;
+    let rehearsal = rehearse(alloc, circuit, public, private, kind, section, &SEED)?;
     let judged = Judged {
         verdict: rehearsal.verdict,
     };

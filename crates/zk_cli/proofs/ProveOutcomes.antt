@@ -1,5 +1,6 @@
 -- What is said of a session of a prover gives what its record promises.
-use Rattle.std.proofs.Common.{◌≡◌, ◌⊎◌, ℕ, List, Bool, false, Option, None, Some, Result, Ok, Err, get_or, refl, ap, sym, ◌∙◌, subst, inl, inr, arith}
+use Rattle.std.proofs.Common.{◌≡◌, ◌⊎◌, ◌+◌, ◌-◌, ◌++◌, ℕ, List, length, Bool, false, Option, None, Some, Result, Ok, Err, get_or, refl, ap, sym, ◌∙◌, subst, inl, inr, arith}
+use Rattle.std.proofs.lemmas.List.{length-append}
 use Rattle.std.specs.Prelude.{◌≢◌}
 use Rattle.zk_model.specs.Circuit.{Circuit}
 use Rattle.zk_model.specs.declared.Side.TheVariants.{Prover}
@@ -82,7 +83,18 @@ prove_means link_tells ask (Served notes) disk door run says = absurd says
 -- ---- why a run stops: for want of memory alone
 
 wires_lack : (ask : ProveAsk) (circuit : Circuit) → IsSatisfied ask circuit → (why : Refusal) → WiresStop circuit ask why → stop_status why ≡ 7
-wires_lack ask circuit ready (stop.WrongBits need got) cause = absurd (cause.2 (cause.0 ∙ sym ready.inputs ∙ sym cause.1))
+wires_lack ask circuit ready (stop.ManyPublic inputs got) cause =
+    let whole = length-append ask.public ask.bits in
+    let fits = ready.inputs in
+    let has = cause.has in
+    let given = cause.given in
+    let beyond = cause.beyond in
+    absurd (omega (arith, whole, fits, has, given, beyond))
+wires_lack ask circuit ready (stop.WrongBits need got) cause =
+    let whole = length-append ask.public ask.bits in
+    let fits = ready.inputs in
+    let all : circuit.inputs - length ask.public ≡ length ask.bits = omega (arith, whole, fits) in
+    absurd (cause.differ (cause.needed ∙ all ∙ sym cause.given))
 wires_lack ask circuit ready (stop.WrongOutputs need got) cause = absurd (cause.3 (cause.1 ∙ sym ready.outputs ∙ sym cause.2))
 wires_lack ask circuit ready (stop.Unsatisfied output) cause =
     absurd (cause.differs.differs (ap (λ (bits : List Bool). get_or bits output false) (sym (cause.only ask.outputs ready.satisfied))))

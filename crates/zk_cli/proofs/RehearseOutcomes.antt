@@ -1,5 +1,6 @@
 -- What is handed back and said of a rehearsal gives what its record promises.
-use Rattle.std.proofs.Common.{◌≡◌, ◌⊎◌, ◌<◌, ◌≤◌, ◌-◌, ℕ, List, [], refl, ap, sym, ◌∙◌, subst, inl, inr, arith}
+use Rattle.std.proofs.Common.{◌≡◌, ◌⊎◌, ◌<◌, ◌≤◌, ◌+◌, ◌-◌, ◌++◌, ℕ, List, length, refl, ap, sym, ◌∙◌, subst, inl, inr, arith}
+use Rattle.std.proofs.lemmas.List.{length-append}
 use Rattle.zk_model.specs.Circuit.{Circuit}
 use Rattle.zk_model.specs.declared.limits.TheConstants.{MAX_UNITS}
 use Rattle.bristol_reader.specs.Laws.{OneCircuit}
@@ -17,6 +18,7 @@ use Rattle.file_commands.proofs.Means.{made_means, stop_means}
 
 pub rehearse_of_circuit : (ask : RehearseAsk) (shelf : ShelfChange) (why : Refusal) → CircuitStop ask.circuit shelf why
     → RehearseStop ask shelf why
+rehearse_of_circuit ask shelf (stop.ManyPublic inputs got) cause = absurd cause
 rehearse_of_circuit ask shelf (stop.WrongBits need got) cause = absurd cause
 rehearse_of_circuit ask shelf (stop.TooLarge need units) cause = absurd cause
 rehearse_of_circuit ask shelf other cause = cause
@@ -39,47 +41,58 @@ means ask seed (Proved note) run lines = absurd lines
 
 -- why a run stops that a shelf tells a fitting circuit: for want of memory, or since it takes too many units
 lacks : OneCircuit → (ask : RehearseAsk) (shelf : ShelfChange) (circuit : Circuit)
-    → IsReady shelf.old.told ask.circuit ask.bits circuit → ¬ NameFailed ask.circuit shelf → (why : Refusal) → RehearseStop ask shelf why
-    → (stop_status why ≡ 7) ⊎ ((stop_status why ≡ 9) × (MAX_UNITS < rehearsal_units circuit [] ask.kind ask.section))
+    → IsReady shelf.old.told ask.circuit (ask.public ++ ask.bits) circuit → ¬ NameFailed ask.circuit shelf → (why : Refusal) → RehearseStop ask shelf why
+    → (stop_status why ≡ 7) ⊎ ((stop_status why ≡ 9) × (MAX_UNITS < rehearsal_units circuit ask.public ask.kind ask.section))
+lacks one ask shelf circuit ready calm (stop.ManyPublic inputs got) cause =
+    let same = ap (λ c. c.inputs) (told_circuit one shelf.old.told ask.circuit circuit cause.circuit ready.tells ready.file cause.file) in
+    let whole = length-append ask.public ask.bits in
+    let fits = ready.inputs in
+    let has = cause.is.has in
+    let given = cause.is.given in
+    let beyond = cause.is.beyond in
+    absurd (omega (arith, same, whole, fits, has, given, beyond))
 lacks one ask shelf circuit ready calm (stop.WrongBits need got) cause =
     let same = told_circuit one shelf.old.told ask.circuit circuit cause.circuit ready.tells ready.file cause.file in
-    let all : cause.circuit.inputs - 0 ≡ cause.circuit.inputs = omega arith in
-    absurd (cause.is.differ (cause.is.needed ∙ all ∙ ap (λ c. c.inputs) same ∙ sym ready.inputs ∙ sym cause.is.given))
+    let inputs = ap (λ c. c.inputs) same in
+    let whole = length-append ask.public ask.bits in
+    let fits = ready.inputs in
+    let all : cause.circuit.inputs - length ask.public ≡ length ask.bits = omega (arith, inputs, whole, fits) in
+    absurd (cause.is.differ (cause.is.needed ∙ all ∙ sym cause.is.given))
 lacks one ask shelf circuit ready calm (stop.TooLarge need units) cause =
     let same = told_circuit one shelf.old.told ask.circuit circuit cause.circuit ready.tells ready.file cause.file in
     inr (
       refl,
-      subst (λ c. MAX_UNITS < rehearsal_units c [] ask.kind ask.section) same (subst (λ n. MAX_UNITS < n) cause.is.counted cause.is.many),
+      subst (λ c. MAX_UNITS < rehearsal_units c ask.public ask.kind ask.section) same (subst (λ n. MAX_UNITS < n) cause.is.counted cause.is.many),
     )
 lacks one ask shelf circuit ready calm other cause =
     inl (ap stop_status (circuit_lacks one ask.circuit shelf circuit ready.tells ready.file calm other cause))
 
 -- a rehearsal that is handed back takes few enough units
 few_units : {L : Type 0} → OneCircuit → (ask : RehearseAsk) (seed : List ℕ) (part : Part L) (run : Effects) (circuit : Circuit)
-    → IsReady run.shelf.old.told ask.circuit ask.bits circuit → RehearseLines ask seed part run → Accepts part run.sink
-    → rehearsal_units circuit [] ask.kind ask.section ≤ MAX_UNITS
+    → IsReady run.shelf.old.told ask.circuit (ask.public ++ ask.bits) circuit → RehearseLines ask seed part run → Accepts part run.sink
+    → rehearsal_units circuit ask.public ask.kind ask.section ≤ MAX_UNITS
 few_units one ask seed (Rehearsed r) run circuit ready lines accepts =
     let made = lines.0 in
     let same = told_circuit one run.shelf.old.told ask.circuit circuit made.circuit ready.tells ready.file made.file in
-    subst (λ c. rehearsal_units c [] ask.kind ask.section ≤ MAX_UNITS) same (subst (λ n. n ≤ MAX_UNITS) made.is.units made.is.units_most)
+    subst (λ c. rehearsal_units c ask.public ask.kind ask.section ≤ MAX_UNITS) same (subst (λ n. n ≤ MAX_UNITS) made.is.units made.is.units_most)
 few_units one ask seed Plain run circuit ready lines accepts = absurd accepts
 few_units one ask seed (Served notes) run circuit ready lines accepts = absurd accepts
 few_units one ask seed (Proved note) run circuit ready lines accepts = absurd accepts
 
 done : {L : Type 0} → OneCircuit → (ask : RehearseAsk) (seed : List ℕ) (part : Part L) (run : Effects) (circuit : Circuit)
-    → RehearseLines ask seed part run → IsReady run.shelf.old.told ask.circuit ask.bits circuit → ¬ HasFailed (IsName ask.circuit) run
-    → Means ask part run → AnswersFor (rehearsal_units circuit [] ask.kind ask.section) run.status
+    → RehearseLines ask seed part run → IsReady run.shelf.old.told ask.circuit (ask.public ++ ask.bits) circuit → ¬ HasFailed (IsName ask.circuit) run
+    → Means ask part run → AnswersFor (rehearsal_units circuit ask.public ask.kind ask.section) run.status
 done {L} one ask seed part run circuit lines ready calm means = of_means means
   where
     of_stop : (status : ℕ) → IsOfStop (RehearseStop ask run.shelf) status
-        → (status ≡ 7) ⊎ ((status ≡ 9) × (MAX_UNITS < rehearsal_units circuit [] ask.kind ask.section))
+        → (status ≡ 7) ⊎ ((status ≡ 9) × (MAX_UNITS < rehearsal_units circuit ask.public ask.kind ask.section))
     of_stop status found =
         elim (lacks one ask run.shelf circuit ready (λ failed. calm (inl (ask.circuit, refl, failed))) found.0 found.1) [
           | inl seven ↦ inl (found.2 ∙ seven)
           | inr nine ↦ inr (found.2 ∙ nine.0, nine.1)
         ]
 
-    of_means : Means ask part run → AnswersFor (rehearsal_units circuit [] ask.kind ask.section) run.status
+    of_means : Means ask part run → AnswersFor (rehearsal_units circuit ask.public ask.kind ask.section) run.status
     of_means (inl m) = inl (m.0, few_units one ask seed part run circuit ready lines m.1)
     of_means (inr (inl m)) = elim (of_stop 3 m.1) [
       | inl e ↦ absurd (omega (arith, e))

@@ -41,10 +41,18 @@ use Rattle.zk_cli.proofs.ServeOutcomes.{either_is, serve_means}
 
 claim_lacks : OneCircuit → (ask : ServeAsk) (shelf : ShelfChange) (disk : DiskState) → IsServable shelf.old.told disk ask → ¬ NameFailed ask.circuit shelf
     → (why : Refusal) → ClaimStop ask shelf why → why ≡ stop.NoMemory
+claim_lacks one ask shelf disk ready calm (stop.ManyPublic inputs got) cause =
+    let is = ready.circuit in
+    let same = ap (λ c. c.inputs) (told_circuit one shelf.old.told ask.circuit is.circuit cause.circuit ready.tells is.file cause.file) in
+    let few = is.is.0 in
+    let has = cause.is.has in
+    let given = cause.is.given in
+    let beyond = cause.is.beyond in
+    absurd (omega (arith, same, few, has, given, beyond))
 claim_lacks one ask shelf disk ready calm (stop.WrongOutputs need got) cause =
     let is = ready.circuit in
     let same = told_circuit one shelf.old.told ask.circuit is.circuit cause.circuit ready.tells is.file cause.file in
-    absurd (cause.is.2 (cause.is.0 ∙ ap (λ c. c.outputs) same ∙ sym is.is ∙ sym cause.is.1))
+    absurd (cause.is.3 (cause.is.1 ∙ ap (λ c. c.outputs) same ∙ sym is.is.1 ∙ sym cause.is.2))
 claim_lacks one ask shelf disk ready calm other cause =
     circuit_lacks one ask.circuit shelf ready.circuit.circuit ready.tells ready.circuit.file calm other cause
 

@@ -50,6 +50,7 @@ file_stop_since side name old mid new same earlier other cause = absurd cause
 -- ---- causes of a stop
 
 pub claim_of_circuit : (ask : ServeAsk) (shelf : ShelfChange) (why : Refusal) → CircuitStop ask.circuit shelf why → ClaimStop ask shelf why
+claim_of_circuit ask shelf (stop.ManyPublic inputs got) cause = absurd cause
 claim_of_circuit ask shelf (stop.WrongOutputs need got) cause = absurd cause
 claim_of_circuit ask shelf other cause = cause
 
@@ -101,8 +102,8 @@ headline law told ask circuit job served granted log shown =
       checks = shown.checks;
       said = shown.said;
       shows = λ prover valid dealt.
-          subst (λ (s : Statement). ShowsOutputs circuit ask.outputs prover job.task.file.key s shown.t) (sym claim.statement_is)
-          (law circuit (sha256 claim.text) ask.outputs prover job.task.file shown.t claim.says.well_formed
+          subst (λ (s : Statement). ShowsOutputs circuit ask.public ask.outputs prover job.task.file.key s shown.t) (sym claim.statement_is)
+          (law circuit (sha256 claim.text) ask.public ask.outputs prover job.task.file shown.t claim.says.well_formed claim.few
           (subst (λ (s : Statement). IsExtracted prover job.task.file s shown.t) claim.statement_is (shown.extracted prover valid dealt)));
     }
 

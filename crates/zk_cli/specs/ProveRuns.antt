@@ -4,8 +4,7 @@ use Rattle.std.specs.Fmt.{decimal}
 use Rattle.bool_eval.specs.Answers.{AreOnlyOutputs}
 use Rattle.zk_model.specs.Bits.{from_bit}
 use Rattle.zk_model.specs.Circuit.{Circuit, AreWireBits, Satisfies}
-use Rattle.zk_model.specs.FileBytes.{prover_file_bytes}
-use Rattle.zk_model.specs.Files.{ProverFile, IsProverFile}
+use Rattle.zk_model.specs.Files.{ProverFile}
 use Rattle.zk_model.specs.HonestProver.{IsWitness}
 use Rattle.zk_model.specs.Journals.{slots_at}
 use Rattle.zk_model.specs.ServedVerifier.{VerifierTask}
@@ -22,6 +21,7 @@ use Rattle.lease_core.specs.Spans.{span}
 use Rattle.claim_store.specs.Claims.{SaysClaims, first_met}
 use Rattle.dealer_files.specs.Faults.{IsDealtFile}
 use Rattle.session_core.specs.Jobs.{ProverJob, prover_from, prover_of}
+use Rattle.session_rehearsal.specs.Rehearsals.{IsWrongLength}
 use Rattle.session_prover.specs.Completing.{HasHonestPeer}
 use Rattle.session_prover.specs.Notes.{IsGrantRead}
 use Rattle.session_prover.specs.Sessions.{IsNote}
@@ -33,17 +33,17 @@ use Rattle.command_words.specs.Words.{ProveAsk, prove_ask}
 use Rattle.file_commands.specs.ClaimedUnits.{KeepsClaims}
 use Rattle.file_commands.specs.Journals.{IsClaimsFault, HasClaims, DiskChange, IsUntouched, JournalStop, OnlyReads, journal_name}
 use Rattle.file_commands.specs.Effects.{ShelfChange, DoorChange, SinkFailed, Effects, HasFailed, IsDone, OnlyLoads}
-use Rattle.file_commands.specs.Stops.{ConnectStop, PrintsMade, SaysStop, IsOfStop, WritesAll, HasCircuit, HasText, IsClaim, CircuitStop, FileStop}
+use Rattle.file_commands.specs.Stops.{ConnectStop, PrintsMade, SaysStop, IsOfStop, WritesAll, HasCircuit, HasFewInputs, HasText, IsClaim, CircuitStop, FileStop, IsProverFileAt}
 use Rattle.zk_cli.specs.declared.finish.Part.{Part}
 use Rattle.zk_cli.specs.declared.finish.Part.TheVariants.{Plain, Proved}
 use Rattle.zk_cli.specs.declared.prove_command.ProveWords.{ProveWords}
 use Rattle.file_commands.specs.declared.refusal.Refusal.{Refusal}
-use Rattle.file_commands.specs.declared.refusal.Refusal.TheVariants.{WrongBits, WrongOutputs, Unsatisfied, NoMemory}
+use Rattle.file_commands.specs.declared.refusal.Refusal.TheVariants.{ManyPublic, WrongBits, WrongOutputs, Unsatisfied, NoMemory}
 
 -- what is asked for
 abbrev pub prove_words : ProveWords → ProveAsk
 prove_words words =
-    prove_ask words.address.now words.file.now words.circuit.now words.bits.now words.outputs.now
+    prove_ask words.address.now words.file.now words.circuit.now words.public.now words.bits.now words.outputs.now
 
 -- the names of the two files that are loaded
 abbrev pub IsProveName : ProveAsk → List ℕ → Type 0
@@ -53,9 +53,9 @@ IsProveName ask name = (name ≡ ask.circuit) ⊎ (name ≡ ask.file)
 -- of all wires then, and they are what proves the statement
 pub record IsWitnessed (told : Option Files) (ask : ProveAsk) (circuit : Circuit) (statement : Statement) (wires : List Bool)
     : Type 0 where
-  pub claim : IsClaim told ask.circuit ask.outputs circuit statement
-  pub wires_are : AreWireBits circuit ask.bits wires
-  pub satisfied : Satisfies circuit ask.bits ask.outputs
+  pub claim : IsClaim told ask.circuit ask.public ask.outputs circuit statement
+  pub wires_are : AreWireBits circuit (ask.public ++ ask.bits) wires
+  pub satisfied : Satisfies circuit (ask.public ++ ask.bits) ask.outputs
   pub witness : (file : ProverFile)
       → IsWitness statement (map from_bit ask.bits) (map from_bit wires) (prover_of statement wires file).given
 
@@ -65,10 +65,6 @@ pub record HasWitness (told : Option Files) (ask : ProveAsk) (statement : Statem
   pub wires : List Bool
   pub witnessed : IsWitnessed told ask circuit statement wires
   pub proves : (file : ProverFile) → prover_from statement inputs file ≡ prover_of statement wires file
-
--- where a shelf tells, the bytes under the name are those of this prover's file
-abbrev pub IsProverFileAt : Option Files → List ℕ → ProverFile → Type 0
-IsProverFileAt told name file = HasText told name (λ bytes. (prover_file_bytes file ≡ bytes) × IsProverFile file)
 
 -- what a prover is to do: to prove the claim by the bits, over its file
 pub record IsProveJob (told : Option Files) (ask : ProveAsk) (circuit : Circuit) (job : ProverJob) : Type 0 where
@@ -87,15 +83,17 @@ pub record DiffersFirst (place : ℕ) (some others : List Bool) : Type 0 where
 -- the circuit gives these outputs at the bits, and no others; as many are claimed, and this is the first that differs
 pub record GivesOther (circuit : Circuit) (ask : ProveAsk) (output : ℕ) : Type 0 where
   pub outputs : List Bool
-  pub gives : Satisfies circuit ask.bits outputs
-  pub only : AreOnlyOutputs circuit ask.bits outputs
+  pub gives : Satisfies circuit (ask.public ++ ask.bits) outputs
+  pub only : AreOnlyOutputs circuit (ask.public ++ ask.bits) outputs
   pub count : length ask.outputs ≡ circuit.outputs
   pub differs : DiffersFirst output outputs ask.outputs
 
--- why a circuit has no bits of all wires that prove the claim: it has another number of inputs, or of outputs, or gives other outputs
+-- why a circuit has no bits of all wires that prove the claim: it has fewer inputs than there are public bits, or another number of
+-- private inputs, or of outputs, or gives other outputs
 abbrev pub WiresStop : Circuit → ProveAsk → Refusal → Type 0
-WiresStop circuit ask (WrongBits need got) = (need ≡ circuit.inputs) × (got ≡ length ask.bits) × (need ≢ got)
-WiresStop circuit ask (WrongOutputs need got) = (length ask.bits ≡ circuit.inputs) × (need ≡ circuit.outputs)
+WiresStop circuit ask (ManyPublic inputs got) = HasFewInputs circuit ask.public inputs got
+WiresStop circuit ask (WrongBits need got) = IsWrongLength circuit ask.public ask.bits need got
+WiresStop circuit ask (WrongOutputs need got) = (length (ask.public ++ ask.bits) ≡ circuit.inputs) × (need ≡ circuit.outputs)
     × (got ≡ length ask.outputs) × (need ≢ got)
 WiresStop circuit ask (Unsatisfied output) = GivesOther circuit ask output
 WiresStop circuit ask NoMemory = Unit {0}
@@ -124,7 +122,8 @@ abbrev pub LacksLink : Option Files → ProveAsk → DiskChange → DoorChange �
 LacksLink told ask disk door stop =
     (circuit : Circuit) × (job : ProverJob) × IsProveJob told ask circuit job × BeginningStop ask job disk door stop
 
--- Why nothing is proved, the first of these: the circuit can't be had, or has another number of inputs or of outputs, or gives others at
+-- Why nothing is proved, the first of these: the circuit can't be had, has too few inputs for the public bits, or another number of private
+-- inputs or of outputs, or gives others at
 -- the bits; the file can't be had; the journal is not opened; the door does not connect.
 abbrev pub ProveStop : ProveAsk → ShelfChange → DiskChange → DoorChange → Refusal → Type 0
 ProveStop ask shelf disk door stop =
@@ -211,9 +210,9 @@ ProveMeans ask part disk door run = ⊥
 
 -- the circuit has as many inputs as there are bits, and gives the claimed outputs at them
 pub record IsSatisfied (ask : ProveAsk) (circuit : Circuit) : Type 0 where
-  pub inputs : length ask.bits ≡ circuit.inputs
+  pub inputs : length (ask.public ++ ask.bits) ≡ circuit.inputs
   pub outputs : length ask.outputs ≡ circuit.outputs
-  pub satisfied : Satisfies circuit ask.bits ask.outputs
+  pub satisfied : Satisfies circuit (ask.public ++ ask.bits) ask.outputs
 
 -- a shelf that tells has a circuit that gives the claimed outputs at the bits, and a prover's file; and the disk has its journal
 pub record IsProvable (told : Option Files) (disk : DiskState) (ask : ProveAsk) : Type 0 where

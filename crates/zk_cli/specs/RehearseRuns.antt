@@ -1,5 +1,5 @@
--- `rehearse CIRCUIT BITS [--section G] [--extended]`: what it hands back and says, and what it promises of its run.
-use Rattle.std.specs.Prelude.{◌≡◌, ◌⊎◌, ◌<◌, ◌≤◌, ℕ, List, [], ◌++◌, codes, Option}
+-- `rehearse CIRCUIT BITS [--section G] [--extended] [--public BITS]`: what it hands back and says, and what it promises of its run.
+use Rattle.std.specs.Prelude.{◌≡◌, ◌⊎◌, ◌<◌, ◌≤◌, ℕ, List, ◌++◌, codes, Option}
 use Rattle.std.specs.Fmt.{decimal}
 use Rattle.zk_model.specs.Circuit.{Circuit}
 use Rattle.zk_model.specs.declared.Verdict.{Verdict}
@@ -7,16 +7,21 @@ use Rattle.zk_model.specs.declared.Verdict.TheVariants.{Accepted, RejectedSum, R
 use Rattle.zk_model.specs.declared.limits.TheConstants.{MAX_UNITS}
 use Rattle.zk_port.specs.Files.{Files}
 use Rattle.command_words.specs.BitWords.{bits_word}
-use Rattle.command_words.specs.Words.{RehearseAsk}
+use Rattle.command_words.specs.Words.{RehearseAsk, rehearse_ask}
 use Rattle.session_rehearsal.specs.Rehearsals.{IsRehearsalOf, IsWrongLength, IsTooLarge, EndsWithVerdict}
 use Rattle.session_rehearsal.specs.Rehearsals.{rehearsal_units}
 use Rattle.session_rehearsal.specs.declared.rehearsal.Rehearsal.{Rehearsal}
 use Rattle.file_commands.specs.Effects.{ShelfChange, SinkChange, Effects, OnlyLoads, IsName, HasFailed}
-use Rattle.file_commands.specs.Stops.{PrintsMade, WritesAll, SaysStop, StatusMeans, HasCircuit, IsReady, CircuitStop}
+use Rattle.file_commands.specs.Stops.{PrintsMade, WritesAll, SaysStop, StatusMeans, HasCircuit, HasFewInputs, IsReady, CircuitStop}
+use Rattle.zk_cli.specs.declared.rehearse_command.RehearseWords.{RehearseWords}
 use Rattle.zk_cli.specs.declared.finish.Part.{Part}
 use Rattle.zk_cli.specs.declared.finish.Part.TheVariants.{Plain, Rehearsed}
 use Rattle.file_commands.specs.declared.refusal.Refusal.{Refusal}
-use Rattle.file_commands.specs.declared.refusal.Refusal.TheVariants.{WrongBits, TooLarge}
+use Rattle.file_commands.specs.declared.refusal.Refusal.TheVariants.{ManyPublic, WrongBits, TooLarge}
+
+-- what is asked for
+abbrev pub rehearse_words : RehearseWords → RehearseAsk
+rehearse_words words = rehearse_ask words.circuit.now words.public.now words.bits.now words.kind words.section
 
 -- 0 where the verifier accepts
 abbrev pub verdict_status : Verdict → ℕ
@@ -45,15 +50,17 @@ rehearsal_lines r =
 -- defined ones, and its log is that of an honest session over the files of the seed
 abbrev pub IsRehearsed : Option Files → RehearseAsk → List ℕ → Rehearsal → Type 0
 IsRehearsed told ask seed r =
-    HasCircuit told ask.circuit (λ circuit. IsRehearsalOf circuit [] ask.bits ask.kind ask.section seed r)
+    HasCircuit told ask.circuit (λ circuit. IsRehearsalOf circuit ask.public ask.bits ask.kind ask.section seed r)
 
--- why there is no rehearsal: the circuit has another number of inputs, takes too many units, or can't be had
+-- why there is no rehearsal: the circuit has fewer inputs than there are public bits, or another number of private ones; it takes too
+-- many units; or it can't be had
 abbrev pub RehearseStop : RehearseAsk → ShelfChange → Refusal → Type 0
+RehearseStop ask shelf (ManyPublic inputs got) = HasCircuit shelf.old.told ask.circuit (λ circuit. HasFewInputs circuit ask.public inputs got)
 RehearseStop ask shelf (WrongBits need got) =
-    HasCircuit shelf.old.told ask.circuit (λ circuit. IsWrongLength circuit [] ask.bits need got)
+    HasCircuit shelf.old.told ask.circuit (λ circuit. IsWrongLength circuit ask.public ask.bits need got)
 RehearseStop ask shelf (TooLarge need units) =
     HasCircuit shelf.old.told ask.circuit
-    (λ circuit. IsTooLarge circuit [] ask.bits ask.kind ask.section need units)
+    (λ circuit. IsTooLarge circuit ask.public ask.bits ask.kind ask.section need units)
 RehearseStop ask shelf stop = CircuitStop ask.circuit shelf stop
 
 -- a rehearsal is handed back, and its lines are written; or nothing is, and the line of a stop is, which has its cause
@@ -83,5 +90,5 @@ pub record Rehearses {L : Type 0} (ask : RehearseAsk) (seed : List ℕ) (part : 
   pub lines : RehearseLines ask seed part run
   pub kept : OnlyLoads (IsName ask.circuit) run.shelf
   pub means : StatusMeans (Accepts part run.sink) (RehearseStop ask run.shelf) (IsName ask.circuit) run
-  pub done : (circuit : Circuit) → IsReady run.shelf.old.told ask.circuit ask.bits circuit
-      → ¬ HasFailed (IsName ask.circuit) run → AnswersFor (rehearsal_units circuit [] ask.kind ask.section) run.status
+  pub done : (circuit : Circuit) → IsReady run.shelf.old.told ask.circuit (ask.public ++ ask.bits) circuit
+      → ¬ HasFailed (IsName ask.circuit) run → AnswersFor (rehearsal_units circuit ask.public ask.kind ask.section) run.status

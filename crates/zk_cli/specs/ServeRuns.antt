@@ -2,8 +2,6 @@
 use Rattle.std.specs.Prelude.{◌≡◌, ◌≢◌, ◌⊎◌, ◌+◌, ◌-◌, ◌*◌, ◌≤◌, ℕ, List, All, AllPairs, length, Bool, true, false, Option, None, Some, IfSome}
 use Rattle.std.specs.List.Sorted.{IsNonDecreasingBy}
 use Rattle.zk_model.specs.Circuit.{Circuit}
-use Rattle.zk_model.specs.FileBytes.{verifier_file_bytes}
-use Rattle.zk_model.specs.Files.{VerifierFile, IsVerifierFile}
 use Rattle.zk_model.specs.HonestProver.{ProverTask}
 use Rattle.zk_model.specs.Statement.{Statement}
 use Rattle.zk_model.specs.declared.Side.TheVariants.{Verifier}
@@ -30,17 +28,17 @@ use Rattle.zk_cli.specs.NoteLines.{IsServedText, has_status, start_of}
 use Rattle.file_commands.specs.Effects.{ShelfChange, DoorChange, SomeFailed, SinkFailed, Effects, HasFailed, OthersStay, OnlyAsks, IsDone}
 use Rattle.zk_cli.specs.Runs.{EachNote}
 use Rattle.zk_cli.specs.ServiceLogs.{IsLogName, KeepsLogs, SaysService}
-use Rattle.file_commands.specs.Stops.{ListenStop, WritesAll, SaysStop, IsOfStop, HasText, HasCircuit, IsClaim, CircuitStop, FileStop}
+use Rattle.file_commands.specs.Stops.{ListenStop, WritesAll, SaysStop, IsOfStop, HasText, HasCircuit, HasFewInputs, IsClaim, CircuitStop, FileStop, IsVerifierFileAt}
 use Rattle.zk_cli.specs.declared.finish.Part.{Part}
 use Rattle.zk_cli.specs.declared.finish.Part.TheVariants.{Plain, Served}
 use Rattle.file_commands.specs.declared.refusal.Refusal.{Refusal}
-use Rattle.file_commands.specs.declared.refusal.Refusal.TheVariants.{WrongOutputs, TooLarge}
+use Rattle.file_commands.specs.declared.refusal.Refusal.TheVariants.{ManyPublic, WrongOutputs, TooLarge}
 use Rattle.zk_cli.specs.declared.serve_command.ServeWords.{ServeWords}
 
 -- what is asked for
 abbrev pub serve_words : ServeWords → ServeAsk
 serve_words words =
-    serve_ask words.address.now words.file.now words.circuit.now words.outputs.now (named_options words.options)
+    serve_ask words.address.now words.file.now words.circuit.now words.public.now words.outputs.now (named_options words.options)
 
 -- the names of the two files that are loaded, and those of logs beside them
 abbrev pub IsLoadedName : ServeAsk → List ℕ → Type 0
@@ -49,29 +47,25 @@ IsLoadedName ask name = (name ≡ ask.circuit) ⊎ (name ≡ ask.file)
 abbrev pub IsServeName : ServeAsk → List ℕ → Type 0
 IsServeName ask name = IsLoadedName ask name ⊎ IsLogName ask.options.logs name
 
--- where a shelf tells, the bytes under the name are those of this verifier's file
-abbrev pub IsVerifierFileAt : Option Files → List ℕ → VerifierFile → Type 0
-IsVerifierFileAt told name file =
-    HasText told name (λ bytes. (verifier_file_bytes file ≡ bytes) × IsVerifierFile file)
-
 -- what a verifier is to do: the claim, over its file, in sections of the length that is named
 pub record IsServeJob (told : Option Files) (ask : ServeAsk) (circuit : Circuit) (job : VerifierJob) : Type 0 where
-  pub claim : IsClaim told ask.circuit ask.outputs circuit job.task.statement
+  pub claim : IsClaim told ask.circuit ask.public ask.outputs circuit job.task.statement
   pub file : IsVerifierFileAt told ask.file job.task.file
   pub section : job.section_length ≡ ask.options.section
 
 -- ---- why nothing is served
 
--- why there is no claim: the circuit has another number of outputs, or can't be had
+-- why there is no claim: the circuit has fewer inputs than there are public bits, or another number of outputs; or it can't be had
 abbrev pub ClaimStop : ServeAsk → ShelfChange → Refusal → Type 0
+ClaimStop ask shelf (ManyPublic inputs got) = HasCircuit shelf.old.told ask.circuit (λ circuit. HasFewInputs circuit ask.public inputs got)
 ClaimStop ask shelf (WrongOutputs need got) = HasCircuit shelf.old.told ask.circuit
-    (λ circuit. (need ≡ circuit.outputs) × (got ≡ length ask.outputs) × (need ≢ got))
+    (λ circuit. (length ask.public ≤ circuit.inputs) × (need ≡ circuit.outputs) × (got ≡ length ask.outputs) × (need ≢ got))
 ClaimStop ask shelf stop = CircuitStop ask.circuit shelf stop
 
 -- there is a claim, but no file for it
 abbrev pub LacksFile : ServeAsk → ShelfChange → Refusal → Type 0
 LacksFile ask shelf stop =
-    (circuit : Circuit) × (statement : Statement) × IsClaim shelf.old.told ask.circuit ask.outputs circuit statement
+    (circuit : Circuit) × (statement : Statement) × IsClaim shelf.old.told ask.circuit ask.public ask.outputs circuit statement
     × FileStop Verifier ask.file shelf stop
 
 -- why the claim and the file can't be had, the first of these
@@ -92,8 +86,8 @@ abbrev pub LacksSession : Option Files → ServeAsk → DiskChange → DoorChang
 LacksSession told ask disk door stop =
     (circuit : Circuit) × (job : VerifierJob) × IsServeJob told ask circuit job × OpeningStop ask job disk door stop
 
--- Why nothing is served, the first of these: the circuit can't be had, or has another number of outputs; the file can't
--- be had; the session is too large; the journal is not opened; the door does not listen.
+-- Why nothing is served, the first of these: the circuit can't be had, has too few inputs for the public bits, or another number of
+-- outputs; the file can't be had; the session is too large; the journal is not opened; the door does not listen.
 abbrev pub ServeStop : ServeAsk → ShelfChange → DiskChange → DoorChange → Refusal → Type 0
 ServeStop ask shelf disk door stop =
     (LacksFiles ask shelf stop × IsUntouched disk × (door.new ≡ door.old))
@@ -184,11 +178,11 @@ ServeMeans ask part disk door run = ⊥
 
 -- ---- where nothing is refused and nothing fails
 
--- a shelf that tells has a circuit with as many outputs as are claimed, and a verifier's file, about which a session takes few units; and
--- the disk has its journal, which leaves as many units as all sessions take
+-- a shelf that tells has a circuit with inputs for the public bits and as many outputs as are claimed, and a verifier's file, about which
+-- a session takes few units; and the disk has its journal, which leaves as many units as all sessions take
 pub record IsServable (told : Option Files) (disk : DiskState) (ask : ServeAsk) : Type 0 where
   pub tells : told ≢ None
-  pub circuit : HasCircuit told ask.circuit (λ circuit. length ask.outputs ≡ circuit.outputs)
+  pub circuit : HasCircuit told ask.circuit (λ circuit. (length ask.public ≤ circuit.inputs) × (length ask.outputs ≡ circuit.outputs))
   pub file : HasText told ask.file (IsDealtFile Verifier)
   pub few : (other : Circuit) (job : VerifierJob) → IsServeJob told ask other job → units_of_job job ≤ MAX_UNITS
   pub room : (other : Circuit) (job : VerifierJob) → IsServeJob told ask other job

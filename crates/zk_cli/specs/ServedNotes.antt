@@ -24,13 +24,12 @@ use Rattle.zk_cli.specs.ServeRuns.{IsServeJob}
 use Rattle.zk_cli.specs.declared.finish.Part.{Part}
 use Rattle.zk_cli.specs.declared.finish.Part.TheVariants.{Served}
 
--- The headline, of the circuit and the file that a shelf tells under the names in the words (of one that tells nothing,
--- of some circuit and some file). The log of an accepted session is that of a transcript in order for the job, with a
--- grant of the units that were leased; the challenge is the verifier's coin of the first of them; all checks hold, and
--- the verdict says so. For every prover's file that is dealt with the verifier's, the input bits that this file and its
--- frames fix make the circuit give the claimed outputs, or the challenge is a root of a named polynomial that is not
--- zero, of at most the number of products in degree, or the key is one of a named polynomial that is not zero, of
--- degree two at most.
+-- The headline, of the circuit and the file that a shelf tells under the names in the words (of one that tells nothing, of
+-- some circuit and some file). The log of an accepted session is that of a transcript in order for the job, with a grant of the
+-- units that were leased; the challenge is the verifier's coin of the first of them; all checks hold, and the verdict says so.
+-- For every prover's file that is dealt with the verifier's, the private input bits that this file and its frames fix, beside
+-- the public ones, make the circuit give the claimed outputs, or the challenge is a root of a named polynomial that is not zero,
+-- of at most the number of products in degree, or the key is one of a named polynomial that is not zero, of degree two at most.
 pub record IsHeadline (told : Option Files) (ask : ServeAsk) (granted : Option Span) (log : List (Side × ℕ))
     : Type 0 where
   pub circuit : Circuit
@@ -46,7 +45,7 @@ pub record IsHeadline (told : Option Files) (ask : ServeAsk) (granted : Option S
   pub checks : ChecksHold job.task.file job.task.statement t
   pub said : SaysVerdict t Accepted
   pub shows : (prover : ProverFile) → IsProverFile prover → AreDealt prover job.task.file
-      → ShowsOutputs circuit ask.outputs prover job.task.file.key job.task.statement t
+      → ShowsOutputs circuit ask.public ask.outputs prover job.task.file.key job.task.statement t
 
 -- The headline's second part, of the circuit and the file that a shelf tells under the names in the words, and the journal with which the
 -- disk was handed in: the granted spans of this run, in the order of their first units, have no unit in common; each begins at or above the ceiling that the journal said, and

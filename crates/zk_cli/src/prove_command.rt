@@ -1,12 +1,12 @@
-// `prove ADDRESS FILE CIRCUIT BITS OUTPUTS`
-ghost use Rattle.std.specs.Prelude.{◌≡◌, IfOk, IfErr, OnOk, None, IfSome, drop, length};
+// `prove ADDRESS FILE CIRCUIT BITS OUTPUTS [--public BITS]`
+ghost use Rattle.std.specs.Prelude.{◌≡◌, ◌≤◌, ◌++◌, IfOk, IfErr, OnOk, None, IfSome, drop, length};
 ghost use Rattle.zk_model.specs.Circuit.{Circuit, AreWireBits, output_wire};
 ghost use Rattle.zk_model.specs.declared.Side.TheVariants.{Prover};
 ghost use Rattle.zk_port.specs.Changes.{change};
 ghost use Rattle.file_commands.specs.Journals.{IsJournalDisk, disk_change};
 ghost use Rattle.zk_cli.specs.ProveRuns.{BeginningStop, HoldsAsked, HoldsSession, LacksProof, Proves, ProveStop, prove_words};
-ghost use Rattle.zk_cli.specs.ProveRuns.{DiffersFirst, HasWitness, IsProveName, IsProverFileAt, WiresStop, WitnessStop};
-ghost use Rattle.file_commands.specs.Stops.{connect_refusal, FileStop};
+ghost use Rattle.zk_cli.specs.ProveRuns.{DiffersFirst, HasWitness, IsProveName, WiresStop, WitnessStop};
+ghost use Rattle.file_commands.specs.Stops.{connect_refusal, FileStop, IsProverFileAt};
 ghost use Rattle.file_commands.specs.Effects.{OnlyLoads, IsName, effects};
 
 use crate::finish::{Finish, Part};
@@ -16,12 +16,12 @@ use bristol_reader::{Circuit, one_circuit};
 use circuit_laws::{bits_solve, one_outcome};
 use claim_store::claims_start_again;
 use dealer_files::{ProverFile, decode_prover};
-use file_commands::{Refusal, load_file, open_claims, read_circuit, say_stop};
+use file_commands::{Refusal, check_public, load_file, open_claims, read_circuit, say_stop};
 use mersenne_field::Fe;
 use session_core::{CircuitClaim, ProverJob, elements_of, input_bits_prove};
 use session_prover::{ProverNote, StoreClaimant, prove_session};
 use sha2::{Digest, Sha256};
-use std::alloc::Global;
+use std::alloc::{AllocError, Global};
 use zk_port::{Disk, Door, PortFault, Shelf, Sink};
 
 /// What the words of the command name.
@@ -30,6 +30,7 @@ pub struct ProveWords<'a> {
     pub address: &'a str,
     pub file: &'a str,
     pub circuit: &'a str,
+    pub public: &'a [bool],
     pub bits: &'a [bool],
     pub outputs: &'a [bool],
 }
@@ -55,31 +56,58 @@ fn first_difference(some: &[bool], others: &[bool]) -> Option<usize>
     None
 }
 
+/// The public bits, and then the private ones.
+fn all_inputs(alloc: Global, public: &[bool], bits: &[bool]) -> Result<Vec<bool>, AllocError>
+    ensures { IfOk result (λ inputs. inputs.items ≡ public.now ++ bits.now) }
+{
+    let mut inputs = public.to_vec(alloc)?;
+    inputs.extend_from_slice(bits)?;
+    Ok(inputs)
+}
+
+/// The bits of all wires of a circuit, which has inputs for the bits that the words name.
+fn wires_at(alloc: Global, circuit: &Circuit, words: &ProveWords<'_>) -> Result<Vec<bool>, Refusal>
+    ensures wires { IfOk result (λ wires.
+        AreWireBits circuit.now (words.now.public.now ++ words.now.bits.now) wires.items) }
+    ensures inputs { OnOk result (length (words.now.public.now ++ words.now.bits.now) ≡ circuit.now.inputs) }
+    ensures few { OnOk result (length words.now.public.now ≤ circuit.now.inputs) }
+    ensures stop { IfErr result (WiresStop circuit.now (prove_words words.now)) }
+{
+    check_public(circuit, words.public)?;
+    let need = circuit.inputs() - words.public.len();
+    let got = words.bits.len();
+    if need != got {
+        return Err(Refusal::WrongBits {
+            need: need as u64,
+            got: got as u64,
+        });
+    }
+    let inputs = all_inputs(alloc, words.public, words.bits)?;
+    match eval_wires(alloc, circuit, &inputs) {
+        Ok(wires) => Ok(wires),
+        Err(EvalFault::WrongLength { .. }) => unreachable!(),
+        Err(EvalFault::NoMemory) => Err(Refusal::NoMemory),
+    }
+}
+
 /// The bits of all wires of a circuit that gives the claimed outputs.
 fn satisfying_wires(
     alloc: Global,
     circuit: &Circuit,
     words: &ProveWords<'_>,
 ) -> Result<Vec<bool>, Refusal>
-    ensures wires { IfOk result (λ wires. AreWireBits circuit.now words.now.bits.now wires.items) }
+    ensures wires { IfOk result (λ wires.
+        AreWireBits circuit.now (words.now.public.now ++ words.now.bits.now) wires.items) }
     ensures outputs { IfOk result (λ wires.
         drop (output_wire circuit.now 0) wires.items ≡ words.now.outputs.now) }
-    ensures inputs { IfOk result (λ _. length words.now.bits.now ≡ circuit.now.inputs) }
-    ensures count { IfOk result (λ _. length words.now.outputs.now ≡ circuit.now.outputs) }
+    ensures inputs { OnOk result (length (words.now.public.now ++ words.now.bits.now) ≡ circuit.now.inputs) }
+    ensures few { OnOk result (length words.now.public.now ≤ circuit.now.inputs) }
+    ensures count { OnOk result (length words.now.outputs.now ≡ circuit.now.outputs) }
     ensures stop { IfErr result (WiresStop circuit.now (prove_words words.now)) }
 {
     one_outcome();
     let _wires = circuit.wires();
-    let wires = match eval_wires(alloc, circuit, words.bits) {
-        Ok(wires) => wires,
-        Err(EvalFault::WrongLength { need, got }) => {
-            return Err(Refusal::WrongBits {
-                need: need as u64,
-                got: got as u64,
-            });
-        }
-        Err(EvalFault::NoMemory) => return Err(Refusal::NoMemory),
-    };
+    let wires = wires_at(alloc, circuit, words)?;
     if words.outputs.len() != circuit.outputs() {
         return Err(Refusal::WrongOutputs {
             need: circuit.outputs() as u64,
@@ -115,7 +143,7 @@ fn load_witness<F: Shelf>(
     let wires = satisfying_wires(alloc, &circuit, words)?;
     drop(wires);
     let digest = Sha256::digest(&text);
-    let claim = CircuitClaim::new(alloc, &circuit, digest, &[], words.outputs)?;
+    let claim = CircuitClaim::new(alloc, &circuit, digest, words.public, words.outputs)?;
     let inputs = elements_of(alloc, words.bits)?;
     Ok(Witness { claim, inputs })
 }
@@ -219,8 +247,8 @@ fn prove_files<F: Shelf, D: Door, B: Disk>(
     prove_job(alloc, &job, words, journal, door)
 }
 
-/// `prove ADDRESS FILE CIRCUIT BITS OUTPUTS`: proves to the verifier at the address what the words name, with units that are claimed in the
-/// file's journal, says what came of it and hands it back, or says why nothing is proved; with the status.
+/// `prove ADDRESS FILE CIRCUIT BITS OUTPUTS [--public BITS]`: proves to the verifier at the address what the words name, with
+/// units that are claimed in the file's journal, says what came of it and hands it back, or says why nothing is proved; with the status.
 pub fn run_prove<F, D, B, O>(
     alloc: Global,
     shelf: &mut F,

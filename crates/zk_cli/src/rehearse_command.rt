@@ -1,41 +1,58 @@
-// `rehearse CIRCUIT BITS [--section G] [--extended]`
+// `rehearse CIRCUIT BITS [--section G] [--extended] [--public BITS]`
 ghost use Rattle.std.specs.Prelude.{◌≡◌, ◌≤◌, ◌^◌, IfOk, IfErr, string_bytes};
 ghost use Rattle.zk_model.specs.declared.limits.TheConstants.{MAX_SECTION_LENGTH};
 ghost use Rattle.zk_port.specs.Changes.{change};
-ghost use Rattle.command_words.specs.Words.{rehearse_ask};
-ghost use Rattle.zk_cli.specs.RehearseRuns.{Rehearses, RehearseStop, IsRehearsed, counts_line, rehearsal_lines, verdict_line, verdict_status};
+ghost use Rattle.zk_cli.specs.RehearseRuns.{Rehearses, RehearseStop, IsRehearsed, rehearse_words, counts_line, rehearsal_lines, verdict_line, verdict_status};
 ghost use Rattle.file_commands.specs.Effects.{OnlyLoads, IsName, effects};
 ghost use Rattle.file_commands.specs.Stops.{PrintsMade};
 
 use crate::finish::{Ending, Part};
 use bristol_reader::one_circuit;
 use command_words::write_bits;
-use file_commands::{Refusal, load_circuit, say, say_memory, say_stop};
+use file_commands::{Refusal, check_public, load_circuit, say, say_memory, say_stop};
 use session_rehearsal::{Rehearsal, RehearseFault, Verdict, rehearse};
 use std::alloc::{AllocError, Global};
 use zk_model::Kind;
 use zk_port::{Shelf, Sink};
 
-/// A rehearsal of the circuit that the file of this name says, at these bits.
+/// What the words of the command name.
+#[derive(Clone, Copy, Debug)]
+pub struct RehearseWords<'a> {
+    pub circuit: &'a str,
+    pub public: &'a [bool],
+    pub bits: &'a [bool],
+    pub kind: Kind,
+    pub section: u32,
+}
+
+/// A rehearsal of the circuit that the words name, at their bits.
 fn rehearse_file<F: Shelf>(
     alloc: Global,
     shelf: &mut F,
-    name: &str,
-    bits: &[bool],
-    kind: Kind,
-    section: u32,
+    words: &RehearseWords<'_>,
     seed: &[u8; 32],
 ) -> Result<Rehearsal, Refusal>
-    requires at_least_one { 1 ≤ section }
-    requires at_most { section ≤ MAX_SECTION_LENGTH }
+    requires at_least_one { 1 ≤ words.now.section }
+    requires at_most { words.now.section ≤ MAX_SECTION_LENGTH }
     ensures rehearsed { IfOk result
-        (IsRehearsed (F.state shelf.old).told (rehearse_ask name.now bits.now kind section) seed.now) }
-    ensures stop { IfErr result (RehearseStop (rehearse_ask name.now bits.now kind section)
+        (IsRehearsed (F.state shelf.old).told (rehearse_words words.now) seed.now) }
+    ensures stop { IfErr result (RehearseStop (rehearse_words words.now)
         (change (F.state shelf.old) (F.state shelf.new))) }
-    ensures kept { OnlyLoads (IsName name.now) (change (F.state shelf.old) (F.state shelf.new)) }
+    ensures kept { OnlyLoads (IsName words.now.circuit.now)
+        (change (F.state shelf.old) (F.state shelf.new)) }
 {
-    let circuit = load_circuit(alloc, shelf, name)?;
-    match rehearse(alloc, circuit, &[], bits, kind, section, seed) {
+    let circuit = load_circuit(alloc, shelf, words.circuit)?;
+    check_public(&circuit, words.public)?;
+    let (public, bits) = (words.public, words.bits);
+    match rehearse(
+        alloc,
+        circuit,
+        public,
+        bits,
+        words.kind,
+        words.section,
+        seed,
+    ) {
         Ok(rehearsal) => Ok(rehearsal),
         Err(RehearseFault::WrongLength { need, got }) => Err(Refusal::WrongBits { need, got }),
         Err(RehearseFault::TooLarge { need, units }) => Err(Refusal::TooLarge { need, units }),
@@ -100,26 +117,23 @@ fn say_rehearsal<O: Sink>(alloc: Global, out: &mut O, rehearsal: &Rehearsal) -> 
     }
 }
 
-/// `rehearse CIRCUIT BITS [--section G] [--extended]`: rehearses a session over the circuit of this name at these
+/// `rehearse CIRCUIT BITS [--section G] [--extended] [--public BITS]`: rehearses a session over the circuit of this name at these
 /// bits, says what came of it and hands it back, or says why there is no rehearsal; with the status.
 pub fn run_rehearse<F: Shelf, O: Sink, L: Drop>(
     alloc: Global,
     shelf: &mut F,
     out: &mut O,
-    name: &str,
-    bits: &[bool],
-    kind: Kind,
-    section: u32,
+    words: &RehearseWords<'_>,
     seed: &[u8; 32],
 ) -> Ending<L>
-    requires at_least_one { 1 ≤ section }
-    requires at_most { section ≤ MAX_SECTION_LENGTH }
-    ensures { Rehearses (rehearse_ask name.now bits.now kind section) seed.now result.part
+    requires at_least_one { 1 ≤ words.now.section }
+    requires at_most { words.now.section ≤ MAX_SECTION_LENGTH }
+    ensures { Rehearses (rehearse_words words.now) seed.now result.part
         (effects result.status (change (F.state shelf.old) (F.state shelf.new))
         (change (O.state out.old) (O.state out.new))) }
 {
     one_circuit();
-    match rehearse_file(alloc, shelf, name, bits, kind, section, seed) {
+    match rehearse_file(alloc, shelf, words, seed) {
         Ok(rehearsal) => Ending {
             status: say_rehearsal(alloc, out, &rehearsal),
             part: Part::Rehearsed(rehearsal),

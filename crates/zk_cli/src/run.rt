@@ -10,7 +10,7 @@ ghost use Rattle.zk_cli.specs.ServedNotes.{GrantsOnceIn, IsHeadline};
 
 use crate::finish::{Ending, Finish, Part};
 use crate::prove_command::{ProveWords, run_prove};
-use crate::rehearse_command::run_rehearse;
+use crate::rehearse_command::{RehearseWords, run_rehearse};
 use crate::serve_command::{ServeWords, run_serve};
 use bristol_reader::one_circuit;
 use claim_store::claims_start_again;
@@ -26,17 +26,17 @@ use zk_port::{Disk, Door, Gate, Shelf, Sink};
 /// output, and hands back the status, the disk, the door and what was made. `deal` and `rehearse` use the seed.
 ///
 /// Words of no command end with 2, or with 7 where memory is missing. `rehearse CIRCUIT BITS [--section G]
-/// [--extended]` ends with 0 where it is accepted; 3 where the file, or the bits for it, are refused; 4 where a load
-/// of the file failed, or the output before a 0; 7 where memory is missing; 9 where the session would take more than
-/// 4,096 units. `eval CIRCUIT BITS` ends with 0 where it wrote the outputs, and with 3, 4 and 7 in the same cases.
+/// [--extended] [--public BITS]` ends with 0 where it is accepted; 3 where the file, or the bits for it, are refused; 4
+/// where a load of the file failed, or the output before a 0; 7 where memory is missing; 9 where the session would take
+/// more than 4,096 units. `eval CIRCUIT BITS` ends with 0 where it wrote the outputs, and with 3, 4 and 7 in the same cases.
 /// `deal NAME --units N [--trees T --height H --base K]` ends with 0 where all is stored and said, 4 where a store or
-/// the output failed, and 7. `serve ADDRESS FILE CIRCUIT OUTPUTS --sessions N [--workers W] [--section G] [--logs PREFIX]`
-/// ends with 0 where each session is accepted, or no peer called; 1 where one is not; 3 where a file or the journal is
-/// refused, or the outputs for it; 4 where a load, the door, a link, a log or the output failed; 5 where the journal
-/// failed; 6 where units are missing; and with 7 and 9. `prove ADDRESS FILE CIRCUIT BITS OUTPUTS` ends with 0 where it is
-/// accepted; 1 where it is rejected, or the circuit gives other outputs; 3 where a file or the journal is refused, or the
-/// bits or outputs for it; 4 where a load, the door, the link or the output failed; 5 where the journal failed or is full;
-/// 8 where the peer broke the protocol; and with 7.
+/// the output failed, and 7. `serve ADDRESS FILE CIRCUIT OUTPUTS --sessions N [--workers W] [--section G] [--logs PREFIX]
+/// [--public BITS]` ends with 0 where each session is accepted, or no peer called; 1 where one is not; 3 where a file or
+/// the journal is refused, or the outputs for it; 4 where a load, the door, a link, a log or the output failed; 5 where
+/// the journal failed; 6 where units are missing; and with 7 and 9. `prove ADDRESS FILE CIRCUIT BITS OUTPUTS
+/// [--public BITS]` ends with 0 where it is accepted; 1 where it is rejected, or the circuit gives other outputs; 3 where
+/// a file or the journal is refused, or the bits or outputs for it; 4 where a load, the door, the link or the output
+/// failed; 5 where the journal failed or is full; 8 where the peer broke the protocol; and with 7.
 pub fn run_zk<R, F, D, B, O, G>(
     rt: &R,
     alloc: Global,
@@ -73,9 +73,9 @@ where
         (change journal result.journal) (change door result.door)) }
 
     // The headline: what an accepted session shows. For every prover's file that is dealt with the verifier's, the
-    // input bits that this file and its frames fix make the circuit give the claimed outputs, or the challenge is a
-    // root of a named nonzero polynomial of at most the number of products in degree, or the key is one of a named
-    // nonzero polynomial of degree two at most.
+    // private input bits that this file and its frames fix, beside the public ones, make the circuit give the claimed
+    // outputs, or the challenge is a root of a named nonzero polynomial of at most the number of products in degree, or the
+    // key is one of a named nonzero polynomial of degree two at most.
     ensures headline { (ask : ServeAsk) → asked (texts words.now) ≡ Some (serve ask) → EachNote result.part
         (λ note. note.outcome ≡ Accepted → IsHeadline (F.state shelf.old).told ask note.granted note.log) }
 
@@ -121,14 +121,19 @@ where
         },
         Command::Rehearse {
             circuit,
+            public,
             bits,
             kind,
             section,
         } => {
-            let bits = bits.as_slice();
-            let Ending { status, part } = run_rehearse(
-                alloc, shelf, out, circuit, bits, kind, section, seed,
-            );
+            let named = RehearseWords {
+                circuit,
+                public: public.as_slice(),
+                bits: bits.as_slice(),
+                kind,
+                section,
+            };
+            let Ending { status, part } = run_rehearse(alloc, shelf, out, &named, seed);
             Finish {
                 status,
                 journal,
@@ -140,6 +145,7 @@ where
             address,
             file,
             circuit,
+            public,
             outputs,
             options,
         } => {
@@ -147,6 +153,7 @@ where
                 address,
                 file,
                 circuit,
+                public: public.as_slice(),
                 outputs: outputs.as_slice(),
                 options,
             };
@@ -156,6 +163,7 @@ where
             address,
             file,
             circuit,
+            public,
             bits,
             outputs,
         } => {
@@ -163,6 +171,7 @@ where
                 address,
                 file,
                 circuit,
+                public: public.as_slice(),
                 bits: bits.as_slice(),
                 outputs: outputs.as_slice(),
             };

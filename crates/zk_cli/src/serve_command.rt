@@ -1,4 +1,4 @@
-// `serve ADDRESS FILE CIRCUIT OUTPUTS --sessions N [--workers W] [--section G] [--logs PREFIX]`
+// `serve ADDRESS FILE CIRCUIT OUTPUTS --sessions N [--workers W] [--section G] [--logs PREFIX] [--public BITS]`
 ghost use Rattle.std.specs.Prelude.{◌≡◌, ◌≤◌, IfOk, IfErr, OnOk};
 ghost use Rattle.zk_model.specs.Circuit.{Circuit};
 ghost use Rattle.zk_port.specs.Changes.{change};
@@ -10,9 +10,9 @@ ghost use Rattle.command_words.specs.Commands.{AreServeLimits, named_options};
 ghost use Rattle.file_commands.specs.Journals.{IsJournalDisk, disk_change};
 ghost use Rattle.file_commands.specs.Effects.{OnlyLoads, IsName, effects};
 ghost use Rattle.zk_cli.specs.Runs.{EachNote};
-ghost use Rattle.zk_cli.specs.ServeRuns.{IsLoadedName, IsVerifierFileAt, LeadsFiles, LeadsJob, Serves, serve_words};
+ghost use Rattle.zk_cli.specs.ServeRuns.{IsLoadedName, LeadsFiles, LeadsJob, Serves, serve_words};
 ghost use Rattle.zk_cli.specs.ServeRuns.{ClaimStop, LacksFiles, OpeningStop, ServeStop};
-ghost use Rattle.file_commands.specs.Stops.{FileStop, IsClaim};
+ghost use Rattle.file_commands.specs.Stops.{FileStop, IsClaim, IsVerifierFileAt};
 ghost use Rattle.zk_cli.specs.ServedNotes.{GrantsOnceIn, IsHeadline};
 
 use crate::finish::{Finish, Part};
@@ -21,7 +21,7 @@ use crate::service_said::say_service;
 use bristol_reader::one_circuit;
 use command_words::ServedOptions;
 use dealer_files::{VerifierFile, decode_verifier};
-use file_commands::{Refusal, load_file, open_ceilings, read_circuit, say_stop};
+use file_commands::{Refusal, check_public, load_file, open_ceilings, read_circuit, say_stop};
 use lease_journal::starts_again;
 use session_core::{CircuitClaim, TooLarge, VerifierJob};
 use session_laws::extracted_shows_outputs;
@@ -39,18 +39,20 @@ pub struct ServeWords<'a> {
     pub address: &'a str,
     pub file: &'a str,
     pub circuit: &'a str,
+    pub public: &'a [bool],
     pub outputs: &'a [bool],
     pub options: ServedOptions<'a>,
 }
 
-/// The claim that the circuit under its name gives the outputs.
+/// The claim that the circuit under its name gives the outputs with these public bits.
 fn load_claim<F: Shelf>(
     alloc: Global,
     shelf: &mut F,
     words: &ServeWords<'_>,
 ) -> Result<CircuitClaim, Refusal>
     ensures claim { IfOk result (λ claim. (circuit : Circuit)
-        × IsClaim (F.state shelf.old).told words.now.circuit.now words.now.outputs.now circuit claim) }
+        × IsClaim (F.state shelf.old).told words.now.circuit.now words.now.public.now words.now.outputs.now
+        circuit claim) }
     ensures stop { IfErr result (ClaimStop (serve_words words.now)
         (change (F.state shelf.old) (F.state shelf.new))) }
     ensures kept { OnlyLoads (IsName words.now.circuit.now) (change (F.state shelf.old) (F.state shelf.new)) }
@@ -58,6 +60,7 @@ fn load_claim<F: Shelf>(
 {
     let text = load_file(alloc, shelf, words.circuit)?;
     let circuit = read_circuit(alloc, &text)?;
+    check_public(&circuit, words.public)?;
     if words.outputs.len() != circuit.outputs() {
         return Err(Refusal::WrongOutputs {
             need: circuit.outputs() as u64,
@@ -65,7 +68,7 @@ fn load_claim<F: Shelf>(
         });
     }
     let digest = Sha256::digest(&text);
-    Ok(CircuitClaim::new(alloc, &circuit, digest, &[], words.outputs)?)
+    Ok(CircuitClaim::new(alloc, &circuit, digest, words.public, words.outputs)?)
 }
 
 /// The verifier's file of this name.
@@ -100,7 +103,8 @@ fn load_files<F: Shelf>(
     words: &ServeWords<'_>,
 ) -> Result<(CircuitClaim, VerifierFile), Refusal>
     ensures claim { IfOk result (λ r. (circuit : Circuit)
-        × IsClaim (F.state shelf.old).told words.now.circuit.now words.now.outputs.now circuit r.0) }
+        × IsClaim (F.state shelf.old).told words.now.circuit.now words.now.public.now words.now.outputs.now
+        circuit r.0) }
     ensures file { IfOk result (λ r. IsVerifierFileAt (F.state shelf.old).told words.now.file.now r.1) }
     ensures stop { IfErr result (LacksFiles (serve_words words.now)
         (change (F.state shelf.old) (F.state shelf.new))) }
@@ -229,9 +233,9 @@ where
     }
 }
 
-/// `serve ADDRESS FILE CIRCUIT OUTPUTS --sessions N [--workers W] [--section G] [--logs PREFIX]`: serves sessions about what the words name
-/// over the file's journal, keeps their logs, says what came of them and hands them back, in the order of their first units, or says why
-/// none is served; with the status.
+/// `serve ADDRESS FILE CIRCUIT OUTPUTS --sessions N [--workers W] [--section G] [--logs PREFIX] [--public BITS]`: serves
+/// sessions about what the words name over the file's journal, keeps their logs, says what came of them and hands them back, in
+/// the order of their first units, or says why none is served; with the status.
 pub fn run_serve<R, F, D, B, O, G>(
     rt: &R,
     alloc: Global,

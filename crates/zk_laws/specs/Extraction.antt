@@ -1,6 +1,6 @@
 -- What an accepted session shows (Weng, Yang, Katz and Wang, Wolverine, IEEE S&P 2021; Yang, Sarkar, Weng and Wang,
 -- QuickSilver, ACM CCS 2021).
-use Rattle.std.specs.Prelude.{ℕ, min, Bool, List, [], length, map}
+use Rattle.std.specs.Prelude.{ℕ, ◌≤◌, min, Bool, List, length, map}
 use Rattle.zk_model.specs.Bits.{from_bit}
 use Rattle.zk_model.specs.Field.{IsElement}
 use Rattle.zk_model.specs.Polynomial.{IsNamedRoot}
@@ -64,14 +64,14 @@ Extraction = (verifier : VerifierFile) (statement : Statement) (t : Transcript) 
     → (prover : ProverFile) → IsProverFile prover → AreDealt prover verifier → IsExtracted prover verifier statement t
 
 -- the inputs of a finding about a circuit's outputs are bits that satisfy it
-abbrev pub ShowsBits : Circuit → List Bool → Finding → Type 0
-ShowsBits circuit outputs (found_inputs inputs) = AreSatisfying circuit [] inputs (map from_bit outputs)
-ShowsBits circuit outputs (found_challenge_root s polynomial) = Unit {0}
-ShowsBits circuit outputs (found_key_root polynomial) = Unit {0}
+abbrev pub ShowsBits : Circuit → List Bool → List Bool → Finding → Type 0
+ShowsBits circuit public outputs (found_inputs inputs) = AreSatisfying circuit public inputs (map from_bit outputs)
+ShowsBits circuit public outputs (found_challenge_root s polynomial) = Unit {0}
+ShowsBits circuit public outputs (found_key_root polynomial) = Unit {0}
 
 -- of a circuit's outputs, what a finding shows is that bits satisfy the circuit, or the same roots
 abbrev pub FoundBits : Type 0
-FoundBits = (circuit : Circuit) (digest : List ℕ) (outputs : List Bool) (section_length challenge key : ℕ) (finding : Finding)
-    → IsWellFormed circuit
-    → Shows (circuit_statement circuit digest [] outputs) section_length challenge key finding
-    → ShowsBits circuit outputs finding
+FoundBits = (circuit : Circuit) (digest : List ℕ) (public outputs : List Bool) (section_length challenge key : ℕ) (finding : Finding)
+    → IsWellFormed circuit → length public ≤ circuit.inputs
+    → Shows (circuit_statement circuit digest public outputs) section_length challenge key finding
+    → ShowsBits circuit public outputs finding

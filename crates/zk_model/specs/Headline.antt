@@ -1,9 +1,9 @@
--- What an accepted session about a circuit's outputs shows: the input bits that the prover's file and frames fix make the
--- circuit give the claimed outputs; or the challenge is a root of a named polynomial that is not zero, of at most the number of
--- products in degree, which was fixed before the challenge; or the verifier's key is one of a named polynomial that is not
--- zero, of degree two at most (Weng, Yang, Katz and Wang, Wolverine, IEEE S&P 2021; Yang, Sarkar, Weng and Wang, QuickSilver,
--- ACM CCS 2021).
-use Rattle.std.specs.Prelude.{◌≡◌, ℕ, min, Bool, List, length, map}
+-- What an accepted session about a circuit's outputs shows: the private input bits that the prover's file and frames fix,
+-- beside the public ones, make the circuit give the claimed outputs; or the challenge is a root of a named polynomial that is
+-- not zero, of at most the number of products in degree, which was fixed before the challenge; or the verifier's key is one of
+-- a named polynomial that is not zero, of degree two at most (Weng, Yang, Katz and Wang, Wolverine, IEEE S&P 2021; Yang,
+-- Sarkar, Weng and Wang, QuickSilver, ACM CCS 2021).
+use Rattle.std.specs.Prelude.{◌≡◌, ℕ, min, Bool, List, ◌++◌, length, map}
 use Rattle.zk_model.specs.Bits.{from_bit}
 use Rattle.zk_model.specs.Polynomial.{IsNamedRoot}
 use Rattle.zk_model.specs.Circuit.{Circuit, Satisfies}
@@ -12,31 +12,31 @@ use Rattle.zk_model.specs.Statement.{Statement}
 use Rattle.zk_model.specs.Transcript.{Transcript}
 use Rattle.zk_model.specs.Finding.{Finding, found_inputs, found_challenge_root, found_key_root, IsFinding}
 
--- inputs are bits, and with these bits the circuit gives the outputs
-pub record AreSatisfyingBits (circuit : Circuit) (outputs : List Bool) (inputs : List ℕ) : Type 0 where
+-- private inputs are bits, and with the public bits and these the circuit gives the outputs
+pub record AreSatisfyingBits (circuit : Circuit) (public outputs : List Bool) (inputs : List ℕ) : Type 0 where
   pub bits : List Bool
   pub inputs_are : inputs ≡ map from_bit bits
-  pub satisfied : Satisfies circuit bits outputs
+  pub satisfied : Satisfies circuit (public ++ bits) outputs
 
--- What a finding says of a circuit's outputs. The inputs that were found are bits with which the circuit gives the outputs; or
--- the challenge is a root of the errors of the section that was found, of at most its length and the number of products in
--- degree; or the key is a root of the polynomial that was found, of degree two at most.
-abbrev pub SaysOutputs : Circuit → List Bool → ℕ → Statement → Transcript → Finding → Type 0
-SaysOutputs circuit outputs key statement t (found_inputs inputs) = AreSatisfyingBits circuit outputs inputs
-SaysOutputs circuit outputs key statement t (found_challenge_root section errors) =
+-- What a finding says of a circuit's outputs. The inputs that were found are bits with which, beside the public ones, the
+-- circuit gives the outputs; or the challenge is a root of the errors of the section that was found, of at most its length and
+-- the number of products in degree; or the key is a root of the polynomial that was found, of degree two at most.
+abbrev pub SaysOutputs : Circuit → List Bool → List Bool → ℕ → Statement → Transcript → Finding → Type 0
+SaysOutputs circuit public outputs key statement t (found_inputs inputs) = AreSatisfyingBits circuit public outputs inputs
+SaysOutputs circuit public outputs key statement t (found_challenge_root section errors) =
     IsNamedRoot (min t.commitment.setup.grant.section_length (length statement.program.products)) errors t.challenge
-SaysOutputs circuit outputs key statement t (found_key_root polynomial) = IsNamedRoot 2 polynomial key
+SaysOutputs circuit public outputs key statement t (found_key_root polynomial) = IsNamedRoot 2 polynomial key
 
 -- The one finding of the prover's file and a session, and what it says. A finding of inputs has those that the file and the frames
 -- before the challenge fix; one of a root has the polynomial of the first section with an error, or, where no section has one, of
 -- the first opened wire that is not as claimed.
 pub record ShowsOutputs
     (circuit : Circuit)
-    (outputs : List Bool)
+    (public outputs : List Bool)
     (prover : ProverFile)
     (key : ℕ)
     (statement : Statement)
     (t : Transcript) : Type 0 where
   pub finding : Finding
   pub found : IsFinding prover statement t finding
-  pub says : SaysOutputs circuit outputs key statement t finding
+  pub says : SaysOutputs circuit public outputs key statement t finding

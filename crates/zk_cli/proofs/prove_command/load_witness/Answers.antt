@@ -1,5 +1,5 @@
-use Rattle.std.proofs.Common.{◌≡◌, ◌-◌, List, [], ℕ, length, map, sym, ap, ◌∙◌, subst, arith}
-use Rattle.std.proofs.lemmas.List.{length-map}
+use Rattle.std.proofs.Common.{◌≡◌, ◌-◌, List, ◌++◌, ◌+◌, ℕ, length, map, sym, ap, ◌∙◌, subst, arith}
+use Rattle.std.proofs.lemmas.List.{length-map, length-append}
 use Rattle.sha2.specs.Sha256.{sha256}
 use Rattle.sha2.proofs.Facts256.{length-sha256}
 use Rattle.frame_laws.proofs.Octets.{sha256_octets}
@@ -17,14 +17,15 @@ pub new-requires-clause-digest : goal.new-requires-clause-digest
 new-requires-clause-digest g c = subst (AreBytes 32) (sym c.digest-digest.ensures) (length-sha256 _, sha256_octets _)
 
 stated : (g : Over) (c : goal.After-drop-text-2 g) → c.in_ok-claim.claim
-    ≡ circuit_statement c.in_ok-circuit.circuit (sha256 c.in_ok-text.text.items) [] c.args.words.now.outputs.now
+    ≡ circuit_statement c.in_ok-circuit.circuit (sha256 c.in_ok-text.text.items) c.args.words.now.public.now c.args.words.now.outputs.now
 stated g c = c.in_ok-claim.ensures
-    ∙ ap (λ (digest : List ℕ). circuit_statement c.in_ok-circuit.circuit digest [] c.args.words.now.outputs.now) c.digest-digest.ensures
+    ∙ ap (λ (digest : List ℕ). circuit_statement c.in_ok-circuit.circuit digest c.args.words.now.public.now c.args.words.now.outputs.now) c.digest-digest.ensures
 
 pub returns-clause-witness : goal.returns-clause-witness
 returns-clause-witness g c =
     let circuit = c.in_ok-circuit.circuit in
     let text = c.in_ok-text.text.items in
+    let public = c.args.words.now.public.now in
     let bits = c.args.words.now.bits.now in
     let outputs = c.args.words.now.outputs.now in
     let wires = c.in_ok-wires.wires.items in record {
@@ -35,6 +36,7 @@ returns-clause-witness g c =
           text = text;
           loaded = c.in_ok-text.ensures.loaded;
           says = subst (IsText circuit) c.deref.ensures.value c.in_ok-circuit.ensures.says;
+          few = c.in_ok-wires.ensures.few;
           count = c.in_ok-wires.ensures.count;
           statement_is = stated g c;
         };
@@ -42,16 +44,20 @@ returns-clause-witness g c =
         satisfied = (wires, c.in_ok-wires.ensures.wires, c.in_ok-wires.ensures.outputs);
         witness = λ file.
             subst (λ (s : Statement). IsWitness s (map from_bit bits) (map from_bit wires) (prover_of s wires file).given) (sym (stated g c))
-            (witness_is circuit (sha256 text) [] bits outputs wires c.bits_solve.ensures c.in_ok-circuit.ensures.says.well_formed (omega arith) c.in_ok-wires.ensures.wires);
+            (witness_is circuit (sha256 text) public bits outputs wires c.bits_solve.ensures c.in_ok-circuit.ensures.says.well_formed c.in_ok-wires.ensures.few c.in_ok-wires.ensures.wires);
       };
       proves = λ file.
           subst (λ (s : Statement). prover_from s c.in_ok-inputs.inputs.items file ≡ prover_of s wires file) (sym (stated g c))
-          (ap (λ (values : List ℕ). prover_from (circuit_statement circuit (sha256 text) [] outputs) values file) c.in_ok-inputs.ensures
-          ∙ c.input_bits_prove.ensures circuit (sha256 text) [] outputs bits wires file c.in_ok-circuit.ensures.says.well_formed (omega arith) c.in_ok-wires.ensures.wires);
+          (ap (λ (values : List ℕ). prover_from (circuit_statement circuit (sha256 text) public outputs) values file) c.in_ok-inputs.ensures
+          ∙ c.input_bits_prove.ensures circuit (sha256 text) public outputs bits wires file c.in_ok-circuit.ensures.says.well_formed c.in_ok-wires.ensures.few c.in_ok-wires.ensures.wires);
     }
 
 pub returns-clause-inputs : goal.returns-clause-inputs
 returns-clause-inputs g c =
-    let all : c.in_ok-circuit.circuit.inputs ≡ c.in_ok-circuit.circuit.inputs - 0 = omega arith in
-    ap length c.in_ok-inputs.ensures ∙ length-map c.args.words.now.bits.now from_bit ∙ c.in_ok-wires.ensures.inputs ∙ all
+    let public = c.args.words.now.public.now in
+    let bits = c.args.words.now.bits.now in
+    let whole = length-append public bits in
+    let inputs = c.in_ok-wires.ensures.inputs in
+    let all : length bits ≡ c.in_ok-circuit.circuit.inputs - length public = omega (arith, whole, inputs) in
+    ap length c.in_ok-inputs.ensures ∙ length-map bits from_bit ∙ all
     ∙ sym (ap (λ (s : Statement). s.program.inputs) (stated g c))

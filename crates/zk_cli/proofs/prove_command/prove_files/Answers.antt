@@ -6,7 +6,8 @@ use Rattle.zk_port.specs.Files.{Files}
 use Rattle.session_core.specs.Jobs.{ProverJob, prover_from}
 use Rattle.command_words.specs.Words.{ProveAsk}
 use Rattle.file_commands.proofs.Journals.{untouched}
-use Rattle.zk_cli.specs.ProveRuns.{HasWitness, IsProverFileAt, IsProveJob, prove_words}
+use Rattle.file_commands.specs.Stops.{IsProverFileAt}
+use Rattle.zk_cli.specs.ProveRuns.{HasWitness, IsProveJob, prove_words}
 use Rattle.zk_cli.proofs.prove_command.prove_files.Goals as goal
 
 -- a job with such inputs is what was asked

@@ -1,4 +1,4 @@
-use Rattle.std.proofs.Common.{◌≡◌, Bool, List, length, drop, ap, ◌∙◌, refl, subst, arith, rules}
+use Rattle.std.proofs.Common.{◌≡◌, ◌++◌, Bool, List, length, drop, ap, ◌∙◌, refl, subst, arith, rules}
 use Rattle.std.proofs.lemmas.List.{length-drop}
 use Rattle.zk_model.specs.Circuit.{Satisfies, output_wire}
 use Rattle.zk_cli.specs.ProveRuns.{DiffersFirst}
@@ -7,11 +7,11 @@ use Rattle.zk_cli.proofs.prove_command.satisfying_wires.Goals as goal
 pub first_difference-requires : goal.first_difference-requires
 first_difference-requires c =
     let circuit = c.args.circuit.now in
-    let wires = c.in-Ok.wires.items in
+    let wires = c.in_ok-wires.wires.items in
     let same : length c.output_bits.result.now ≡ length (drop (output_wire circuit 0) wires) =
     ap length (c.output_bits.ensures ∙ ap (drop (output_wire circuit 0)) c.deref.ensures.value) in
     let left = length-drop (output_wire circuit 0) wires in
-    let whole = c.in-Ok.ensures.wires.whole in
+    let whole = c.in_ok-wires.ensures.wires.whole in
     let fits = c.wires-wires.ensures.rules.well_formed.outputs_within in
     let claimed : length c.args.words.now.outputs.now ≡ circuit.outputs = search rules in
     omega (arith, same, left, whole, fits, claimed)
@@ -19,12 +19,12 @@ first_difference-requires c =
 pub returns-in-Some-clause-stop : goal.returns-in-Some-clause-stop
 returns-in-Some-clause-stop c =
     let circuit = c.args.circuit.now in
-    let bits = c.args.words.now.bits.now in
+    let bits = c.args.words.now.public.now ++ c.args.words.now.bits.now in
     let claimed = c.args.words.now.outputs.now in
-    let wires = c.in-Ok.wires.items in
+    let wires = c.in_ok-wires.wires.items in
     let given = drop (output_wire circuit 0) wires in
     let last = c.output_bits.ensures ∙ ap (drop (output_wire circuit 0)) c.deref.ensures.value in
-    let gives : Satisfies circuit bits given = (wires, c.in-Ok.ensures.wires, refl) in
+    let gives : Satisfies circuit bits given = (wires, c.in_ok-wires.ensures.wires, refl) in
     record {
       outputs = given;
       gives = gives;

@@ -16,14 +16,14 @@ returns-in-Err-clause-meets g c = λ ask is_asked.
 
 pub returns-in-Serve-clause-headline : goal.returns-in-Serve-clause-headline
 returns-in-Serve-clause-headline g c = λ ask is_asked.
-    let same : serve_ask c.in-Serve.address.now c.in-Serve.file.now c.in-Serve.circuit.now c.as_slice-in-Serve.result.now (named_options c.in-Serve.options) ≡ ask =
+    let same : serve_ask c.in-Serve.address.now c.in-Serve.file.now c.in-Serve.circuit.now c.as_slice-in-Serve.result.now c.as_slice-in-Serve-2.result.now (named_options c.in-Serve.options) ≡ ask =
     search rules in
     subst (λ (named : ServeAsk). EachNote c.run_serve.result.part (λ (note : SessionNote g.row.D-Link.Denot). note.outcome ≡ Accepted
     → IsHeadline (g.F.Shelf.state c.args.shelf.now).told named note.granted note.log)) same c.run_serve.ensures.headline
 
 pub returns-in-Serve-clause-once : goal.returns-in-Serve-clause-once
 returns-in-Serve-clause-once g c = λ ask is_asked.
-    let same : serve_ask c.in-Serve.address.now c.in-Serve.file.now c.in-Serve.circuit.now c.as_slice-in-Serve.result.now (named_options c.in-Serve.options) ≡ ask =
+    let same : serve_ask c.in-Serve.address.now c.in-Serve.file.now c.in-Serve.circuit.now c.as_slice-in-Serve.result.now c.as_slice-in-Serve-2.result.now (named_options c.in-Serve.options) ≡ ask =
     search rules in
     subst (λ (named : ServeAsk). GrantsOnceIn (g.F.Shelf.state c.args.shelf.now).told named c.run_serve.result.part
     (disk_change (g.B.Disk.state c.args.journal) (g.B.Disk.state c.run_serve.result.journal))) same c.run_serve.ensures.once

@@ -19,7 +19,7 @@ returns-clause-stop g c =
       claim.0,
       verifier_of c.statement-statement.result c.in-Ok.files.1 c.args.words.now.options.section,
       record {
-        claim = subst (λ (s : Statement). IsClaim shelf.old.told ask.circuit ask.outputs claim.0 s) (sym c.statement-statement.ensures) claim.1;
+        claim = subst (λ (s : Statement). IsClaim shelf.old.told ask.circuit ask.public ask.outputs claim.0 s) (sym c.statement-statement.ensures) claim.1;
         file = c.in-Ok.ensures.file;
         section = refl;
       },
