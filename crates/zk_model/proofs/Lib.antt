@@ -7,6 +7,7 @@ pub mod ExampleExtensions
 pub mod ExampleBytes
 pub mod ExamplesHashed
 pub mod ExampleTexts
+pub mod ExampleGenerated
 pub mod ExampleSession
 pub mod ExampleBothEnds
 pub mod ExampleProducts

@@ -10,6 +10,7 @@ pub mod Polynomial
 pub mod Circuit
 pub mod Bristol
 pub mod TextFaults
+pub mod Generated
 pub mod Program
 pub mod Boolean
 pub mod Mac

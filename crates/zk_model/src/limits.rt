@@ -12,6 +12,9 @@ pub const MAX_GATES: u32 = 1 << 20;
 /// Wires of a circuit, and so its products, committed values and outputs.
 pub const MAX_WIRES: u32 = 1 << 20;
 
+/// Gates of a generated circuit, whose wires are 64 more.
+pub const MAX_GENERATED_GATES: u32 = (1 << 20) - 64;
+
 /// Input values of a circuit's text, and output values.
 pub const MAX_VALUES: u32 = 1024;
 

@@ -1,0 +1,6 @@
+pub mod Numbers
+pub mod Lexing
+pub mod Rows
+pub mod Drawing
+pub mod WireBits
+pub mod Texts
