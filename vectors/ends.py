@@ -188,6 +188,7 @@ class End:
         self.log: List[Tuple[str, bytes]] = []
         self.received = 0
         self.asked = self.units = "none"
+        self.statement = "none"
 
     def note(self, side: str, data: bytes) -> None:
         if not data:
@@ -318,7 +319,8 @@ def read_elements(data: bytes) -> List[int]:
     return [x for (x,) in struct.iter_unpack("<Q", data[5:])]
 
 
-def compare_hello(end: End, job: Job, got: bytes) -> None:
+def take_statement(end: End, jobs: List[Job], got: bytes) -> Job:
+    """The first of these that a hello is for; a hello for none is refused as that of the first would be."""
     came = got[5:37]
     if came != FILE_ID:
         end.refuse(1, f"bad-hello id want={FILE_ID.hex()} got={came.hex()}")
@@ -326,8 +328,12 @@ def compare_hello(end: End, job: Job, got: bytes) -> None:
     if got[101] != version:
         end.refuse(1, f"bad-hello version want={version} got={got[101]}")
     said = got[37:101] + (got[102:] or sha256(b""))
-    if said != job.digests():
-        end.refuse(1, f"bad-hello statement want={job.digests().hex()} got={said.hex()}")
+    for number, job in enumerate(jobs):
+        if said == job.digests():
+            end.statement = str(number)
+            return job
+    end.refuse(1, f"bad-hello statement want={jobs[0].digests().hex()} got={said.hex()}")
+    assert False
 
 
 def lease(end: End, job: Job, grant: Grant) -> Tuple[int, int]:
@@ -374,9 +380,9 @@ def judge(job: Job, dealt_keys: List[int], given: List[int], challenge: int, sum
     return 0, 0, "accepted"
 
 
-def verify_steps(end: End, job: Job, grant: Grant) -> None:
+def verify_steps(end: End, jobs: List[Job], grant: Grant) -> None:
+    job = take_statement(end, jobs, end.take(HELLO))
     products = len(job.products())
-    compare_hello(end, job, end.take(HELLO))
     start, count = lease(end, job, grant)
     keys = take_keys(end, job, start, count)
     corrections = read_elements(end.take(element_place(5, products)))
@@ -390,19 +396,19 @@ def verify_steps(end: End, job: Job, grant: Grant) -> None:
     raise Ended(outcome)
 
 
-def verify_by(job: Job, link: Link, grant: Grant) -> Tuple[str, End]:
-    """How a verifier's session ends that asks this for its units."""
+def verify_by(jobs: List[Job], link: Link, grant: Grant) -> Tuple[str, End]:
+    """How a verifier's session about one of these ends that asks this for its units."""
     end = End("v", link)
     try:
-        verify_steps(end, job, grant)
+        verify_steps(end, jobs, grant)
     except Ended as ended:
         return str(ended), end
     assert False
 
 
-def verify(job: Job, link: Link, start: int = 0, refusal: Optional[str] = None) -> Tuple[str, End]:
+def verify(job: Job, link: Link, start: int = 0, refusal: Optional[str] = None, before: Tuple[Job, ...] = ()) -> Tuple[str, End]:
     """How a verifier's session ends whose units are leased from this one on, or refused by this outcome."""
-    return verify_by(job, link, lambda count: (start, refusal))
+    return verify_by([*before, job], link, lambda count: (start, refusal))
 
 
 # ---- the prover
@@ -488,10 +494,10 @@ def prove(job: Job, link: Link, refusal: Optional[str] = None) -> Tuple[str, End
     return prove_by(job, link, claim)
 
 
-def hold(job: Job, start: int = 0) -> Tuple[bytes, bytes]:
+def hold(job: Job, start: int = 0, before: Tuple[Job, ...] = ()) -> Tuple[bytes, bytes]:
     """What the prover and the verifier send in a session that they hold with each other."""
     by_prover = by_verifier = b""
     for _ in range(4):
         by_prover = prove(job, Link(by_verifier))[1].sent()
-        by_verifier = verify(job, Link(by_prover), start)[1].sent()
+        by_verifier = verify(job, Link(by_prover), start, None, before)[1].sent()
     return by_prover, by_verifier

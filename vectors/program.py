@@ -481,7 +481,7 @@ def lead_sessions(outside: Outside, job: Job, leases: Leases, sessions: int, pee
         peer = next(rest, None)
         if peer is None:
             break
-        notes.append(verify_by(job, peer, leases.grant))
+        notes.append(verify_by([job], peer, leases.grant))
     return sorted(notes, key=start_of), False
 
 

@@ -83,6 +83,13 @@ class Scenario(NamedTuple):
         trees, height, base = map(int, files.split(","))
         return Extended(height=height, trees=trees, base=base)
 
+    def before(self) -> Tuple[Job, ...]:
+        """The job that a verifier offers before that of the scenario, where there is one."""
+        if "before" not in self.words:
+            return ()
+        job = self.job()
+        return (job._replace(claim=job.claim._replace(public=self.number("before", 0))),)
+
     def job(self, digest: Optional[bytes] = None) -> Job:
         """What its session is about, whose hello has the digest of the circuit's text, or this one."""
         name = self.words.get("circuit", "and.txt")
@@ -146,17 +153,18 @@ def cases_of(scenario: Scenario, script: bytes) -> Iterator[Tuple[str, bytes, in
             yield name, script[:number] + bytes([changed]) + script[number + 1 :], 0
 
 
-def note_line(name: str, outcome: str, end: End) -> str:
+def note_line(scenario: Scenario, name: str, outcome: str, end: End) -> str:
+    taken = f" statement={end.statement}" if "before" in scenario.words and end.side == "v" else ""
     calls = f"sends={end.link.sends} receives={end.link.receives} failed={end.link.faults}"
-    return f"{name}{outcome} asked={end.asked} units={end.units} {program.log_words(end.log)} {calls}"
+    return f"{name}{outcome}{taken} asked={end.asked} units={end.units} {program.log_words(end.log)} {calls}"
 
 
 def verifier_lines(scenario: Scenario, job: Job, honest: bytes) -> List[str]:
     lines = []
     for name, script, failing in cases_of(scenario, script_of(scenario, honest)):
         link = Link(script, scenario.number("pieces", MOST_RECEIVED), failing)
-        outcome, end = verify(job, link, scenario.number("start", 0), refusal_of(scenario))
-        lines.append(note_line(name, outcome, end))
+        outcome, end = verify(job, link, scenario.number("start", 0), refusal_of(scenario), scenario.before())
+        lines.append(note_line(scenario, name, outcome, end))
     return lines
 
 
@@ -164,7 +172,7 @@ def prover_lines(scenario: Scenario, job: Job, honest: bytes) -> List[str]:
     lines = []
     for name, script, failing in cases_of(scenario, script_of(scenario, honest)):
         outcome, end = prove(job, Link(script, scenario.number("pieces", MOST_RECEIVED), failing), refusal_of(scenario))
-        lines.append(note_line(name, outcome, end))
+        lines.append(note_line(scenario, name, outcome, end))
     return lines
 
 
@@ -293,7 +301,7 @@ def lines_of(scenario: Scenario) -> List[str]:
         return [f"too-large need={job.need(job.section)} units={units}"]
     if scenario.end == "service":
         return service_lines(scenario, job)
-    by_prover, by_verifier = hold(job, scenario.number("start", 0))
+    by_prover, by_verifier = hold(job, scenario.number("start", 0), scenario.before())
     if scenario.end == "verifier":
         return verifier_lines(scenario, job, by_prover)
     if scenario.end == "prover":
@@ -389,6 +397,21 @@ def public_sessions() -> List[Scenario]:
     others = [hold(line("verifier", public=public, bits=bits).job())[0] for public, bits in ((0, "11"), (1, "01"), (2, "11"))]
     scenarios += [line("verifier", **PUBLIC, keep=0, more=other.hex()) for other in others]
     return scenarios + [line("verifier", public=2, keep=0, more=sent.hex()), line("verifier", keep=0, more=sent.hex(), pieces=1)]
+
+
+def several_statements() -> List[Scenario]:
+    """Sessions of a verifier that offers another statement first: of its own prover, of the other's, and of neither."""
+    scenarios = [line("both", before=before, public=public) for before in range(3) for public in range(3)]
+    scenarios += [line("verifier", before=before, public=public, outputs=0) for before, public in ((0, 1), (1, 0), (1, 1))]
+    neither = hold(line("verifier", public=2).job())[0]
+    scenarios += [line("verifier", before=before, public=1 - before, keep=0, more=neither.hex()) for before in (0, 1)]
+    first = hold(line("verifier", public=1).job())[0]
+    scenarios += [line("verifier", before=1, keep=0, more=first.hex()), line("verifier", before=1, **ONE_TREE)]
+    scenarios += [line("verifier", before=1, cut="101..104"), line("verifier", before=1, change="96..103:1"), line("verifier", before=1, fail="1..9")]
+    scenarios += [line("verifier", before=1, fail="2..4", refuse=refusal) for refusal in ("exhausted,0,1,1", "device", "broken,5")]
+    scenarios.append(line("both", **TEN_UNITS, public=64, before=128, units=10))
+    scenarios.append(line("both", circuit="chain.txt", bits="10", public=1, before=0, section=1, units=128))
+    return scenarios + [line("both", circuit="chain.txt", bits="10", before=2, section=1, units=128)]
 
 
 def public_runs() -> List[Scenario]:
@@ -763,7 +786,7 @@ def all_scenarios() -> List[Scenario]:
     parts += [leases(), failing_services(), logged_services()]
     parts += [honest_proofs(), unsuited_grants(), taken_units(), wrong_verdicts(), failing_proofs()]
     parts += [false_proofs(), stopped_proofs(), words_of_no_proof(), journals_of_claims()]
-    parts += [public_sessions(), public_runs(), public_ends()]
+    parts += [public_sessions(), several_statements(), public_runs(), public_ends()]
     return [scenario for part in parts for scenario in part]
 
 

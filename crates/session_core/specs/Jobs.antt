@@ -1,17 +1,18 @@
 -- What either end of a session is to do.
-use Rattle.std.specs.Prelude.{◌≡◌, ◌^◌, ◌<◌, ◌≤◌, ℕ, Bool, List, ◌++◌, map, length}
+use Rattle.std.specs.Prelude.{◌≡◌, ◌^◌, ◌<◌, ◌≤◌, ℕ, Bool, Option, None, Some, List, [], ◌∷◌, ◌++◌, map, length, slice_index_or, All}
 use Rattle.zk_model.specs.Bits.{from_bit}
 use Rattle.zk_model.specs.Boolean.{bits_of_products}
 use Rattle.zk_model.specs.Program.{Program, correlations_needed}
 use Rattle.zk_model.specs.Circuit.{Circuit, IsWellFormed, AreWireBits}
 use Rattle.zk_model.specs.Statement.{Statement, circuit_statement}
 use Rattle.zk_model.specs.Files.{ProverFile, VerifierFile}
-use Rattle.zk_model.specs.Transcript.{Grant, units_for}
+use Rattle.zk_model.specs.Check.{AllBelow}
+use Rattle.zk_model.specs.Transcript.{Grant, Hello, IsHelloFor, units_for}
 use Rattle.zk_model.specs.ServedVerifier.{VerifierTask}
 use Rattle.zk_model.specs.declared.Params.{Params}
 use Rattle.wire_auth.specs.Values.{given_made}
 use Rattle.session_core.specs.declared.verifier_job.TooLarge.{TooLarge}
-use Rattle.zk_model.specs.declared.limits.TheConstants.{MAX_SECTION_LENGTH, MAX_UNITS}
+use Rattle.zk_model.specs.declared.limits.TheConstants.{MAX_SECTION_LENGTH, MAX_STATEMENTS, MAX_UNITS}
 
 -- a verifier's file and statement, and how many products its sections have
 pub record VerifierJob : Type 0 where
@@ -27,6 +28,52 @@ pub record IsVerifierJob (job : VerifierJob) : Type 0 where
   pub section_some : 1 ≤ job.section_length
   pub section_most : job.section_length ≤ MAX_SECTION_LENGTH
   pub units_most : units_of_job job ≤ MAX_UNITS
+
+-- The jobs of a verifier over its one file, each about another statement, of which there is at least one.
+pub record VerifierJobs : Type 0 where
+  pub first : VerifierJob
+  pub others : List VerifierJob
+
+-- all of them
+abbrev pub all_jobs : VerifierJobs → List VerifierJob
+all_jobs jobs = jobs.first ∷ jobs.others
+
+-- of one statement
+abbrev pub one_job : VerifierJob → VerifierJobs
+one_job job = record { first = job; others = [] }
+
+-- the one of this number, counted from 0
+abbrev pub job_at : VerifierJobs → ℕ → VerifierJob
+job_at jobs n = slice_index_or (all_jobs jobs) n jobs.first
+
+-- the one about the statement that was taken, and the first where none was
+abbrev pub noted_job : VerifierJobs → Option ℕ → VerifierJob
+noted_job jobs None = jobs.first
+noted_job jobs (Some n) = job_at jobs n
+
+-- they are over the file of the first, and few
+pub record AreVerifierJobs (jobs : VerifierJobs) : Type 0 where
+  pub one_file : All (λ job. job.task.file ≡ jobs.first.task.file) jobs.others
+  pub few : length (all_jobs jobs) ≤ MAX_STATEMENTS
+
+-- a hello for the file and the statement of a job
+abbrev pub IsHelloOf : VerifierJob → Hello → Type 0
+IsHelloOf job hello = IsHelloFor job.task.file.id job.task.statement hello
+
+-- the hello is for the job of this number, and for none before it
+pub record IsFirstFor (jobs : VerifierJobs) (n : ℕ) (hello : Hello) : Type 0 where
+  pub within : n < length (all_jobs jobs)
+  pub fits : IsHelloOf (job_at jobs n) hello
+  pub first : AllBelow n (λ k. ¬ IsHelloOf (job_at jobs k) hello)
+
+-- it is for none of them
+abbrev pub IsForNone : VerifierJobs → Hello → Type 0
+IsForNone jobs hello = AllBelow (length (all_jobs jobs)) (λ k. ¬ IsHelloOf (job_at jobs k) hello)
+
+-- what a hello is taken for: the first job that it is for, if there is one
+abbrev pub TakesHello : VerifierJobs → Hello → Option ℕ → Type 0
+TakesHello jobs hello None = IsForNone jobs hello
+TakesHello jobs hello (Some n) = IsFirstFor jobs n hello
 
 -- the grant of its units from this one on
 abbrev pub granted_from : VerifierJob → ℕ → Grant

@@ -2,7 +2,7 @@
 //! QuickSilver, ACM CCS 2021).
 //!
 //! `statement` has what a session is about, `circuit_claim` the claim that some inputs make a circuit give outputs. `prover_job` and
-//! `verifier_job` have what either end is to do, and its turns as calls; `prover_core` and `verifier_core` take frames one by one
+//! `verifier_job` have what either end is to do, and its turns as calls, `verifier_jobs` what a verifier is to do of several statements; `prover_core` and `verifier_core` take frames one by one
 //! and take these turns. `extending` has the asks, replies, pairs and keys of all units of a grant, `judgement` what the checks
 //! found, `fault` why a core stops.
 //!
@@ -22,6 +22,7 @@ mod prover_job;
 mod statement;
 mod verifier_core;
 mod verifier_job;
+mod verifier_jobs;
 
 pub use circuit_claim::{CircuitClaim, input_bits_prove};
 pub use extending::{Replied, ask_units, finish_units, reply_units};
@@ -32,5 +33,6 @@ pub use prover_job::{Committed, Opened, ProverJob};
 pub use statement::{Statement, bits_digest, elements_of};
 pub use verifier_core::VerifierCore;
 pub use verifier_job::{TooLarge, VerifierJob, units_for};
+pub use verifier_jobs::VerifierJobs;
 pub use wire_auth::Correlations;
 pub use zk_model::Verdict;

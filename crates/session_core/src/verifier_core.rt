@@ -1,5 +1,5 @@
 // The verifier's end of a session, frame by frame.
-ghost use Rattle.std.specs.Prelude.{◌≡◌, ◌+◌, ◌≤◌, ℕ, [], ◌∷◌, length, map, All, IfOk, IfErr, OnErr, IfSome, IfNone, IsSomeAnd};
+ghost use Rattle.std.specs.Prelude.{◌≡◌, ◌+◌, ◌≤◌, ℕ, [], ◌∷◌, length, map, true, false, All, IfOk, IfErr, OnErr, IfSome, IfNone, IsSomeAnd};
 ghost use Rattle.zk_model.specs.Frames.{Allows, AreAsks};
 ghost use Rattle.zk_model.specs.View.{verdict_code, verdict_number};
 ghost use Rattle.zk_model.specs.Frames as model;
@@ -7,7 +7,7 @@ ghost use Rattle.zk_model.specs.Transcript.{IsHelloFor, digest_said};
 ghost use Rattle.proof_frames.specs.Frames.{frame_value};
 ghost use Rattle.wire_auth.specs.Held.{items_in};
 ghost use Rattle.proof_frames.specs.Readings.{IsShortPlace};
-ghost use Rattle.session_core.specs.Jobs.{units_of_job, granted_from};
+ghost use Rattle.session_core.specs.Jobs.{IsHelloOf, units_of_job, granted_from};
 ghost use Rattle.session_core.specs.Judgements.{verdict_in};
 ghost use Rattle.zk_model.specs.declared.Expect.TheVariants as expect;
 ghost use Rattle.zk_model.specs.declared.Kind.TheVariants.{Extended};
@@ -128,6 +128,14 @@ fn difference(id: [u8; 32], statement: &Statement<'_>, hello: &Hello) -> Option<
         return Some(HelloDiffers::Statement { want, got });
     }
     None
+}
+
+/// Whether a hello is for the file and the statement of a job.
+pub(crate) fn is_hello_of(job: &VerifierJob<'_>, hello: &Hello) -> bool
+    ensures yes { result ≡ true → IsHelloOf job.now hello.now }
+    ensures no { result ≡ false → ¬ IsHelloOf job.now hello.now }
+{
+    difference(job.file().id(), job.statement(), hello).is_none()
 }
 
 /// The frame of a verdict.

@@ -23,8 +23,8 @@ known_push (q ∷ ps) p = let i = known_push ps p in omega (arith, i)
 allowed_parts : (ps : List Pass) (p : Pass) (mark : ℕ) → All (λ q. AllowsMark q mark) (ps ++ p ∷ []) → All (λ q. AllowsMark q mark) ps × AllowsMark p mark
 allowed_parts ps p mark h = All-pop (λ q. AllowsMark q mark) (ps ++ p ∷ []) ps (Some p) refl h
 
-module _ {M : Type 0} (granted : M → Option Span) (refused : M → Option LeaseFault) (is_note : M → Type 0) (fresh : Type 0) (units : ℕ) (table : TableId) (total : ℕ) where
-  pub none_back : (amount : ℕ) → amount ≡ 0 → AreBack granted refused is_note fresh units table total [] amount []
+module _ {M : Type 0} (granted : M → Option Span) (refused : M → Option LeaseFault) (is_note : M → Type 0) (fresh : Type 0) (size : M → ℕ) (table : TableId) (total : ℕ) where
+  pub none_back : (amount : ℕ) → amount ≡ 0 → AreBack granted refused is_note fresh size table total [] amount []
   none_back amount is = record {
     own = λ k d l. absurd (omega (arith, l));
     counted = is;
@@ -39,14 +39,14 @@ module _ {M : Type 0} (granted : M → Option Span) (refused : M → Option Leas
   }
 
   pub one_back : (ps ps_now : List Pass) (p : Pass) (parts more amount merged amount_now : ℕ) (notes notes_now own : List M)
-      → AreBack granted refused is_note fresh units table total ps amount notes
-      → IsWorker granted refused is_note fresh units table total p parts more own
+      → AreBack granted refused is_note fresh size table total ps amount notes
+      → IsWorker granted refused is_note fresh size table total p parts more own
       → ps_now ≡ ps ++ p ∷ [] → merged ≡ amount + more → amount_now ≡ merged → notes_now ≡ notes ++ own
-      → AreBack granted refused is_note fresh units table total ps_now amount_now notes_now
+      → AreBack granted refused is_note fresh size table total ps_now amount_now notes_now
   one_back ps ps_now p parts more amount merged amount_now notes notes_now own b w passes_are merged_is amount_is notes_are = rw (passes_are, notes_are) (record {
     own = All-push (IsPassAt table total) ps p b.own w.own;
     counted = let x = b.counted in let y = w.counted in let z = length-append notes own in omega (arith, x, y, z, merged_is, amount_is);
     work = rw (entries_push ps p, known_push ps p)
-        (joined granted refused is_note fresh units total (all_entries ps) (entries_of p) (most_known ps) (known_of p)
+        (joined granted refused is_note fresh size total (all_entries ps) (entries_of p) (most_known ps) (known_of p)
         (λ mark. All (λ q. AllowsMark q mark) ps) (AllowsMark p) (λ mark. All (λ q. AllowsMark q mark) (ps ++ p ∷ [])) notes own (allowed_parts ps p) b.work w.work);
   })

@@ -2,3 +2,4 @@ pub mod Works
 pub mod Back
 pub mod Doorways
 pub mod Runs
+pub mod Sizes

@@ -1,12 +1,12 @@
 -- What the notes of a whole run say.
-use Rattle.std.proofs.Common.{◌≡◌, ◌∙◌, ℕ, suc, ◌+◌, ◌-◌, ◌*◌, ◌<◌, ◌≤◌, max, ◌⊎◌, inl, inr, ⊎_elim, List, [], ◌∷◌, length, get_or, ap, subst, arith, All, Option, None, Some, IfSome}
-use Rattle.std.specs.List.{AllPairs}
+use Rattle.std.proofs.Common.{◌≡◌, ◌∙◌, ℕ, suc, ◌+◌, ◌-◌, ◌<◌, ◌≤◌, max, ◌⊎◌, inl, inr, ⊎_elim, List, [], ◌∷◌, length, get_or, ap, subst, arith, All, Option, None, Some, IfSome}
+use Rattle.std.specs.List.{AllPairs, sum_by}
 use Rattle.std.proofs.lemmas.List.Sums.{sum_by-cons, get_or-le-sum_by}
 use Rattle.std.proofs.lemmas.Bool.{cases_lt}
 use Rattle.std.proofs.lemmas.Bool.Decides.{nat_tests}
 use Rattle.zk_model.specs.declared.Span.{Span}
 use Rattle.zk_port.specs.Disks.{DiskState}
-use Rattle.lease_words.specs.Views.{end_of, inside, times_drawn}
+use Rattle.lease_words.specs.Views.{end_of, inside, times_drawn, units_drawn}
 use Rattle.lease_words.specs.Calls.{known_of, greatest_end, all_entries, IsApart}
 use Rattle.lease_words.specs.declared.pass.Pass.{Pass}
 use Rattle.lease_words.specs.declared.view.Entry.{Entry}
@@ -14,8 +14,9 @@ use Rattle.lease_words.proofs.Whole.{two_le, at_most_one, within}
 use Rattle.lease_store.specs.Leases.{IsClosed}
 use Rattle.lease_store.specs.declared.LeaseFault.{LeaseFault}
 use Rattle.lease_store.specs.declared.LeaseFault.TheVariants as lease
-use Rattle.session_pool.specs.Notes.{AreApart, IsBetween, IsRefusedBy, IsLeft}
-use Rattle.session_pool.specs.Works.{has_unit, IsUpTo, IsReached, AllowsMark, IsWork, most_known}
+use Rattle.session_pool.specs.Notes.{AreApart, IsBetween, IsRefusedBy, IsRefusedAmong, IsLeft}
+use Rattle.session_pool.specs.Works.{has_unit, IsUpTo, IsReachedBy, IsReached, AllowsMark, IsWork, most_known}
+use Rattle.session_pool.proofs.Works.{if_weaker}
 
 covers : (low high unit : ℕ) → low ≤ unit → unit < high → inside low high unit ≡ 1
 covers low high unit a b = grind (arith, nat_tests)
@@ -45,11 +46,11 @@ apart_once unit (e ∷ es) h =
     (λ (x : inside e.start (end_of e) unit ≤ 0). omega (arith, split, i, x))
     (cases_lt 0 (inside e.start (end_of e) unit))
 
-apart_two : (units total known : ℕ) (a b : Option Span) → IsUpTo units total known a → IsUpTo units total known b
+apart_two : (units others total known : ℕ) (a b : Option Span) → IsUpTo units total known a → IsUpTo others total known b
     → ((unit : ℕ) → has_unit a unit + has_unit b unit ≤ 1) → AreApart a b
-apart_two units total known None b u v once = tt
-apart_two units total known (Some s) None u v once = tt
-apart_two units total known (Some s) (Some t) u v once = ⊎_elim
+apart_two units others total known None b u v once = tt
+apart_two units others total known (Some s) None u v once = tt
+apart_two units others total known (Some s) (Some t) u v once = ⊎_elim
     (λ (x : t.start < s.end). ⊎_elim
     (λ (y : s.start < t.end).
     let unit : ℕ = max s.start t.start in
@@ -89,19 +90,23 @@ greatest_base : (base : ℕ) (es : List Entry) → greatest_end 0 es ≤ greates
 greatest_base base [] = omega arith
 greatest_base base (e ∷ es) = let i = greatest_base base es in omega (arith, i)
 
-last_at : (at units base last : ℕ) → at + units ≤ base + units * (last + 1) → at ≤ base + units * last
-last_at at units base last h = omega (arith, h)
+refused_by : (units own total reach drawn taken base : ℕ) (fault : LeaseFault) → reach ≤ base + drawn → drawn ≤ taken
+    → IsReachedBy units own total reach drawn taken fault → IsRefusedBy units total (base + (taken - max units own)) (Some fault)
+refused_by units own total reach drawn taken base (lease.Exhausted at count all) low few r =
+    let ends = r.0 in let last = r.4 in (omega (arith, low, few, ends, last), r.1, r.2, r.3)
+refused_by units own total reach drawn taken base lease.Device low few r = tt
+refused_by units own total reach drawn taken base (lease.Broken first) low few r = tt
 
-last_place : (at units base notes : ℕ) → 0 < notes → at + units ≤ base + units * notes → at ≤ base + units * (notes - 1)
-last_place at units base notes some h =
-    let e : notes ≡ (notes - 1) + 1 = omega (arith, some) in last_at at units base (notes - 1) (subst (λ (n : ℕ). at + units ≤ base + units * n) e h)
-
-refused_by : (units total reach base notes : ℕ) (o : Option LeaseFault) → 0 < notes → reach ≤ base + units * notes → IsReached units total reach o
-    → IsRefusedBy units total (base + units * (notes - 1)) o
-refused_by units total reach base notes None some low r = tt
-refused_by units total reach base notes (Some (lease.Exhausted at count all)) some low r = (last_place at units base notes some (omega (arith, low, r.0)), r.1, r.2, r.3)
-refused_by units total reach base notes (Some lease.Device) some low r = tt
-refused_by units total reach base notes (Some (lease.Broken first)) some low r = tt
+refused_among : {M : Type 0} (size : M → ℕ) (base total : ℕ) (entries : List Entry) (notes : List M) (m : M) (fault : LeaseFault)
+    → greatest_end 0 entries ≤ base + units_drawn entries → units_drawn entries ≤ sum_by size notes
+    → IsReached size total entries notes (size m) fault → IsRefusedAmong size base total notes m fault
+refused_among size base total entries notes m fault low few r = record {
+  drawer = r.drawer;
+  among = r.among;
+  least = r.least;
+  most = r.most;
+  refused = refused_by (size r.drawer) (size m) total (greatest_end 0 entries) (units_drawn entries) (sum_by size notes) base fault low few r.reached;
+}
 
 -- ---- the store, by another name of its first unit
 
@@ -109,9 +114,9 @@ module _ (start disk : DiskState) (id : List ℕ) (total : ℕ) (ps : List Pass)
   pub same_closed : (base first : ℕ) → base ≡ first → IsClosed start disk id base total ps → IsClosed start disk id first total ps
   same_closed base first is closed = subst (λ (x : ℕ). IsClosed start disk id x total ps) is closed
 
-  pub none_left : {M : Type 0} (units : ℕ) (granted : M → Option Span) (refused : M → Option LeaseFault) (first notes : List M) (base : ℕ) → first ≡ [] → notes ≡ first
-      → IsClosed start disk id base total ps → IsLeft start disk id base total units granted refused notes
-  none_left {M} units granted refused first notes base none same closed =
+  pub none_left : {M : Type 0} (size : M → ℕ) (granted : M → Option Span) (refused : M → Option LeaseFault) (first notes : List M) (base : ℕ) → first ≡ [] → notes ≡ first
+      → IsClosed start disk id base total ps → IsLeft start disk id base total size granted refused notes
+  none_left {M} size granted refused first notes base none same closed =
       let empty : length notes ≡ 0 = ap (length {A = M}) same ∙ ap (length {A = M}) none in record {
         passes = ps;
         closed = closed;
@@ -123,36 +128,38 @@ module _ (start disk : DiskState) (id : List ℕ) (total : ℕ) (ps : List Pass)
 
 -- ---- all of it
 
-pub record IsRun {M : Type 0} (granted : M → Option Span) (refused : M → Option LeaseFault) (fresh : Type 0) (units : ℕ) (notes : List M)
+pub record IsRun {M : Type 0} (granted : M → Option Span) (refused : M → Option LeaseFault) (fresh : Type 0) (size : M → ℕ) (notes : List M)
     (start disk : DiskState) (id : List ℕ) (base total : ℕ) : Type 0 where
   pub apart : AllPairs (λ m n. AreApart (granted m) (granted n)) notes
-  pub left : IsLeft start disk id base total units granted refused notes
-  pub refusals : fresh → All (λ m. IsRefusedBy units total (base + units * (length notes - 1)) (refused m)) notes
+  pub left : IsLeft start disk id base total size granted refused notes
+  pub refusals : fresh → All (λ m. IfSome (refused m) (IsRefusedAmong size base total notes m)) notes
 
-module _ {M : Type 0} (granted : M → Option Span) (refused : M → Option LeaseFault) (is_note : M → Type 0) (fresh : Type 0) (units : ℕ) (notes : List M) (ps : List Pass)
+module _ {M : Type 0} (granted : M → Option Span) (refused : M → Option LeaseFault) (is_note : M → Type 0) (fresh : Type 0) (size : M → ℕ) (notes : List M) (ps : List Pass)
     (start disk : DiskState) (id : List ℕ) (base total : ℕ)
-    (w : IsWork granted refused is_note fresh units total (all_entries ps) (most_known ps) (λ mark. All (λ p. AllowsMark p mark) ps) notes) (closed : IsClosed start disk id base total ps) where
+    (w : IsWork granted refused is_note fresh size total (all_entries ps) (most_known ps) (λ mark. All (λ p. AllowsMark p mark) ps) notes) (closed : IsClosed start disk id base total ps) where
   all_apart : AllPairs (λ m n. AreApart (granted m) (granted n)) notes
   all_apart i j d h l =
-      apart_two units total (most_known ps) (granted (get_or notes i d)) (granted (get_or notes j d)) (w.upto i d (omega (arith, h, l))) (w.upto j d l)
+      apart_two (size (get_or notes i d)) (size (get_or notes j d)) total (most_known ps) (granted (get_or notes i d)) (granted (get_or notes j d)) (w.upto i d (omega (arith, h, l))) (w.upto j d l)
       (λ unit. let two = two_le (λ (m : M). has_unit (granted m) unit) notes i j d h l in let a = w.once unit in let b = apart_once unit (all_entries ps) closed.gathered.apart in omega (arith, two, a, b))
 
-  all_left : IsLeft start disk id base total units granted refused notes
+  all_left : IsLeft start disk id base total size granted refused notes
   all_left = record {
     passes = ps;
     closed = closed;
-    spans = λ k d l. between units total base (most_known ps) closed.ceiling (all_entries ps) (granted (get_or notes k d)) closed.gathered.above (known_low closed.ceiling ps closed.gathered.known) (w.upto k d l)
+    spans = λ k d l. between (size (get_or notes k d)) total base (most_known ps) closed.ceiling (all_entries ps) (granted (get_or notes k d)) closed.gathered.above (known_low closed.ceiling ps closed.gathered.known) (w.upto k d l)
         (λ unit. let a = get_or-le-sum_by (λ (m : M). has_unit (granted m) unit) notes k d l in let b = w.once unit in omega (arith, a, b));
-    within = λ k d l. inside_total units total (most_known ps) (granted (get_or notes k d)) (w.upto k d l);
+    within = λ k d l. inside_total (size (get_or notes k d)) total (most_known ps) (granted (get_or notes k d)) (w.upto k d l);
     marked = λ k d l. (w.marked closed.mark closed.gathered.marks k d l).0;
     told = λ k d l. (w.marked closed.mark closed.gathered.marks k d l).1;
   }
 
-  all_refused : fresh → All (λ m. IsRefusedBy units total (base + units * (length notes - 1)) (refused m)) notes
+  all_refused : fresh → All (λ m. IfSome (refused m) (IsRefusedAmong size base total notes m)) notes
   all_refused f k d l =
-      let a = greatest_base base (all_entries ps) in let b = closed.gathered.tile in let c = w.drawn f in
-      refused_by units total (greatest_end 0 (all_entries ps)) base (length notes) (refused (get_or notes k d)) (omega (arith, l)) (omega (arith, a, b, c)) (w.reached f k d l)
+      let a = greatest_base base (all_entries ps) in let b = closed.gathered.tile in
+      if_weaker (IsReached size total (all_entries ps) notes (size (get_or notes k d))) (IsRefusedAmong size base total notes (get_or notes k d))
+      (λ fault. refused_among size base total (all_entries ps) notes (get_or notes k d) fault (omega (arith, a, b)) (w.drawn f))
+      (refused (get_or notes k d)) (w.reached f k d l)
 
   -- all of that together
-  pub is_run : IsRun granted refused fresh units notes start disk id base total
+  pub is_run : IsRun granted refused fresh size notes start disk id base total
   is_run = record { apart = all_apart; left = all_left; refusals = all_refused }

@@ -1,6 +1,7 @@
 -- What notes of sessions say of the units that they leased.
-use Rattle.std.specs.Prelude.{◌≡◌, ◌≢◌, ◌⊎◌, ℕ, ◌+◌, ◌<◌, ◌≤◌, List, [], All, Option, None, Some, IfSome, Result, Ok, Err}
+use Rattle.std.specs.Prelude.{◌≡◌, ◌≢◌, ◌⊎◌, ℕ, ◌+◌, ◌-◌, ◌<◌, ◌≤◌, max, List, [], All, Contains, sum_by, Option, None, Some, IfSome, Result, Ok, Err}
 use Rattle.zk_model.specs.declared.Span.{Span}
+use Rattle.zk_model.specs.declared.limits.TheConstants.{MAX_UNITS}
 use Rattle.zk_port.specs.Disks.{DiskState}
 use Rattle.lease_words.specs.declared.pass.Pass.{Pass}
 use Rattle.lease_words.specs.Calls.{entries_of}
@@ -20,14 +21,15 @@ Lends p units None q = q ≡ p
 Lends p units (Some answer) q = Leased p units answer q
 
 -- One session that was served: its note is that of such an answer, and the answer is what became of the pass. So the pass has one entry
--- more at most, of the session's units, and none where nobody was asked.
+-- more at most, of as many units as the note's size, and none where nobody was asked.
 pub record IsServed {M : Type 0} (IsNote : Option (Result Span LeaseFault) → M → Type 0) (granted : M → Option Span)
-    (refused : M → Option LeaseFault) (units : ℕ) (note : M) (p q : Pass) : Type 0 where
+    (refused : M → Option LeaseFault) (size : M → ℕ) (note : M) (p q : Pass) : Type 0 where
   pub answer : Option (Result Span LeaseFault)
   pub is_note : IsNote answer note
   pub granted_is : granted note ≡ granted_by answer
   pub refused_is : IfSome (refused note) (λ fault. answer ≡ Some (Err fault))
-  pub lends : Lends p units answer q
+  pub lends : Lends p (size note) answer q
+  pub sized : IfSome answer (λ _. (1 ≤ size note) × (size note ≤ MAX_UNITS))
 
 -- a note of a session, however it was answered
 abbrev pub IsNoteOf : {M : Type 0} → (Option (Result Span LeaseFault) → M → Type 0) → M → Type 0
@@ -56,6 +58,17 @@ IsRefusedBy units total last (Some (Exhausted at count all)) =
 IsRefusedBy units total last (Some Device) = Unit {0}
 IsRefusedBy units total last (Some (Broken first)) = Unit {0}
 
+-- Why a note is refused among these: by a draw of as many units as one of them takes (itself, or an earlier one of its pass, which keeps
+-- its first refusal and answers it again). Units are wanting only at or below the base and all that the notes take but for that one, and
+-- but for the note itself.
+pub record IsRefusedAmong {M : Type 0} (size : M → ℕ) (base total : ℕ) (notes : List M) (note : M)
+    (fault : LeaseFault) : Type 0 where
+  pub drawer : M
+  pub among : Contains notes drawer
+  pub least : 1 ≤ size drawer
+  pub most : size drawer ≤ MAX_UNITS
+  pub refused : IsRefusedBy (size drawer) total (base + (sum_by size notes - max (size drawer) (size note))) (Some fault)
+
 -- a journal that is said to have failed is marked
 abbrev pub IsMarked : ℕ → Option LeaseFault → Type 0
 IsMarked mark None = Unit {0}
@@ -70,14 +83,14 @@ TellsMark mark (Some (Exhausted at count total)) = Unit {0}
 TellsMark mark (Some Device) = Unit {0}
 TellsMark mark (Some (Broken first)) = first ≡ mark
 
--- What is left of the store that served these notes. It is closed with its passes; every granted span has so many units and lies between
+-- What is left of the store that served these notes. It is closed with its passes; every granted span has its note's size and lies between
 -- the base and the ceiling, which the content and each image of the disk recover, or a higher one, and ends within the total; and where a
 -- journal is said to have failed, the store is marked, so a call of the disk failed, and one that failed before is told by that mark.
-pub record IsLeft {M : Type 0} (start disk : DiskState) (id : List ℕ) (base total units : ℕ) (granted : M → Option Span)
-    (refused : M → Option LeaseFault) (notes : List M) : Type 0 where
+pub record IsLeft {M : Type 0} (start disk : DiskState) (id : List ℕ) (base total : ℕ) (size : M → ℕ)
+    (granted : M → Option Span) (refused : M → Option LeaseFault) (notes : List M) : Type 0 where
   pub passes : List Pass
   pub closed : IsClosed start disk id base total passes
-  pub spans : All (λ note. IsBetween units base closed.ceiling (granted note)) notes
+  pub spans : All (λ note. IsBetween (size note) base closed.ceiling (granted note)) notes
   pub within : All (λ note. IfSome (granted note) (λ span. span.end ≤ total)) notes
   pub marked : All (λ note. IsMarked closed.mark (refused note)) notes
   pub told : All (λ note. TellsMark closed.mark (refused note)) notes

@@ -71,7 +71,6 @@ where
     ensures served { IsServed (S.is_note session.now) S.granted S.refused (S.size session.now)
         result pass.old pass.new }
 {
-    let _units = session.units();
     let mut lender = Lender {
         rt,
         store,

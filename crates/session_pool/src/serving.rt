@@ -1,11 +1,11 @@
 // The sessions with all peers that call.
-ghost use Rattle.std.specs.Prelude.{◌≡◌, ◌+◌, ◌-◌, ◌*◌, ◌<◌, ◌≤◌, ◌⊎◌, ℕ, List, true, [], Some, All, AllPairs, length, vec_len, vec_capacity};
+ghost use Rattle.std.specs.Prelude.{◌≡◌, ◌+◌, ◌<◌, ◌≤◌, ◌⊎◌, ℕ, List, true, [], Some, IfSome, All, AllPairs, length, vec_len, vec_capacity};
 ghost use Rattle.zk_model.specs.Journals.{HasHeader};
 ghost use Rattle.zk_model.specs.declared.JournalKind.TheVariants as kind;
 ghost use Rattle.lease_store.specs.Desks.{Begins};
 ghost use Rattle.lease_store.specs.Leases.{IsPassAt};
 ghost use Rattle.session_pool.specs.Doors.{Takes};
-ghost use Rattle.session_pool.specs.Notes.{AreApart, IsLeft, IsNoteOf, IsRefusedBy, IsUnused};
+ghost use Rattle.session_pool.specs.Notes.{AreApart, IsLeft, IsNoteOf, IsRefusedAmong, IsUnused};
 ghost use Rattle.session_pool.specs.Works.{AreBack, IsShiftOf};
 
 use crate::doorway::Doorway;
@@ -57,14 +57,14 @@ fn take_back<M: Drop, N: LeaseName, W: Shift<M>, D: Door>(
 )
     requires room { vec_len passes.old < vec_capacity passes.old }
     requires notes { W.sessions ≤ vec_capacity notes.old }
-    requires back { AreBack W.granted W.refused W.is_note W.fresh W.units
+    requires back { AreBack W.granted W.refused W.is_note W.fresh W.size
         N.table N.total passes.old.items all.old.amount notes.old.items }
     ensures room { vec_capacity passes.new ≡ vec_capacity passes.old }
     ensures one { vec_len passes.new ≡ vec_len passes.old + 1 }
     ensures notes { vec_capacity notes.old ≤ vec_capacity notes.new }
     ensures parts { all.new.parts ≡ all.old.parts + 1 }
     ensures doorway { doorway.new ≡ doorway.old }
-    ensures back { AreBack W.granted W.refused W.is_note W.fresh W.units
+    ensures back { AreBack W.granted W.refused W.is_note W.fresh W.size
         N.table N.total passes.new.items all.new.amount notes.new.items }
 {
     let Worker {
@@ -94,7 +94,7 @@ fn take_all_back<M: Drop, N: LeaseName, W: Shift<M>, D: Door>(
     requires amount { all.old.amount ≡ 0 }
     ensures parts { all.new.parts ≡ all.old.parts + vec_len workers }
     ensures each { vec_len passes.new ≡ vec_len workers }
-    ensures back { AreBack W.granted W.refused W.is_note W.fresh W.units
+    ensures back { AreBack W.granted W.refused W.is_note W.fresh W.size
         N.table N.total passes.new.items all.new.amount notes.new.items }
 {
     while let Some(worker) = workers.pop() {
@@ -121,7 +121,7 @@ where
     B: Disk,
     G: Gate,
     R: Wait,
-    requires { IsShiftOf W.is_note W.granted W.refused W.units N.total
+    requires { IsShiftOf W.is_note W.granted W.refused W.size N.total
         (S.is_note session.now) S.granted S.refused (S.size session.now) (S.total session.now) }
     ensures { (worker.new.starved ≡ true) ⊎ (doorway.new.is_done ≡ true) }
 {
@@ -154,7 +154,7 @@ where
     G: Gate + Sync,
     R: Threads + Wait + Sync,
     requires some { 0 < vec_len workers.old }
-    requires shift { IsShiftOf W.is_note W.granted W.refused W.units N.total
+    requires shift { IsShiftOf W.is_note W.granted W.refused W.size N.total
         (S.is_note session.now) S.granted S.refused (S.size session.now) (S.total session.now) }
     ensures { vec_len workers.new ≡ vec_len workers.old }
 {
@@ -214,7 +214,7 @@ where
     requires name { blank.name ≡ W.name }
     requires shares { blank.parts ≡ W.parts }
     requires one_more { blank.parts ≡ length passes.items + 1 }
-    requires shift { IsShiftOf W.is_note W.granted W.refused W.units N.total
+    requires shift { IsShiftOf W.is_note W.granted W.refused W.size N.total
         (S.is_note session.now) S.granted S.refused (S.size session.now) (S.total session.now) }
     requires first { D.state door ≡ W.first }
     requires sessions { sessions ≡ W.sessions }
@@ -224,9 +224,9 @@ where
         W.first (D.state result.door) }
     ensures apart { AllPairs (λ m n. AreApart (W.granted m) (W.granted n)) result.notes.items }
     ensures left { IsLeft N.start (B.state result.disk) N.id parts.base N.total
-        W.units W.granted W.refused result.notes.items }
-    ensures refused { W.fresh → All (λ note. IsRefusedBy W.units N.total
-        (parts.base + W.units * (length result.notes.items - 1)) (W.refused note)) result.notes.items }
+        W.size W.granted W.refused result.notes.items }
+    ensures refused { W.fresh → All (λ note. IfSome (W.refused note)
+        (IsRefusedAmong W.size parts.base N.total result.notes.items note)) result.notes.items }
 {
     let store = parts.named::<N>();
     let (book, mut all) = blank.open::<W>();
@@ -285,11 +285,9 @@ where
     ensures apart { AllPairs (λ m n. AreApart (S.granted m) (S.granted n)) result.notes.items }
     ensures left { IsLeft (B.state parts.disk) (B.state result.disk) (S.id session.now) parts.base parts.total
         (S.size session.now) S.granted S.refused result.notes.items }
-    ensures refused { All IsUnused passes.items → All (λ note. IsRefusedBy (S.size session.now) parts.total
-        (parts.base + S.size session.now * (length result.notes.items - 1)) (S.refused note))
-        result.notes.items }
+    ensures refused { All IsUnused passes.items → All (λ note. IfSome (S.refused note)
+        (IsRefusedAmong (S.size session.now) parts.base parts.total result.notes.items note)) result.notes.items }
 {
-    let _units = session.units();
     let blank = Blank::new(passes.len() as u64 + 1);
     serve_named::<S::Note, D::Link, S, Brand, Brand, D, B, G, R>(
         rt, alloc, session, parts, passes, door, blank, sessions, gate,

@@ -1,5 +1,5 @@
 // What is led over a link.
-ghost use Rattle.std.specs.Prelude.{◌≡◌, ◌≤◌, None, Some, Err, IfSome, MatchOption};
+ghost use Rattle.std.specs.Prelude.{◌≡◌, ◌≤◌, ℕ, None, Some, Err, IfSome, MatchOption};
 ghost use Rattle.zk_model.specs.declared.limits.TheConstants.{MAX_UNITS};
 ghost use Rattle.zk_port.specs.Doors.{IsFreshLink};
 
@@ -17,8 +17,8 @@ pub trait Session<L: Link> {
     /// What came of it.
     type Note: Drop;
 
-    /// How many units it leases.
-    ghost size: { Self → ℕ };
+    /// How many units it leases, where it does: which session it is may show only once it is led, and its note tells.
+    ghost size: { Self → Self.Note → ℕ };
 
     /// The id of the file whose units it leases, and their total.
     ghost id: { Self → List ℕ };
@@ -34,12 +34,6 @@ pub trait Session<L: Link> {
     /// Why none were, where the session ended by that.
     ghost refused: { Self.Note → Option LeaseFault };
 
-    /// How many units it leases.
-    fn units(&self) -> u32
-        ensures units { result ≡ size self.now }
-        ensures at_least_one { 1 ≤ result }
-        ensures at_most { result ≤ MAX_UNITS };
-
     /// Leads it over a fresh link, which is ended then.
     fn lead<T: Grantor, G: Gate>(
         &self,
@@ -51,10 +45,12 @@ pub trait Session<L: Link> {
         requires fresh { IsFreshLink (L.state link) }
         requires once { T.answer grantor.old ≡ None }
         requires total { T.total grantor.old ≡ total self.now }
-        requires may { T.may grantor.old (size self.now) }
+        requires may { (count : ℕ) → 1 ≤ count → count ≤ MAX_UNITS → T.may grantor.old count }
         ensures note { is_note self.now (T.answer grantor.new) result }
         ensures granted { granted result ≡ granted_by (T.answer grantor.new) }
         ensures refused { IfSome (refused result) (λ fault. T.answer grantor.new ≡ Some (Err fault)) }
         ensures moved { MatchOption (T.answer grantor.new) (grantor.new ≡ grantor.old)
-            (λ answer. T.moves grantor.old (size self.now) answer grantor.new) };
+            (λ answer. T.moves grantor.old (size self.now result) answer grantor.new) }
+        ensures sized { IfSome (T.answer grantor.new)
+            (λ _. (1 ≤ size self.now result) × (size self.now result ≤ MAX_UNITS)) };
 }

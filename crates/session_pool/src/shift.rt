@@ -14,7 +14,7 @@ pub(crate) trait Run: Ledger {
     ghost sessions: { ℕ };
 }
 
-/// The same with what is served: what its notes say, the units that each session leases, and whether no pass had drawn.
+/// The same with what is served: what its notes say, how many units each session leases, and whether no pass had drawn.
 pub(crate) trait Shift<M>: Run {
     ghost use Rattle.std.specs.Prelude.{ℕ, Option};
     ghost use Rattle.zk_model.specs.declared.Span.{Span};
@@ -26,7 +26,7 @@ pub(crate) trait Shift<M>: Run {
 
     ghost refused: { M → Option LeaseFault };
 
-    ghost units: { ℕ };
+    ghost size: { M → ℕ };
 
     ghost fresh: { Type 0 };
 }
@@ -49,7 +49,7 @@ impl<M> Shift<M> for Brand {
 
     ghost refused = { λ _. None };
 
-    ghost units = { 1 };
+    ghost size = { λ _. 1 };
 
     ghost fresh = { Unit {0} };
 }

@@ -33,7 +33,7 @@ impl<M, N: LeaseName, W: Shift<M>> Model for Worker<M, N, W> {
 
     ghost view = { λ w. record { starved = w.starved } };
 
-    ghost invariant = { λ w. works.IsWorker W.granted W.refused W.is_note W.fresh W.units
+    ghost invariant = { λ w. works.IsWorker W.granted W.refused W.is_note W.fresh W.size
         N.table N.total w.pass w.share.parts w.share.amount w.notes.items };
 }
 
@@ -71,7 +71,7 @@ impl<M, N: LeaseName, W: Shift<M>> Worker<M, N, W> {
         B: Disk,
         G: Gate,
         R: Wait,
-        requires { IsShiftOf W.is_note W.granted W.refused W.units N.total
+        requires { IsShiftOf W.is_note W.granted W.refused W.size N.total
             (S.is_note session.now) S.granted S.refused (S.size session.now) (S.total session.now) }
     {
         if self.notes.reserve(1).is_err() {
@@ -104,7 +104,7 @@ impl<M, N: LeaseName, W: Shift<M>> Worker<M, N, W> {
         B: Disk,
         G: Gate,
         R: Wait,
-        requires { IsShiftOf W.is_note W.granted W.refused W.units N.total
+        requires { IsShiftOf W.is_note W.granted W.refused W.size N.total
             (S.is_note session.now) S.granted S.refused (S.size session.now) (S.total session.now) }
     {
         for _ in 0..sessions {
@@ -131,7 +131,7 @@ impl<M, N: LeaseName, W: Shift<M>> Worker<M, N, W> {
         B: Disk,
         G: Gate,
         R: Wait,
-        requires { IsShiftOf W.is_note W.granted W.refused W.units N.total
+        requires { IsShiftOf W.is_note W.granted W.refused W.size N.total
             (S.is_note session.now) S.granted S.refused (S.size session.now) (S.total session.now) }
         ensures { MatchBool result (doorway.new.wanted + 1 ≡ doorway.old.wanted)
             ((self.new.starved ≡ true) ⊎ (doorway.new.is_done ≡ true)) }

@@ -20,6 +20,7 @@
 //! | `circuit=NAME` | the circuit, of whose text a hello has the digest | `and.txt` |
 //! | `bits=BITS` | the prover's bits: these over and over | `1` |
 //! | `public=N` | how many of the first bits are public | 0 |
+//! | `before=N` | a statement with so many public bits that a verifier offers before that of the scenario | none |
 //! | `outputs=BITS` | the claimed outputs | those of the bits |
 //! | `section=G` | how many products a section has | 2^20 |
 //! | `files=T,H,K` | extended files of T trees of height H and base K | direct ones |
@@ -64,7 +65,8 @@
 //! A line of a run has its number, where there is a range; the status; what is written; what is handed back, with the outcome, the units
 //! and the log of each session; and the files that are shown.
 //!
-//! A line of a session has its number, where there is a range; how it ended; what was asked of who has the units (how many, and
+//! A line of a session has its number, where there is a range; how it ended; where a verifier offers two statements, the number of the
+//! one that was taken, counted from 0; what was asked of who has the units (how many, and
 //! at the prover from which one on); which ones were had; how many bytes each side sent in a row in the log, `p` the prover and
 //! `v` the verifier; how many bytes these are, and SHA-256 of them, one after the other; how many sends and receives the link had,
 //! and how many of its calls failed. Of a whole log that is the digest that `docs/PROTOCOL.md` publishes.

@@ -17,7 +17,7 @@ use claim_store::ClaimFault;
 use dealer_files::deal;
 use frame_link::Log;
 use lease_store::LeaseFault;
-use session_core::{CircuitClaim, ProverJob, TooLarge, VerifierJob, elements_of};
+use session_core::{CircuitClaim, ProverJob, TooLarge, VerifierJob, VerifierJobs, elements_of};
 use session_prover::{ProverNote, prove_session};
 use session_rehearsal::rehearse;
 use session_verifier::{SessionNote, verify_session};
@@ -84,35 +84,36 @@ pub fn link_of(alloc: Global, script: Vec<u8>, call: u64, piece: u64) -> Result<
     Ok(PieceLink::new(alloc, script, plan, piece))
 }
 
-/// A verifier's session whose units are leased from this one on, or refused, and what it asked for.
+/// A verifier's session whose units are leased from this one on, or refused, and what it asked for, with the statement that it took.
 fn verified(
     alloc: Global,
-    job: &VerifierJob<'_>,
+    jobs: &VerifierJobs<'_>,
     start: u64,
     fault: Option<LeaseFault>,
     link: PieceLink,
-) -> Session
+) -> (Option<u32>, Session)
     requires { (⟦<PieceLink as Link>⟧.state link).is_open ≡ true }
 {
     let mut grantor = NextUnits {
         start,
-        total: job.file().total(),
+        total: jobs.noted(None).file().total(),
         fault,
         asked: None,
         answer: None,
     };
-    let note = verify_session(alloc, job, &mut grantor, link, &QuietGate);
+    let note = verify_session(alloc, jobs, &mut grantor, link, &QuietGate);
     let asked = match grantor.asked {
         Some(count) => Asked::Count(count),
         None => Asked::Nothing,
     };
-    Session {
+    let session = Session {
         ended: verifier_ending(note.outcome),
         asked,
         granted: note.granted,
         log: note.log,
         link: note.link,
-    }
+    };
+    (note.statement, session)
 }
 
 /// A prover's session whose units are claimed, or refused, and what it asked for.
@@ -156,12 +157,12 @@ fn prover_part(alloc: Global, job: &ProverJob<'_>, heard: &[u8]) -> Result<Vec<u
 /// What a verifier sends whose peer sends these bytes.
 fn verifier_part(
     alloc: Global,
-    job: &VerifierJob<'_>,
+    jobs: &VerifierJobs<'_>,
     start: u64,
     heard: &[u8],
 ) -> Result<Vec<u8>> {
     let link = link_of(alloc, heard.to_vec(alloc)?, 0, 4096)?;
-    let session = verified(alloc, job, start, None, link);
+    let (_, session) = verified(alloc, jobs, start, None, link);
     Ok(part_of(alloc, &session.log, Side::Verifier)?)
 }
 
@@ -170,7 +171,7 @@ fn hold_dialogue(
     alloc: Global,
     start: u64,
     prover: &ProverJob<'_>,
-    verifier: &VerifierJob<'_>,
+    verifier: &VerifierJobs<'_>,
 ) -> Result<Dialogue> {
     let mut sent = Dialogue {
         prover: Vec::new(alloc),
@@ -239,8 +240,21 @@ pub fn cases_of(alloc: Global, scenario: &Scenario<'_>, honest: &[u8]) -> Result
     Ok(cases)
 }
 
-/// The line of a session of this name.
-fn line_of(alloc: Global, name: &str, session: &Session) -> Result<String> {
+/// Which statement was taken, where a verifier offers two.
+fn taken_word(
+    alloc: Global,
+    scenario: &Scenario<'_>,
+    statement: Option<u32>,
+) -> Result<String, AllocError> {
+    match (scenario.before, statement) {
+        (None, _) => Ok(String::new(alloc)),
+        (Some(_), None) => String::from_str(alloc, " statement=none"),
+        (Some(_), Some(number)) => format!(in alloc; " statement={number}"),
+    }
+}
+
+/// The line of a session of this name, with a word on the statement that was taken.
+fn line_of(alloc: Global, name: &str, taken: &str, session: &Session) -> Result<String> {
     let (ended, asked) = (session.ended, &session.asked);
     let units = Units {
         span: session.granted,
@@ -249,13 +263,13 @@ fn line_of(alloc: Global, name: &str, session: &Session) -> Result<String> {
     let calls = Called {
         link: &session.link,
     };
-    Ok(format!(in alloc; "{name}{ended} asked={asked} units={units} {log} {calls}\n")?)
+    Ok(format!(in alloc; "{name}{ended}{taken} asked={asked} units={units} {log} {calls}\n")?)
 }
 
 /// Whose session it is, and what it is about.
 #[derive(Clone, Copy)]
 enum Party<'a, 'b> {
-    Verifier(&'a VerifierJob<'b>),
+    Verifier(&'a VerifierJobs<'b>),
     Prover(&'a ProverJob<'b>),
 }
 
@@ -274,14 +288,15 @@ fn case_line(
     } = case;
     let link = link_of(alloc, script, call, piece)?;
     match party {
-        Party::Verifier(job) => {
+        Party::Verifier(jobs) => {
             let fault = lease_fault(scenario)?;
-            let session = verified(alloc, job, scenario.start, fault, link);
-            line_of(alloc, &name, &session)
+            let (statement, session) = verified(alloc, jobs, scenario.start, fault, link);
+            let taken = taken_word(alloc, scenario, statement)?;
+            line_of(alloc, &name, &taken, &session)
         }
         Party::Prover(job) => {
             let fault = claim_fault(scenario)?;
-            line_of(alloc, &name, &proved(alloc, job, fault, link))
+            line_of(alloc, &name, "", &proved(alloc, job, fault, link))
         }
     }
 }
@@ -305,14 +320,14 @@ fn honest_peers(
     alloc: Global,
     scenario: &Scenario<'_>,
     prover: &ProverJob<'_>,
-    verifier: &VerifierJob<'_>,
+    verifier: &VerifierJobs<'_>,
 ) -> Result<Vec<Vec<u8>>> {
     let mut honest = Vec::new(alloc);
     let mut start = scenario.start;
     for _ in 0..scenario.service.peers {
         let sent = hold_dialogue(alloc, start, prover, verifier)?;
         honest.push(sent.prover)?;
-        start = start.saturating_add(u64::from(verifier.units()));
+        start = start.saturating_add(u64::from(verifier.noted(None).units()));
     }
     Ok(honest)
 }
@@ -323,7 +338,7 @@ fn lines_of<R: Threads + Wait + Sync>(
     alloc: Global,
     claimed: &Claimed<'_, '_>,
     prover: &ProverJob<'_>,
-    verifier: &VerifierJob<'_>,
+    verifier: &VerifierJobs<'_>,
 ) -> Result<String> {
     let scenario = claimed.scenario;
     if scenario.end == End::Service {
@@ -342,7 +357,7 @@ fn party_lines(
     alloc: Global,
     scenario: &Scenario<'_>,
     prover: &ProverJob<'_>,
-    verifier: &VerifierJob<'_>,
+    verifier: &VerifierJobs<'_>,
     sent: &Dialogue,
 ) -> Result<String> {
     let (verifier, prover) = (Party::Verifier(verifier), Party::Prover(prover));
@@ -393,8 +408,25 @@ fn circuit_lines<R: Threads + Wait + Sync>(
         public,
         outputs: &outputs,
     };
-    match VerifierJob::fit(&statement, &verifier_file, section) {
-        Ok(verifier) => lines_of(rt, alloc, &claimed, &prover, &verifier),
+    let verifier = match VerifierJob::fit(&statement, &verifier_file, section) {
+        Ok(verifier) => verifier,
+        Err(fault) => return unfit_lines(rt, alloc, &claimed, &prover, &fault),
+    };
+    let Some(before) = scenario.before else {
+        let jobs = VerifierJobs::new(&verifier, &[]);
+        return lines_of(rt, alloc, &claimed, &prover, &jobs);
+    };
+    let Some(before) = bits.all.get(..before) else {
+        return Err(Error::msg("too many public bits"));
+    };
+    let other = CircuitClaim::new(alloc, circuit, digest, before, &outputs)?;
+    let other = other.statement();
+    match VerifierJob::fit(&other, &verifier_file, section) {
+        Ok(first) => {
+            let others = [verifier];
+            let jobs = VerifierJobs::new(&first, &others);
+            lines_of(rt, alloc, &claimed, &prover, &jobs)
+        }
         Err(fault) => unfit_lines(rt, alloc, &claimed, &prover, &fault),
     }
 }

@@ -21,7 +21,7 @@ use Rattle.frame_laws.proofs.SentBytes.{sent_by-append, none_of_verifier}
 use Rattle.proof_frames.specs.Frames.{IsShort}
 use Rattle.frame_link.specs.Lines.{LinkSnapshot, longest}
 use Rattle.frame_link.proofs.LineLemmas.{none_is_some}
-use Rattle.session_core.specs.Jobs.{VerifierJob, units_of_job, granted_from}
+use Rattle.session_core.specs.Jobs.{VerifierJob, IsVerifierJob, units_of_job, granted_from}
 use Rattle.session_core.specs.Judgements.{verdict_in}
 use Rattle.session_core.specs.declared.judgement.Judgement.{Judgement}
 use Rattle.session_core.specs.Extending.{asks_in}
@@ -255,13 +255,13 @@ one_frame_fewer job start (awaits_openings begun d both) now frame answer behind
 one_frame_fewer job start (has_judged begun judgement) now frame answer behind answers = absurd answers
 one_frame_fewer job start has_refused now frame answer behind answers = absurd answers
 
-pub grant_fewer : (job : VerifierJob) (start : ℕ) → frames_left job (behind_grant job start) < frames_left job awaits_hello
-grant_fewer job start = by_kind (either_kind job.task.file.params.kind)
+pub grant_fewer : (job : VerifierJob) (start : ℕ) → IsVerifierJob job → frames_left job (behind_grant job start) < frames_left job awaits_hello
+grant_fewer job start is = by_kind (either_kind job.task.file.params.kind)
   where
     by_kind : ((job.task.file.params.kind ≡ Direct) ⊎ (job.task.file.params.kind ≡ Extended))
         → frames_left job (behind_grant job start) < frames_left job awaits_hello
     by_kind (inl direct) = omega (arith, ap (frames_left job) (behind_direct job start direct))
-    by_kind (inr extended) = omega (arith, ap (frames_left job) (behind_extended job start extended))
+    by_kind (inr extended) = omega (arith, is.units_most, ap (frames_left job) (behind_extended job start extended))
 
 -- ---- a session whose grant begins here
 

@@ -20,7 +20,8 @@ use Rattle.zk_port.specs.Logs.{appended}
 use Rattle.frame_link.specs.Lines.{LinkSnapshot}
 use Rattle.lease_store.specs.declared.LeaseFault.{LeaseFault}
 use Rattle.lease_store.specs.declared.LeaseFault.TheVariants as lease
-use Rattle.session_core.specs.Jobs.{VerifierJob, units_of_job, granted_from}
+use Rattle.session_core.specs.Jobs.{VerifierJob, VerifierJobs, IsFirstFor, IsForNone, units_of_job, granted_from}
+use Rattle.session_core.specs.declared.fault.HelloDiffers.{HelloDiffers}
 use Rattle.session_core.specs.Judgements.{IsJudgement, verdict_in}
 use Rattle.session_core.specs.Cores.{VerifierStage, awaits_hello, has_judged}
 use Rattle.session_core.specs.declared.judgement.Judgement.{Judgement}
@@ -195,6 +196,22 @@ EndsBecause job answer Link first now =
 EndsBecause job answer NoMemory first now =
     RefusesNoLease answer
     × (LacksMemory job first now ⊎ LacksGrant job answer first now ⊎ FailsToGrant job answer NoMemory first now)
+
+-- these bytes of a log are a hello
+abbrev pub BeginsByHello : Hello → List (Side × ℕ) → Type 0
+BeginsByHello said log = BeginsWith log (bytes_from Prover (hello_frame said))
+
+-- the statement of this number was taken, if one was: the log begins by a hello for it, and for none before it
+abbrev pub HasTaken : VerifierJobs → Option ℕ → List (Side × ℕ) → Type 0
+HasTaken jobs taken log = IfSome taken (λ n. (said : Hello) × IsFirstFor jobs n said × BeginsByHello said log)
+
+-- Where no statement was taken, no units were asked for; and a hello that differs is for no statement.
+pub record TakesStatement (jobs : VerifierJobs) (taken : Option ℕ) (answer : Option (Result Span LeaseFault)) (outcome : VerifierOutcome)
+    (log : List (Side × ℕ)) : Type 0 where
+  pub has : HasTaken jobs taken log
+  pub none : taken ≡ None → answer ≡ None
+  pub differs : (differs : HelloDiffers) → outcome ≡ BadHello differs
+      → (taken ≡ None) × ((said : Hello) × IsForNone jobs said × BeginsByHello said log)
 
 -- no units are leased before a hello for the job's file and statement came
 abbrev pub LeasesBehindHello : VerifierJob → Option (Result Span LeaseFault) → List (Side × ℕ) → Type 0

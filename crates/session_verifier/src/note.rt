@@ -101,9 +101,11 @@ impl From<Judgement> for VerifierOutcome {
     }
 }
 
-/// What came of a session: the units that were granted, if any were; how it ended; all frames that passed; and the link.
+/// What came of a session: the number of the statement that it was about, counted from 0, once a hello was taken; the units that were
+/// granted, if any were; how it ended; all frames that passed; and the link.
 #[derive(Drop)]
 pub struct SessionNote<L> {
+    pub statement: Option<u32>,
     pub granted: Option<Span>,
     pub outcome: VerifierOutcome,
     pub log: Log,

@@ -1,17 +1,20 @@
 // The verifier's end of a session.
-ghost use Rattle.std.specs.Prelude.{◌≡◌, ◌+◌, ◌<◌, ◌≤◌, [], ◌∷◌, None, Some, map, length, All, IfSome, IsSome, IfOk, IfErr, OnOk, IsSomeAnd, MatchOption, IsTrue};
+ghost use Rattle.std.specs.Prelude.{◌≡◌, ◌+◌, ◌<◌, ◌≤◌, ℕ, [], ◌∷◌, None, Some, map, length, All, IfSome, IsSome, IfOk, IfErr, OnOk, IsSomeAnd, MatchOption, IsTrue};
 ghost use Rattle.zk_model.specs.Frames as model;
 ghost use Rattle.zk_model.specs.Frames.{Allows};
 ghost use Rattle.zk_model.specs.declared.Expect.TheVariants as expect;
 ghost use Rattle.zk_model.specs.declared.Side.TheVariants.{Verifier};
 ghost use Rattle.frame_link.specs.Lines.{snapshot_of};
 ghost use Rattle.proof_frames.specs.Frames.{frame_value, IsShort};
-ghost use Rattle.session_core.specs.Jobs.{units_of_job, granted_from};
+ghost use Rattle.session_core.specs.Jobs.{TakesHello, all_jobs, granted_from, noted_job, units_of_job};
+ghost use Rattle.zk_model.specs.Transcript.{Hello};
+ghost use Rattle.zk_model.specs.declared.limits.TheConstants.{MAX_UNITS};
 ghost use Rattle.session_core.specs.Cores.{VerifierAnswers, VerifierRefuses, awaits_hello, owes_grant, behind_grant, judgement_at, verifier_expects};
 ghost use Rattle.session_driver.specs.Runs.{IsFresh};
 ghost use Rattle.session_driver.specs.declared.drive.Outcome.TheVariants.{Done};
 ghost use Rattle.session_verifier.specs.Outcomes.{hello_code, lease_code, session_outcome};
-ghost use Rattle.session_verifier.specs.Serving.{AnswersBehind, AreUnits, GrantsUnits, IsBehind, IsPlace, IsServing, IsToldAs, LacksGrantFrame, Leases, RefusesByCore, RefusesLease, frames_left, grants_of, lack_code_at, served, serves};
+ghost use Rattle.session_verifier.specs.Serving.{AnswersBehind, AreUnits, GrantsUnits, IsBehind, IsPlace, IsServing, IsToldAs, LacksGrantFrame, Leases, RefusesBehind, RefusesHello, RefusesLease, frames_left, grants_of, lack_code_at, served, serves};
+ghost use Rattle.session_verifier.specs.Notes.{TakesStatement};
 ghost use Rattle.session_verifier.specs.Stages.{Greets, IsCourse, IsHeldJob};
 ghost use Rattle.session_verifier.specs.declared.note.VerifierOutcome.TheVariants.{NoMemory};
 
@@ -19,19 +22,20 @@ use crate::note::VerifierOutcome;
 use frame_link::Line;
 use lease_store::{Grantor, LeaseFault};
 use proof_frames::Frame;
-use session_core::{VerifierCore, VerifierFault, VerifierJob};
+use session_core::{VerifierCore, VerifierFault, VerifierJob, VerifierJobs};
 use session_driver::{Outcome, Party, Refusal, run};
 use session_laws::replies_are_in_range;
 use std::alloc::{AllocError, Global};
 use zk_model::{Expect, Span};
 use zk_port::{Gate, Link, Phase};
 
-/// A verifier's end of a session, as the driver leads it.
+/// A verifier's end of a session, as the driver leads it: its core is about the statement that was taken, or else about the first.
 #[derive(Drop)]
 pub(crate) struct Serving<'a, 'g, G> {
-    job: &'a VerifierJob<'a>,
+    jobs: &'a VerifierJobs<'a>,
     core: VerifierCore<'a>,
     gate: &'g G,
+    taken: Option<u32>,
     granted: Option<Span>,
 }
 
@@ -55,6 +59,25 @@ fn code_for_lease(fault: &LeaseFault) -> u8
     }
 }
 
+/// Takes the first statement that a hello is for, if it is for one.
+fn take_statement<'a>(
+    jobs: &'a VerifierJobs<'a>,
+    core: &mut VerifierCore<'a>,
+    taken: &mut Option<u32>,
+    frame: &Frame,
+)
+    requires expected { Allows expect.Hello (frame_value frame.now) }
+    ensures takes { (said : Hello) × (frame_value frame.now ≡ model.hello said) × TakesHello jobs.now said taken.new }
+    ensures core { core.new ≡ record { job = noted_job jobs.now taken.new; stage = awaits_hello } }
+    ensures within { IfSome taken.new (λ n. n < length (all_jobs jobs.now)) }
+{
+    let Frame::Hello(hello) = frame else {
+        unreachable!();
+    };
+    *taken = jobs.first_for(hello);
+    *core = VerifierCore::new(jobs.noted(*taken));
+}
+
 /// Has the core meet a hello.
 fn meet(
     alloc: Global,
@@ -68,6 +91,7 @@ fn meet(
     ensures refused { IfErr result (λ refusal. (fault : VerifierFault)
         × VerifierRefuses core.old.job core.old.stage (frame_value frame) fault
         × (refusal.fault ≡ session_outcome fault) × (refusal.code ≡ Some (hello_code fault))) }
+    ensures job { core.new.job ≡ core.old.job }
 {
     match core.step(alloc, frame) {
         Ok(_answer) => Ok(()),
@@ -100,27 +124,34 @@ fn grant_frames(
 }
 
 /// Meets a hello, and has units leased, of which the gate is told: their grant is the answer.
-fn grant_units<R: Grantor, G: Gate>(
+fn grant_units<'a, R: Grantor, G: Gate>(
     alloc: Global,
-    job: &VerifierJob<'_>,
-    core: &mut VerifierCore<'_>,
+    jobs: &'a VerifierJobs<'a>,
+    core: &mut VerifierCore<'a>,
     gate: &G,
+    taken: &mut Option<u32>,
     granted: &mut Option<Span>,
     grantor: &mut R,
     frame: Frame,
 ) -> Result<Vec<Frame>, Refusal<VerifierOutcome>>
-    requires job { core.old.job ≡ job.now }
     requires ungranted { granted.old ≡ None }
-    requires place { IsPlace (grants_of R.answer R.asked R.total R.may R.moves) None core.old grantor.old }
+    requires place { IsPlace (grants_of R.answer R.asked R.total R.may R.moves)
+        (served jobs.now core.old taken.old granted.old grantor.old) None }
     requires expected { Allows expect.Hello (frame_value frame) }
-    ensures answered { IfOk result (λ answer. GrantsUnits (grants_of R.answer R.asked R.total R.may R.moves)
-        (served core.old granted.old grantor.old) (frame_value frame) (map frame_value answer.items)
-        (served core.new granted.new grantor.new)) }
+    ensures answered { IfOk result (λ answer.
+        GrantsUnits jobs.now (grants_of R.answer R.asked R.total R.may R.moves)
+        (served jobs.now core.old taken.old granted.old grantor.old) (frame_value frame) (map frame_value answer.items)
+        (served jobs.now core.new taken.new granted.new grantor.new)) }
     ensures refused { IfErr result (λ refusal.
         (serves (grants_of R.answer R.asked R.total R.may R.moves)).refuses
-        (served core.old granted.old grantor.old) (frame_value frame) refusal.fault refusal.code
-        (served core.new granted.new grantor.new)) }
+        (served jobs.now core.old taken.old granted.old grantor.old) (frame_value frame) refusal.fault refusal.code
+        (served jobs.now core.new taken.new granted.new grantor.new)) }
+    ensures within { IfSome taken.new (λ n. n < length (all_jobs jobs.now)) }
+    ensures fewer { OnOk result
+        (frames_left core.new.job core.new.stage < frames_left core.old.job core.old.stage) }
 {
+    take_statement(jobs, core, taken, &frame);
+    let job = jobs.noted(*taken);
     let _total = job.file().total();
     meet(alloc, core, frame)?;
     match grantor.grant(job.units()) {
@@ -167,6 +198,7 @@ fn answer(
     ensures fewer { OnOk result
         (frames_left core.new.job core.new.stage < frames_left core.old.job core.old.stage) }
     ensures job { core.new.job ≡ core.old.job }
+    ensures held { IsHeldJob core.old.job }
 {
     replies_are_in_range();
     let _total = job.file().total();
@@ -181,38 +213,39 @@ fn answer(
 }
 
 /// Takes a frame that is expected, and hands back what is answered.
-fn step<R: Grantor, G: Gate>(
+fn step<'a, R: Grantor, G: Gate>(
     alloc: Global,
-    job: &VerifierJob<'_>,
-    core: &mut VerifierCore<'_>,
+    jobs: &'a VerifierJobs<'a>,
+    core: &mut VerifierCore<'a>,
     gate: &G,
+    taken: &mut Option<u32>,
     granted: &mut Option<Span>,
     grantor: &mut R,
     frame: Frame,
 ) -> Result<Vec<Frame>, Refusal<VerifierOutcome>>
     requires expected { IsSomeAnd (verifier_expects core.old.job core.old.stage)
         (λ place. Allows place (frame_value frame)) }
-    requires holds { IsServing (grants_of R.answer R.asked R.total R.may R.moves) job.now
-        (served core.old granted.old grantor.old) }
+    requires holds { IsServing (grants_of R.answer R.asked R.total R.may R.moves)
+        (served jobs.now core.old taken.old granted.old grantor.old) }
     ensures answered { IfOk result (λ answer.
         (serves (grants_of R.answer R.asked R.total R.may R.moves)).answers
-        (served core.old granted.old grantor.old) (frame_value frame) (map frame_value answer.items)
-        (served core.new granted.new grantor.new)) }
+        (served jobs.now core.old taken.old granted.old grantor.old) (frame_value frame) (map frame_value answer.items)
+        (served jobs.now core.new taken.new granted.new grantor.new)) }
     ensures short { IfOk result (λ answer. All IsShort (map frame_value answer.items)) }
     ensures refused { IfErr result (λ refusal.
         (serves (grants_of R.answer R.asked R.total R.may R.moves)).refuses
-        (served core.old granted.old grantor.old) (frame_value frame) refusal.fault refusal.code
-        (served core.new granted.new grantor.new)) }
+        (served jobs.now core.old taken.old granted.old grantor.old) (frame_value frame) refusal.fault refusal.code
+        (served jobs.now core.new taken.new granted.new grantor.new)) }
     ensures coded { IfErr result (λ refusal.
         IfSome refusal.code (λ _. IsSome (lack_code_at core.old.stage))) }
     ensures fewer { OnOk result
         (frames_left core.new.job core.new.stage < frames_left core.old.job core.old.stage) }
-    ensures holds { OnOk result (IsServing (grants_of R.answer R.asked R.total R.may R.moves) job.now
-        (served core.new granted.new grantor.new)) }
+    ensures holds { OnOk result (IsServing (grants_of R.answer R.asked R.total R.may R.moves)
+        (served jobs.now core.new taken.new granted.new grantor.new)) }
 {
     match *granted {
-        None => grant_units(alloc, job, core, gate, granted, grantor, frame),
-        Some(span) => answer(alloc, job, core, frame, span),
+        None => grant_units(alloc, jobs, core, gate, taken, granted, grantor, frame),
+        Some(span) => answer(alloc, jobs.noted(*taken), core, frame, span),
     }
 }
 
@@ -223,8 +256,8 @@ impl<'a, 'g, R: Grantor, G: Gate> Party<R> for Serving<'a, 'g, G> {
 
     type Fault = VerifierOutcome;
 
-    ghost holds = { λ s asked. IsServing (grants_of R.answer R.asked R.total R.may R.moves) s.job.now
-        (served s.core s.granted asked) };
+    ghost holds = { λ s asked. IsServing (grants_of R.answer R.asked R.total R.may R.moves)
+        (served s.jobs.now s.core s.taken s.granted asked) };
 
     ghost expects = { λ s. verifier_expects s.core.job s.core.stage };
 
@@ -234,11 +267,11 @@ impl<'a, 'g, R: Grantor, G: Gate> Party<R> for Serving<'a, 'g, G> {
 
     ghost answers = { λ s asked frame answer t then.
         (serves (grants_of R.answer R.asked R.total R.may R.moves)).answers
-        (served s.core s.granted asked) frame answer (served t.core t.granted then) };
+        (served s.jobs.now s.core s.taken s.granted asked) frame answer (served t.jobs.now t.core t.taken t.granted then) };
 
     ghost refuses = { λ s asked frame fault code t then.
         (serves (grants_of R.answer R.asked R.total R.may R.moves)).refuses
-        (served s.core s.granted asked) frame fault code (served t.core t.granted then) };
+        (served s.jobs.now s.core s.taken s.granted asked) frame fault code (served t.jobs.now t.core t.taken t.granted then) };
 
     ghost left = { λ s. frames_left s.core.job s.core.stage };
 
@@ -265,9 +298,10 @@ impl<'a, 'g, R: Grantor, G: Gate> Party<R> for Serving<'a, 'g, G> {
     ) -> Result<Vec<Frame>, Refusal<VerifierOutcome>> {
         step(
             alloc,
-            self.job,
+            self.jobs,
             &mut self.core,
             self.gate,
+            &mut self.taken,
             &mut self.granted,
             asked,
             frame,
@@ -275,9 +309,10 @@ impl<'a, 'g, R: Grantor, G: Gate> Party<R> for Serving<'a, 'g, G> {
     }
 }
 
-/// What was granted, and how the session ended.
+/// Which statement was taken, what was granted, and how the session ended.
 #[derive(Clone, Copy, Debug, PartialEq, Eq)]
 pub(crate) struct Course {
+    pub(crate) taken: Option<u32>,
     pub(crate) granted: Option<Span>,
     pub(crate) outcome: VerifierOutcome,
 }
@@ -307,37 +342,41 @@ fn tell_end<G: Gate>(gate: &G, granted: Option<Span>) {
 /// The whole session. The gate is told when units are leased, and when such a session has ended.
 pub(crate) fn serve<L: Link, R: Grantor, G: Gate>(
     alloc: Global,
-    job: &VerifierJob<'_>,
+    jobs: &VerifierJobs<'_>,
     grantor: &mut R,
     gate: &G,
     line: &mut Line<L>,
 ) -> Course
     requires once { R.answer grantor.old ≡ None }
-    requires total { R.total grantor.old ≤ job.now.task.file.params.total }
-    requires may { R.may grantor.old (units_of_job job.now) }
+    requires total { R.total grantor.old ≤ jobs.now.first.task.file.params.total }
+    requires may { (count : ℕ) → 1 ≤ count → count ≤ MAX_UNITS → R.may grantor.old count }
     requires fresh { IsFresh line.old }
     requires side { line.old.side ≡ Verifier }
     ensures total_kept { R.total grantor.new ≡ R.total grantor.old }
-    ensures asked { IfSome (R.answer grantor.new) (λ _. R.asked grantor.new ≡ Some (units_of_job job.now)) }
+    ensures asked { IfSome (R.answer grantor.new)
+        (λ _. R.asked grantor.new ≡ Some (units_of_job (noted_job jobs.now result.taken))) }
     ensures moved { MatchOption (R.answer grantor.new) (grantor.new ≡ grantor.old)
-        (λ answer. R.moves grantor.old (units_of_job job.now) answer grantor.new) }
-    ensures course { IsCourse job.now (R.answer grantor.new) result.granted result.outcome
-        (snapshot_of line.old) (snapshot_of line.new) }
+        (λ answer. R.moves grantor.old (units_of_job (noted_job jobs.now result.taken)) answer grantor.new) }
+    ensures statement { TakesStatement jobs.now result.taken (R.answer grantor.new) result.outcome line.new.log }
+    ensures course { IsCourse (noted_job jobs.now result.taken) (R.answer grantor.new) result.granted
+        result.outcome (snapshot_of line.old) (snapshot_of line.new) }
+    ensures within { IfSome result.taken (λ n. n < length (all_jobs jobs.now)) }
     ensures side { line.new.side ≡ Verifier }
     ensures open_still { IsTrue line.new.is_open }
 {
     replies_are_in_range();
-    let _total = job.file().total();
-    let _units = job.units();
+    let _count = jobs.count();
     let mut serving = Serving {
-        job: &*job,
-        core: VerifierCore::new(&*job),
+        jobs: &*jobs,
+        core: VerifierCore::new(jobs.noted(None)),
         gate,
+        taken: None,
         granted: None,
     };
     let outcome = run(alloc, &mut serving, grantor, line);
     tell_end(gate, serving.granted);
     Course {
+        taken: serving.taken,
         granted: serving.granted,
         outcome: outcome_of(&serving.core, outcome),
     }

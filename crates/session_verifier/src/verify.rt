@@ -1,10 +1,11 @@
 // A verifier's session over a link.
-ghost use Rattle.std.specs.Prelude.{◌≡◌, ◌≤◌, None, Some, [], false, IfSome, IsTrue, MatchOption};
+ghost use Rattle.std.specs.Prelude.{◌≡◌, ◌≤◌, ℕ, None, Some, [], false, IfSome, IsTrue, MatchOption};
 ghost use Rattle.zk_model.specs.declared.Side.TheVariants.{Verifier};
 ghost use Rattle.frame_link.specs.Lines.{snapshot};
-ghost use Rattle.session_core.specs.Jobs.{units_of_job};
+ghost use Rattle.session_core.specs.Jobs.{noted_job, units_of_job};
+ghost use Rattle.zk_model.specs.declared.limits.TheConstants.{MAX_UNITS};
 ghost use Rattle.session_pool.specs.Notes.{granted_by};
-ghost use Rattle.session_verifier.specs.Notes.{AnswersLease, JudgesRightly, AcceptsExactly, IsShown, SendsRightly, KeepsKeys, EndsBecause, LeasesBehindHello, IsTold, CountsFaults, ReceivesFew, Completes};
+ghost use Rattle.session_verifier.specs.Notes.{AnswersLease, JudgesRightly, AcceptsExactly, IsShown, SendsRightly, KeepsKeys, EndsBecause, LeasesBehindHello, IsTold, CountsFaults, ReceivesFew, TakesStatement, Completes};
 ghost use Rattle.session_verifier.specs.declared.note.VerifierOutcome.TheVariants.{Accepted};
 
 use crate::note::SessionNote;
@@ -12,7 +13,7 @@ use crate::serve::serve;
 use frame_link::Line;
 use lease_store::Grantor;
 use proof_frames::laws::none_begins_another;
-use session_core::VerifierJob;
+use session_core::VerifierJobs;
 use session_laws::{
     cut_is_not_accepted, honest_turn, honest_turn_ends, honest_whole_is_accepted,
     replies_are_in_range, served_session_exists, verdict_is_said,
@@ -22,7 +23,8 @@ use zk_laws::{extraction_holds, keys_fit};
 use zk_model::Side;
 use zk_port::{Gate, Link};
 
-/// Leads a session with a peer that may send anything: meets its hello, leases the units that the session takes, grants them,
+/// Leads a session with a peer that may send anything: meets its hello, which may be for any of the verifier's statements, of which the
+/// first is taken that it is for, leases the units that the session takes, grants them,
 /// replies in kind extended to the asks for all of them, challenges, and judges (Weng, Yang, Katz and Wang, Wolverine, IEEE S&P
 /// 2021; Yang, Sarkar, Weng and Wang, QuickSilver, ACM CCS 2021). The gate is told when units are leased and when such a session
 /// has ended. Each receive asks for no more bytes than the frame under way still wants; each answer is sent by one send, and `end`
@@ -30,34 +32,38 @@ use zk_port::{Gate, Link};
 /// and where memory is missing for the grant; its own room is kept first, and whether its send fails changes nothing.
 pub fn verify_session<L: Link, R: Grantor, G: Gate>(
     alloc: Global,
-    job: &VerifierJob<'_>,
+    jobs: &VerifierJobs<'_>,
     grantor: &mut R,
     link: L,
     gate: &G,
 ) -> SessionNote<L>
     requires open { IsTrue (L.state link).is_open }
     requires once { R.answer grantor.old ≡ None }
-    requires total { R.total grantor.old ≤ job.now.task.file.params.total }
-    requires may { R.may grantor.old (units_of_job job.now) }
+    requires total { R.total grantor.old ≤ jobs.now.first.task.file.params.total }
+    requires may { (count : ℕ) → 1 ≤ count → count ≤ MAX_UNITS → R.may grantor.old count }
     ensures total_kept { R.total grantor.new ≡ R.total grantor.old }
-    ensures asked { IfSome (R.answer grantor.new) (λ _. R.asked grantor.new ≡ Some (units_of_job job.now)) }
+    ensures statement { TakesStatement jobs.now result.statement (R.answer grantor.new) result.outcome result.log }
+    ensures sized { (1 ≤ units_of_job (noted_job jobs.now result.statement))
+        × (units_of_job (noted_job jobs.now result.statement) ≤ MAX_UNITS) }
+    ensures asked { IfSome (R.answer grantor.new)
+        (λ _. R.asked grantor.new ≡ Some (units_of_job (noted_job jobs.now result.statement))) }
     ensures moved { MatchOption (R.answer grantor.new) (grantor.new ≡ grantor.old)
-        (λ answer. R.moves grantor.old (units_of_job job.now) answer grantor.new) }
+        (λ answer. R.moves grantor.old (units_of_job (noted_job jobs.now result.statement)) answer grantor.new) }
     ensures granted { result.granted ≡ granted_by (R.answer grantor.new) }
     ensures refused { AnswersLease (R.answer grantor.new) result.outcome }
-    ensures verdict { JudgesRightly job.now result.granted result.outcome result.log }
-    ensures accepted { AcceptsExactly job.now result.outcome result.log }
-    ensures shown { result.outcome ≡ Accepted → IsShown job.now result.granted result.log }
-    ensures sends { SendsRightly job.now result.granted result.outcome result.log }
-    ensures related { KeepsKeys job.now result.log }
-    ensures cause { EndsBecause job.now (R.answer grantor.new) result.outcome
+    ensures verdict { JudgesRightly (noted_job jobs.now result.statement) result.granted result.outcome result.log }
+    ensures accepted { AcceptsExactly (noted_job jobs.now result.statement) result.outcome result.log }
+    ensures shown { result.outcome ≡ Accepted → IsShown (noted_job jobs.now result.statement) result.granted result.log }
+    ensures sends { SendsRightly (noted_job jobs.now result.statement) result.granted result.outcome result.log }
+    ensures related { KeepsKeys (noted_job jobs.now result.statement) result.log }
+    ensures cause { EndsBecause (noted_job jobs.now result.statement) (R.answer grantor.new) result.outcome
         (snapshot Verifier [] (L.state link)) (snapshot Verifier result.log (L.state result.link)) }
-    ensures leased { LeasesBehindHello job.now (R.answer grantor.new) result.log }
-    ensures told { IsTold job.now result.granted result.outcome
+    ensures leased { LeasesBehindHello (noted_job jobs.now result.statement) (R.answer grantor.new) result.log }
+    ensures told { IsTold (noted_job jobs.now result.statement) result.granted result.outcome
         (snapshot Verifier [] (L.state link)) (snapshot Verifier result.log (L.state result.link)) }
     ensures receives { ReceivesFew
         (snapshot Verifier [] (L.state link)) (snapshot Verifier result.log (L.state result.link)) }
-    ensures complete { Completes job.now (R.answer grantor.new) result.outcome
+    ensures complete { Completes (noted_job jobs.now result.statement) (R.answer grantor.new) result.outcome
         (snapshot Verifier [] (L.state link)) (snapshot Verifier result.log (L.state result.link)) }
     ensures faults { CountsFaults result.outcome
         (snapshot Verifier [] (L.state link)) (snapshot Verifier result.log (L.state result.link)) }
@@ -73,12 +79,14 @@ pub fn verify_session<L: Link, R: Grantor, G: Gate>(
     verdict_is_said();
     extraction_holds();
     keys_fit();
+    let mut line = Line::new(alloc, link, Side::Verifier);
+    let course = serve(alloc, jobs, grantor, gate, &mut line);
+    let job = jobs.noted(course.taken);
     let _opened = job.statement().program().opened();
     let _total = job.file().total();
-    let mut line = Line::new(alloc, link, Side::Verifier);
-    let course = serve(alloc, job, grantor, gate, &mut line);
     let (link, log) = line.end();
     SessionNote {
+        statement: course.taken,
         granted: course.granted,
         outcome: course.outcome,
         log,

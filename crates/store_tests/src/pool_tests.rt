@@ -1,6 +1,7 @@
 // Sessions over doors and disks in memory.
-ghost use Rattle.std.specs.Prelude.{◌≡◌, ◌≤◌, ◌<◌, ◌+◌, ◌*◌, ℕ, List, All, IfOk, Some, length};
+ghost use Rattle.std.specs.Prelude.{◌≡◌, ◌≤◌, ◌<◌, ◌+◌, ◌*◌, ℕ, List, All, IfOk, IfSome, Some, length};
 ghost use Rattle.zk_model.specs.Journals.{HasHeader, IsTidy, slots_at};
+ghost use Rattle.zk_model.specs.declared.limits.TheConstants.{MAX_UNITS};
 ghost use Rattle.zk_model.specs.declared.JournalKind.TheVariants as kind;
 ghost use Rattle.lease_journal.specs.Causes.{SaysSlots};
 ghost use Rattle.lease_store.specs.Desks.{Begins};
@@ -19,30 +20,59 @@ use std::thread::Threads;
 use zk_model::Span;
 use zk_port::{Disk, Gate, Link, Phase, QuietGate};
 
-/// Units of the store, and of a session.
+/// Units of the store, and of a session that wants few of them or many.
 const TOTAL: u64 = 64;
 
-const UNITS: u32 = 16;
+const FEW: u32 = 16;
 
-/// Reads a byte of the peer, and leases units where it is `h`.
+const MANY: u32 = 32;
+
+/// How many units a session leases whose peer sends this byte.
+fn units_for(byte: u8) -> Option<u32>
+    ensures { IfSome result (λ units. (1 ≤ units) × (units ≤ MAX_UNITS)) }
+{
+    match byte {
+        b'h' => Some(FEW),
+        b'w' => Some(MANY),
+        _ => None,
+    }
+}
+
+/// Reads a byte of the peer, and leases few units where it is `h`, and many where it is `w`.
 struct Asks;
 
-/// What came of it.
-#[derive(Clone, Copy)]
+/// What came of it, and how many units it asked for, or 0.
+#[derive(Clone, Copy, PartialEq)]
 struct Note {
+    units: u32,
     granted: Option<Span>,
     refused: Option<LeaseFault>,
+}
+
+impl Note {
+    /// Of a session that asked for so many units, and was answered so.
+    fn new(units: u32, granted: Option<Span>, refused: Option<LeaseFault>) -> Self
+        ensures units { result.units ≡ units }
+        ensures granted { result.granted ≡ granted }
+        ensures refused { result.refused ≡ refused }
+    {
+        Note {
+            units,
+            granted,
+            refused,
+        }
+    }
 }
 
 impl<L: Link + Drop> Session<L> for Asks {
     ghost use Rattle.std.specs.Prelude.{◌≡◌};
     ghost use Rattle.session_pool.specs.Notes.{granted_by};
     ghost use Rattle.store_tests.specs.declared.disks.TheConstants.{ID};
-    ghost use Rattle.store_tests.specs.declared.pool_tests.TheConstants.{TOTAL, UNITS};
+    ghost use Rattle.store_tests.specs.declared.pool_tests.TheConstants.{TOTAL};
 
     type Note = Note;
 
-    ghost size = { λ _. UNITS };
+    ghost size = { λ _ note. note.units };
 
     ghost id = { λ _. ID };
 
@@ -54,34 +84,26 @@ impl<L: Link + Drop> Session<L> for Asks {
 
     ghost refused = { λ note. note.refused };
 
-    fn units(&self) -> u32 {
-        UNITS
-    }
-
     fn lead<T: Grantor, G: Gate>(&self, alloc: Global, grantor: &mut T, link: L, gate: &G) -> Note {
         let mut link = link;
         let mut byte = [0];
         let came = link.receive(alloc, &mut byte);
         link.end();
-        if came != Ok(1) || byte[0] != b'h' {
-            return Note {
-                granted: None,
-                refused: None,
-            };
-        }
-        match grantor.grant(UNITS) {
+        let wanted = if came == Ok(1) {
+            units_for(byte[0])
+        } else {
+            None
+        };
+        let Some(units) = wanted else {
+            return Note::new(0, None, None);
+        };
+        match grantor.grant(units) {
             Ok(span) => {
                 gate.phase(Phase::Granted { start: span.start });
                 gate.phase(Phase::Ended { start: span.start });
-                Note {
-                    granted: Some(span),
-                    refused: None,
-                }
+                Note::new(units, Some(span), None)
             }
-            Err(fault) => Note {
-                granted: None,
-                refused: Some(fault),
-            },
+            Err(fault) => Note::new(units, None, Some(fault)),
         }
     }
 }
@@ -184,6 +206,27 @@ fn as_many_as_come_and_are_wanted_are_served(rt: HostRuntime) -> Result<(), Fail
         let (starts, others) = starts_of(alloc, &served.notes)?;
         assert!(rt; starts.as_slice() == *granted && others == *refused);
     }
+    Ok(())
+}
+
+/// A pass keeps its first refusal, and answers it again to a session of another size.
+#[test]
+fn sessions_lease_as_many_units_as_each_wants(rt: HostRuntime) -> Result<(), Fail> {
+    let alloc: Global = rt.alloc();
+    let served = run(&rt, alloc, 1, 9, b"hwxwh", &QuietGate)?;
+    let short = Some(LeaseFault::Exhausted {
+        at: 48,
+        count: MANY,
+        total: TOTAL,
+    });
+    let wanted = [
+        Note::new(FEW, Some(Span { start: 0, end: 16 }), None),
+        Note::new(MANY, Some(Span { start: 16, end: 48 }), None),
+        Note::new(0, None, None),
+        Note::new(MANY, None, short),
+        Note::new(FEW, None, short),
+    ];
+    assert!(rt; served.notes.as_slice() == wanted.as_slice());
     Ok(())
 }
 

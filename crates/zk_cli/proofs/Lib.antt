@@ -4,6 +4,7 @@ pub mod Lacking
 pub mod LeaseCauses
 pub mod LogStores
 pub mod NoteOrder
+pub mod OneStatement
 pub mod Opening
 pub mod Ordering
 pub mod RehearseOutcomes

@@ -9,7 +9,7 @@ use Rattle.zk_model.specs.declared.Span.{Span}
 use Rattle.zk_port.specs.Doors.{after_listen}
 use Rattle.zk_port.specs.Files.{Files}
 use Rattle.zk_port.specs.Links.{LinkState}
-use Rattle.session_core.specs.Jobs.{VerifierJob, units_of_job}
+use Rattle.session_core.specs.Jobs.{VerifierJob, one_job, units_of_job}
 use Rattle.session_pool.specs.Doors.{Takes}
 use Rattle.session_pool.specs.Notes.{AreApart, IsBetween, IsMarked, IsRefusedBy}
 use Rattle.session_verifier.specs.Outcomes.{lease_fault}
@@ -90,7 +90,7 @@ leads_permuted {L} link_tells ask job notes ordered door_failed memory_failed di
     let same : length ordered ≡ length notes = length_permutation notes ordered permuted in
     record {
       few = leads.few;
-      each = All-permutation (IsNote link_tells job) notes ordered permuted leads.each;
+      each = All-permutation (IsNote link_tells (one_job job)) notes ordered permuted leads.each;
       taken = subst (λ (n : ℕ). Takes ask.options.sessions n door_failed memory_failed (after_listen ask.address ask.options.sessions door.old) door.new)
           (sym same) leads.taken;
       base = leads.base;

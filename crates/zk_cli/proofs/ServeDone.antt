@@ -13,7 +13,7 @@ use Rattle.lease_journal.specs.Keeps.{StartsAgain}
 use Rattle.lease_journal.specs.declared.fault.StartFault.TheVariants as start
 use Rattle.lease_store.specs.declared.LeaseFault.{LeaseFault}
 use Rattle.lease_store.specs.declared.LeaseFault.TheVariants as lease
-use Rattle.session_core.specs.Jobs.{VerifierJob, units_of_job}
+use Rattle.session_core.specs.Jobs.{VerifierJob, one_job, units_of_job}
 use Rattle.session_pool.specs.Notes.{IsMarked, IsRefusedBy}
 use Rattle.session_verifier.specs.Outcomes.{lease_fault}
 use Rattle.session_verifier.specs.Sessions.{IsNote}
@@ -34,6 +34,7 @@ use Rattle.zk_cli.specs.declared.finish.Part.TheVariants.{Plain, Proved, Rehears
 use Rattle.file_commands.specs.declared.refusal.Refusal.{Refusal}
 use Rattle.file_commands.specs.declared.refusal.Refusal.TheVariants as stop
 use Rattle.file_commands.proofs.Causes.{told_circuit, circuit_lacks, file_7}
+use Rattle.zk_cli.proofs.OneStatement.{session_about}
 use Rattle.zk_cli.proofs.LeaseCauses.{not_refused, refusal_is_told, says_one_ceiling}
 use Rattle.zk_cli.proofs.ServeOutcomes.{either_is, serve_means}
 
@@ -144,17 +145,18 @@ module _ {L : Type 0} (link_tells : L → LinkState) (ask : ServeAsk) (notes : L
   note_done place default within honest =
       let note : SessionNote L = get_or notes place default in
       let is = files.leads.each place default within in
+      let session = session_about link_tells job is.0 note is.1 in
       let peer = honest.honest files.circuit job files.served in
-      is.1.complete peer.0 peer.1
+      session.complete peer.0 peer.1
       (λ fault same. refused_lease note is fault same (files.leads.marked place default within) (files.leads.refused place default within))
-      (λ rose. honest.calm (subst (λ (n : ℕ). Rose n (link_tells note.link).faults) is.1.fresh.unfailed rose))
+      (λ rose. honest.calm (subst (λ (n : ℕ). Rose n (link_tells note.link).faults) session.fresh.unfailed rose))
     where
-      refused_lease : (note : SessionNote L) (is : IsNote link_tells job note) (fault : LeaseFault) → is.0 ≡ Some (Err fault)
+      refused_lease : (note : SessionNote L) (is : IsNote link_tells (one_job job) note) (fault : LeaseFault) → is.0 ≡ Some (Err fault)
           → IsMarked files.leads.mark (lease_fault note.outcome)
           → IsRefusedBy (units_of_job job) job.task.file.params.total (files.leads.base + units_of_job job * (length notes - 1)) (lease_fault note.outcome)
           → ⊥
       refused_lease note is fault same marked refused =
-          let told_so : lease_fault note.outcome ≡ Some fault = refusal_is_told is.0 note.outcome fault is.1.refused same in
+          let told_so : lease_fault note.outcome ≡ Some fault = refusal_is_told is.0 note.outcome fault (session_about link_tells job is.0 note is.1).refused same in
           unrefused fault (subst (IsMarked files.leads.mark) told_so marked)
           (subst (IsRefusedBy (units_of_job job) job.task.file.params.total (files.leads.base + units_of_job job * (length notes - 1))) told_so refused)
           (omega (arith, within))

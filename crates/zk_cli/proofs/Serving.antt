@@ -27,6 +27,7 @@ use Rattle.zk_cli.specs.NoteLines.{start_of}
 use Rattle.zk_cli.specs.ServeRuns.{IsServeJob, IsLoadedName, LeadsFiles, ClaimStop}
 use Rattle.file_commands.proofs.Asking.{loads_among, loads_both}
 use Rattle.zk_cli.specs.ServedNotes.{GrantsOnce, IsHeadline}
+use Rattle.zk_cli.proofs.OneStatement.{session_about}
 use Rattle.file_commands.specs.Stops.{HasText, LoadStop, CircuitStop, FileStop}
 use Rattle.file_commands.specs.declared.refusal.Refusal.{Refusal}
 use Rattle.file_commands.specs.declared.refusal.Refusal.TheVariants as stop
@@ -114,7 +115,8 @@ pub headlines : {L : Type 0} (link_tells : L → LinkState) → ExtractedShowsOu
     → All (λ note. note.outcome ≡ Accepted → IsHeadline told ask note.granted note.log) notes
 headlines link_tells law told ask notes disk door door_failed memory_failed files = λ k default within accepted.
     let note = get_or notes k default in
-    headline law told ask files.circuit files.job files.served note.granted note.log ((files.leads.each k default within).1.shown accepted)
+    let is = files.leads.each k default within in
+    headline law told ask files.circuit files.job files.served note.granted note.log ((session_about link_tells files.job is.0 note is.1).shown accepted)
 
 -- and of all of them
 pub grants_once : {L : Type 0} (link_tells : L → LinkState) (told : Option Files) (ask : ServeAsk) (notes : List (SessionNote L))

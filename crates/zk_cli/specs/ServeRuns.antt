@@ -13,7 +13,7 @@ use Rattle.zk_port.specs.Doors.{after_listen}
 use Rattle.zk_port.specs.Files.{Files}
 use Rattle.zk_port.specs.Links.{LinkState}
 use Rattle.dealer_files.specs.Faults.{IsDealtFile}
-use Rattle.session_core.specs.Jobs.{VerifierJob, IsTooLarge, units_of_job}
+use Rattle.session_core.specs.Jobs.{VerifierJob, IsTooLarge, one_job, units_of_job}
 use Rattle.session_pool.specs.Doors.{Takes}
 use Rattle.session_pool.specs.Notes.{AreApart, IsBetween, IsMarked, IsRefusedBy}
 use Rattle.session_verifier.specs.Notes.{HasHonestPeer}
@@ -102,7 +102,7 @@ ServeStop ask shelf disk door stop =
 pub record LeadsJob {L : Type 0} (link_tells : L → LinkState) (ask : ServeAsk) (job : VerifierJob) (notes : List (SessionNote L))
     (door_failed memory_failed : Bool) (disk : DiskChange) (door : DoorChange) : Type 0 where
   pub few : units_of_job job ≤ MAX_UNITS
-  pub each : All (IsNote link_tells job) notes
+  pub each : All (IsNote link_tells (one_job job)) notes
   pub taken : Takes ask.options.sessions (length notes) door_failed memory_failed
       (after_listen ask.address ask.options.sessions door.old) door.new
   pub base : ℕ

@@ -23,7 +23,7 @@ use command_words::ServedOptions;
 use dealer_files::{VerifierFile, decode_verifier};
 use file_commands::{Refusal, check_public, load_file, open_ceilings, read_circuit, say_stop};
 use lease_journal::starts_again;
-use session_core::{CircuitClaim, TooLarge, VerifierJob};
+use session_core::{CircuitClaim, TooLarge, VerifierJob, VerifierJobs};
 use session_laws::extracted_shows_outputs;
 use session_pool::{Served, serve_all};
 use session_verifier::{SessionNote, Verification};
@@ -160,7 +160,8 @@ where
     };
     let refusal = match door.listen(alloc, words.address, options.sessions) {
         Ok(()) => {
-            let session = Verification::new(job);
+            let jobs = VerifierJobs::new(job, &[]);
+            let session = Verification::new(&jobs);
             return Ok(serve_all(
                 rt,
                 alloc,

@@ -18,6 +18,9 @@ pub const MAX_GENERATED_GATES: u32 = (1 << 20) - 64;
 /// Input values of a circuit's text, and output values.
 pub const MAX_VALUES: u32 = 1024;
 
+/// Statements that a verifier offers.
+pub const MAX_STATEMENTS: usize = 256;
+
 /// Bytes of a frame's payload.
 pub const MAX_PAYLOAD: usize = 1 << 24;
 

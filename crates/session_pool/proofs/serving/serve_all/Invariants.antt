@@ -23,6 +23,6 @@ ghosts-serve_named-W-Shift g a = record {
   is_note = IsNoteOf (g.S.Session.is_note a.session.now);
   granted = g.S.Session.granted;
   refused = g.S.Session.refused;
-  units = g.S.Session.size a.session.now;
+  size = g.S.Session.size a.session.now;
   fresh = All IsUnused a.passes.items;
 }

@@ -6,16 +6,16 @@ pub returns-then-is_err-clause-left : goal.returns-then-is_err-clause-left
 returns-then-is_err-clause-left g c =
     rw (c.close.ensures.notes, c.close.ensures.disk)
     (none_left g.N.LeaseName.start (g.B.Disk.state c.close-disk.result) g.N.LeaseName.id g.N.LeaseName.total c.args.passes.items
-    g.W.Shift.units g.W.Shift.granted g.W.Shift.refused c.new-notes.result.items c.reserve.new.self.items c.args.parts.base
+    g.W.Shift.size g.W.Shift.granted g.W.Shift.refused c.new-notes.result.items c.reserve.new.self.items c.args.parts.base
     c.new-notes.ensures.items c.reserve.ensures.items
     (same_closed g.N.LeaseName.start (g.B.Disk.state c.close-disk.result) g.N.LeaseName.id g.N.LeaseName.total c.args.passes.items
     c.named-store.result.base c.args.parts.base c.named-store.ensures.base c.close-disk.ensures))
 
 -- what the notes of all workers say
-run_of : (g : Over) (c : goal.After-close-2 g) → IsRun g.W.Shift.granted g.W.Shift.refused g.W.Shift.fresh g.W.Shift.units c.take_all_back.new.notes.items
+run_of : (g : Over) (c : goal.After-close-2 g) → IsRun g.W.Shift.granted g.W.Shift.refused g.W.Shift.fresh g.W.Shift.size c.take_all_back.new.notes.items
     g.N.LeaseName.start (g.B.Disk.state c.close-disk-2.result) g.N.LeaseName.id c.args.parts.base g.N.LeaseName.total
 run_of g c =
-    is_run g.W.Shift.granted g.W.Shift.refused g.W.Shift.is_note g.W.Shift.fresh g.W.Shift.units c.take_all_back.new.notes.items c.take_all_back.new.passes.items
+    is_run g.W.Shift.granted g.W.Shift.refused g.W.Shift.is_note g.W.Shift.fresh g.W.Shift.size c.take_all_back.new.notes.items c.take_all_back.new.passes.items
     g.N.LeaseName.start (g.B.Disk.state c.close-disk-2.result) g.N.LeaseName.id c.args.parts.base g.N.LeaseName.total c.take_all_back.ensures.back.work
     (same_closed g.N.LeaseName.start (g.B.Disk.state c.close-disk-2.result) g.N.LeaseName.id g.N.LeaseName.total c.take_all_back.new.passes.items
     c.named-store.result.base c.args.parts.base c.named-store.ensures.base c.close-disk-2.ensures)

@@ -8,7 +8,7 @@ invariant-loop-worker g l = record {
   notes : g.W.Run.sessions ≤ vec_capacity l.notes;
   parts : l.all.parts + vec_len l.workers ≡ l.fn.all.parts + vec_len l.fn.workers;
   each : vec_len l.passes + vec_len l.workers ≡ vec_len l.fn.workers;
-  back : AreBack g.W.Shift.granted g.W.Shift.refused g.W.Shift.is_note g.W.Shift.fresh g.W.Shift.units
+  back : AreBack g.W.Shift.granted g.W.Shift.refused g.W.Shift.is_note g.W.Shift.fresh g.W.Shift.size
       g.N.LeaseName.table g.N.LeaseName.total l.passes.items l.all.amount l.notes.items;
 }
 

@@ -1,26 +1,30 @@
+use Rattle.session_core.specs.Jobs.{noted_job}
 use Rattle.session_verifier.proofs.LeaseLemmas.{refused_by}
 use Rattle.session_verifier.proofs.verification.VerificationSession.lead.Goals as goal
 
 pub returns-clause-note : goal.returns-clause-note
 returns-clause-note g c = record {
-  granted_is = c.verify_session.ensures.granted;
-  refused = c.verify_session.ensures.refused;
-  behind_hello = c.verify_session.ensures.leased;
-  verdict = c.verify_session.ensures.verdict;
-  accepted = c.verify_session.ensures.accepted;
-  shown = c.verify_session.ensures.shown;
-  sends = c.verify_session.ensures.sends;
-  related = c.verify_session.ensures.related;
-  first = g.L.Link.state c.args.link;
-  fresh = c.requires.fresh;
-  cause = c.verify_session.ensures.cause;
-  told = c.verify_session.ensures.told;
-  faults = c.verify_session.ensures.faults;
-  receives = c.verify_session.ensures.receives;
-  complete = c.verify_session.ensures.complete;
-  ended = c.verify_session.ensures.ended;
+  statement = c.verify_session.ensures.statement;
+  session = record {
+    granted_is = c.verify_session.ensures.granted;
+    refused = c.verify_session.ensures.refused;
+    behind_hello = c.verify_session.ensures.leased;
+    verdict = c.verify_session.ensures.verdict;
+    accepted = c.verify_session.ensures.accepted;
+    shown = c.verify_session.ensures.shown;
+    sends = c.verify_session.ensures.sends;
+    related = c.verify_session.ensures.related;
+    first = g.L.Link.state c.args.link;
+    fresh = c.requires.fresh;
+    cause = c.verify_session.ensures.cause;
+    told = c.verify_session.ensures.told;
+    faults = c.verify_session.ensures.faults;
+    receives = c.verify_session.ensures.receives;
+    complete = c.verify_session.ensures.complete;
+    ended = c.verify_session.ensures.ended;
+  };
 }
 
 pub returns-clause-refused : goal.returns-clause-refused
 returns-clause-refused g c =
-    refused_by c.args.self.now.job.now (g.T.Grantor.answer c.verify_session.new.grantor) c.verify_session.result.outcome _ _ c.verify_session.ensures.cause
+    refused_by (noted_job c.args.self.now.jobs.now c.verify_session.result.statement) (g.T.Grantor.answer c.verify_session.new.grantor) c.verify_session.result.outcome _ _ c.verify_session.ensures.cause
