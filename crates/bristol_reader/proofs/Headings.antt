@@ -80,16 +80,7 @@ header_taken a b c d e header few most one two ins inputs outs outputs =
     let values : Values = record { inputs = inputs.sizes; outputs = outputs.sizes } in
     record {
       values = values;
-      is = record {
-        gates = few;
-        wires = most;
-        input_values = inputs.few;
-        output_values = outputs.few;
-        inputs = inputs.total_is;
-        outputs = outputs.total_is;
-        inputs_within = ins;
-        outputs_within = outs;
-      };
+      is = assumption;
       takes = takes_both (number header.gates ∷ number header.wires ∷ counted_lexemes inputs.sizes) (counted_lexemes outputs.sizes) a d e
           (takes_both (start_lexemes header.gates header.wires []) (counted_lexemes inputs.sizes) a c d (takes_start a b c header.gates header.wires one two) inputs.takes) outputs.takes;
     }

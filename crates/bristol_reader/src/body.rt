@@ -58,7 +58,7 @@ pub fn read_body(
     let mut gates = Vec::with_capacity(alloc, header.gates as usize)?;
     'gates: for _ in 0..header.gates {
         let gate = read_gate(tokens, &set)?;
-        gates.push(gate)?;
+        gates.push_reserved(gate);
         set.insert(out_wire(gate));
     }
     tokens.end()?;

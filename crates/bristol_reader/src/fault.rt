@@ -2,7 +2,7 @@
 ghost use Rattle.std.specs.Prelude.{◌≡◌};
 ghost use Rattle.bristol_reader.specs.declared.fault.ReadError.TheVariants as error;
 
-use std::alloc::{AllocError, AllocFailed};
+use std::alloc::AllocError;
 use thiserror::Error;
 use zk_model::ReadFault;
 
@@ -29,14 +29,6 @@ impl From<AllocError> for ReadError {
     ghost from_gives = { λ _ e. e ≡ error.NoMemory };
 
     fn from(_: AllocError) -> Self {
-        ReadError::NoMemory
-    }
-}
-
-impl<T: Drop> From<AllocFailed<T>> for ReadError {
-    ghost from_gives = { λ _ e. e ≡ error.NoMemory };
-
-    fn from(_: AllocFailed<T>) -> Self {
         ReadError::NoMemory
     }
 }

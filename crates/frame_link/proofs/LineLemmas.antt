@@ -21,7 +21,7 @@ use Rattle.zk_port.specs.Logs.{appended, put_before}
 use Rattle.zk_port.specs.declared.fault.PortFault.{PortFault}
 use Rattle.zk_port.specs.declared.fault.PortFault.TheVariants as port
 use Rattle.frame_link.specs.Sides.{peer_of}
-use Rattle.frame_link.specs.Lines.{LineState, Came, Breaks, PieceComes, PiecesBegin, Fails, PieceFails, CountsFault, IsCutShort, port_fault, longest}
+use Rattle.frame_link.specs.Lines.{LineState, Came, Breaks, PieceComes, PiecesBegin, Fails, PieceFails, CountsFault, IsPartOnly, port_fault, longest}
 use Rattle.frame_link.specs.declared.fault.LineFault.TheVariants.{Link, NoMemory}
 
 pub appended_none : {T : Type 0} (told : Option (List T)) → told ≡ appended [] told
@@ -65,9 +65,8 @@ unreceived place old new fault came goes few wanting receives later rose same =
     let none : old.reading.taken ≡ old.reading.taken ++ [] = sym (append-nil old.reading.taken) in
     record {
       bytes = [];
-      few = subst (λ (l : List ℕ). length l ≤ longest place) none few;
-      unfinished = inl (subst (λ (l : List ℕ). length l < frame_length place l) none wanting);
-      cut = λ _. subst (IsCutShort place) none (record { goes_on = goes; short = wanting });
+      part = subst (IsPartOnly place (port_fault fault)) none
+          (record { few = few; unfinished = inl wanting; cut = λ _. record { goes_on = goes; short = wanting } });
       came = came;
       broken = subst (λ (l : List ℕ). Breaks place l old new (port_fault fault)) none (breaks_by place old.reading.taken old new fault rose);
       receives = receives;
@@ -89,13 +88,7 @@ frame_most expect.Grant (first ∷ bytes) = either (nat_eq first 10)
     either : (b : Bool) → (if b then 6 else 21) ≤ 21
     either true = omega arith
     either false = omega arith
-frame_most expect.Challenge bytes = omega arith
-frame_most expect.Verdict bytes = omega arith
-frame_most (expect.Ask height trees left) bytes = omega arith
-frame_most (expect.Reply height trees left) bytes = omega arith
-frame_most (expect.Corrections count) bytes = omega arith
-frame_most (expect.Sums sections) bytes = omega arith
-frame_most (expect.Openings count) bytes = omega arith
+frame_most place bytes = omega arith
 
 -- a fault that is known
 pub fails_at : {T E : Type 0} (P : E → Type 0) (result : Result T E) (fault : E) → IsErrAnd result (λ e. e ≡ fault) → P fault → IfErr result P
@@ -145,9 +138,11 @@ fed_badly place old new piece bad came fine expected few within (inr turns) rece
     subst (λ (q : Expect × List ℕ). IsFirstBad q.0 (old.reading.taken ++ q.1) turns.n) (λ i. (there i, all i)) turns.first in
     record {
       bytes = piece;
-      few = omega (arith, length-append old.reading.taken piece, few, within, most);
-      unfinished = inr (turns.n, first);
-      cut = λ bad. absurd bad;
+      part = record {
+        few = omega (arith, length-append old.reading.taken piece, few, within, most);
+        unfinished = inr (turns.n, first);
+        cut = λ bad. absurd bad;
+      };
       came = came;
       broken = (turns.n, first, turns.at);
       receives = receives;
@@ -208,9 +203,7 @@ breaks_from place bytes old mid new fault.NoMemory received faults broken = tt
 pub fails_more : (place : Expect) (old mid new : LineState) (f : LineFault) → PiecesBegin place old mid → PieceFails place f mid new → Fails place f old new
 fails_more place old mid new f begun fails = record {
   bytes = mid.reading.taken ++ fails.bytes;
-  few = fails.few;
-  unfinished = fails.unfinished;
-  cut = fails.cut;
+  part = fails.part;
   came = came_more mid.reading.taken fails.bytes old mid new begun.came fails.came;
   broken = breaks_from place (mid.reading.taken ++ fails.bytes) old mid new f (ap (λ (r : Reading). r.received) begun.read) begun.unfailed fails.broken;
   receives = omega (arith, begun.receives, fails.receives, length-append mid.reading.taken fails.bytes);
@@ -227,9 +220,7 @@ fails_since place old reading new f received fails =
     let mid : LineState = record old { reading = reading } in
     record {
       bytes = fails.bytes;
-      few = fails.few;
-      unfinished = fails.unfinished;
-      cut = fails.cut;
+      part = fails.part;
       came = came_more [] fails.bytes old mid new (came_none old mid refl refl refl refl refl refl refl) fails.came;
       broken = breaks_from place fails.bytes old mid new f received refl fails.broken;
       receives = fails.receives;
@@ -241,9 +232,11 @@ pub none_fails : (place : Expect) (old new : LineState) → Came [] old new → 
     → Fails place fault.NoMemory old new
 none_fails place old new came receives faults = record {
   bytes = [];
-  few = omega arith;
-  unfinished = inl (omega (arith, told_within place []));
-  cut = λ _. record { goes_on = held_goes_on place [] [] [] (nothing_held place); short = omega (arith, told_within place []) };
+  part = record {
+    few = omega arith;
+    unfinished = inl (omega (arith, told_within place []));
+    cut = λ _. record { goes_on = held_goes_on place [] [] [] (nothing_held place); short = omega (arith, told_within place []) };
+  };
   came = came;
   broken = tt;
   receives = omega (arith, receives);

@@ -198,24 +198,26 @@ IsNoBadByte NoMemory = Unit {0}
 abbrev pub IsUnfinished : Expect → List ℕ → Type 0
 IsUnfinished place bytes = (length bytes < frame_length place bytes) ⊎ ((n : ℕ) × IsFirstBad place bytes n)
 
+-- These bytes are no more than a frame has, and no whole one; where none of them is bad, they begin one of which more are missing.
+pub record IsPartOnly (place : Expect) (fault : LineFault) (bytes : List ℕ) : Type 0 where
+  pub few : length bytes ≤ longest place
+  pub unfinished : IsUnfinished place bytes
+  pub cut : IsNoBadByte fault → IsCutShort place bytes
+
 -- a piece is refused: after those bytes of the frame that were taken before, these came
 pub record PieceFails (place : Expect) (fault : LineFault) (old new : LineState) : Type 0 where
   pub bytes : List ℕ
-  pub few : length (old.reading.taken ++ bytes) ≤ longest place
-  pub unfinished : IsUnfinished place (old.reading.taken ++ bytes)
-  pub cut : IsNoBadByte fault → IsCutShort place (old.reading.taken ++ bytes)
+  pub part : IsPartOnly place fault (old.reading.taken ++ bytes)
   pub came : Came bytes old new
   pub broken : Breaks place (old.reading.taken ++ bytes) old new fault
   pub receives : new.receives ≤ old.receives + 1
   pub count : CountsFault fault old new
 
--- No whole frame has come, but bytes that are no more than one has, by at most one receive more than there are bytes; and the
--- cause. Where none of them is bad, they begin a frame of which more are missing: also where the link failed, or memory was missing.
+-- No whole frame has come, but a part of one, by at most one receive more than it has bytes; and the cause: the link may have
+-- failed, or memory be missing.
 pub record Fails (place : Expect) (fault : LineFault) (old new : LineState) : Type 0 where
   pub bytes : List ℕ
-  pub few : length bytes ≤ longest place
-  pub unfinished : IsUnfinished place bytes
-  pub cut : IsNoBadByte fault → IsCutShort place bytes
+  pub part : IsPartOnly place fault bytes
   pub came : Came bytes old new
   pub broken : Breaks place bytes old new fault
   pub receives : new.receives ≤ old.receives + length bytes + 1

@@ -128,14 +128,15 @@ impl<L: Link> Line<L> {
         ensures fails { IfErr result (λ fault. PieceFails _place fault self.old self.new) }
     {
         let most = self.decoder.wants().min(buffer.len());
+        let (front, _) = buffer.split_at_mut(most);
         let count = self
             .log
-            .receive(alloc, &mut self.link, peer(self.side), buffer, most)?;
+            .receive(alloc, &mut self.link, peer(self.side), front)?;
         if count == 0 {
             let at = self.decoder.received();
             return Err(LineFault::PeerEnded { at });
         }
-        match self.decoder.feed(&buffer[..count]) {
+        match self.decoder.feed(&front[..count]) {
             Ok(_) => Ok(()),
             Err(bad) => Err(LineFault::BadFrame { place: bad.place }),
         }

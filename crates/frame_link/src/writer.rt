@@ -31,27 +31,6 @@ impl Model for LogWriter {
         IsWritten l.runs.items l.bytes.items l.room (vec_capacity l.bytes) (vec_capacity l.runs) };
 }
 
-/// Takes the next bytes of a link's peer, at most so many, into the front of a buffer.
-fn receive_front<L: Link>(
-    alloc: Global,
-    link: &mut L,
-    buffer: &mut [u8],
-    most: usize,
-) -> Result<usize, PortFault>
-    requires open { IsTrue (L.state link.old).is_open }
-    requires fits { most ≤ length buffer.old }
-    ensures within { IfOk result (λ n. n ≤ most) }
-    ensures length { length buffer.new ≡ length buffer.old }
-    ensures taken { IfOk result (λ n. Receives most n (take n buffer.new)
-        (L.state link.old) (L.state link.new)) }
-    ensures refused { OnErr result (RefusesReceive (L.state link.old) (L.state link.new)) }
-    ensures cause { HasCause (L.state link.old).faults (L.state link.new).faults result }
-{
-    let (front, _) = buffer.split_at_mut(most);
-    let count = link.receive(alloc, front)?;
-    Ok(count)
-}
-
 impl LogWriter {
     /// A log of nothing, with no room.
     pub(crate) fn new(alloc: Global) -> Self
@@ -115,8 +94,8 @@ impl LogWriter {
         Ok(())
     }
 
-    /// Takes the next bytes of the peer, whose side this is, over a link into the front of a buffer, at most so many, and notes
-    /// them. The room stays.
+    /// Takes the next bytes of the peer, whose side this is, over a link into the front of a buffer, and notes them. The room
+    /// stays.
     ///
     /// # Errors
     ///
@@ -127,23 +106,21 @@ impl LogWriter {
         link: &mut L,
         peer: Side,
         buffer: &mut [u8],
-        most: usize,
     ) -> Result<usize, PortFault>
         requires open { IsTrue (L.state link.old).is_open }
-        requires fits { most ≤ length buffer.old }
-        ensures within { IfOk result (λ n. n ≤ most) }
+        ensures within { IfOk result (λ n. n ≤ length buffer.old) }
         ensures length { length buffer.new ≡ length buffer.old }
         ensures noted { IfOk result (λ n. self.new
             ≡ record self.old { entries = self.old.entries ++ bytes_from peer (take n buffer.new) }) }
-        ensures taken { IfOk result (λ n. Receives most n (take n buffer.new)
+        ensures taken { IfOk result (λ n. Receives (length buffer.old) n (take n buffer.new)
             (L.state link.old) (L.state link.new)) }
         ensures unnoted { OnErr result (self.new ≡ self.old) }
         ensures refused { OnErr result (RefusesReceive (L.state link.old) (L.state link.new)) }
         ensures cause { HasCause (L.state link.old).faults (L.state link.new).faults result }
     {
         self.runs.reserve(2)?;
-        self.bytes.reserve(most + self.room)?;
-        let count = receive_front(alloc, link, buffer, most)?;
+        self.bytes.reserve(buffer.len() + self.room)?;
+        let count = link.receive(alloc, buffer)?;
         note_bytes(&mut self.bytes, &mut self.runs, peer, &buffer[..count]);
         Ok(count)
     }

@@ -1,5 +1,5 @@
 -- Each possible event keeps what holds of a machine.
-use Rattle.std.proofs.Common.{◌≡◌, ℕ, ◌+◌, ◌<◌, ◌≤◌, ◌⊎◌, inl, inr, ⊎_elim, Bool, true, false, not, cond, ◌&&◌, List, [], ◌∷◌, ◌++◌, length, get_or, refl, sym, ap, ◌∙◌, subst, arith, nat_eq, nat_lt, nat_le}
+use Rattle.std.proofs.Common.{◌≡◌, ℕ, ◌+◌, ◌<◌, ◌≤◌, ◌⊎◌, inl, inr, ⊎_elim, Bool, true, false, not, cond, ◌&&◌, List, [], ◌∷◌, ◌++◌, length, get_or, replicate, refl, sym, ap, ◌∙◌, subst, arith, nat_eq, nat_lt, nat_le}
 use Rattle.std.proofs.lemmas.Bool.{true≢false, and_parts, and_from, not-true, eqb-true, ltb-true, leb-true}
 use Rattle.std.proofs.lemmas.List.{length-set, length-replicate}
 use Rattle.std.proofs.lemmas.List.Elements.{All-nil, All-push, All-set, All-replicate}
@@ -14,7 +14,7 @@ use Rattle.lease_core.specs.declared.event.Event.{Event}
 use Rattle.lease_core.specs.declared.event.Event.TheVariants.{Begin, Draw, Look, Put, Raise, Spend, Claim, Crash}
 use Rattle.lease_core.specs.declared.event.Drawn.{Drawn}
 use Rattle.lease_core.proofs.Drawns.{Has, chain_push, has_push, has_within, same_or_apart, last_is_had, same_span-true, not_had-differs, meets_none-apart, open_parts}
-use Rattle.lease_core.proofs.Invariant.{Inv}
+use Rattle.lease_core.proofs.Invariant.{Ceilings, Era, Inv}
 
 pub last_of_push : (xs : List ℕ) (x : ℕ) → last_of (xs ++ x ∷ []) ≡ x
 last_of_push [] x = refl
@@ -26,26 +26,35 @@ ends_weaker a b xs h e = λ k d l. let i = e k d l in omega arith
 
 -- ---- an era
 
+-- no put is under way
+at_rest : (total ceiling shown : ℕ) (up : Bool) (slots : List ℕ) → last_of slots ≤ total → shown ≤ last_of slots → (up ≡ true → last_of slots ≡ shown)
+    → Ceilings total up 0 ceiling shown slots
+at_rest total ceiling shown up slots within low before = record {
+  within = within;
+  low = low;
+  last = omega arith;
+  down = λ _. refl;
+  before = λ u _. before u;
+  rises = λ h. absurd (omega arith);
+  fits = λ h. absurd (omega arith);
+  done = λ h. absurd (omega arith);
+}
+
+-- nothing is drawn
+era_begun : (passes at : ℕ) → Era passes at at at [] (replicate passes at)
+era_begun passes at = record {
+  based = omega arith;
+  chain = omega arith;
+  made = All-nil (λ (d : Drawn). d.pass < passes);
+  all_known = length-replicate passes at;
+  fitting = All-replicate (λ (k : ℕ). (at ≤ k) × (k ≤ at)) passes at (omega arith, omega arith);
+}
+
 begins : (m : Machine) → Inv m → Inv (after m Begin)
-begins m v = let c = v.ceilings in let w = c.within in record {
-  ceilings = record {
-    within = w;
-    low = omega arith;
-    last = omega arith;
-    down = λ u. absurd (true≢false u);
-    before = λ _ _. refl;
-    rises = λ h. absurd (omega arith);
-    fits = λ h. absurd (omega arith);
-    done = λ h. absurd (omega arith);
-  };
-  era = record {
-    based = omega arith;
-    chain = omega arith;
-    made = All-nil (λ (d : Drawn). d.pass < m.passes);
-    all_known = length-replicate m.passes (durable m);
-    fitting = All-replicate (λ (k : ℕ). (durable m ≤ k) × (k ≤ durable m)) m.passes (durable m) (omega arith, omega arith);
-  };
-  grants = let e = ends_weaker m.shown (durable m) m.spent c.low v.grants.ends in
+begins m v = record {
+  ceilings = at_rest m.total m.ceiling (durable m) true m.slots v.ceilings.within (omega arith) (λ _. refl);
+  era = era_begun m.passes (durable m);
+  grants = let e = ends_weaker m.shown (durable m) m.spent v.ceilings.low v.grants.ends in
       record { apart = v.grants.apart; units = v.grants.units; ends = e; from = λ k d l. inr (e k d l) };
   claimed = v.claimed;
 }
@@ -140,17 +149,8 @@ puts m Gate v u ok = let c = v.ceilings in let z = eqb-true m.stage 2 ok in move
 puts m GateSync v u ok = syncs m v u (eqb-true m.stage 3 ok)
 
 raises : (m : Machine) → Inv m → m.up ≡ true → m.stage ≡ 4 → Inv (after m Raise)
-raises m v u at = let c = v.ceilings in let r = c.rises (omega arith) in let f = c.fits (omega arith) in let d = c.done at in let b = v.era.based in record {
-  ceilings = record {
-    within = c.within;
-    low = omega arith;
-    last = omega arith;
-    down = λ _. refl;
-    before = λ _ _. d;
-    rises = λ h. absurd (omega arith);
-    fits = λ h. absurd (omega arith);
-    done = λ h. absurd (omega arith);
-  };
+raises m v u at = let c = v.ceilings in let r = c.rises (omega arith) in let d = c.done at in let b = v.era.based in record {
+  ceilings = at_rest m.total m.ceiling m.ceiling m.up m.slots c.within (omega (arith, d)) (λ _. d);
   era = record {
     based = omega arith;
     chain = v.era.chain;
@@ -195,17 +195,8 @@ claims_one m s v unit low new = record {
 -- ---- a crash
 
 crashed : (m : Machine) (slots : List ℕ) → Inv m → last_of slots ≤ m.total → durable m ≤ last_of slots → Inv (record m { up = false; stage = 0; slots = slots })
-crashed m slots v a b = let c = v.ceilings in let l = c.low in record {
-  ceilings = record {
-    within = a;
-    low = omega arith;
-    last = omega arith;
-    down = λ _. refl;
-    before = λ u. absurd (true≢false (sym u));
-    rises = λ h. absurd (omega arith);
-    fits = λ h. absurd (omega arith);
-    done = λ h. absurd (omega arith);
-  };
+crashed m slots v a b = let l = v.ceilings.low in record {
+  ceilings = at_rest m.total m.ceiling m.shown false slots a (omega arith) (λ u. absurd (true≢false (sym u)));
   era = v.era;
   grants = v.grants;
   claimed = v.claimed;
@@ -287,23 +278,8 @@ possible_append m (e ∷ es) more ok =
 
 pub at_first : (total passes : ℕ) → Inv (machine_at_first total passes)
 at_first total passes = record {
-  ceilings = record {
-    within = omega arith;
-    low = omega arith;
-    last = omega arith;
-    down = λ _. refl;
-    before = λ _ _. refl;
-    rises = λ h. absurd (omega arith);
-    fits = λ h. absurd (omega arith);
-    done = λ h. absurd (omega arith);
-  };
-  era = record {
-    based = omega arith;
-    chain = omega arith;
-    made = All-nil (λ (d : Drawn). d.pass < passes);
-    all_known = length-replicate passes 0;
-    fitting = All-replicate (λ (k : ℕ). (0 ≤ k) × (k ≤ 0)) passes 0 (omega arith, omega arith);
-  };
+  ceilings = at_rest total 0 0 false [] (omega arith) (omega arith) (λ _. refl);
+  era = era_begun passes 0;
   grants = record {
     apart = λ i j d a b. absurd (omega arith);
     units = All-nil (λ (s : Span). s.start < s.end);

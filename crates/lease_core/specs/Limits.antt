@@ -1,5 +1,5 @@
 -- What every state of the code keeps, so that its numbers fit their types.
-use Rattle.std.specs.Prelude.{◌≡◌, ℕ, ◌+◌, ◌*◌, ◌^◌, ◌<◌, ◌≤◌, ◌&&◌, List, nat_eq, nat_lt, length, All}
+use Rattle.std.specs.Prelude.{◌≡◌, ℕ, ◌+◌, ◌*◌, ◌<◌, ◌≤◌, ◌&&◌, List, nat_eq, nat_lt, length, All}
 use Rattle.std.specs.List.{count_by}
 use Rattle.lease_core.specs.Machine.{last_of}
 use Rattle.lease_core.specs.declared.event.Drawn.{Drawn}

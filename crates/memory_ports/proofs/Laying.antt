@@ -3,29 +3,21 @@ use Rattle.std.proofs.Common.{◌≡◌, ◌≢◌, ◌≤◌, ◌+◌, ◌-◌,
 use Rattle.std.proofs.lemmas.List.{take-replicate, drop-replicate, take_all, drop_all}
 use Rattle.zk_port.specs.Images.{laid_at, written_at}
 
-take-over : (n : ℕ) (xs ys : List ℕ) → take n (xs ++ ys) ≡ take n xs ++ take (n - length xs) ys
-take-over n [] ys =
+-- the first of two lists that stand together, and what is behind them
+split_over : (n : ℕ) (xs ys : List ℕ)
+    → (take n (xs ++ ys) ≡ take n xs ++ take (n - length xs) ys) × (drop n (xs ++ ys) ≡ drop n xs ++ drop (n - length xs) ys)
+split_over n [] ys =
     let none : List ℕ = [] in
-    let same : n ≡ n - length none = omega arith in
-    ap (λ k. take k ys) same ∙ ap (λ l. l ++ take (n - length none) ys) (sym (take_all n none (omega arith)))
-take-over zero (x ∷ xs) ys =
-    let none : 0 ≡ 0 - length (x ∷ xs) = omega arith in
-    ap (λ k. take k ys) none
-take-over (suc n) (x ∷ xs) ys =
+    let same : n ≡ n - length none = omega arith in (
+      ap (λ k. take k ys) same ∙ ap (λ l. l ++ take (n - length none) ys) (sym (take_all n none (omega arith))),
+      ap (λ k. drop k ys) same ∙ ap (λ l. l ++ drop (n - length none) ys) (sym (drop_all n none (omega arith))),
+    )
+split_over zero (x ∷ xs) ys =
+    let none : 0 ≡ 0 - length (x ∷ xs) = omega arith in (ap (λ k. take k ys) none, ap (λ k. x ∷ xs ++ drop k ys) none)
+split_over (suc n) (x ∷ xs) ys =
     let same : n - length xs ≡ suc n - length (x ∷ xs) = omega arith in
-    ap (λ l. x ∷ l) (take-over n xs ys) ∙ ap (λ k. x ∷ take n xs ++ take k ys) same
-
-drop-over : (n : ℕ) (xs ys : List ℕ) → drop n (xs ++ ys) ≡ drop n xs ++ drop (n - length xs) ys
-drop-over n [] ys =
-    let none : List ℕ = [] in
-    let same : n ≡ n - length none = omega arith in
-    ap (λ k. drop k ys) same ∙ ap (λ l. l ++ drop (n - length none) ys) (sym (drop_all n none (omega arith)))
-drop-over zero (x ∷ xs) ys =
-    let none : 0 ≡ 0 - length (x ∷ xs) = omega arith in
-    ap (λ k. x ∷ xs ++ drop k ys) none
-drop-over (suc n) (x ∷ xs) ys =
-    let same : n - length xs ≡ suc n - length (x ∷ xs) = omega arith in
-    drop-over n xs ys ∙ ap (λ k. drop n xs ++ drop k ys) same
+    let rest = split_over n xs ys in
+    (ap (λ l. x ∷ l) rest.0 ∙ ap (λ k. x ∷ take n xs ++ take k ys) same, rest.1 ∙ ap (λ k. drop n xs ++ drop k ys) same)
 
 pub laid_over : (at n : ℕ) (bytes old : List ℕ) → n ≡ at + length bytes - length old
     → take at (old ++ replicate n 0) ++ bytes ++ drop (at + length bytes) (old ++ replicate n 0) ≡ laid_at at bytes old
@@ -33,10 +25,10 @@ laid_over at n bytes old is =
     let zero_byte : ℕ = 0 in
     let within : at - length old ≤ n = omega (arith, is) in
     let front : take at (old ++ replicate n 0) ≡ take at old ++ replicate (at - length old) 0 =
-    take-over at old (replicate n 0) ∙ ap (λ l. take at old ++ l) (take-replicate (at - length old) n 0 within) in
+    (split_over at old (replicate n 0)).0 ∙ ap (λ l. take at old ++ l) (take-replicate (at - length old) n 0 within) in
     let gone : n - (at + length bytes - length old) ≡ 0 = omega (arith, is) in
     let back : drop (at + length bytes) (old ++ replicate n 0) ≡ drop (at + length bytes) old =
-    drop-over (at + length bytes) old (replicate n 0)
+    (split_over (at + length bytes) old (replicate n 0)).1
     ∙ ap (λ l. drop (at + length bytes) old ++ l) (drop-replicate (at + length bytes - length old) n 0 ∙ ap (λ k. replicate k zero_byte) gone)
     ∙ append-nil (drop (at + length bytes) old) in
     ap (λ l. l ++ bytes ++ drop (at + length bytes) (old ++ replicate n 0)) front

@@ -102,26 +102,19 @@ half_of bytes = take (length bytes / 2) bytes
 abbrev pub content_after : Turn → ℕ → List ℕ → List ℕ → List ℕ
 content_after Goes at bytes old = written_at at bytes old
 content_after Fails at bytes old = written_at at (half_of bytes) old
-content_after Stopped at bytes old = old
-content_after Lost at bytes old = old
+content_after turn at bytes old = old
 
 -- the ranges of writes after a write of so many bytes
 abbrev pub ranges_after : Turn → ℕ → ℕ → List Pending → List Pending
-ranges_after Goes at count old = old ++ record { at = at; count = count } ∷ []
-ranges_after Fails at count old = old ++ record { at = at; count = count } ∷ []
-ranges_after Stopped at count old = old ++ record { at = at; count = count } ∷ []
 ranges_after Lost at count old = old
+ranges_after turn at count old = old ++ record { at = at; count = count } ∷ []
 
 -- whether a call is refused
 abbrev pub is_refused : Turn → Bool
 is_refused Goes = false
-is_refused Fails = true
-is_refused Stopped = true
-is_refused Lost = true
+is_refused turn = true
 
 -- how many further calls there is room for
 abbrev pub left_after : Turn → ℕ → ℕ
-left_after Goes calls = calls - 1
-left_after Fails calls = calls - 1
-left_after Stopped calls = calls - 1
 left_after Lost calls = calls
+left_after turn calls = calls - 1

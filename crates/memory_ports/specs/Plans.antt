@@ -5,6 +5,7 @@ use Rattle.std.specs.List.{list_any}
 use Rattle.std.specs.BTreeMap.{get_by_text, BTreeMap}
 use Rattle.std.specs.declared.alloc.Global.{Global}
 use Rattle.std.specs.Str.{bytes_eq}
+use Rattle.zk_port.specs.Counts.{counted}
 use Rattle.zk_port.specs.Files.{Files, stored}
 use Rattle.zk_port.specs.declared.fault.LoadFault.{LoadFault}
 use Rattle.zk_port.specs.declared.fault.LoadFault.TheVariants as load
@@ -16,6 +17,17 @@ pub record Schedule : Type 0 where
   pub numbers : List ℕ
   pub calls : ℕ
   pub faults : ℕ
+
+-- under a plan one call more is over, which failed or did not; those that failed are counted
+pub record UsesCall
+    {P : Type 0}
+    (coming : P → ℕ → Bool)
+    (count : P → ℕ)
+    (failed : Bool)
+    (old new : P) : Type 0 where
+  pub onward : (n : ℕ) → coming new n ≡ coming old (n + 1)
+  pub counts : count new ≡ counted failed (count old)
+  pub grows : count old ≤ count new
 
 -- whether the call after n further ones is to fail; a count at the end of its type stands still there
 abbrev pub is_to_fail : Schedule → ℕ → Bool

@@ -1,6 +1,5 @@
 // Reads and writes of a file's bytes in memory.
-ghost use Rattle.std.specs.Prelude.{◌≡◌, ◌≤◌, ◌+◌, ◌-◌, ◌++◌, ◌^◌, length, min, take, drop, replicate, OnOk, OnErr, IsOk};
-ghost use Rattle.std.specs.Vec.{vec_capacity};
+ghost use Rattle.std.specs.Prelude.{◌≡◌, ◌≤◌, ◌+◌, ◌-◌, ◌++◌, ◌^◌, length, min, take, drop, replicate, vec_capacity, OnOk, OnErr, IsOk};
 ghost use Rattle.zk_port.specs.Images.{written_at};
 
 use std::alloc::AllocError;

@@ -1,11 +1,10 @@
 // A disk in memory whose calls fail where a plan says so, and which a crash may tear.
-ghost use Rattle.std.specs.Prelude.{◌≡◌, ◌<◌, ◌≤◌, ◌+◌, ◌-◌, ◌^◌, ◌++◌, [], ◌∷◌, ◌||◌, ◌==◌, ℕ, Bool, true, false, not, vec_len, length, max, min, take, drop, get_or, is_err, IfOk, OnOk, OnErr, nat_le, List};
-ghost use Rattle.std.specs.Vec.{vec_capacity};
+ghost use Rattle.std.specs.Prelude.{◌≡◌, ◌<◌, ◌≤◌, ◌+◌, ◌-◌, ◌^◌, ◌++◌, [], ◌∷◌, ◌||◌, ◌==◌, ℕ, Bool, true, false, not, vec_capacity, vec_len, length, max, min, take, drop, get_or, is_err, IfOk, OnOk, OnErr, nat_le, List};
 ghost use Rattle.std.specs.List.{list_all};
-ghost use Rattle.zk_port.specs.Counts.{counted};
 ghost use Rattle.zk_port.specs.Images.{written_at, IsTorn, ImagesFollow, StepsBy, Only};
 ghost use Rattle.zk_port.specs.Disks.{Elapses};
 ghost use Rattle.memory_ports.specs.Epochs.{left_by, left_by_all, is_prepared, reach, AreOutside, Leaves, chosen_names, may_choose, epoch_state, turn_of, is_refused, left_after, content_after, ranges_after};
+ghost use Rattle.memory_ports.specs.Plans.{UsesCall};
 
 use crate::epoch::{Epoch, Leftover, Pending, Turn, prepare};
 use crate::file_bytes::{MAX_ROOM, read_from, write_into};
@@ -55,9 +54,7 @@ fn begin<P: FaultPlan>(plan: &mut P, calls: &mut usize, fits: bool) -> Turn
     requires strict { P.forgiving ≡ false }
     ensures turn { result ≡ turn_of fits (P.stopped plan.old) calls.old (P.coming plan.old 0) }
     ensures calls { calls.new ≡ left_after result calls.old }
-    ensures onward { (n : ℕ) → P.coming plan.new n ≡ P.coming plan.old (n + 1) }
-    ensures count { P.count plan.new ≡ counted (is_refused result) (P.count plan.old) }
-    ensures count_grows { P.count plan.old ≤ P.count plan.new }
+    ensures plan { UsesCall P.coming P.count (is_refused result) plan.old plan.new }
 {
     let lost = !fits || *calls == 0;
     let stopped = plan.has_stopped();
@@ -324,9 +321,7 @@ impl<P: FaultPlan> Disk for MemoryDisk<P> {
         ensures room { self.new.room ≡ self.old.room }
         ensures calls { self.new.calls ≡ left_after (turn_of (may_choose self.old.is_chosen (length name.now))
             (P.stopped self.old.plan) self.old.calls (P.coming self.old.plan 0)) self.old.calls }
-        ensures onward { (n : ℕ) → P.coming self.new.plan n ≡ P.coming self.old.plan (n + 1) }
-        ensures count { P.count self.new.plan ≡ counted (is_err result) (P.count self.old.plan) }
-        ensures count_grows { P.count self.old.plan ≤ P.count self.new.plan }
+        ensures plan { UsesCall P.coming P.count (is_err result) self.old.plan self.new.plan }
     {
         let fits = !self.is_chosen && name.len() <= NAME_ROOM;
         match begin(&mut self.plan, &mut self.calls, fits) {
@@ -353,9 +348,7 @@ impl<P: FaultPlan> Disk for MemoryDisk<P> {
         ensures room { self.new.room ≡ self.old.room }
         ensures calls { self.new.calls ≡ left_after (turn_of true
             (P.stopped self.old.plan) self.old.calls (P.coming self.old.plan 0)) self.old.calls }
-        ensures onward { (n : ℕ) → P.coming self.new.plan n ≡ P.coming self.old.plan (n + 1) }
-        ensures count { P.count self.new.plan ≡ counted (is_err result) (P.count self.old.plan) }
-        ensures count_grows { P.count self.old.plan ≤ P.count self.new.plan }
+        ensures plan { UsesCall P.coming P.count (is_err result) self.old.plan self.new.plan }
     {
         match begin(&mut self.plan, &mut self.calls, true) {
             Turn::Goes => Ok(read_from(&self.bytes, at, buffer)),
@@ -379,18 +372,13 @@ impl<P: FaultPlan> Disk for MemoryDisk<P> {
         ensures torn { OnErr result (IsTorn at (length bytes.now) self.old.bytes.items self.new.bytes.items) }
         ensures crash { ImagesFollow (IsTorn at (length bytes.now))
             (Leaves self.old.epoch) (Leaves self.new.epoch) }
-        ensures time { Elapses
-            (epoch_state (chosen_names self.old.is_chosen self.old.name.items) self.old.bytes.items
-            self.old.past.items self.old.epoch (P.count self.old.plan))
-            (epoch_state (chosen_names self.new.is_chosen self.new.name.items) self.new.bytes.items
-            self.new.past.items self.new.epoch (P.count self.new.plan)) }
+        ensures time { Elapses (⟦<MemoryDisk<P> as Disk>⟧.state self.old)
+            (⟦<MemoryDisk<P> as Disk>⟧.state self.new) }
         ensures room { self.new.room ≡ self.old.room }
         ensures calls { self.new.calls ≡ left_after (turn_of
             (nat_le (at + length bytes.now) self.old.room) (P.stopped self.old.plan) self.old.calls
             (P.coming self.old.plan 0)) self.old.calls }
-        ensures onward { (n : ℕ) → P.coming self.new.plan n ≡ P.coming self.old.plan (n + 1) }
-        ensures count { P.count self.new.plan ≡ counted (is_err result) (P.count self.old.plan) }
-        ensures count_grows { P.count self.old.plan ≤ P.count self.new.plan }
+        ensures plan { UsesCall P.coming P.count (is_err result) self.old.plan self.new.plan }
     {
         let fits = ends_within(self.room, at, bytes.len());
         match begin(&mut self.plan, &mut self.calls, fits) {
@@ -424,17 +412,12 @@ impl<P: FaultPlan> Disk for MemoryDisk<P> {
         ensures name { self.new.name ≡ self.old.name }
         ensures is_chosen { self.new.is_chosen ≡ self.old.is_chosen }
         ensures crash { (c : List ℕ) → Leaves self.new.epoch c → Leaves self.old.epoch c }
-        ensures time { Elapses
-            (epoch_state (chosen_names self.old.is_chosen self.old.name.items) self.old.bytes.items
-            self.old.past.items self.old.epoch (P.count self.old.plan))
-            (epoch_state (chosen_names self.new.is_chosen self.new.name.items) self.new.bytes.items
-            self.new.past.items self.new.epoch (P.count self.new.plan)) }
+        ensures time { Elapses (⟦<MemoryDisk<P> as Disk>⟧.state self.old)
+            (⟦<MemoryDisk<P> as Disk>⟧.state self.new) }
         ensures room { self.new.room ≡ self.old.room }
         ensures calls { self.new.calls ≡ left_after (turn_of true
             (P.stopped self.old.plan) self.old.calls (P.coming self.old.plan 0)) self.old.calls }
-        ensures onward { (n : ℕ) → P.coming self.new.plan n ≡ P.coming self.old.plan (n + 1) }
-        ensures count { P.count self.new.plan ≡ counted (is_err result) (P.count self.old.plan) }
-        ensures count_grows { P.count self.old.plan ≤ P.count self.new.plan }
+        ensures plan { UsesCall P.coming P.count (is_err result) self.old.plan self.new.plan }
     {
         match begin(&mut self.plan, &mut self.calls, true) {
             Turn::Goes => {

@@ -1,9 +1,9 @@
 // Files in memory.
 ghost use Rattle.std.specs.Prelude.{Some, ◌≡◌, ◌≤◌, ◌+◌, ℕ, List, length, OnOk, OnErr, IfOk, IfErr, IsErrOf};
 ghost use Rattle.std.specs.Option.{option_map};
-ghost use Rattle.zk_port.specs.Counts.{HasCause, CountsNames, counted, is_failed, is_load_failed};
+ghost use Rattle.zk_port.specs.Counts.{HasCause, CountsNames, is_failed, is_load_failed};
 ghost use Rattle.zk_port.specs.Files.{OthersStay, StandsAs, LoadCause, stored};
-ghost use Rattle.memory_ports.specs.Plans.{file_of, found, without, load_fails, LoadTells, StoreLeaves};
+ghost use Rattle.memory_ports.specs.Plans.{file_of, found, without, load_fails, LoadTells, StoreLeaves, UsesCall};
 
 use crate::plan::FaultPlan;
 use std::alloc::{AllocError, Global};
@@ -76,9 +76,7 @@ impl<P: FaultPlan> Shelf for MemoryShelf<P> {
         ensures tells { LoadTells limit (found P.forgiving (file_of self.old.files name.now)) result }
         ensures fails { is_load_failed result ≡ load_fails (P.coming self.old.plan 0)
             (found P.forgiving (file_of self.old.files name.now)) }
-        ensures onward { (n : ℕ) → P.coming self.new.plan n ≡ P.coming self.old.plan (n + 1) }
-        ensures count { P.count self.new.plan ≡ counted (is_load_failed result) (P.count self.old.plan) }
-        ensures count_grows { P.count self.old.plan ≤ P.count self.new.plan }
+        ensures plan { UsesCall P.coming P.count (is_load_failed result) self.old.plan self.new.plan }
     {
         if self.plan.fails() {
             return Err(LoadFault::Failed);
@@ -103,9 +101,7 @@ impl<P: FaultPlan> Shelf for MemoryShelf<P> {
         ensures leaves { StoreLeaves name.now bytes.now (file_of self.old.files)
             (file_of self.new.files) result }
         ensures fails { is_failed result ≡ P.coming self.old.plan 0 }
-        ensures onward { (n : ℕ) → P.coming self.new.plan n ≡ P.coming self.old.plan (n + 1) }
-        ensures count { P.count self.new.plan ≡ counted (is_failed result) (P.count self.old.plan) }
-        ensures count_grows { P.count self.old.plan ≤ P.count self.new.plan }
+        ensures plan { UsesCall P.coming P.count (is_failed result) self.old.plan self.new.plan }
     {
         if self.plan.fails() {
             take_file(&mut self.files, name);

@@ -4,6 +4,7 @@ ghost use Rattle.zk_port.specs.Counts.{HasCause, counted, is_failed};
 ghost use Rattle.zk_port.specs.Logs.{ended_after, bytes_of};
 ghost use Rattle.zk_port.specs.Links.{LinkState};
 ghost use Rattle.zk_port.specs.declared.way.Way.TheVariants.{Sent, Received};
+ghost use Rattle.memory_ports.specs.Plans.{UsesCall};
 
 use crate::plan::FaultPlan;
 use std::alloc::{AllocError, Global};
@@ -126,9 +127,7 @@ impl<P: FaultPlan> Link for ScriptedLink<P> {
           plan = self.new.plan;
         } }
         ensures fails { is_failed result ≡ P.coming self.old.plan 0 }
-        ensures onward { (n : ℕ) → P.coming self.new.plan n ≡ P.coming self.old.plan (n + 1) }
-        ensures count { P.count self.new.plan ≡ counted (is_failed result) (P.count self.old.plan) }
-        ensures count_grows { P.count self.old.plan ≤ P.count self.new.plan }
+        ensures plan { UsesCall P.coming P.count (is_failed result) self.old.plan self.new.plan }
     {
         self.sends = self.sends.saturating_add(1);
         if self.plan.fails() {
@@ -162,9 +161,7 @@ impl<P: FaultPlan> Link for ScriptedLink<P> {
         ensures kept { OnErr result (self.new
             ≡ record self.old { log = self.new.log; receives = self.new.receives; plan = self.new.plan }) }
         ensures fails { is_failed result ≡ P.coming self.old.plan 0 }
-        ensures onward { (n : ℕ) → P.coming self.new.plan n ≡ P.coming self.old.plan (n + 1) }
-        ensures count { P.count self.new.plan ≡ counted (is_failed result) (P.count self.old.plan) }
-        ensures count_grows { P.count self.old.plan ≤ P.count self.new.plan }
+        ensures plan { UsesCall P.coming P.count (is_failed result) self.old.plan self.new.plan }
     {
         self.receives = self.receives.saturating_add(1);
         if self.plan.fails() {

@@ -1,6 +1,5 @@
 // A disk in memory that never fails.
-ghost use Rattle.std.specs.Prelude.{◌≡◌, ◌≤◌, ◌+◌, ◌-◌, ◌^◌, vec_len, length, min, max, take, drop, is_ok, true, IfOk};
-ghost use Rattle.std.specs.Vec.{vec_capacity};
+ghost use Rattle.std.specs.Prelude.{◌≡◌, ◌≤◌, ◌+◌, ◌-◌, ◌^◌, vec_capacity, vec_len, length, min, max, take, drop, is_ok, true, IfOk};
 ghost use Rattle.zk_port.specs.Images.{written_at};
 
 use crate::file_bytes::{MAX_ROOM, read_from, write_into};

@@ -63,14 +63,12 @@ impl<R: Net> TcpDoor<R> {
 
 impl<R: Net> Door for TcpDoor<R> {
     ghost use Rattle.std.specs.Prelude.{None};
+    ghost use Rattle.zk_port.specs.Doors.{unasked_door};
 
     type Link = TcpLink<R::Stream>;
 
-    ghost state = { λ d. record {
+    ghost state = { λ d. record (unasked_door (λ n. n) None) {
       left = d.left;
-      offers = λ n. n;
-      listened = None;
-      connected = None;
       made = d.made;
       nexts = d.nexts;
       listen_faults = d.listen_faults;

@@ -1,11 +1,10 @@
 -- What a decoder's fields say of its reading.
-use Rattle.std.proofs.Common.{◌≡◌, ℕ, ◌+◌, ◌-◌, ◌^◌, ◌<◌, ◌≤◌, ◌⊎◌, inl, inr, min, List, [], ◌∷◌, ◌++◌, length, take, drop, get_or, refl, sym, ◌∙◌, ap, arith, length-append, append_assoc, append-nil, subst, take-append-drop}
-use Rattle.std.specs.Prelude.{Option, Some, None, is_some, Bool, true, false, nat_eq}
+use Rattle.std.proofs.Common.{◌≡◌, ℕ, ◌+◌, ◌-◌, ◌^◌, ◌<◌, ◌≤◌, ◌⊎◌, inl, inr, min, List, [], ◌++◌, length, take, drop, refl, sym, ◌∙◌, ap, arith, length-append, append_assoc, append-nil, subst, take-append-drop}
+use Rattle.std.specs.Prelude.{Option, Some, None, is_some, false}
 use Rattle.std.proofs.lemmas.Bool.{cases_lt}
-use Rattle.std.proofs.lemmas.List.{take_all, take_at, length-take-le, get_or-take, nil_from_length}
+use Rattle.std.proofs.lemmas.List.{take_all, take_at, length-take-le, nil_from_length}
 use Rattle.zk_model.specs.Frames.{Frame, CanGoOn, IsWhole, frame_length, frame_spelling, bytes_wanted, expected_kind}
 use Rattle.zk_model.specs.declared.Expect.{Expect}
-use Rattle.zk_model.specs.declared.Expect.TheVariants as expect
 use Rattle.proof_frames.specs.Readings.{Reading, IsReading, IsShortPlace, Takes, TurnsBad, Gives, IsNotWhole, wanted}
 use Rattle.proof_frames.specs.Holding.{Holds, StopsAt, IsUnderWay, IsSound, bytes_of}
 use Rattle.proof_frames.specs.Shapes.{shape_of, told_at, told, payload_length}

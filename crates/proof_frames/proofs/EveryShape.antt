@@ -38,14 +38,7 @@ module _ (P : Expect → Shape → Type 0) (long : P expect.Hello (shape_of expe
 -- it is one of the first two
 pub told_early : (place : Expect) → told_at place ≤ 1
 told_early expect.Hello = omega arith
-told_early expect.Grant = omega arith
-told_early (expect.Ask height trees left) = omega arith
-told_early (expect.Reply height trees left) = omega arith
-told_early (expect.Corrections count) = omega arith
-told_early expect.Challenge = omega arith
-told_early (expect.Sums sections) = omega arith
-told_early (expect.Openings count) = omega arith
-told_early expect.Verdict = omega arith
+told_early place = omega arith
 
 -- what comes after it does not change it
 pub told_stays : (place : Expect) (bytes more : List ℕ) → told_at place < length bytes → told place (bytes ++ more) ≡ told place bytes

@@ -41,13 +41,7 @@ length_told expect.Grant (first ∷ bytes) some = by_first (nat_eq first 10) ref
     by_first : (b : Bool) → nat_eq first 10 ≡ b → frame_length expect.Grant (first ∷ bytes) ≡ 5 + payload_length (shape_of expect.Grant first).payload
     by_first true e = rw e refl
     by_first false e = rw e refl
-length_told (expect.Ask height trees left) bytes some = refl
-length_told (expect.Reply height trees left) bytes some = refl
-length_told (expect.Corrections count) bytes some = refl
-length_told expect.Challenge bytes some = refl
-length_told (expect.Sums sections) bytes some = refl
-length_told (expect.Openings count) bytes some = refl
-length_told expect.Verdict bytes some = refl
+length_told place bytes some = refl
 
 -- no frame is shorter than what is wanted before its first byte
 pub least_length : (place : Expect) (bytes : List ℕ) → frame_length place [] ≤ frame_length place bytes
@@ -64,25 +58,12 @@ least_length expect.Grant (first ∷ bytes) = by_first (nat_eq first 10) refl
     by_first : (b : Bool) → nat_eq first 10 ≡ b → 1 ≤ frame_length expect.Grant (first ∷ bytes)
     by_first true e = rw e (omega arith)
     by_first false e = rw e (omega arith)
-least_length (expect.Ask height trees left) bytes = omega arith
-least_length (expect.Reply height trees left) bytes = omega arith
-least_length (expect.Corrections count) bytes = omega arith
-least_length expect.Challenge bytes = omega arith
-least_length (expect.Sums sections) bytes = omega arith
-least_length (expect.Openings count) bytes = omega arith
-least_length expect.Verdict bytes = omega arith
+least_length place bytes = omega arith
 
 -- which goes beyond the byte that tells its shape
 told_first : (place : Expect) → told_at place < frame_length place []
 told_first expect.Hello = omega arith
-told_first expect.Grant = omega arith
-told_first (expect.Ask height trees left) = omega arith
-told_first (expect.Reply height trees left) = omega arith
-told_first (expect.Corrections count) = omega arith
-told_first expect.Challenge = omega arith
-told_first (expect.Sums sections) = omega arith
-told_first (expect.Openings count) = omega arith
-told_first expect.Verdict = omega arith
+told_first place = omega arith
 
 -- so every frame goes beyond it
 pub told_within : (place : Expect) (bytes : List ℕ) → told_at place < frame_length place bytes
@@ -95,13 +76,7 @@ length_untold expect.Hello (first ∷ []) early = refl
 length_untold expect.Hello (first ∷ low ∷ bytes) early = absurd (omega arith)
 length_untold expect.Grant [] early = refl
 length_untold expect.Grant (first ∷ bytes) early = absurd (omega arith)
-length_untold (expect.Ask height trees left) bytes early = refl
-length_untold (expect.Reply height trees left) bytes early = refl
-length_untold (expect.Corrections count) bytes early = refl
-length_untold expect.Challenge bytes early = refl
-length_untold (expect.Sums sections) bytes early = refl
-length_untold (expect.Openings count) bytes early = refl
-length_untold expect.Verdict bytes early = refl
+length_untold place bytes early = refl
 
 -- the kind that is expected is that of the shape
 pub kind_told : (place : Expect) (bytes : List ℕ) → expected_kind place bytes ≡ (shape_of place (told place bytes)).kind
@@ -116,13 +91,7 @@ kind_told expect.Grant (first ∷ bytes) = by_first (nat_eq first 10) refl
     by_first : (b : Bool) → nat_eq first 10 ≡ b → expected_kind expect.Grant (first ∷ bytes) ≡ (shape_of expect.Grant first).kind
     by_first true e = rw e refl
     by_first false e = rw e refl
-kind_told (expect.Ask height trees left) bytes = refl
-kind_told (expect.Reply height trees left) bytes = refl
-kind_told (expect.Corrections count) bytes = refl
-kind_told expect.Challenge bytes = refl
-kind_told (expect.Sums sections) bytes = refl
-kind_told (expect.Openings count) bytes = refl
-kind_told expect.Verdict bytes = refl
+kind_told place bytes = refl
 
 -- a short frame has a short payload
 pub short_payload : (place : Expect) (byte : ℕ) → IsShortPlace place → payload_length (shape_of place byte).payload ≤ 2 ^ 24

@@ -1,9 +1,9 @@
 -- The bytes of the frames that a place allows, by their shape.
-use Rattle.std.proofs.Common.{◌≡◌, ℕ, ◌+◌, ◌*◌, ◌<◌, ◌≤◌, inl, inr, List, [], ◌∷◌, ◌++◌, flat_map, length, take, drop, get_or, refl, sym, ◌∙◌, ap, arith, length-append, append_assoc, subst, take-append-drop, length-drop}
+use Rattle.std.proofs.Common.{◌≡◌, ℕ, ◌+◌, ◌*◌, ◌<◌, ◌≤◌, inl, inr, List, [], ◌∷◌, ◌++◌, flat_map, length, take, drop, get_or, refl, sym, ◌∙◌, ap, arith, append_assoc, subst, take-append-drop, length-drop}
 use Rattle.std.specs.Prelude.{All, Bool, true, false, nat_eq, Option, Some, None, unwrap_or, IfSome}
 use Rattle.std.specs.Int.{w32, w64, from_le_bytes, to_le_bytes}
 use Rattle.std.proofs.Math.Seq.{drop-drop}
-use Rattle.std.proofs.lemmas.List.{take_all, drop_more, nil_from_length, length-take-le, get_or-drop, get_or-take}
+use Rattle.std.proofs.lemmas.List.{take_all, drop_more, nil_from_length, length-take-le, get_or-take}
 use Rattle.std.proofs.lemmas.List.Elements.{All-append, All-cons, All-nil, All-get_or, All-head, All-take, All-drop, All-from_recursion, recursion_from_All}
 use Rattle.frame_laws.proofs.Octets.{word_octets}
 use Rattle.frame_laws.proofs.Hellos.{hello_payload, payload_length}
@@ -11,7 +11,7 @@ use Rattle.zk_model.specs.Field.{IsElement}
 use Rattle.zk_model.specs.Bytes.{AreBytes, element_bytes}
 use Rattle.zk_model.specs.Transcript.{Hello, Grant, TreeAsk, TreeReply, IsHello, frame_bytes, kind_number}
 use Rattle.zk_model.specs.Frames as model
-use Rattle.zk_model.specs.Frames.{Frame, Allows, IsWhole, FitsGrant, FitsVerdict, FitsRefusal, AreAsks, AreReplies, AreElements, AreSums, frame_spelling}
+use Rattle.zk_model.specs.Frames.{Frame, Allows, IsWhole, FitsVerdict, FitsRefusal, AreAsks, AreReplies, AreElements, AreSums, frame_spelling}
 use Rattle.zk_model.specs.declared.Expect.{Expect}
 use Rattle.zk_model.specs.declared.Expect.TheVariants as expect
 use Rattle.zk_model.specs.declared.FrameKind.{FrameKind}
@@ -263,20 +263,20 @@ verdict_whole payload sized all =
 pub hello_word : (word : List ℕ) → IsWordAt expect.Hello word → IsWhole expect.Hello word (model.hello (hello_in word))
 hello_word word is = by_low (nat_eq (get_or word 1 0) 129) refl
   where
+    said_well : (p : List ℕ) (digest : Option (List ℕ)) → 97 ≤ length p → All IsByte p → IfSome digest (AreBytes 32)
+        → IsHello (record { id = take 32 p; circuit = take 32 (drop 32 p); outputs = take 32 (drop 64 p); version = get_or p 96 0; public = digest })
+    said_well p digest long all is = record {
+      id = part_bytes p 32 0 all (omega arith);
+      circuit = part_bytes p 32 32 all (omega arith);
+      outputs = part_bytes p 32 64 all (omega arith);
+      version = All-get_or IsByte p 96 0 (omega arith) all;
+      public = is;
+    }
+
     short : (p : List ℕ) → FitsBytes 97 0 255 p
         → IsWhole expect.Hello ((1 ∷ to_le_bytes w32 97) ++ p) (model.hello (hello_in ((1 ∷ to_le_bytes w32 97) ++ p)))
     short p fits = record {
-      allowed = (
-        hello_in ((1 ∷ to_le_bytes w32 97) ++ p),
-        refl,
-        record {
-          id = part_bytes p 32 0 fits.ranged (omega (arith, fits.counted));
-          circuit = part_bytes p 32 32 fits.ranged (omega (arith, fits.counted));
-          outputs = part_bytes p 32 64 fits.ranged (omega (arith, fits.counted));
-          version = All-get_or IsByte p 96 0 (omega (arith, fits.counted)) fits.ranged;
-          public = tt;
-        },
-      );
+      allowed = (hello_in ((1 ∷ to_le_bytes w32 97) ++ p), refl, said_well p None (omega (arith, fits.counted)) fits.ranged tt);
       spelled = sym (headed kind.Hello p 97 fits.counted)
           ∙ ap (frame_bytes kind.Hello) (hello_whole p [] (omega (arith, fits.counted)) (nil_from_length (drop 97 p) (omega (arith, length-drop 97 p, fits.counted))));
     }
@@ -287,13 +287,7 @@ hello_word word is = by_low (nat_eq (get_or word 1 0) 129) refl
       allowed = (
         hello_in ((1 ∷ to_le_bytes w32 129) ++ p),
         refl,
-        record {
-          id = part_bytes p 32 0 fits.ranged (omega (arith, fits.counted));
-          circuit = part_bytes p 32 32 fits.ranged (omega (arith, fits.counted));
-          outputs = part_bytes p 32 64 fits.ranged (omega (arith, fits.counted));
-          version = All-get_or IsByte p 96 0 (omega (arith, fits.counted)) fits.ranged;
-          public = part_bytes p 32 97 fits.ranged (omega (arith, fits.counted));
-        },
+        said_well p (Some (take 32 (drop 97 p))) (omega (arith, fits.counted)) fits.ranged (part_bytes p 32 97 fits.ranged (omega (arith, fits.counted))),
       );
       spelled = sym (headed kind.Hello p 129 fits.counted)
           ∙ ap (frame_bytes kind.Hello) (hello_whole p (take 32 (drop 97 p)) (omega (arith, fits.counted))

@@ -13,39 +13,22 @@ use Rattle.zk_model.specs.declared.limits.TheConstants.{LONG_HELLO_LENGTH}
 
 -- how many elements a place allows
 abbrev pub elements_at : Expect → ℕ
-elements_at expect.Hello = 0
-elements_at expect.Grant = 0
-elements_at (expect.Ask height trees left) = 0
-elements_at (expect.Reply height trees left) = 0
 elements_at (expect.Corrections count) = count
 elements_at expect.Challenge = 1
 elements_at (expect.Sums sections) = 2 * sections
 elements_at (expect.Openings count) = count
-elements_at expect.Verdict = 0
+elements_at place = 0
 
 -- how many pairs a place allows
 abbrev pub pairs_at : Expect → ℕ
-pairs_at expect.Hello = 0
-pairs_at expect.Grant = 0
-pairs_at (expect.Ask height trees left) = 0
-pairs_at (expect.Reply height trees left) = 0
-pairs_at (expect.Corrections count) = 0
-pairs_at expect.Challenge = 0
 pairs_at (expect.Sums sections) = sections
-pairs_at (expect.Openings count) = 0
-pairs_at expect.Verdict = 0
+pairs_at place = 0
 
 -- how many bytes of trees are held as they came at a place, with the header
 abbrev pub raw_at : Expect → ℕ
-raw_at expect.Hello = 0
-raw_at expect.Grant = 0
 raw_at (expect.Ask height trees left) = frame_length (expect.Ask height trees left) []
 raw_at (expect.Reply height trees left) = frame_length (expect.Reply height trees left) []
-raw_at (expect.Corrections count) = 0
-raw_at expect.Challenge = 0
-raw_at (expect.Sums sections) = 0
-raw_at (expect.Openings count) = 0
-raw_at expect.Verdict = 0
+raw_at place = 0
 
 -- the bytes that are held
 abbrev pub bytes_of : Held → List ℕ

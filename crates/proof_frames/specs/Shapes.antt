@@ -32,14 +32,7 @@ payload_length (payload.Trees trees height level) = trees * (level_width level h
 -- the place of the byte that tells the shape of a frame: of a hello the first of the length, else the kind
 abbrev pub told_at : Expect → ℕ
 told_at expect.Hello = 1
-told_at expect.Grant = 0
-told_at (expect.Ask height trees left) = 0
-told_at (expect.Reply height trees left) = 0
-told_at (expect.Corrections count) = 0
-told_at expect.Challenge = 0
-told_at (expect.Sums sections) = 0
-told_at (expect.Openings count) = 0
-told_at expect.Verdict = 0
+told_at place = 0
 
 -- that byte, or 0 where it is not there
 abbrev pub told : Expect → List ℕ → ℕ

@@ -176,6 +176,7 @@ impl Decoder {
             &mut self.pairs,
             &mut self.trees,
         );
+        self.held.clear();
         self.received += self.taken as u64;
         self.expected = None;
         self.taken = 0;

@@ -3,7 +3,7 @@ ghost use Rattle.std.specs.Prelude.{◌≡◌, ℕ, ◌+◌, ◌*◌, ◌≤◌,
 ghost use Rattle.std.specs.Int.{w32, w64, to_le_bytes, from_le_bytes};
 ghost use Rattle.zk_model.specs.Frames as model;
 ghost use Rattle.proof_frames.specs.Frames.{frame_value, flattened, hello_in, grant_in, grant_or_refusal_in, verdict_in};
-ghost use Rattle.proof_frames.specs.Holding.{bytes_of, IsEmpty, Holds, pairs_at};
+ghost use Rattle.proof_frames.specs.Holding.{bytes_of, Holds, pairs_at};
 ghost use Rattle.proof_frames.specs.Rooms.{HasTreeRooms};
 ghost use Rattle.zk_model.specs.declared.limits.TheConstants.{HELLO_LENGTH, LONG_HELLO_LENGTH};
 
@@ -16,34 +16,14 @@ use std::alloc::Global;
 use std::mem;
 use zk_model::Expect;
 
-/// The 32 bytes from a place on.
-fn array_at(bytes: &[u8], at: usize) -> [u8; 32]
-    requires { at + 32 ≤ length bytes.now }
-    ensures { result ≡ take 32 (drop at bytes.now) }
+/// The bytes from a place on, as many as the array has.
+fn array_at<const N: usize>(bytes: &[u8], at: usize) -> [u8; N]
+    requires { at + N ≤ length bytes.now }
+    ensures { result ≡ take N (drop at bytes.now) }
 {
-    let mut array = [0; 32];
-    array.copy_from_slice(&bytes[at..at + 32]);
+    let mut array = [0; N];
+    array.copy_from_slice(&bytes[at..at + N]);
     array
-}
-
-/// The number that 8 bytes from a place on say, the low one first.
-fn word64_at(bytes: &[u8], at: usize) -> u64
-    requires { at + 8 ≤ length bytes.now }
-    ensures { result ≡ from_le_bytes w64 (take 8 (drop at bytes.now)) }
-{
-    let mut word = [0; 8];
-    word.copy_from_slice(&bytes[at..at + 8]);
-    u64::from_le_bytes(word)
-}
-
-/// The number that 4 bytes from a place on say, the low one first.
-fn word32_at(bytes: &[u8], at: usize) -> u32
-    requires { at + 4 ≤ length bytes.now }
-    ensures { result ≡ from_le_bytes w32 (take 4 (drop at bytes.now)) }
-{
-    let mut word = [0; 4];
-    word.copy_from_slice(&bytes[at..at + 4]);
-    u32::from_le_bytes(word)
 }
 
 /// The digest of public bits that a greeting of 134 bytes ends with.
@@ -80,9 +60,9 @@ fn grant_of(bytes: &[u8]) -> Grant
     ensures { result ≡ grant_in bytes.now }
 {
     Grant {
-        start: word64_at(bytes, 5),
-        count: word32_at(bytes, 13),
-        section: word32_at(bytes, 17),
+        start: u64::from_le_bytes(array_at(bytes, 5)),
+        count: u32::from_le_bytes(array_at(bytes, 13)),
+        section: u32::from_le_bytes(array_at(bytes, 17)),
     }
 }
 
@@ -106,7 +86,7 @@ fn verdict_of(bytes: &[u8]) -> Frame
 {
     Frame::Verdict {
         code: bytes[5],
-        number: word32_at(bytes, 6),
+        number: u32::from_le_bytes(array_at(bytes, 6)),
     }
 }
 
@@ -127,7 +107,7 @@ fn pairs_of(alloc: Global, elements: &[Fe], pairs: &mut Vec<(Fe, Fe)>) -> Vec<(F
 }
 
 /// The frame that is held whole. Its elements are handed out.
-fn frame_of(
+pub(crate) fn whole_frame(
     alloc: Global,
     place: Expect,
     held: &mut Held,
@@ -157,26 +137,4 @@ fn frame_of(
         Expect::Openings { .. } => Frame::Openings(held.give_elements(alloc)),
         Expect::Verdict => verdict_of(&held.start),
     }
-}
-
-/// The frame that is held whole. Then nothing is held.
-pub(crate) fn whole_frame(
-    alloc: Global,
-    place: Expect,
-    held: &mut Held,
-    pairs: &mut Vec<(Fe, Fe)>,
-    trees: &mut TreeRooms,
-) -> Frame
-    requires holds { Holds place held.old }
-    requires whole { length (bytes_of held.old) ≡ model.frame_length place (bytes_of held.old) }
-    requires empty { pairs.old.items ≡ [] }
-    requires room { pairs_at place ≤ vec_capacity pairs.old }
-    requires trees { HasTreeRooms place trees.old }
-    ensures frame { model.IsWhole place (bytes_of held.old) (frame_value result) }
-    ensures held { IsEmpty held.new }
-    ensures pairs { pairs.new.items ≡ [] }
-{
-    let frame = frame_of(alloc, place, held, pairs, trees);
-    held.clear();
-    frame
 }

@@ -1,5 +1,5 @@
 -- What either end of a session is to do.
-use Rattle.std.specs.Prelude.{◌≡◌, ◌^◌, ◌<◌, ◌≤◌, ℕ, Bool, Option, None, Some, List, [], ◌∷◌, ◌++◌, map, length, slice_index_or, All}
+use Rattle.std.specs.Prelude.{◌≡◌, ◌<◌, ◌≤◌, ℕ, Bool, Option, None, Some, List, [], ◌∷◌, ◌++◌, map, length, slice_index_or, All}
 use Rattle.zk_model.specs.Bits.{from_bit}
 use Rattle.zk_model.specs.Boolean.{bits_of_products}
 use Rattle.zk_model.specs.Program.{Program, correlations_needed}

@@ -49,16 +49,7 @@ module _ {S T F : Type 0} (view : S → T) (moves : Moves T F) where
     place = stop.place;
     expected = stop.expected;
     rest = stop.rest;
-    few = stop.few;
-    unfinished = stop.unfinished;
-    cut = stop.cut;
-    logged = stop.logged;
-    told = stop.told;
-    came = stop.came;
-    sends = stop.sends;
-    receives = stop.receives;
-    cause = stop.cause;
-    count = stop.count;
+    comes = stop.comes;
   })
   stops_seen greeting turns mid new (Cut fault) first now (inr (inl stop)) = inr (inl (record {
     turn = stop.turn;

@@ -62,20 +62,20 @@ missing moves log sends mid new place fault first was now same expected passed f
       place = place;
       expected = expected;
       rest = bytes;
-      few = fails.few;
-      unfinished = fails.unfinished;
-      cut = fails.cut;
-      logged = logged;
-      told = fails.came.told ∙ (λ i. appended (bytes_from (peer_of (passed.side i)) bytes) (passed.told i))
-          ∙ appended_more log (bytes_from (peer_of first.side) bytes) first.told
-          ∙ ap (λ l. appended l first.told) (sym logged);
-      came = passed.came ∙ ap (put_before (sent_by (peer_of first.side) log)) fails.came.came
-          ∙ before_more (sent_by (peer_of first.side) log) bytes now.to_come
-          ∙ ap (λ l. put_before l now.to_come) (sym came);
-      sends = fails.came.sends ∙ passed.sends;
-      receives = omega (arith, fails.receives, passed.receives, counted);
-      cause = lacks log place bytes fault first was now (ap (λ (r : Reading). r.received) passed.reading) counted passed.faults fails.broken;
-      count = record { later = omega (arith, fails.count.later, passed.faults); unfailed = λ no. fails.count.unfailed no ∙ passed.faults };
+      comes = record {
+        part = fails.part;
+        logged = logged;
+        told = fails.came.told ∙ (λ i. appended (bytes_from (peer_of (passed.side i)) bytes) (passed.told i))
+            ∙ appended_more log (bytes_from (peer_of first.side) bytes) first.told
+            ∙ ap (λ l. appended l first.told) (sym logged);
+        came = passed.came ∙ ap (put_before (sent_by (peer_of first.side) log)) fails.came.came
+            ∙ before_more (sent_by (peer_of first.side) log) bytes now.to_come
+            ∙ ap (λ l. put_before l now.to_come) (sym came);
+        sends = fails.came.sends ∙ passed.sends;
+        receives = omega (arith, fails.receives, passed.receives, counted);
+        cause = lacks log place bytes fault first was now (ap (λ (r : Reading). r.received) passed.reading) counted passed.faults fails.broken;
+        count = record { later = omega (arith, fails.count.later, passed.faults); unfailed = λ no. fails.count.unfailed no ∙ passed.faults };
+      };
     }
 
 -- ---- all together

@@ -8,7 +8,7 @@ use Rattle.zk_port.specs.Counts.{Rose}
 use Rattle.zk_port.specs.Logs.{appended, put_before}
 use Rattle.proof_frames.specs.Readings.{IsShortPlace}
 use Rattle.frame_link.specs.Sides.{peer_of}
-use Rattle.frame_link.specs.Lines.{LineState, Arrives, Fails, Sends, IsSendRefused, CountsFault, IsCutShort, IsNoBadByte, IsUnfinished, counted_times, longest}
+use Rattle.frame_link.specs.Lines.{LineState, Arrives, Fails, Sends, IsSendRefused, CountsFault, IsPartOnly, counted_times}
 use Rattle.frame_link.specs.declared.fault.LineFault.{LineFault}
 use Rattle.frame_link.specs.declared.fault.LineFault.TheVariants.{PeerEnded, BadFrame, Link, NoMemory}
 use Rattle.session_driver.specs.Sayings.{Turn, whole_log, sends_in}
@@ -153,31 +153,6 @@ pub record Runs {S F : Type 0} (moves : Moves S F) (greeting : List Frame) (old 
   pub went : Goes moves old turns mid
   pub passed : HasPassed (whole_log first.side greeting turns) (sends_in greeting turns) first was
 
--- nothing more was expected
-pub record IsOver {S F : Type 0} (moves : Moves S F) (log : List (Side × ℕ)) (number : ℕ) (mid new : S) (first now : LineState) : Type 0 where
-  pub same : new ≡ mid
-  pub expected : moves.expects new ≡ None
-  pub passed : HasPassed log number first now
-
--- a frame came, and was refused; the refusal that went out is logged, or not
-pub record IsRefusal
-    {S F : Type 0}
-    (moves : Moves S F)
-    (log : List (Side × ℕ))
-    (number : ℕ)
-    (mid new : S)
-    (fault : F)
-    (first now : LineState) : Type 0 where
-  pub place : Expect
-  pub expected : moves.expects mid ≡ Some place
-  pub frame : Frame
-  pub allowed : Allows place frame
-  pub heard : LineState
-  pub passed : HasPassed (log ++ bytes_from (peer_of first.side) (frame_spelling frame)) number first heard
-  pub code : Option ℕ
-  pub refused : moves.refuses mid frame fault code new
-  pub tried : TriesRefusal code heard now
-
 -- Why no frame came: the peer has ended; one of the bytes that came is bad; the link failed; memory was missing.
 abbrev pub Lacks : Expect → List ℕ → LineFault → LineState → LineState → Type 0
 Lacks place rest (PeerEnded at) first now =
@@ -189,22 +164,16 @@ Lacks place rest (BadFrame at) first now =
 Lacks place rest Link first now = Rose first.faults now.faults
 Lacks place rest NoMemory first now = Unit {0}
 
--- the frame that was expected did not come, but these bytes of it, which are no whole one; nothing more was sent
-pub record IsMissing
-    {S F : Type 0}
-    (moves : Moves S F)
+-- after this log and so many sends these bytes of a frame came, which are no whole one; nothing more was sent
+pub record ComesInPart
     (log : List (Side × ℕ))
     (number : ℕ)
-    (mid new : S)
+    (place : Expect)
+    (rest : List ℕ)
     (fault : LineFault)
     (first now : LineState) : Type 0 where
-  pub same : new ≡ mid
-  pub place : Expect
-  pub expected : moves.expects mid ≡ Some place
-  pub rest : List ℕ
-  pub few : length rest ≤ longest place
-  pub unfinished : IsUnfinished place rest
-  pub cut : IsNoBadByte fault → IsCutShort place rest
+  pub part : IsPartOnly place fault rest
+  pub open part use *
   pub logged : now.log ≡ log ++ bytes_from (peer_of first.side) rest
   pub told : now.told ≡ appended now.log first.told
   pub came : first.to_come ≡ put_before (sent_by (peer_of first.side) now.log) now.to_come
@@ -213,20 +182,42 @@ pub record IsMissing
   pub cause : Lacks place rest fault first now
   pub count : CountsFault fault first now
 
--- a frame came and was answered, but the answer was not sent
-pub record IsUnanswered
-    {S F : Type 0}
-    (moves : Moves S F)
-    (log : List (Side × ℕ))
-    (number : ℕ)
-    (mid new : S)
-    (fault : LineFault)
-    (first now : LineState) : Type 0 where
-  pub turn : Turn
-  pub is : IsTurn moves mid turn new
-  pub heard : LineState
-  pub passed : HasPassed (log ++ bytes_from (peer_of first.side) (frame_spelling turn.frame)) number first heard
-  pub unsent : IsUnsent (moves.lack_code mid) turn.answer fault heard now
+module _ {S F : Type 0} (moves : Moves S F) (log : List (Side × ℕ)) (number : ℕ) (mid new : S) where
+  -- nothing more was expected
+  pub record IsOver (first now : LineState) : Type 0 where
+    pub same : new ≡ mid
+    pub expected : moves.expects new ≡ None
+    pub passed : HasPassed log number first now
+
+  -- a frame came, and was refused; the refusal that went out is logged, or not
+  pub record IsRefusal (fault : F) (first now : LineState) : Type 0 where
+    pub place : Expect
+    pub expected : moves.expects mid ≡ Some place
+    pub frame : Frame
+    pub allowed : Allows place frame
+    pub heard : LineState
+    pub passed : HasPassed (log ++ bytes_from (peer_of first.side) (frame_spelling frame)) number first heard
+    pub code : Option ℕ
+    pub refused : moves.refuses mid frame fault code new
+    pub tried : TriesRefusal code heard now
+
+  -- the frame that was expected did not come, but these bytes of it
+  pub record IsMissing (fault : LineFault) (first now : LineState) : Type 0 where
+    pub same : new ≡ mid
+    pub place : Expect
+    pub expected : moves.expects mid ≡ Some place
+    pub rest : List ℕ
+    pub comes : ComesInPart log number place rest fault first now
+    pub open comes use *
+
+  -- a frame came and was answered, but the answer was not sent
+  pub record IsUnanswered (fault : LineFault) (first now : LineState) : Type 0 where
+    pub turn : Turn
+    pub is : IsTurn moves mid turn new
+    pub heard : LineState
+    pub passed :
+        HasPassed (log ++ bytes_from (peer_of first.side) (frame_spelling turn.frame)) number first heard
+    pub unsent : IsUnsent (moves.lack_code mid) turn.answer fault heard now
 
 -- the greeting was not sent, and no turn passed
 pub record IsUngreeted {S : Type 0} (greeting : List Frame) (turns : List Turn) (mid new : S) (fault : LineFault) (first now : LineState) : Type 0 where

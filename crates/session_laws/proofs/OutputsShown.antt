@@ -1,5 +1,5 @@
 -- What a finding shows of a session about a circuit's outputs.
-use Rattle.std.proofs.Common.{◌≡◌, ℕ, ◌≤◌, List, ◌++◌, length, map, sym, ◌∙◌, subst}
+use Rattle.std.proofs.Common.{ℕ, ◌≤◌, List, ◌++◌, length, map, sym, subst}
 use Rattle.std.specs.Prelude.{Bool}
 use Rattle.session_laws.proofs.CircuitProved.{same_bits}
 use Rattle.session_laws.specs.Circuits.{ExtractedShowsOutputs}

@@ -1,5 +1,5 @@
 -- With an honest verifier no other outcome is left.
-use Rattle.std.proofs.Common.{◌≡◌, inl, inr, ℕ, suc, ◌+◌, ◌<◌, ◌≤◌, List, [], ◌∷◌, ◌++◌, take, length, Some, refl, ap, sym, ◌∙◌, subst, append_assoc, append-nil, length-append, arith}
+use Rattle.std.proofs.Common.{◌≡◌, inl, inr, ℕ, suc, ◌+◌, ◌<◌, ◌≤◌, List, [], ◌∷◌, ◌++◌, take, length, refl, ap, sym, ◌∙◌, subst, append_assoc, append-nil, length-append, arith}
 use Rattle.std.proofs.lemmas.List.{take_all}
 use Rattle.session_laws.proofs.Turns.{answered, fewer_answered}
 use Rattle.session_laws.proofs.Sizes.{count_is}
@@ -15,13 +15,14 @@ use Rattle.zk_model.specs.declared.Params.{Params}
 use Rattle.zk_model.specs.declared.Side.{Side}
 use Rattle.zk_model.specs.declared.Side.TheVariants.{Verifier}
 use Rattle.frame_link.proofs.LineLemmas.{frame_most}
+use Rattle.frame_link.specs.Lines.{LinkSnapshot}
 use Rattle.session_core.specs.Jobs.{ProverJob}
-use Rattle.session_core.specs.Cores.{ProverStage, awaits_grant, awaits_replies, awaits_challenge, awaits_verdict, has_ended, prover_expects}
+use Rattle.session_core.specs.Cores.{ProverStage, awaits_grant}
 use Rattle.session_laws.specs.Sessions.{HonestVerdict}
 use Rattle.session_prover.specs.declared.note.ProverOutcome.{ProverOutcome}
 use Rattle.session_prover.specs.declared.note.ProverOutcome.TheVariants as outcome
-use Rattle.session_prover.specs.Stages.{Claim, IsLogAt, greeted_log}
-use Rattle.session_prover.specs.Notes.{Told, StopsBehind, IsOutcome, task_of}
+use Rattle.session_prover.specs.Stages.{Claim, greeted_log}
+use Rattle.session_prover.specs.Notes.{StopsBehind, IsOutcome, task_of, WaitsFor}
 use Rattle.session_prover.specs.Completing.{HasSpoken, HasHonestPeer, Completes}
 use Rattle.session_prover.specs.Turns.{IsSound}
 use Rattle.session_prover.proofs.Sides.{verifier_says}
@@ -80,17 +81,14 @@ all_said job inputs verifier log counterparts spoken = (
 -- the turns that have come are not all
 few_turns : (job : ProverJob) (stage : ProverStage) → suc (turns_at job stage) ≤ rounds_of job.file.params.kind + 3
 few_turns job awaits_grant = omega arith
-few_turns job (awaits_replies given done pairs) = omega arith
-few_turns job (awaits_challenge given pairs wires) = omega arith
-few_turns job awaits_verdict = omega arith
-few_turns job has_ended = omega arith
+few_turns job stage = omega arith
 
 -- where the prover waits, what the verifier says goes on with a frame of the place
-said_next : (job : ProverJob) (claim : Claim) (stage : ProverStage) (awaited : Expect) (before log : List (Side × ℕ)) (rest inputs : List ℕ) → IsSound job
-    → (said : IsSaid job (sent_by Verifier log)) → log ≡ before ++ bytes_from Verifier rest → IsLogAt job claim stage before
-    → prover_expects job stage ≡ Some awaited → IsNextFrame awaited (rest ++ said.more)
-said_next job claim stage awaited before log rest inputs sound said logged at expected =
-    next_frame job claim stage awaited before (rest ++ said.more) inputs sound at expected (record {
+said_next : (job : ProverJob) (claim : Claim) (awaited : Expect) (before log : List (Side × ℕ)) (rest inputs : List ℕ) → IsSound job
+    → (said : IsSaid job (sent_by Verifier log)) → log ≡ before ++ bytes_from Verifier rest → WaitsFor job claim before awaited
+    → IsNextFrame awaited (rest ++ said.more)
+said_next job claim awaited before log rest inputs sound said logged waits =
+    next_frame job claim waits.stage awaited before (rest ++ said.more) inputs sound waits.waited waits.expected (record {
       u = said.t;
       is = said.is;
       more = later.0;
@@ -103,9 +101,9 @@ said_next job claim stage awaited before log rest inputs sound said logged at ex
     ts = session_turns said.t
 
     later : (rest : List ℕ) × (answered (take (length (session_turns said.t)) (session_turns said.t))
-        ≡ answered (take (suc (turns_at job stage)) (session_turns said.t)) ++ rest)
-    later = fewer_answered (suc (turns_at job stage)) (length ts) ts
-        (let few = few_turns job stage in let count = count_is job.file.params job.statement.program said.t said.is in omega (arith, few, count))
+        ≡ answered (take (suc (turns_at job waits.stage)) (session_turns said.t)) ++ rest)
+    later = fewer_answered (suc (turns_at job waits.stage)) (length ts) ts
+        (let few = few_turns job waits.stage in let count = count_is job.file.params job.statement.program said.t said.is in omega (arith, few, count))
 
 -- ---- outcomes that are left out
 
@@ -113,7 +111,7 @@ said_next job claim stage awaited before log rest inputs sound said logged at ex
 no_bad : (job : ProverJob) (claim : Claim) (log : List (Side × ℕ)) (n : ℕ) → IsSound job → IsSaid job (sent_by Verifier log)
     → (stops : StopsBehind job claim log (λ awaited rest. IsFirstBad awaited rest n)) → ⊥
 no_bad job claim log n sound said stops =
-    let next = said_next job claim stops.stage stops.expect stops.before log stops.rest [] sound said stops.logged stops.waited stops.expected in
+    let next = said_next job claim stops.expect stops.before log stops.rest [] sound said stops.logged stops.waits in
     let few = stops.few in
     let long = next.long in
     none_bad stops.expect next.frame stops.rest said.more next.tail n next.allowed (omega (arith, few, long)) next.begun stops.cause
@@ -122,7 +120,7 @@ no_bad job claim log n sound said stops =
 no_end : (job : ProverJob) (claim : Claim) (log : List (Side × ℕ)) → IsSound job → (said : IsSaid job (sent_by Verifier log)) → said.more ≡ []
     → (stops : StopsBehind job claim log (λ awaited rest. length rest < frame_length awaited rest)) → ⊥
 no_end job claim log sound said all stops =
-    let next = said_next job claim stops.stage stops.expect stops.before log stops.rest [] sound said stops.logged stops.waited stops.expected in
+    let next = said_next job claim stops.expect stops.before log stops.rest [] sound said stops.logged stops.waits in
     let whole = ap length next.begun in
     let left = length-append stops.rest said.more in
     let none = ap length all in
@@ -134,28 +132,26 @@ no_end job claim log sound said all stops =
 
 -- ---- all together
 
-pub completes : (job : ProverJob) (claim : Claim) (log : List (Side × ℕ)) (told : Told) (result : ProverOutcome) → HonestVerdict
-    → IsSound job → IsOutcome job claim log told result → Completes job claim log told result
-completes job claim log told outcome.Accepted law sound caused inputs verifier peer free calm = inl refl
-completes job claim log told (outcome.Rejected code number) law sound (bad, reads) inputs verifier peer free calm =
+pub completes : (job : ProverJob) (claim : Claim) (log : List (Side × ℕ)) (first now : LinkSnapshot) (result : ProverOutcome) → HonestVerdict
+    → IsSound job → IsOutcome job claim log first now result → Completes job claim log first now result
+completes job claim log first now outcome.Accepted law sound caused inputs verifier peer free calm = inl refl
+completes job claim log first now (outcome.Rejected code number) law sound (bad, reads) inputs verifier peer free calm =
     let session = law (task_of job inputs) verifier reads.t log peer.counterparts peer.claims reads.in_order.transcript
     (reads.honest inputs peer.wires peer.witness) reads.in_order.bytes peer.honest in
     let none = session.served.judged.said.code in
     let same = reads.code_is in
     absurd (omega (arith, none, same, bad))
-completes job claim log told (outcome.PeerEnded at) law sound (stops, count, ended, nothing) inputs verifier peer free calm =
+completes job claim log first now (outcome.PeerEnded at) law sound (stops, count, ended, nothing) inputs verifier peer free calm =
     let all = all_said job inputs verifier log peer.counterparts (peer.ended tt) in
-    absurd (no_end job claim log sound all.0 all.1
-    (record { stage = stops.stage; before = stops.before; waited = stops.waited; expect = stops.expect; expected = stops.expected; rest = stops.rest; few = stops.few; logged = stops.logged; cause = stops.cause.1 }))
-completes job claim log told (outcome.BadFrame at) law sound (n, stops) inputs verifier peer free calm =
-    absurd (no_bad job claim log n sound (is_said job inputs verifier (outcome.BadFrame at) log peer)
-    (record { stage = stops.stage; before = stops.before; waited = stops.waited; expect = stops.expect; expected = stops.expected; rest = stops.rest; few = stops.few; logged = stops.logged; cause = stops.cause.0 }))
-completes job claim log told outcome.BadGrant law sound (given, fits, unsuited, logged) inputs verifier peer free calm =
+    absurd (no_end job claim log sound all.0 all.1 (record { behind = stops.behind; cause = stops.cause.1 }))
+completes job claim log first now (outcome.BadFrame at) law sound (n, stops) inputs verifier peer free calm =
+    absurd (no_bad job claim log n sound (is_said job inputs verifier (outcome.BadFrame at) log peer) (record { behind = stops.behind; cause = stops.cause.0 }))
+completes job claim log first now outcome.BadGrant law sound (given, fits, unsuited, logged) inputs verifier peer free calm =
     let said = is_said job inputs verifier outcome.BadGrant log peer in
     absurd (unsuited (suits_is job.file.params job.statement.program given
     (same_bytes_grant job.file.params job.statement.program given said.t.commitment.setup.grant said.more _ sound.file.params.total fits said.is.commitment.setup.grant
     (ap (λ l. l ++ said.more) (sym (ap (sent_by Verifier) logged ∙ granted_heard job given)) ∙ sym said.begun))))
-completes job claim log told (outcome.PeerRefused code) law sound (fits, logged) inputs verifier peer free calm =
+completes job claim log first now (outcome.PeerRefused code) law sound (fits, logged) inputs verifier peer free calm =
     let said = is_said job inputs verifier (outcome.PeerRefused code) log peer in
     let kinds : 10 ≡ 2 = ap (head_or 0)
     (ap (λ l. l ++ said.more) (sym (ap (sent_by Verifier) logged ∙ verifier_says (greeted_log job) (refuse_frame code)
@@ -165,15 +161,15 @@ completes job claim log told (outcome.PeerRefused code) law sound (fits, logged)
     head_or : ℕ → List ℕ → ℕ
     head_or other [] = other
     head_or other (x ∷ l) = x
-completes job claim log told (outcome.Broken first) law sound (given, suits, refused, logged) inputs verifier peer free calm =
+completes job claim log first now (outcome.Broken count) law sound (given, suits, refused, logged) inputs verifier peer free calm =
     absurd (free _ refused.answer)
-completes job claim log told (outcome.OutOfRange total) law sound (given, suits, refused, logged) inputs verifier peer free calm =
+completes job claim log first now (outcome.OutOfRange total) law sound (given, suits, refused, logged) inputs verifier peer free calm =
     absurd (free _ refused.answer)
-completes job claim log told (outcome.Overlap earlier) law sound (given, suits, refused, logged) inputs verifier peer free calm =
+completes job claim log first now (outcome.Overlap earlier) law sound (given, suits, refused, logged) inputs verifier peer free calm =
     absurd (free _ refused.answer)
-completes job claim log told (outcome.Full slots) law sound (given, suits, refused, logged) inputs verifier peer free calm =
+completes job claim log first now (outcome.Full slots) law sound (given, suits, refused, logged) inputs verifier peer free calm =
     absurd (free _ refused.answer)
-completes job claim log told outcome.Device law sound (given, suits, refused, logged) inputs verifier peer free calm =
+completes job claim log first now outcome.Device law sound (given, suits, refused, logged) inputs verifier peer free calm =
     absurd (free _ refused.answer)
-completes job claim log told outcome.Link law sound (rose, where_failed) inputs verifier peer free calm = absurd (calm rose)
-completes job claim log told outcome.NoMemory law sound caused inputs verifier peer free calm = inr refl
+completes job claim log first now outcome.Link law sound (rose, where_failed) inputs verifier peer free calm = absurd (calm rose)
+completes job claim log first now outcome.NoMemory law sound caused inputs verifier peer free calm = inr refl

@@ -1,7 +1,7 @@
 -- How many answers of the prover's a log has.
 use Rattle.std.proofs.Common.{◌≡◌, ℕ, ◌+◌, ◌≤◌, List, [], ◌∷◌, ◌++◌, flat_map, length, refl, ap, sym, ◌∙◌, length-append, arith}
 use Rattle.zk_model.specs.Transcript.{bytes_from}
-use Rattle.zk_model.specs.Frames.{Frame, hello, grant, asks, replies, corrections, challenge, sums, openings, verdict, refuse, frame_spelling}
+use Rattle.zk_model.specs.Frames.{Frame, hello, frame_spelling}
 use Rattle.zk_model.specs.declared.Side.{Side}
 use Rattle.zk_model.specs.declared.Side.TheVariants.{Prover, Verifier}
 use Rattle.session_prover.specs.Stages.{new_answer, answers_behind, answers_in}
@@ -65,16 +65,8 @@ answers_first said some = said_first said some
 
 -- every frame has a byte
 pub frame_is_some : (frame : Frame) → 1 ≤ length (frame_spelling frame)
-frame_is_some (hello x) = omega arith
-frame_is_some (grant x) = omega arith
-frame_is_some (asks x) = omega arith
-frame_is_some (replies x) = omega arith
-frame_is_some (corrections x) = omega arith
-frame_is_some (challenge x) = omega arith
-frame_is_some (sums x) = omega arith
-frame_is_some (openings x) = omega arith
-frame_is_some (verdict x y) = omega arith
-frame_is_some (refuse x) = omega arith
+frame_is_some (hello said) = omega arith
+frame_is_some frame = omega arith
 
 pub frames_some : (frames : List Frame) → 1 ≤ length frames → 1 ≤ length (flat_map frame_spelling frames)
 frames_some [] some = absurd (omega (arith, some))

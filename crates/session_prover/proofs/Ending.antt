@@ -1,5 +1,5 @@
 -- Why a session ends where it does.
-use Rattle.std.proofs.Common.{◌≡◌, ◌⊎◌, inl, inr, ℕ, ◌+◌, ◌≤◌, List, [], ◌++◌, flat_map, length, true, Option, Some, None, refl, ap, sym, ◌∙◌, subst, append_assoc, append-nil}
+use Rattle.std.proofs.Common.{◌≡◌, ◌⊎◌, inl, inr, ℕ, List, [], ◌++◌, flat_map, true, Option, Some, None, refl, ap, sym, ◌∙◌, subst, append_assoc, append-nil}
 use Rattle.zk_model.specs.Transcript.{Grant, IsGrant, bytes_from, turn_bytes, sent_by, reply_frame, corrections_frame, challenge_frame, sums_frame, openings_frame}
 use Rattle.zk_model.specs.Frames.{Frame, frame_spelling}
 use Rattle.zk_model.specs.HonestProver.{IsWitness}
@@ -8,7 +8,7 @@ use Rattle.zk_model.specs.declared.Expect.{Expect}
 use Rattle.zk_model.specs.declared.Expect.TheVariants as expect
 use Rattle.zk_model.specs.declared.Side.{Side}
 use Rattle.zk_model.specs.declared.Side.TheVariants.{Prover, Verifier}
-use Rattle.zk_port.specs.Logs.{appended, put_before}
+use Rattle.zk_port.specs.Logs.{appended}
 use Rattle.session_prover.proofs.Heard.{Hears}
 use Rattle.frame_link.specs.Lines.{LineState, CountsFault, counted_times, IsUnfinished, IsCutShort, snapshot_of}
 use Rattle.frame_link.specs.Lines as lines
@@ -21,7 +21,7 @@ use Rattle.session_driver.specs.Runs.{Moves, HasPassed, IsMissing, Lacks}
 use Rattle.session_prover.specs.declared.note.ProverOutcome.{ProverOutcome}
 use Rattle.session_prover.specs.Outcomes.{line_outcome}
 use Rattle.session_prover.specs.Stages.{answers_in, Claim, ClaimedFor, IsLogAt, GoesWell, greeted_log, granted_log, all_asks, sums_for, openings_for}
-use Rattle.session_prover.specs.Notes.{task_of, IsGrantRead, IsAskedRight, SendsOnceClaimed, IsRelated, StopsBehind, told_by, IsOutcome, CountsOutcome, SendsHonestly, AnswersGrantPlace, IsLogged, IsEnded}
+use Rattle.session_prover.specs.Notes.{task_of, IsGrantRead, IsAskedRight, SendsOnceClaimed, IsRelated, ComesBehind, IsOutcome, CountsOutcome, SendsHonestly, AnswersGrantPlace, IsLogged, IsEnded}
 use Rattle.session_prover.specs.Turns.{IsSound, IsBehindGrant, Comes}
 use Rattle.session_prover.proofs.Sides.{prover_hears, verifier_says}
 use Rattle.session_prover.proofs.Related.{read_is, related_at}
@@ -89,10 +89,8 @@ claim_read job claim has_ended before more behind at = absurd at
 read_at : (job : ProverJob) (claim : Claim) (stage : ProverStage) (before more : List (Side × ℕ)) → IsLogAt job claim stage before
     → (claim.answer ≡ None) × (before ≡ greeted_log job) ⊎ IsClaimRead job claim (before ++ more)
 read_at job claim awaits_grant before more at = inl at
-read_at job claim (awaits_replies given done pairs) before more at = inr (claim_read job claim (awaits_replies given done pairs) before more tt at)
-read_at job claim (awaits_challenge given pairs wires) before more at = inr (claim_read job claim (awaits_challenge given pairs wires) before more tt at)
-read_at job claim awaits_verdict before more at = inr (claim_read job claim awaits_verdict before more tt at)
 read_at job claim has_ended before more at = absurd at
+read_at job claim stage before more at = inr (claim_read job claim stage before more tt at)
 
 -- where the prover waits, the claimant was asked right
 pub asked_at : (job : ProverJob) (claim : Claim) (stage : ProverStage) (before more : List (Side × ℕ)) → IsLogAt job claim stage before
@@ -130,13 +128,9 @@ answers_at job claim awaits_grant awaited before bytes outcome sound at expected
     (λ frame allowed is. whole_is_finished expect.Grant frame bytes allowed
     (ap (λ l. l ++ bytes) (sym (ap (sent_by Verifier) at.1 ∙ greeted_heard job)) ∙ sym (verifier_says before bytes) ∙ is)
     (subst (λ (e : Expect). IsUnfinished e bytes) (same_stage expect.Grant awaited expected) unfinished))
-answers_at job claim (awaits_replies given done pairs) awaited before bytes outcome sound at expected unfinished =
-    answers_behind_claim job claim (awaits_replies given done pairs) before (bytes_from Verifier bytes) outcome sound tt at
-answers_at job claim (awaits_challenge given pairs wires) awaited before bytes outcome sound at expected unfinished =
-    answers_behind_claim job claim (awaits_challenge given pairs wires) before (bytes_from Verifier bytes) outcome sound tt at
-answers_at job claim awaits_verdict awaited before bytes outcome sound at expected unfinished =
-    answers_behind_claim job claim awaits_verdict before (bytes_from Verifier bytes) outcome sound tt at
 answers_at job claim has_ended awaited before bytes outcome sound at expected unfinished = absurd at
+answers_at job claim stage awaited before bytes outcome sound at expected unfinished =
+    answers_behind_claim job claim stage before (bytes_from Verifier bytes) outcome sound tt at
 
 -- ---- what the link tells
 
@@ -165,16 +159,9 @@ mine first = record first { side = Prover }
 -- what passed goes well
 pub well_of : (log : List (Side × ℕ)) (number : ℕ) (first now : LineState) → number ≡ answers_in log → HasPassed log number (mine first) now
     → GoesWell (mine first) now
-well_of log number first now counts passed = record {
-  received = passed.reading ∙ (λ i. record { received = length (sent_by Verifier (sym passed.logged i)); expected = None; taken = []; bad = None });
-  told = passed.told ∙ ap (λ l. appended l first.told) (sym passed.logged);
-  came = passed.came ∙ ap (λ l. put_before (sent_by Verifier l) now.to_come) (sym passed.logged);
-  sends = passed.sends ∙ ap (λ (k : ℕ). counted_times k first.sends) (counts ∙ ap answers_in (sym passed.logged));
-  side = passed.side;
-  is_open = passed.is_open;
-  receives = subst (λ l. now.receives ≤ first.receives + length (sent_by Verifier l)) (sym passed.logged) passed.receives;
-  faults = passed.faults;
-}
+well_of log number first now counts passed =
+    subst (λ (q : List (Side × ℕ) × ℕ). HasPassed q.0 q.1 (mine first) now)
+    (λ i. (sym passed.logged i, (counts ∙ ap answers_in (sym passed.logged)) i)) passed
 
 -- a frame has come
 pub comes : (job : ProverJob) (claim : Claim) (stage : ProverStage) (frame : Frame) (log : List (Side × ℕ)) (number : ℕ) (first now : LineState)
@@ -242,24 +229,21 @@ stops_taking moves job claim stage log number mid other f first now sound at sam
     claimed : SendsOnceClaimed job claim now.log
     claimed = subst (λ l. SendsOnceClaimed job claim l) (sym missing.logged) (once_claimed job claim stage log missing.rest at)
 
-    stops_with : (Cause : Expect → List ℕ → Type 0) → Cause missing.place missing.rest → StopsBehind job claim now.log Cause
-    stops_with Cause cause = record {
-      stage = stage;
+    behind : ComesBehind job claim now.log
+    behind = record {
       before = log;
-      waited = at;
-      cause = cause;
-      logged = missing.logged;
-      rest = missing.rest;
       expect = missing.place;
+      waits = record { stage = stage; waited = at; expected = expected };
+      rest = missing.rest;
       few = missing.few;
-      expected = expected;
+      logged = missing.logged;
     }
 
     by_fault : (f : LineFault) → Lacks missing.place missing.rest f (mine first) now → (lines.IsNoBadByte f → IsCutShort missing.place missing.rest)
-        → IsOutcome job claim now.log (told_by (snapshot_of (mine first)) (snapshot_of now)) (line_outcome f)
+        → IsOutcome job claim now.log (snapshot_of (mine first)) (snapshot_of now) (line_outcome f)
     by_fault (fault.PeerEnded place_at) cause cut =
         let begun = cut tt in
-        (stops_with _ (begun.goes_on, begun.short), cause.0, cause.1, cause.2)
-    by_fault (fault.BadFrame place_at) cause cut = (cause.0, stops_with _ (cause.1, cause.2))
-    by_fault fault.Link cause cut = (cause, inl (stops_with IsCutShort (cut tt), sends))
-    by_fault fault.NoMemory cause cut = inl (stops_with IsCutShort (cut tt))
+        (record { behind = behind; cause = (begun.goes_on, begun.short) }, cause.0, cause.1, cause.2)
+    by_fault (fault.BadFrame place_at) cause cut = (cause.0, record { behind = behind; cause = (cause.1, cause.2) })
+    by_fault fault.Link cause cut = (cause, inl (record { behind = behind; cause = cut tt }, sends))
+    by_fault fault.NoMemory cause cut = inl (record { behind = behind; cause = cut tt })

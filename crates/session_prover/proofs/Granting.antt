@@ -20,7 +20,7 @@ use Rattle.session_prover.specs.declared.note.ProverOutcome.{ProverOutcome}
 use Rattle.session_prover.specs.declared.note.ProverOutcome.TheVariants as outcome
 use Rattle.session_prover.specs.Outcomes.{line_outcome, claim_outcome}
 use Rattle.session_prover.specs.Stages.{Claim, RefusedFor, Course, IsLogTaken, GoesWell, greeting, greeted_log, granted_log}
-use Rattle.session_prover.specs.Notes.{task_of, IsRelated, IsOutcome, told_by, SendsHonestly, AnswersGrantPlace, IsEnded}
+use Rattle.session_prover.specs.Notes.{task_of, IsRelated, IsOutcome, SendsHonestly, AnswersGrantPlace, IsEnded}
 use Rattle.session_prover.specs.Turns.{IsSound, SendStops, Comes, IsGrantTaken, IsNoGrant}
 use Rattle.frame_laws.proofs.SentBytes.{own_bytes}
 use Rattle.session_prover.proofs.Sides.{prover_hears}
@@ -78,7 +78,7 @@ ends_greeted : (job : ProverJob) (course : Course) (result : ProverOutcome) (new
     → IsUnheard job new.log
     → SendsHonestly job new.log result
     → AnswersGrantPlace job course.claim result new.log
-    → IsOutcome job course.claim new.log (told_by (snapshot_of course.first) (snapshot_of new)) result
+    → IsOutcome job course.claim new.log (snapshot_of course.first) (snapshot_of new) result
     → IsEnded job course result new
 ends_greeted job course result new well unasked sent ended unheard honest answers is = record {
   outcome_is = is;
@@ -255,7 +255,7 @@ ends_unclaimed job course given f line sound suits taken refused = record {
             )
 
     caused : (f : ClaimFault) → RefusedFor course.claim given f → IsOutcome job course.claim line.log
-        (told_by (snapshot_of course.first) (snapshot_of line)) (claim_outcome f)
+        (snapshot_of course.first) (snapshot_of line) (claim_outcome f)
     caused refusal.NoMemory refused = inr (inr (given, suits, refused, taken.log))
     caused other refused = (given, suits, refused, taken.log)
 

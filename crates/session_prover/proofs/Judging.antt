@@ -19,7 +19,7 @@ use Rattle.session_prover.specs.declared.note.ProverOutcome.{ProverOutcome}
 use Rattle.session_prover.specs.declared.note.ProverOutcome.TheVariants as outcome
 use Rattle.session_prover.specs.Outcomes.{verdict_outcome}
 use Rattle.session_prover.specs.Stages.{Course, IsOpenedLog, granted_log, opened_log, sums_for, openings_for}
-use Rattle.session_prover.specs.Notes.{task_of, ReadsVerdict, IsAskedRight, SendsOnceClaimed, IsRelated, AnswersGrantPlace, IsOutcome, SendsHonestly, IsEnded, told_by}
+use Rattle.session_prover.specs.Notes.{task_of, ReadsVerdict, IsAskedRight, SendsOnceClaimed, IsRelated, AnswersGrantPlace, IsOutcome, SendsHonestly, IsEnded}
 use Rattle.session_prover.specs.Turns.{IsSound, Comes, IsRejection}
 use Rattle.session_prover.proofs.Sides.{bytes_more, prover_hears, verifier_says}
 use Rattle.session_prover.proofs.Honest.{made, made_is, made_honest, finishes, all_sent}
@@ -125,7 +125,7 @@ fits_of frame code number (some, other, is_too, fits) is =
 -- a session whose verdict was read has ended as it says
 ends_read : (job : ProverJob) (course : Course) (frame : Frame) (result : ProverOutcome) (code number : ℕ) (line : LineState) → IsSound job
     → Comes job course awaits_verdict frame line → IsRead job course code number line → result ≡ verdict_outcome code number
-    → IsOutcome job course.claim line.log (told_by (snapshot_of course.first) (snapshot_of line)) result → SendsHonestly job line.log result
+    → IsOutcome job course.claim line.log (snapshot_of course.first) (snapshot_of line) result → SendsHonestly job line.log result
     → IsEnded job course result line
 ends_read job course frame result code number line sound come read verdict_is outcome_is honest = record {
   outcome_is = outcome_is;

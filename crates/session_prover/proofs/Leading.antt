@@ -212,84 +212,84 @@ unclaimed claims old now granted none (inl same) = same
 unclaimed claims old now granted none (inr claimed) = absurd (none_is_some (sym none ∙ claimed.1.told))
 
 module _ {C : Type 0} (claims : Claims C) (old : C) (job : ProverJob) (sound : IsSound job) where
-  claim_on : (s t : Proved C) (before : List Turn) (turn : Turn) → IsAt claims old job s before → s.accepted ≡ false
-      → AnswersClaimed claims s turn.frame turn.answer t → IsAt claims old job t (before ++ turn ∷ [])
-  claim_on s t before turn at accepted by =
-      let log = whole_log Prover (greeting_frame job ∷ []) before in
-      let waited : IsLogAt job (claim_of claims s.claimant) awaits_grant log =
-      subst (λ (q : Bool × ProverStage). IsLogOf job (claim_of claims s.claimant) q.0 q.1 log) (λ i. (accepted i, by.waits i)) at.log in
-      let suits = subst (λ (j : ProverJob). Suits j.file.params j.statement.program by.given) at.job_is by.suits in
-      let within = subst (λ (j : ProverJob). by.given.start + by.given.count ≤ j.file.params.total) at.job_is by.within in
-      let taken = grant_log_taken job (claim_of claims t.claimant) turn.frame by.given log waited.1 by.is suits within (claimed_for claims by.given s.claimant t.claimant by.claimed) in
-      let answers = subst (λ (j : ProverJob). ProverAnswers j awaits_grant turn.frame turn.answer t.core.stage) at.job_is by.answers in
-      record {
-        job_is = by.job ∙ at.job_is;
-        log = subst (λ (b : Bool). IsLogOf job (claim_of claims t.claimant) b t.core.stage (whole_log Prover (greeting_frame job ∷ []) (before ++ turn ∷ []))) (sym by.accepted)
-            (subst (IsLogAt job (claim_of claims t.claimant) t.core.stage) (whole_more Prover (greeting_frame job ∷ []) before turn)
-            (answered job (claim_of claims t.claimant) awaits_grant turn.frame turn.answer t.core.stage _ sound taken answers));
-        counts = ap answers_in (sym (whole_more Prover (greeting_frame job ∷ []) before turn)) ∙ counts_on log turn
-            ∙ omega (arith, at.counts, sends_more (greeting_frame job ∷ []) before turn);
-        claim = inr (
-          by.given,
-          subst (λ c. Claimed claims by.given (Ok (span_of by.given)) c t.claimant) (unclaimed claims old s.claimant s.granted waited.0 at.claim).0 by.claimed,
-          by.granted,
-        );
-      }
+  -- one turn on, where no verdict was read
+  module _ (s t : Proved C) (before : List Turn) (turn : Turn) (at : IsAt claims old job s before) (accepted : s.accepted ≡ false) where
+    abbrev log_to : List (Side × ℕ)
+    log_to = whole_log Prover (greeting_frame job ∷ []) before
 
-  answer_on : (s t : Proved C) (before : List Turn) (turn : Turn) (place : Expect) → IsAt claims old job s before → s.accepted ≡ false
-      → prover_expects s.core.job s.core.stage ≡ Some place → Allows place turn.frame
-      → AnswersBehind s turn.frame turn.answer t → IsAt claims old job t (before ++ turn ∷ [])
-  answer_on s t before turn place at accepted expected allowed by =
-      let log = whole_log Prover (greeting_frame job ∷ []) before in
-      let claim = claim_of claims s.claimant in
-      let waited : IsLogAt job claim s.core.stage log = subst (λ (b : Bool). IsLogOf job claim b s.core.stage log) accepted at.log in
-      let expects = ap (λ (j : ProverJob). prover_expects j s.core.stage) (sym at.job_is) ∙ expected in
-      let taken = log_taken job claim s.core.stage turn.frame log place by.behind waited expects allowed in
-      let answers = subst (λ (j : ProverJob). ProverAnswers j s.core.stage turn.frame turn.answer t.core.stage) at.job_is by.answers in
-      let next = subst (IsLogAt job claim t.core.stage) (whole_more Prover (greeting_frame job ∷ []) before turn)
-      (answered job claim s.core.stage turn.frame turn.answer t.core.stage _ sound taken answers) in
-      record {
-        job_is = by.job ∙ at.job_is;
-        log = subst (λ (q : Bool × C). IsLogOf job (claim_of claims q.1) q.0 t.core.stage (whole_log Prover (greeting_frame job ∷ []) (before ++ turn ∷ [])))
-            (λ i. (sym by.accepted i, sym by.claimant i)) next;
-        counts = ap answers_in (sym (whole_more Prover (greeting_frame job ∷ []) before turn)) ∙ counts_on log turn
-            ∙ omega (arith, at.counts, sends_more (greeting_frame job ∷ []) before turn);
-        claim = subst (λ (q : Option Span × C). IsClaimAt claims old q.0 q.1) (λ i. (sym by.granted i, sym by.claimant i)) at.claim;
-      }
+    abbrev log_on : List (Side × ℕ)
+    log_on = whole_log Prover (greeting_frame job ∷ []) (before ++ turn ∷ [])
 
-  accept_on : (s t : Proved C) (before : List Turn) (turn : Turn) (place : Expect) → IsAt claims old job s before → s.accepted ≡ false
-      → prover_expects s.core.job s.core.stage ≡ Some place → Allows place turn.frame
-      → ReadsAcceptance s turn.frame turn.answer t → IsAt claims old job t (before ++ turn ∷ [])
-  accept_on s t before turn place at accepted expected allowed by =
-      let log = whole_log Prover (greeting_frame job ∷ []) before in
-      let claim = claim_of claims s.claimant in
-      let waited : IsLogAt job claim awaits_verdict log =
-      subst (λ (q : Bool × ProverStage). IsLogOf job claim q.0 q.1 log) (λ i. (accepted i, by.waits i)) at.log in
-      let verdict_place : place ≡ expect.Verdict = same_place (ap (λ (q : ProverJob × ProverStage). prover_expects q.0 q.1) (λ i. (sym at.job_is i, sym by.waits i)) ∙ expected) in
-      subst (λ (u : Proved C). IsAt claims old job u (before ++ turn ∷ [])) (sym by.becomes) (record {
-        job_is = at.job_is;
-        log = record {
-          before = log;
-          waited = waited;
-          frame = turn.frame;
-          allowed = subst (λ p. Allows p turn.frame) verdict_place allowed;
-          number = by.number;
-          is = by.is;
-          logged = sym (whole_more Prover (greeting_frame job ∷ []) before turn)
-              ∙ ap (λ a. (log ++ bytes_from Verifier (frame_spelling turn.frame)) ++ said Prover a) by.none
-              ∙ append-nil (log ++ bytes_from Verifier (frame_spelling turn.frame));
-        };
-        counts = ap answers_in (sym (whole_more Prover (greeting_frame job ∷ []) before turn)) ∙ counts_on log turn
-            ∙ omega (arith, at.counts, sends_more (greeting_frame job ∷ []) before turn);
-        claim = at.claim;
-      })
-    where
-      same_place : Some expect.Verdict ≡ Some place → place ≡ expect.Verdict
-      same_place same = ap place_in (sym same)
+    more_on : (log_to ++ bytes_from Verifier (frame_spelling turn.frame)) ++ said Prover turn.answer ≡ log_on
+    more_on = whole_more Prover (greeting_frame job ∷ []) before turn
+
+    counted_on : answers_in log_on ≡ sends_in (greeting_frame job ∷ []) (before ++ turn ∷ [])
+    counted_on = ap answers_in (sym more_on) ∙ counts_on log_to turn ∙ omega (arith, at.counts, sends_more (greeting_frame job ∷ []) before turn)
+
+    stood_at : (stage : ProverStage) → s.core.stage ≡ stage → IsLogAt job (claim_of claims s.claimant) stage log_to
+    stood_at stage is = subst (λ (q : Bool × ProverStage). IsLogOf job (claim_of claims s.claimant) q.0 q.1 log_to) (λ i. (accepted i, is i)) at.log
+
+    claim_on : AnswersClaimed claims s turn.frame turn.answer t → IsAt claims old job t (before ++ turn ∷ [])
+    claim_on by =
+        let waited = stood_at awaits_grant by.waits in
+        let suits = subst (λ (j : ProverJob). Suits j.file.params j.statement.program by.given) at.job_is by.suits in
+        let within = subst (λ (j : ProverJob). by.given.start + by.given.count ≤ j.file.params.total) at.job_is by.within in
+        let taken = grant_log_taken job (claim_of claims t.claimant) turn.frame by.given log_to waited.1 by.is suits within (claimed_for claims by.given s.claimant t.claimant by.claimed) in
+        let answers = subst (λ (j : ProverJob). ProverAnswers j awaits_grant turn.frame turn.answer t.core.stage) at.job_is by.answers in
+        record {
+          job_is = by.job ∙ at.job_is;
+          log = subst (λ (b : Bool). IsLogOf job (claim_of claims t.claimant) b t.core.stage log_on) (sym by.accepted)
+              (subst (IsLogAt job (claim_of claims t.claimant) t.core.stage) more_on
+              (answered job (claim_of claims t.claimant) awaits_grant turn.frame turn.answer t.core.stage _ sound taken answers));
+          counts = counted_on;
+          claim = inr (
+            by.given,
+            subst (λ c. Claimed claims by.given (Ok (span_of by.given)) c t.claimant) (unclaimed claims old s.claimant s.granted waited.0 at.claim).0 by.claimed,
+            by.granted,
+          );
+        }
+
+    module _ (place : Expect) (expected : prover_expects s.core.job s.core.stage ≡ Some place) (allowed : Allows place turn.frame) where
+      answer_on : AnswersBehind s turn.frame turn.answer t → IsAt claims old job t (before ++ turn ∷ [])
+      answer_on by =
+          let claim = claim_of claims s.claimant in
+          let expects = ap (λ (j : ProverJob). prover_expects j s.core.stage) (sym at.job_is) ∙ expected in
+          let taken = log_taken job claim s.core.stage turn.frame log_to place by.behind (stood_at s.core.stage refl) expects allowed in
+          let answers = subst (λ (j : ProverJob). ProverAnswers j s.core.stage turn.frame turn.answer t.core.stage) at.job_is by.answers in
+          record {
+            job_is = by.job ∙ at.job_is;
+            log = subst (λ (q : Bool × C). IsLogOf job (claim_of claims q.1) q.0 t.core.stage log_on) (λ i. (sym by.accepted i, sym by.claimant i))
+                (subst (IsLogAt job claim t.core.stage) more_on (answered job claim s.core.stage turn.frame turn.answer t.core.stage _ sound taken answers));
+            counts = counted_on;
+            claim = subst (λ (q : Option Span × C). IsClaimAt claims old q.0 q.1) (λ i. (sym by.granted i, sym by.claimant i)) at.claim;
+          }
+
+      accept_on : ReadsAcceptance s turn.frame turn.answer t → IsAt claims old job t (before ++ turn ∷ [])
+      accept_on by =
+          let verdict_place : place ≡ expect.Verdict = same_place (ap (λ (q : ProverJob × ProverStage). prover_expects q.0 q.1) (λ i. (sym at.job_is i, sym by.waits i)) ∙ expected) in
+          subst (λ (u : Proved C). IsAt claims old job u (before ++ turn ∷ [])) (sym by.becomes) (record {
+            job_is = at.job_is;
+            log = record {
+              before = log_to;
+              waited = stood_at awaits_verdict by.waits;
+              frame = turn.frame;
+              allowed = subst (λ p. Allows p turn.frame) verdict_place allowed;
+              number = by.number;
+              is = by.is;
+              logged = sym more_on
+                  ∙ ap (λ a. (log_to ++ bytes_from Verifier (frame_spelling turn.frame)) ++ said Prover a) by.none
+                  ∙ append-nil (log_to ++ bytes_from Verifier (frame_spelling turn.frame));
+            };
+            counts = counted_on;
+            claim = at.claim;
+          })
         where
-          place_in : Option Expect → Expect
-          place_in None = expect.Verdict
-          place_in (Some p) = p
+          same_place : Some expect.Verdict ≡ Some place → place ≡ expect.Verdict
+          same_place same = ap place_in (sym same)
+            where
+              place_in : Option Expect → Expect
+              place_in None = expect.Verdict
+              place_in (Some p) = p
 
   turn_on : (s : Proved C) (before : List Turn) (turn : Turn) (t : Proved C) → IsAt claims old job s before → IsTurn (proves claims) s turn t
       → IsAt claims old job t (before ++ turn ∷ [])
@@ -305,8 +305,8 @@ module _ {C : Type 0} (claims : Claims C) (old : C) (job : ProverJob) (sound : I
           either : AnswersClaimed claims s turn.frame turn.answer t ⊎ AnswersBehind s turn.frame turn.answer t ⊎ ReadsAcceptance s turn.frame turn.answer t
               → IsAt claims old job t (before ++ turn ∷ [])
           either (inl by) = claim_on s t before turn at accepted by
-          either (inr (inl by)) = answer_on s t before turn is.place at accepted expects is.allowed by
-          either (inr (inr by)) = accept_on s t before turn is.place at accepted expects is.allowed by
+          either (inr (inl by)) = answer_on s t before turn at accepted is.place expects is.allowed by
+          either (inr (inr by)) = accept_on s t before turn at accepted is.place expects is.allowed by
 
   stands : claims.answer old ≡ None → (mid : Proved C) (turns : List Turn)
       → Goes (proves claims) (proved (record { job = job; stage = awaits_grant }) None false old) turns mid → IsAt claims old job mid turns
@@ -463,24 +463,29 @@ over claims old job sound mid turns first now at none passed = by_accepted mid.a
 -- ---- what was claimed
 
 -- the claimant at the end, and the units that were granted: as it was, or asked once
-abbrev pub IsClaimTold : {C : Type 0} → Claims C → C → Option Span → C → Type 0
+abbrev IsClaimTold : {C : Type 0} → Claims C → C → Option Span → C → Type 0
 IsClaimTold claims old granted now =
     ((now ≡ old) × (granted ≡ None))
     ⊎ ((given : Grant) × (answer : Result Span ClaimFault) × Claimed claims given answer old now × (granted ≡ granted_of (Some answer)))
 
-pub claim_granted : {C : Type 0} (claims : Claims C) (old : C) (granted : Option Span) (now : C) → claims.answer old ≡ None → IsClaimTold claims old granted now
-    → granted ≡ granted_of (claims.answer now)
-claim_granted claims old granted now once (inl none) = none.1 ∙ ap granted_of (sym (ap claims.answer none.0 ∙ once))
-claim_granted claims old granted now once (inr some) = some.3 ∙ ap granted_of (sym some.2.told)
+-- what a note tells of it
+pub record ClaimEnds {C : Type 0} (claims : Claims C) (old : C) (granted : Option Span) (now : C) : Type 0 where
+  pub told : granted ≡ granted_of (claims.answer now)
+  pub moved : MatchOption (claims.answer now) (now ≡ old) (λ answer. IsSomeAnd (claims.asked now) (λ units. claims.moves old units.0 units.1 answer now))
 
-pub claim_moved : {C : Type 0} (claims : Claims C) (old : C) (granted : Option Span) (now : C) → claims.answer old ≡ None → IsClaimTold claims old granted now
-    → MatchOption (claims.answer now) (now ≡ old) (λ answer. IsSomeAnd (claims.asked now) (λ units. claims.moves old units.0 units.1 answer now))
-claim_moved claims old granted now once (inl none) =
-    subst (λ a. MatchOption a (now ≡ old) (λ answer. IsSomeAnd (claims.asked now) (λ units. claims.moves old units.0 units.1 answer now)))
-    (sym (ap claims.answer none.0 ∙ once)) none.0
-claim_moved claims old granted now once (inr some) =
-    subst (λ a. MatchOption a (now ≡ old) (λ answer. IsSomeAnd (claims.asked now) (λ units. claims.moves old units.0 units.1 answer now))) (sym some.2.told)
-    (subst (λ (u : Option (ℕ × ℕ)). IsSomeAnd u (λ units. claims.moves old units.0 units.1 some.1 now)) (sym some.2.asked) some.2.moves)
+claim_ends : {C : Type 0} (claims : Claims C) (old : C) (granted : Option Span) (now : C) → claims.answer old ≡ None → IsClaimTold claims old granted now
+    → ClaimEnds claims old granted now
+claim_ends claims old granted now once (inl none) =
+    let unasked = ap claims.answer none.0 ∙ once in
+    record {
+      told = none.1 ∙ ap granted_of (sym unasked);
+      moved = subst (λ a. MatchOption a (now ≡ old) (λ answer. IsSomeAnd (claims.asked now) (λ units. claims.moves old units.0 units.1 answer now))) (sym unasked) none.0;
+    }
+claim_ends claims old granted now once (inr some) = record {
+  told = some.3 ∙ ap granted_of (sym some.2.told);
+  moved = subst (λ a. MatchOption a (now ≡ old) (λ answer. IsSomeAnd (claims.asked now) (λ units. claims.moves old units.0 units.1 answer now))) (sym some.2.told)
+      (subst (λ (u : Option (ℕ × ℕ)). IsSomeAnd u (λ units. claims.moves old units.0 units.1 some.1 now)) (sym some.2.asked) some.2.moves);
+}
 
 claim_at : {C : Type 0} (claims : Claims C) (old : C) (granted : Option Span) (now : C) → IsClaimAt claims old granted now → IsClaimTold claims old granted now
 claim_at claims old granted now (inl none) = inl none
@@ -563,5 +568,5 @@ module _ {C : Type 0} (claims : Claims C) (old : C) (once : claims.answer old �
       claim_at claims old new.granted new.claimant (turn_on claims old job sound run.mid run.turns stop.turn new stood stop.is).claim
   claim_by (Cut f) (inr (inr stop)) = claim_same (ap (λ (s : Proved C). s.claimant) stop.same) (ap (λ (s : Proved C). s.granted) stop.same)
 
-  pub claim_told : IsClaimTold claims old new.granted new.claimant
-  claim_told = claim_by outcome run.stops
+  pub claim_ended : ClaimEnds claims old new.granted new.claimant
+  claim_ended = claim_ends claims old new.granted new.claimant once (claim_by outcome run.stops)

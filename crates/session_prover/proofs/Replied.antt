@@ -2,7 +2,7 @@
 use Rattle.std.proofs.Common.{◌≡◌, ℕ, zero, suc, ◌≤◌, List, [], ◌∷◌, ◌++◌, flat_map, take, length, refl, ap, sym, ◌∙◌, subst, append_assoc, append-nil, length-append, arith}
 use Rattle.std.specs.Prelude.{All}
 use Rattle.std.proofs.lemmas.List.Elements.{All-nil, All-cons}
-use Rattle.frame_laws.proofs.Codes.{same_front, many_code}
+use Rattle.frame_laws.proofs.Codes.{many_code}
 use Rattle.frame_laws.proofs.FrameCodes.{hello_code, grant_code, asks_code, replies_code}
 use Rattle.frame_laws.proofs.SentBytes.{sent_by-append}
 use Rattle.session_laws.proofs.Turns.{said, answered}

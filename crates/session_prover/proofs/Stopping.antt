@@ -23,7 +23,7 @@ use Rattle.session_prover.specs.declared.note.ProverOutcome.{ProverOutcome}
 use Rattle.session_prover.specs.declared.note.ProverOutcome.TheVariants.{NoMemory}
 use Rattle.session_prover.specs.Outcomes.{line_outcome, session_outcome}
 use Rattle.session_prover.specs.Stages.{answers_in, Claim, ClaimedFor, Course, IsLogTaken, GoesWell, IsLineTaken, all_asks, granted_log}
-use Rattle.session_prover.specs.Notes.{task_of, IsGrantRead, IsAskedRight, SendsOnceClaimed, IsRelated, IsAnswerDue, told_by, IsOutcome, CountsOutcome, SendsHonestly, SendsEach, AnswersGrantPlace, AnswersVerdict, IsLogged, IsEnded}
+use Rattle.session_prover.specs.Notes.{task_of, IsGrantRead, IsAskedRight, SendsOnceClaimed, IsRelated, IsAnswerDue, IsOutcome, CountsOutcome, SendsHonestly, SendsEach, AnswersGrantPlace, AnswersVerdict, IsEnded}
 use Rattle.session_prover.specs.Notes as notes
 use Rattle.session_prover.specs.Turns.{IsSound, IsBehindGrant, answers_left, FollowsStage, SendStops}
 use Rattle.frame_link.proofs.LineLemmas.{appended_more}
@@ -134,7 +134,7 @@ stops_sending_at job course bytes f old new well due owed stops related unheard 
 
     caused : (f : LineFault) → lines.IsSendCause old new f → IsAnswerDue job course.claim (least_for f) old.log
         → ((f ≡ fault.NoMemory) × (stops.part ≡ []) × (new.sends ≡ old.sends)) ⊎ (new.sends ≡ counted true old.sends)
-        → IsOutcome job course.claim new.log (told_by (snapshot_of course.first) (snapshot_of new)) (line_outcome f)
+        → IsOutcome job course.claim new.log (snapshot_of course.first) (snapshot_of new) (line_outcome f)
     caused (fault.PeerEnded at) cause owed sends = absurd cause
     caused (fault.BadFrame at) cause owed sends = absurd cause
     caused fault.Link cause owed (inl none) = absurd (no_link none.0)

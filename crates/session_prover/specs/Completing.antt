@@ -11,8 +11,9 @@ use Rattle.zk_port.specs.Counts.{Rose}
 use Rattle.zk_laws.specs.Completeness.{AreCounterparts}
 use Rattle.session_laws.specs.Peers.{GivesClaims}
 use Rattle.claim_store.specs.declared.ClaimFault.{ClaimFault}
+use Rattle.frame_link.specs.Lines.{LinkSnapshot}
 use Rattle.session_core.specs.Jobs.{ProverJob}
-use Rattle.session_prover.specs.Notes.{Told, task_of}
+use Rattle.session_prover.specs.Notes.{task_of}
 use Rattle.session_prover.specs.Stages.{Claim}
 use Rattle.session_prover.specs.declared.note.ProverOutcome.{ProverOutcome}
 use Rattle.session_prover.specs.declared.note.ProverOutcome.TheVariants.{Accepted, PeerEnded, NoMemory}
@@ -46,7 +47,9 @@ pub record HasHonestPeer
   pub ended : IsPeerEnd outcome → HasSpoken verifier log
 
 -- with an honest peer, where no claim was refused and the link's count did not rise, the session is accepted, unless memory was missing
-abbrev pub Completes : ProverJob → Claim → List (Side × ℕ) → Told → ProverOutcome → Type 0
-Completes job claim log told outcome = (inputs : List ℕ) (verifier : VerifierTask) → HasHonestPeer job inputs verifier outcome log
-    → ((fault : ClaimFault) → claim.answer ≡ Some (Err fault) → ⊥) → ¬ Rose told.before told.after
+abbrev pub Completes : ProverJob → Claim → List (Side × ℕ) → LinkSnapshot → LinkSnapshot → ProverOutcome
+    → Type 0
+Completes job claim log first now outcome = (inputs : List ℕ) (verifier : VerifierTask)
+    → HasHonestPeer job inputs verifier outcome log
+    → ((fault : ClaimFault) → claim.answer ≡ Some (Err fault) → ⊥) → ¬ Rose first.faults now.faults
     → (outcome ≡ Accepted) ⊎ (outcome ≡ NoMemory)

@@ -1,5 +1,5 @@
 -- What a prover's note says of its session.
-use Rattle.std.specs.Prelude.{◌≡◌, ◌⊎◌, ℕ, ◌+◌, ◌≤◌, ◌<◌, List, [], ◌++◌, length, Bool, true, Option, Some, None, IfSome, Result, Ok, Err}
+use Rattle.std.specs.Prelude.{◌≡◌, ◌⊎◌, ℕ, ◌+◌, ◌≤◌, ◌<◌, List, [], ◌++◌, length, true, Option, Some, None, IfSome, Result, Ok, Err}
 use Rattle.zk_model.specs.Mac.{Pair, AreKeysOf}
 use Rattle.zk_model.specs.Files.{VerifierFile, IsVerifierFile, AreDealt}
 use Rattle.zk_model.specs.Correlations.{IsProverView, span_keys}
@@ -75,47 +75,36 @@ pub record ReadsVerdict (job : ProverJob) (log : List (Side × ℕ)) (code numbe
   pub code_is : t.code ≡ code
   pub number_is : t.number ≡ number
 
+-- where this is logged, the prover waits for a frame of this place
+pub record WaitsFor (job : ProverJob) (claim : Claim) (before : List (Side × ℕ)) (expect : Expect) : Type 0 where
+  pub stage : ProverStage
+  pub waited : IsLogAt job claim stage before
+  pub expected : prover_expects job stage ≡ Some expect
+
 -- after what is logged where the prover waited, bytes came of the frame that it expected, no more than such a frame has
+pub record ComesBehind (job : ProverJob) (claim : Claim) (log : List (Side × ℕ)) : Type 0 where
+  pub before : List (Side × ℕ)
+  pub expect : Expect
+  pub waits : WaitsFor job claim before expect
+  pub open waits use *
+  pub rest : List ℕ
+  pub few : length rest ≤ longest expect
+  pub logged : log ≡ before ++ bytes_from Verifier rest
+
+-- and this holds of the frame that was expected and of those bytes
 pub record StopsBehind
     (job : ProverJob)
     (claim : Claim)
     (log : List (Side × ℕ))
     (P : Expect → List ℕ → Type 0) : Type 0 where
-  pub stage : ProverStage
-  pub before : List (Side × ℕ)
-  pub waited : IsLogAt job claim stage before
-  pub expect : Expect
-  pub expected : prover_expects job stage ≡ Some expect
-  pub rest : List ℕ
-  pub few : length rest ≤ longest expect
-  pub logged : log ≡ before ++ bytes_from Verifier rest
+  pub behind : ComesBehind job claim log
+  pub open behind use *
   pub cause : P expect rest
 
 -- the claimant refused the units of the grant that was read
 abbrev pub IsClaimRefused : ProverJob → Claim → List (Side × ℕ) → ClaimFault → Type 0
 IsClaimRefused job claim log fault = (given : Grant)
     × Suits job.file.params job.statement.program given × RefusedFor claim given fault × (log ≡ granted_log job given)
-
--- what the link tells in the end: whether the peer was seen to have ended, what is to come, and how often a call has failed and how
--- many sends there were, before and after
-pub record Told : Type 0 where
-  pub ended : Option Bool
-  pub to_come : Option (List ℕ)
-  pub before : ℕ
-  pub after : ℕ
-  pub sends_before : ℕ
-  pub sends_after : ℕ
-
--- by a moment before and one after
-abbrev pub told_by : LinkSnapshot → LinkSnapshot → Told
-told_by first now = record {
-  ended = now.ended;
-  to_come = now.to_come;
-  before = first.faults;
-  after = now.faults;
-  sends_before = first.sends;
-  sends_after = now.sends;
-}
 
 -- a frame was read that is to be answered, by at least so many frames
 pub record OwesAnswer (job : ProverJob) (claim : Claim) (least : ℕ) (log : List (Side × ℕ)) : Type 0 where
@@ -133,10 +122,10 @@ IsAnswerDue job claim least log = ((claim.answer ≡ None) × (log ≡ [])) ⊎ 
 
 -- Where the link failed: where a frame was expected of which bytes are missing, with no send but those of the answers that are logged;
 -- or in the one send of an answer that was due.
-abbrev pub FailsLink : ProverJob → Claim → List (Side × ℕ) → Told → Type 0
-FailsLink job claim log told =
-    (StopsBehind job claim log IsCutShort × (told.sends_after ≡ counted_times (answers_in log) told.sends_before))
-    ⊎ (IsAnswerDue job claim 1 log × (told.sends_after ≡ counted_times (answers_in log + 1) told.sends_before))
+abbrev pub FailsLink : ProverJob → Claim → List (Side × ℕ) → LinkSnapshot → LinkSnapshot → Type 0
+FailsLink job claim log first now =
+    (StopsBehind job claim log IsCutShort × (now.sends ≡ counted_times (answers_in log) first.sends))
+    ⊎ (IsAnswerDue job claim 1 log × (now.sends ≡ counted_times (answers_in log + 1) first.sends))
 
 -- where memory was missing: for a frame of which bytes are missing, for an answer that was due, or for the claim
 abbrev pub LacksMemory : ProverJob → Claim → List (Side × ℕ) → Type 0
@@ -146,28 +135,29 @@ LacksMemory job claim log =
 -- Why a session ended so. A verdict, a refusal or a grant was read; the peer has ended, with bytes still wanted, when so many
 -- bytes had come; a byte at this place of all that came is the first bad one; the claimant refused; the link failed, or memory
 -- was missing, where a frame or an answer was due.
-abbrev pub IsOutcome : ProverJob → Claim → List (Side × ℕ) → Told → ProverOutcome → Type 0
-IsOutcome job claim log told Accepted = (number : ℕ) × ReadsVerdict job log 0 number
-IsOutcome job claim log told (Rejected code number) = (1 ≤ code) × ReadsVerdict job log code number
-IsOutcome job claim log told (PeerEnded at) =
+abbrev pub IsOutcome : ProverJob → Claim → List (Side × ℕ) → LinkSnapshot → LinkSnapshot → ProverOutcome
+    → Type 0
+IsOutcome job claim log first now Accepted = (number : ℕ) × ReadsVerdict job log 0 number
+IsOutcome job claim log first now (Rejected code number) = (1 ≤ code) × ReadsVerdict job log code number
+IsOutcome job claim log first now (PeerEnded at) =
     StopsBehind job claim log (λ expect rest. CanGoOn expect rest × (length rest < frame_length expect rest))
     × (at ≡ length (sent_by Verifier log))
-    × IfSome told.ended (λ ended. ended ≡ true)
-    × IfSome told.to_come (λ bytes. bytes ≡ [])
-IsOutcome job claim log told (BadFrame at) =
+    × IfSome now.ended (λ ended. ended ≡ true)
+    × IfSome now.to_come (λ bytes. bytes ≡ [])
+IsOutcome job claim log first now (BadFrame at) =
     (n : ℕ) × StopsBehind job claim log (λ expect rest. IsFirstBad expect rest n
     × (at + length rest ≡ length (sent_by Verifier log) + n))
-IsOutcome job claim log told BadGrant =
+IsOutcome job claim log first now BadGrant =
     (given : Grant) × FitsGrant given × ¬ Suits job.file.params job.statement.program given × (log ≡ granted_log job given)
-IsOutcome job claim log told (PeerRefused code) =
+IsOutcome job claim log first now (PeerRefused code) =
     FitsRefusal code × (log ≡ greeted_log job ++ bytes_from Verifier (refuse_frame code))
-IsOutcome job claim log told (Broken first) = IsClaimRefused job claim log (refusal.Broken first)
-IsOutcome job claim log told (OutOfRange total) = IsClaimRefused job claim log (refusal.OutOfRange total)
-IsOutcome job claim log told (Overlap earlier) = IsClaimRefused job claim log (refusal.Overlap earlier)
-IsOutcome job claim log told (Full slots) = IsClaimRefused job claim log (refusal.Full slots)
-IsOutcome job claim log told Device = IsClaimRefused job claim log refusal.Device
-IsOutcome job claim log told Link = Rose told.before told.after × FailsLink job claim log told
-IsOutcome job claim log told NoMemory = LacksMemory job claim log
+IsOutcome job claim log first now (Broken count) = IsClaimRefused job claim log (refusal.Broken count)
+IsOutcome job claim log first now (OutOfRange total) = IsClaimRefused job claim log (refusal.OutOfRange total)
+IsOutcome job claim log first now (Overlap earlier) = IsClaimRefused job claim log (refusal.Overlap earlier)
+IsOutcome job claim log first now (Full slots) = IsClaimRefused job claim log (refusal.Full slots)
+IsOutcome job claim log first now Device = IsClaimRefused job claim log refusal.Device
+IsOutcome job claim log first now Link = Rose first.faults now.faults × FailsLink job claim log first now
+IsOutcome job claim log first now NoMemory = LacksMemory job claim log
 
 -- the link did not fail, and memory was not missing
 abbrev pub IsNoFault : ProverOutcome → Type 0
@@ -286,7 +276,7 @@ IsRelated job log = SendsNoCorrections job log ⊎ SendsCorrections job log
 -- a session over a line that ended so
 pub record IsEnded (job : ProverJob) (course : Course) (outcome : ProverOutcome) (now : LineState) : Type 0 where
   pub outcome_is : IsOutcome job course.claim now.log
-      (told_by (snapshot_of course.first) (snapshot_of now)) outcome
+      (snapshot_of course.first) (snapshot_of now) outcome
   pub asked : IsAskedRight job course.claim now.log
   pub honest : SendsHonestly job now.log outcome
   pub claimed : SendsOnceClaimed job course.claim now.log

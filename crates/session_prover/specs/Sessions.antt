@@ -10,7 +10,7 @@ use Rattle.zk_port.specs.Logs.{put_before}
 use Rattle.frame_link.specs.Lines.{snapshot}
 use Rattle.session_core.specs.Jobs.{ProverJob}
 use Rattle.session_prover.specs.Completing.{Completes}
-use Rattle.session_prover.specs.Notes.{AnswersGrantPlace, AnswersVerdict, CountsOutcome, IsGranted, IsLogged, IsOutcome, IsRelated, SendsEach, SendsHonestly, SendsOnceClaimed, told_by}
+use Rattle.session_prover.specs.Notes.{AnswersGrantPlace, AnswersVerdict, CountsOutcome, IsGranted, IsLogged, IsOutcome, IsRelated, SendsEach, SendsHonestly, SendsOnceClaimed}
 use Rattle.session_prover.specs.Stages.{Claim}
 use Rattle.session_prover.specs.declared.note.ProverNote.{ProverNote}
 use Rattle.session_prover.specs.declared.note.ProverOutcome.{ProverOutcome}
@@ -30,7 +30,7 @@ pub record IsSessionOf
   pub first : LinkState
   pub fresh : IsFreshLink first
   pub granted_is : IsGranted job claim log granted
-  pub cause : IsOutcome job claim log (told_by (snapshot Prover [] first) (snapshot Prover log link)) outcome
+  pub cause : IsOutcome job claim log (snapshot Prover [] first) (snapshot Prover log link) outcome
   pub answers : AnswersGrantPlace job claim outcome log
   pub verdict : AnswersVerdict job outcome log
   pub honest : SendsHonestly job log outcome
@@ -42,7 +42,7 @@ pub record IsSessionOf
   pub receives : link.receives ≤ first.receives + length (sent_by Verifier log) + 1
   pub faults : CountsOutcome outcome first.faults link.faults
   pub ended : link.is_open ≡ false
-  pub complete : Completes job claim log (told_by (snapshot Prover [] first) (snapshot Prover log link)) outcome
+  pub complete : Completes job claim log (snapshot Prover [] first) (snapshot Prover log link) outcome
 
 -- a note is one of a session in which that was claimed
 abbrev pub IsNote : {L : Type 0} → (L → LinkState) → ProverJob → Claim → ProverNote L → Type 0

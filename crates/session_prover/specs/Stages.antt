@@ -1,10 +1,10 @@
 -- How far a session is at the prover: which frames are logged where it waits.
-use Rattle.std.specs.Prelude.{◌≡◌, ℕ, ◌+◌, ◌≤◌, ◌<◌, List, [], ◌∷◌, ◌++◌, flat_map, length, drop, All, true, Option, Some, None, Result, Ok, Err}
+use Rattle.std.specs.Prelude.{◌≡◌, ℕ, ◌+◌, ◌<◌, List, [], ◌∷◌, ◌++◌, flat_map, length, drop, All, Option, Some, None, Result, Ok, Err}
 use Rattle.zk_model.specs.Field.{IsElement}
 use Rattle.zk_model.specs.Mac.{Pair, macs_of}
 use Rattle.zk_model.specs.Check.{WirePairs, all_sums, opened_pairs}
 use Rattle.zk_model.specs.Files.{rounds_of}
-use Rattle.zk_model.specs.Transcript.{Grant, TreeReply, Round, Setup, IsGrant, IsRound, wanted_hello, hello_frame, grant_frame, ask_frame, reply_frame, corrections_frame, challenge_frame, sums_frame, openings_frame, bytes_from, turn_bytes, sent_by}
+use Rattle.zk_model.specs.Transcript.{Grant, TreeReply, Round, Setup, IsGrant, IsRound, wanted_hello, hello_frame, grant_frame, ask_frame, reply_frame, corrections_frame, challenge_frame, sums_frame, openings_frame, bytes_from, turn_bytes}
 use Rattle.zk_model.specs.Correlations.{IsProverView}
 use Rattle.zk_model.specs.Frames.{Frame, grant, replies, challenge, AreReplies}
 use Rattle.zk_model.specs.HonestProver.{round_asks}
@@ -13,9 +13,9 @@ use Rattle.zk_model.specs.declared.Kind.TheVariants.{Extended}
 use Rattle.zk_model.specs.declared.Side.{Side}
 use Rattle.zk_model.specs.declared.Side.TheVariants.{Prover, Verifier}
 use Rattle.zk_model.specs.declared.Span.{Span}
-use Rattle.zk_port.specs.Logs.{appended, put_before}
 use Rattle.claim_store.specs.declared.ClaimFault.{ClaimFault}
-use Rattle.frame_link.specs.Lines.{LineState, counted_times}
+use Rattle.frame_link.specs.Lines.{LineState}
+use Rattle.session_driver.specs.Runs.{HasPassed}
 use Rattle.session_core.specs.Ends.{IsFixed}
 use Rattle.session_core.specs.Jobs.{ProverJob}
 use Rattle.session_core.specs.Rounds.{round_turns}
@@ -196,15 +196,8 @@ pub record Course : Type 0 where
 
 -- All that passed since a first moment is logged, each answer was sent by one send, no frame is under way, and there were at most
 -- as many receives as bytes came; nothing failed.
-pub record GoesWell (first now : LineState) : Type 0 where
-  pub received : now.reading ≡ record { received = length (sent_by Verifier now.log); expected = None; taken = []; bad = None }
-  pub told : now.told ≡ appended now.log first.told
-  pub came : first.to_come ≡ put_before (sent_by Verifier now.log) now.to_come
-  pub sends : now.sends ≡ counted_times (answers_in now.log) first.sends
-  pub side : now.side ≡ Prover
-  pub is_open : now.is_open ≡ true
-  pub receives : now.receives ≤ first.receives + length (sent_by Verifier now.log)
-  pub faults : now.faults ≡ first.faults
+abbrev pub GoesWell : LineState → LineState → Type 0
+GoesWell first now = HasPassed now.log (answers_in now.log) (record first { side = Prover }) now
 
 -- a line where a frame is to be answered
 pub record IsLineTaken

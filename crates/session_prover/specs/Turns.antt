@@ -12,7 +12,7 @@ use Rattle.frame_link.specs.Lines.{LineState, OnlySends, IsSendCause, CountsFaul
 use Rattle.frame_link.specs.declared.fault.LineFault.{LineFault}
 use Rattle.frame_link.specs.declared.fault.LineFault.TheVariants.{NoMemory}
 use Rattle.session_core.specs.Jobs.{ProverJob, IsProverJob, Suits}
-use Rattle.session_core.specs.Cores.{ProverStage, awaits_grant, awaits_replies, awaits_challenge, awaits_verdict, has_ended}
+use Rattle.session_core.specs.Cores.{ProverStage, awaits_grant, awaits_replies, awaits_challenge, has_ended}
 use Rattle.session_prover.specs.declared.note.ProverOutcome.{ProverOutcome}
 use Rattle.session_prover.specs.declared.note.ProverOutcome.TheVariants.{BadGrant, PeerRefused, Rejected}
 use Rattle.session_prover.specs.Stages.{Course, IsLogAt, granted_log, GoesWell}
@@ -30,26 +30,21 @@ pub record IsSound (job : ProverJob) : Type 0 where
 -- a grant is answered
 abbrev pub IsBehindGrant : ProverStage → Type 0
 IsBehindGrant awaits_grant = ⊥
-IsBehindGrant (awaits_replies given done pairs) = Unit {0}
-IsBehindGrant (awaits_challenge given pairs wires) = Unit {0}
-IsBehindGrant awaits_verdict = Unit {0}
 IsBehindGrant has_ended = ⊥
+IsBehindGrant stage = Unit {0}
 
 -- a frame is expected that is to be answered: replies or a challenge
 abbrev pub IsToAnswer : ProverStage → Type 0
-IsToAnswer awaits_grant = ⊥
 IsToAnswer (awaits_replies given done pairs) = Unit {0}
 IsToAnswer (awaits_challenge given pairs wires) = Unit {0}
-IsToAnswer awaits_verdict = ⊥
-IsToAnswer has_ended = ⊥
+IsToAnswer stage = ⊥
 
 -- how many frames are answered yet: after a grant at most the replies of 4,096 units, and the challenge
 abbrev pub answers_left : ProverStage → ℕ
 answers_left awaits_grant = 4098
 answers_left (awaits_replies given done pairs) = given.count - done + 1
 answers_left (awaits_challenge given pairs wires) = 1
-answers_left awaits_verdict = 0
-answers_left has_ended = 0
+answers_left stage = 0
 
 -- where a prover waits next, once a frame is answered
 pub record FollowsStage (stage now : ProverStage) : Type 0 where

@@ -1,17 +1,11 @@
 // A prover's session over a link.
-ghost use Rattle.std.specs.Prelude.{◌≡◌, ◌≤◌, ◌+◌, None, true, false, Some, [], length, IfOk, IfErr, OnOk, IsSomeAnd, MatchOption};
-ghost use Rattle.zk_model.specs.Frames as model;
-ghost use Rattle.zk_model.specs.Transcript.{sent_by, wanted_hello};
+ghost use Rattle.std.specs.Prelude.{◌≡◌, ◌≤◌, ◌+◌, None, true, false, [], length, IsSomeAnd, MatchOption};
+ghost use Rattle.zk_model.specs.Transcript.{sent_by};
 ghost use Rattle.zk_model.specs.declared.Side.TheVariants.{Prover, Verifier};
 ghost use Rattle.zk_port.specs.Logs.{put_before};
 ghost use Rattle.frame_link.specs.Lines.{snapshot};
-ghost use Rattle.proof_frames.specs.Frames.{frame_value};
-ghost use Rattle.session_core.specs.Cores.{awaits_grant};
-ghost use Rattle.session_prover.specs.Stages.{ClaimedFor, RefusedFor};
-ghost use Rattle.session_prover.specs.Notes.{IsEnded, IsGranted, IsOutcome, AnswersGrantPlace, AnswersVerdict, SendsHonestly, SendsOnceClaimed, SendsEach, IsRelated, IsLogged, CountsOutcome, granted_of, told_by};
+ghost use Rattle.session_prover.specs.Notes.{IsGranted, IsOutcome, AnswersGrantPlace, AnswersVerdict, SendsHonestly, SendsOnceClaimed, SendsEach, IsRelated, IsLogged, CountsOutcome};
 ghost use Rattle.session_prover.specs.Completing.{Completes};
-ghost use Rattle.session_prover.specs.Turns.{IsSound};
-ghost use Rattle.session_prover.specs.declared.note.ProverOutcome.TheVariants.{Accepted};
 
 use crate::claimant::Claimant;
 use crate::note::ProverNote;
@@ -43,7 +37,7 @@ pub fn prove_session<C: Claimant, L: Link>(
         (λ units. C.moves claimant.old units.0 units.1 answer claimant.new)) }
     ensures outcome { IsOutcome job.now
         (record { asked = C.asked claimant.new; answer = C.answer claimant.new }) result.log
-        (told_by (snapshot Prover [] (L.state link)) (snapshot Prover result.log (L.state result.link)))
+        (snapshot Prover [] (L.state link)) (snapshot Prover result.log (L.state result.link))
         result.outcome }
     ensures answers { AnswersGrantPlace job.now
         (record { asked = C.asked claimant.new; answer = C.answer claimant.new }) result.outcome result.log }
@@ -64,7 +58,7 @@ pub fn prove_session<C: Claimant, L: Link>(
     ensures ended { (L.state result.link).is_open ≡ false }
     ensures complete { Completes job.now
         (record { asked = C.asked claimant.new; answer = C.answer claimant.new }) result.log
-        (told_by (snapshot Prover [] (L.state link)) (snapshot Prover result.log (L.state result.link)))
+        (snapshot Prover [] (L.state link)) (snapshot Prover result.log (L.state result.link))
         result.outcome }
 {
     honest_verdict();

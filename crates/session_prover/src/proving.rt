@@ -152,47 +152,6 @@ fn answers(core: &ProverCore<'_>) -> bool
     )
 }
 
-/// Takes a frame that is expected, and hands back what is answered.
-fn step<C: Claimant>(
-    alloc: Global,
-    job: &ProverJob<'_>,
-    core: &mut ProverCore<'_>,
-    granted: &mut Option<Span>,
-    accepted: &mut bool,
-    claimant: &mut C,
-    frame: Frame,
-) -> Result<Vec<Frame>, Refusal<ProverOutcome>>
-    requires expected { IsSomeAnd (proving_expects accepted.old core.old)
-        (λ place. Allows place (frame_value frame)) }
-    requires holds { IsProving (claims_of C.asked C.answer C.total C.moves) job.now
-        (proved core.old granted.old accepted.old claimant.old) }
-    ensures answered { IfOk result (λ answer. (proves (claims_of C.asked C.answer C.total C.moves)).answers
-        (proved core.old granted.old accepted.old claimant.old) (frame_value frame)
-        (map frame_value answer.items)
-        (proved core.new granted.new accepted.new claimant.new)) }
-    ensures refused { IfErr result (λ refusal. (proves (claims_of C.asked C.answer C.total C.moves)).refuses
-        (proved core.old granted.old accepted.old claimant.old) (frame_value frame) refusal.fault refusal.code
-        (proved core.new granted.new accepted.new claimant.new)) }
-    ensures short { IfOk result (λ answer. All IsShort (map frame_value answer.items)) }
-    ensures fewer { OnOk result
-        (frames_left accepted.new core.new.stage < frames_left accepted.old core.old.stage) }
-    ensures holds { OnOk result (IsProving (claims_of C.asked C.answer C.total C.moves) job.now
-        (proved core.new granted.new accepted.new claimant.new)) }
-{
-    if answers(core) {
-        return answer(alloc, core, frame);
-    }
-    match core.expects() {
-        Some(Expect::Grant) => answer_grant(alloc, job, core, granted, claimant, frame),
-        Some(Expect::Verdict) => {
-            accepted_in(frame)?;
-            *accepted = true;
-            Ok(Vec::new(alloc))
-        }
-        _ => unreachable!(),
-    }
-}
-
 impl<'a, C: Claimant> Party<C> for Proving<'a> {
     ghost use Rattle.std.specs.Prelude.{[], ◌∷◌, None};
     ghost use Rattle.session_prover.specs.Proving.{IsProving, claims_of, frames_left, greeting_frame, proved, proves, proving_expects};
@@ -242,15 +201,25 @@ impl<'a, C: Claimant> Party<C> for Proving<'a> {
         asked: &mut C,
         frame: Frame,
     ) -> Result<Vec<Frame>, Refusal<ProverOutcome>> {
-        step(
-            alloc,
-            self.job,
-            &mut self.core,
-            &mut self.granted,
-            &mut self.accepted,
-            asked,
-            frame,
-        )
+        if answers(&self.core) {
+            return answer(alloc, &mut self.core, frame);
+        }
+        match self.core.expects() {
+            Some(Expect::Grant) => answer_grant(
+                alloc,
+                self.job,
+                &mut self.core,
+                &mut self.granted,
+                asked,
+                frame,
+            ),
+            Some(Expect::Verdict) => {
+                accepted_in(frame)?;
+                self.accepted = true;
+                Ok(Vec::new(alloc))
+            }
+            _ => unreachable!(),
+        }
     }
 }
 

@@ -17,7 +17,7 @@ use Rattle.session_core.specs.declared.fault.VerifierFault.{VerifierFault}
 use Rattle.session_core.specs.declared.fault.VerifierFault.TheVariants as session
 use Rattle.session_core.specs.declared.judgement.Judgement.{Judgement}
 use Rattle.session_core.specs.Jobs.{VerifierJob, VerifierJobs, IsForNone, TakesHello, all_jobs, noted_job, units_of_job, granted_from, IsHelloOf}
-use Rattle.session_core.specs.Cores.{VerifierStage, VerifierState, awaits_hello, owes_grant, behind_grant, awaits_asks, awaits_corrections, awaits_sums, awaits_openings, has_judged, has_refused, judgement_at, verifier_expects, VerifierRefuses, DiffersFirst}
+use Rattle.session_core.specs.Cores.{VerifierStage, awaits_hello, owes_grant, behind_grant, awaits_asks, awaits_corrections, awaits_sums, awaits_openings, has_judged, has_refused, judgement_at, verifier_expects, VerifierRefuses, DiffersFirst}
 use Rattle.session_core.specs.declared.fault.HelloDiffers.{HelloDiffers}
 use Rattle.session_core.specs.declared.fault.HelloDiffers.TheVariants as hello_differs
 use Rattle.session_core.specs.declared.judgement.Judgement.TheVariants as judged
@@ -31,7 +31,7 @@ use Rattle.session_driver.proofs.Derived.{goes_keeps}
 use Rattle.session_laws.specs.Rounds.{RepliesAreInRange}
 use Rattle.session_verifier.specs.Outcomes.{lease_code, line_outcome, hello_code, judgement_outcome, lease_outcome, session_outcome}
 use Rattle.session_verifier.specs.Serving.{Grants, Leases, AreUnits, Served, Met, Greeted, GrantsUnits, AnswersBehind, Answers, Refuses, RefusesHello, RefusesBehind, RefusesLease, LacksGrantFrame, IsBehind, IsToldAs, lack_code_at, served, serves}
-use Rattle.session_verifier.specs.Stages.{Greets, IsHeldJob, IsLogAt, IsStopped, StopsBehind, IsUnmet, IsUnleased, IsRefusedGrant, LacksTheGrant, IsWaiting, IsCourse, answers_before}
+use Rattle.session_verifier.specs.Stages.{Greets, IsLogAt, IsStopped, StopsBehind, IsUnmet, IsUnleased, IsRefusedGrant, LacksTheGrant, IsWaiting, IsCourse, answers_before}
 use Rattle.session_verifier.specs.Notes.{HasTaken, BeginsByHello, TakesStatement}
 use Rattle.session_verifier.specs.declared.note.VerifierOutcome.{VerifierOutcome}
 use Rattle.session_verifier.specs.declared.note.VerifierOutcome.TheVariants.{BadHello, NoMemory}
@@ -177,8 +177,11 @@ module _ {R : Type 0} (jobs : VerifierJobs) (grants : Grants R) (old : R) (law :
         jobs_are = is.answered.0 ∙ stands.jobs_are;
         job = by.job ∙ stands.job ∙ ap (noted_job jobs) (sym by.taken);
         taken = subst (λ (q : Option ℕ × List (Side × ℕ)). HasTaken jobs q.0 q.1)
-            (λ i. (sym by.taken i, (sym (append_assoc (whole_log Verifier [] before) (bytes_from Prover (frame_spelling turn.frame)) (said Verifier turn.answer))
-            ∙ whole_more Verifier [] before turn) i))
+            (λ i. (
+              sym by.taken i,
+              (sym (append_assoc (whole_log Verifier [] before) (bytes_from Prover (frame_spelling turn.frame)) (said Verifier turn.answer))
+                  ∙ whole_more Verifier [] before turn) i,
+            ))
             (taken_on jobs s.taken (whole_log Verifier [] before) (bytes_from Prover (frame_spelling turn.frame) ++ said Verifier turn.answer) stands.taken);
         untaken = λ none. by.granted ∙ stands.untaken (sym by.taken ∙ none);
         at = answer_on s t before turn is.place is.expected is.allowed stands.at by;

@@ -34,7 +34,8 @@ next_correction values dealt i value pair below enough at pair_at =
     pair_is : get_or dealt i pair ≡ pair
     pair_is = sym pair_at
 
-pub length-corrected_keys : (key : ℕ) (keys corrections : List ℕ) → length corrections ≤ length keys → length (corrected_keys key keys corrections) ≡ length corrections
-length-corrected_keys key keys corrections enough =
+pub counted_keys : (key : ℕ) (keys corrections given : List ℕ) → length corrections ≤ length keys → given ≡ corrected_keys key keys corrections
+    → length given ≡ length corrections
+counted_keys key keys corrections given enough is =
     let zipped = length-zip keys corrections in
-    length-map (zip keys corrections) (λ q. corrected_key key q.0 q.1) ∙ omega (arith, zipped)
+    ap length is ∙ length-map (zip keys corrections) (λ q. corrected_key key q.0 q.1) ∙ omega (arith, zipped)

@@ -1,7 +1,6 @@
 -- Public values and private inputs make the values of all wires, step by step.
 use Rattle.std.proofs.Common.{◌≡◌, ◌≢◌, ℕ, zero, suc, ◌+◌, ◌*◌, ◌-◌, ◌%◌, ◌<◌, ◌≤◌, ⊎_elim, inl, List, [], ◌++◌, map, length, take, drop, get_or, set, replicate, refl, sym, ap, ◌∙◌, arith, subst, get_or-set_other, length-append, length-drop}
-use Rattle.std.specs.Prelude.{Some, All, slice_get, slice_index}
-use Rattle.std.specs.List.{range_with_len}
+use Rattle.std.specs.Prelude.{Some, slice_get, slice_index}
 use Rattle.std.proofs.lemmas.Bool.{cases_lt, cond_below, cond_above}
 use Rattle.std.proofs.lemmas.List.{length-map, length-replicate, length-take-le, get_or-map, get_or-take, get_or-drop, take_all, ext_get_or}
 use Rattle.std.proofs.lemmas.List.FromFn.{length-range_with_len}

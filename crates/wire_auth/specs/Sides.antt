@@ -41,19 +41,15 @@ ReadsWithin wires (XorFrom out a b product) = (out < wires) × (a < wires) × (b
 
 -- so is the given value that it takes
 abbrev pub TakesWithin : ℕ → Step → Type 0
-TakesWithin given (Const out value) = Unit {0}
-TakesWithin given (Copy out a) = Unit {0}
-TakesWithin given (Not out a) = Unit {0}
 TakesWithin given (Mul out a b product) = product < given
 TakesWithin given (XorFrom out a b product) = product < given
+TakesWithin given step = Unit {0}
 
 -- this is the number of the given value that a step takes
 abbrev pub IsTaken : List ℕ → Step → ℕ → Type 0
-IsTaken given (Const out value) taken = Unit {0}
-IsTaken given (Copy out a) taken = Unit {0}
-IsTaken given (Not out a) taken = Unit {0}
 IsTaken given (Mul out a b product) taken = taken ≡ slice_index given product
 IsTaken given (XorFrom out a b product) taken = taken ≡ slice_index given product
+IsTaken given step taken = Unit {0}
 
 -- one number for each wire: the public values times `one`, and then the first given values
 pub record IsBegun (one : ℕ) (program : Program) (public given wires : List ℕ) : Type 0 where

@@ -1,9 +1,9 @@
 // What the steps of a program make of numbers: of values, MACs and keys.
 ghost use Rattle.std.specs.Prelude.{◌≡◌, ◌<◌, ◌≤◌, ℕ, List, length, map, take, IfOk};
 ghost use Rattle.zk_model.specs.Field.{IsElement, ◌*ₚ◌};
-ghost use Rattle.zk_model.specs.Program.{step_value};
+ghost use Rattle.zk_model.specs.Program.{Carries, step_value};
 ghost use Rattle.field_program.specs.Steps.{step_equation};
-ghost use Rattle.wire_auth.specs.Sides.{ReadsWithin, IsBegun, IsTaken};
+ghost use Rattle.wire_auth.specs.Sides.{ReadsWithin, TakesWithin, IsBegun, IsTaken};
 
 use field_program::{FieldProgram, Step};
 use mersenne_field::Fe;
@@ -58,4 +58,33 @@ pub(crate) fn begun(
     wires.extend_from_slice(inputs)?;
     wires.resize(program.wires(), Fe::ZERO)?;
     Ok(wires)
+}
+
+/// The number of the given value that a step takes, and 0 where it takes none.
+fn taken_number(step: &Step, given: &[Fe]) -> Fe
+    requires { TakesWithin (length given.now) step.now }
+    ensures { IsTaken given.now step.now result }
+{
+    match *step {
+        Step::Mul { product, .. } | Step::XorFrom { product, .. } => known(given[product as usize]),
+        Step::Const { .. } | Step::Copy { .. } | Step::Not { .. } => Fe::ZERO,
+    }
+}
+
+/// The numbers of all wires, MACs or keys, from those of the first ones and of the given values: each step gives that of its
+/// wire, and a wire that no step sets has 0.
+pub(crate) fn follow(program: &FieldProgram, one: Fe, given: &[Fe], begun: Vec<Fe>) -> Vec<Fe>
+    requires begun { length begun.items ≡ program.now.wires }
+    requires given { length given.now ≡ program.now.givens }
+    ensures whole { length result.items ≡ program.now.wires }
+    ensures carried { (public : List ℕ) → IsBegun one program.now public given.now begun.items
+        → Carries one program.now public given.now result.items }
+{
+    let mut wires = begun;
+    for k in 0..program.steps() {
+        let step = program.step(k);
+        let number = step_number(&step, one, &wires, taken_number(&step, given));
+        wires[step.out() as usize] = number;
+    }
+    wires
 }

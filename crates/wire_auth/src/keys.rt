@@ -1,14 +1,12 @@
 // The verifier's side: keys of all wires.
 ghost use Rattle.std.specs.Prelude.{◌≡◌, ◌<◌, ◌≤◌, ◌+◌, ℕ, List, length, map, take, drop, All, IfOk, slice_index, slice_get, Some};
-ghost use Rattle.zk_model.specs.Program.{Carries};
 ghost use Rattle.zk_model.specs.Mac.{corrected_keys};
 ghost use Rattle.zk_model.specs.Check.{AreKeysFor, key_triple};
-ghost use Rattle.wire_auth.specs.Sides.{TakesWithin, IsBegun, IsTaken};
 ghost use Rattle.zk_model.specs.declared.Product as zk;
 
-use crate::carrying::{begun, known, step_number};
+use crate::carrying::{begun, follow, known};
 use crate::triples::KeyTriple;
-use field_program::{FieldProgram, Step};
+use field_program::FieldProgram;
 use mersenne_field::Fe;
 use std::alloc::{AllocError, Global};
 use std::marker::Model;
@@ -38,58 +36,17 @@ impl<'a> Model for VerifierWires<'a> {
         × (length w.wires.items ≡ w.program.now.wires) };
 }
 
-/// The key of the given value that a step takes, and 0 where it takes none.
-fn taken_key(step: &Step, given: &[Fe]) -> Fe
-    requires { TakesWithin (length given.now) step.now }
-    ensures { IsTaken given.now step.now result }
-{
-    match *step {
-        Step::Mul { product, .. } | Step::XorFrom { product, .. } => known(given[product as usize]),
-        Step::Const { .. } | Step::Copy { .. } | Step::Not { .. } => Fe::ZERO,
-    }
-}
-
-/// The keys of all wires, from those of the first ones: each step gives that of its wire.
-fn follow_keys(program: &FieldProgram, key: Fe, given: &[Fe], begun: Vec<Fe>) -> Vec<Fe>
-    requires begun { length begun.items ≡ program.now.wires }
-    requires given { length given.now ≡ program.now.givens }
-    ensures { (public : List ℕ) → IsBegun key program.now public given.now begun.items
-        → Carries key program.now public given.now result.items }
-{
-    let mut wires = begun;
-    for k in 0..program.steps() {
-        let step = program.step(k);
-        let number = step_number(&step, key, &wires, taken_key(&step, given));
-        wires[step.out() as usize] = number;
-    }
-    wires
-}
-
 /// As many keys as there are corrections, each with its correction times the one key added.
+#[tactic(auto, using(crate::proofs::Lengths::counted_keys))]
 fn corrected(alloc: Global, keys: &[Fe], corrections: &[Fe], key: Fe) -> Result<Vec<Fe>, AllocError>
-    ensures { IfOk result (λ v. v.items ≡ corrected_keys key keys.now corrections.now) }
+    requires { length corrections.now ≤ length keys.now }
+    ensures keys { IfOk result (λ v. v.items ≡ corrected_keys key keys.now corrections.now) }
+    ensures count { IfOk result (λ v. length v.items ≡ length corrections.now) }
 {
     keys.iter()
         .zip(corrections)
         .map(|(k, correction)| *k + *correction * key)
         .collect(alloc)
-}
-
-/// The keys of all wires. A wire that no step sets has 0.
-fn carry_keys(
-    alloc: Global,
-    program: &FieldProgram,
-    public: &[Fe],
-    key: Fe,
-    given: &[Fe],
-) -> Result<Vec<Fe>, AllocError>
-    requires public { length public.now ≡ program.now.public }
-    requires given { length given.now ≡ program.now.givens }
-    ensures { IfOk result (λ wires. Carries key program.now public.now given.now wires.items) }
-{
-    let inputs = &given[..program.inputs()];
-    let begun = begun(alloc, program, public, key, inputs)?;
-    Ok(follow_keys(program, key, given, begun))
 }
 
 impl<'a> VerifierWires<'a> {
@@ -118,7 +75,8 @@ impl<'a> VerifierWires<'a> {
         ensures carried { IfOk result (λ w. AreKeysFor key program.now public.now w.keys) }
     {
         let given = corrected(alloc, keys, corrections, key)?;
-        let wires = carry_keys(alloc, program, public, key, &given)?;
+        let begun = begun(alloc, program, public, key, &given[..program.inputs()])?;
+        let wires = follow(program, key, &given, begun);
         Ok(VerifierWires {
             program,
             given,

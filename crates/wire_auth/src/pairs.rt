@@ -1,19 +1,18 @@
 // The prover's side: values and MACs of all wires.
 ghost use Rattle.std.specs.Prelude.{◌≡◌, ◌<◌, ◌≤◌, ℕ, List, length, take, IfOk, slice_get, Some};
-ghost use Rattle.zk_model.specs.Program.{AreMade, Carries};
+ghost use Rattle.zk_model.specs.Program.{AreMade};
 ghost use Rattle.zk_model.specs.Mac.{pair_at, values_of, macs_of, corrected_pairs};
 ghost use Rattle.zk_model.specs.Check.{ArePairsOf, product_triple, opened_pairs};
 ghost use Rattle.zk_model.specs.HonestProver.{honest_corrections};
 ghost use Rattle.wire_auth.specs.Held.{items_in};
-ghost use Rattle.wire_auth.specs.Sides.{TakesWithin, IsBegun, IsTaken};
 ghost use Rattle.zk_model.specs.declared.Product as zk;
 
-use crate::carrying::{begun, known, step_number};
+use crate::carrying::{begun, follow, known};
 use crate::corrections::corrections;
 use crate::correlations::Correlations;
 use crate::triples::Triple;
 use crate::values::{carry_values, given_value};
-use field_program::{FieldProgram, Step};
+use field_program::FieldProgram;
 use mersenne_field::{Fe, Pair};
 use std::alloc::{AllocError, Global};
 use std::marker::Model;
@@ -48,57 +47,11 @@ impl<'a> Model for ProverWires<'a> {
         × (w.program.now.givens ≤ length (items_in w.dealt)) };
 }
 
-/// The MAC of the given value that a step takes, and 0 where it takes none.
-fn taken_mac(step: &Step, dealt: &[Pair]) -> Fe
-    requires { TakesWithin (length dealt.now) step.now }
-    ensures { IsTaken (macs_of dealt.now) step.now result }
-{
-    match *step {
-        Step::Mul { product, .. } | Step::XorFrom { product, .. } => {
-            let pair = dealt[product as usize];
-            pair.m
-        }
-        Step::Const { .. } | Step::Copy { .. } | Step::Not { .. } => Fe::ZERO,
-    }
-}
-
-/// The MACs of all wires, from those of the first ones: each step gives that of its wire.
-fn follow_macs(program: &FieldProgram, dealt: &[Pair], begun: Vec<Fe>) -> Vec<Fe>
-    requires begun { length begun.items ≡ program.now.wires }
-    requires dealt { length dealt.now ≡ program.now.givens }
-    ensures { (public : List ℕ) → IsBegun 0 program.now public (macs_of dealt.now) begun.items
-        → Carries 0 program.now public (macs_of dealt.now) result.items }
-{
-    let mut wires = begun;
-    for k in 0..program.steps() {
-        let step = program.step(k);
-        let number = step_number(&step, Fe::ZERO, &wires, taken_mac(&step, dealt));
-        wires[step.out() as usize] = number;
-    }
-    wires
-}
-
-/// The MACs of the first pairs.
-fn first_macs(alloc: Global, pairs: &[Pair]) -> Result<Vec<Fe>, AllocError>
+/// The MACs of pairs.
+fn macs_of(alloc: Global, pairs: &[Pair]) -> Result<Vec<Fe>, AllocError>
     ensures { IfOk result (λ macs. macs.items ≡ macs_of pairs.now) }
 {
     pairs.iter().map(|pair| pair.m).collect(alloc)
-}
-
-/// The MACs of all wires. A wire that no step sets has 0.
-fn carry_macs(
-    alloc: Global,
-    program: &FieldProgram,
-    public: &[Fe],
-    dealt: &[Pair],
-) -> Result<Vec<Fe>, AllocError>
-    requires public { length public.now ≡ program.now.public }
-    requires dealt { length dealt.now ≡ program.now.givens }
-    ensures { IfOk result (λ macs. Carries 0 program.now public.now (macs_of dealt.now) macs.items) }
-{
-    let inputs = first_macs(alloc, &dealt[..program.inputs()])?;
-    let begun = begun(alloc, program, public, Fe::ZERO, &inputs)?;
-    Ok(follow_macs(program, dealt, begun))
 }
 
 impl<'a> ProverWires<'a> {
@@ -135,8 +88,9 @@ impl<'a> ProverWires<'a> {
     {
         let values = carry_values(alloc, program, public, inputs)?;
         let corrections = corrections(alloc, program, &values, dealt.as_slice())?;
-        let given = &dealt.as_slice()[..program.givens()];
-        let macs = carry_macs(alloc, program, public, given)?;
+        let given = macs_of(alloc, &dealt.as_slice()[..program.givens()])?;
+        let begun = begun(alloc, program, public, Fe::ZERO, &given[..program.inputs()])?;
+        let macs = follow(program, Fe::ZERO, &given, begun);
         let side = ProverWires {
             program,
             values,

@@ -5,7 +5,7 @@ use Rattle.zk_model.specs.declared.Side.TheVariants.{Prover, Verifier}
 use Rattle.zk_port.specs.Logs.{put_before}
 use Rattle.frame_link.specs.Lines.{LinkSnapshot, snapshot, snapshot_of}
 use Rattle.session_prover.specs.Stages.{Course}
-use Rattle.session_prover.specs.Notes.{IsOutcome, AnswersGrantPlace, AnswersVerdict, SendsHonestly, SendsOnceClaimed, SendsEach, IsRelated, IsLogged, CountsOutcome, IsEnded, told_by}
+use Rattle.session_prover.specs.Notes.{IsOutcome, AnswersGrantPlace, AnswersVerdict, SendsHonestly, SendsOnceClaimed, SendsEach, IsRelated, IsLogged, CountsOutcome, IsEnded}
 use Rattle.session_prover.specs.Turns.{IsSound}
 use Rattle.zk_model.specs.Files.{IsProverFile}
 use Rattle.zk_model.specs.Program.{Program}
@@ -46,7 +46,7 @@ log_is g c = ap (λ (s : LinkSnapshot). s.log) (now_is g c)
 pub returns-clause-outcome : goal.returns-clause-outcome
 returns-clause-outcome g c =
     let result = c.prove-course.result.outcome in
-    subst (λ (q : LinkSnapshot × LinkSnapshot). IsOutcome c.args.job.now (course_of g c).claim q.1.log (told_by q.0 q.1) result) (λ i. (first_is g c i, now_is g c i)) (ends_of g c).outcome_is
+    subst (λ (q : LinkSnapshot × LinkSnapshot). IsOutcome c.args.job.now (course_of g c).claim q.1.log q.0 q.1 result) (λ i. (first_is g c i, now_is g c i)) (ends_of g c).outcome_is
 
 pub returns-clause-answers : goal.returns-clause-answers
 returns-clause-answers g c =
@@ -96,5 +96,6 @@ pub returns-clause-complete : goal.returns-clause-complete
 returns-clause-complete g c =
     let result = c.prove-course.result.outcome in
     let sound = sound_of g c in
-    completes c.args.job.now (course_of g c).claim c.end-link.result.1 _ result c.honest_verdict.ensures sound
-    (subst (λ (q : LinkSnapshot × LinkSnapshot). IsOutcome c.args.job.now (course_of g c).claim q.1.log (told_by q.0 q.1) result) (λ i. (first_is g c i, now_is g c i)) (ends_of g c).outcome_is)
+    completes c.args.job.now (course_of g c).claim c.end-link.result.1 (snapshot Prover [] (g.L.Link.state c.args.link)) (snapshot Prover c.end-link.result.1 (g.L.Link.state c.end-link.result.0)) result
+    c.honest_verdict.ensures sound
+    (subst (λ (q : LinkSnapshot × LinkSnapshot). IsOutcome c.args.job.now (course_of g c).claim q.1.log q.0 q.1 result) (λ i. (first_is g c i, now_is g c i)) (ends_of g c).outcome_is)

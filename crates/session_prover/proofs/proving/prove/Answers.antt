@@ -1,15 +1,17 @@
-use Rattle.std.proofs.Common.{◌≡◌, [], ◌∷◌, None, false, sym, subst}
+use Rattle.std.proofs.Common.{◌≡◌, [], ◌∷◌, None, false, refl, sym, subst}
+use Rattle.zk_model.specs.declared.Side.TheVariants.{Prover}
 use Rattle.frame_link.specs.Lines.{LineState}
 use Rattle.session_core.specs.Jobs.{ProverJob}
-use Rattle.session_core.specs.Cores.{ProverState}
-use Rattle.session_driver.specs.Runs.{IsRun}
+use Rattle.session_core.specs.Cores.{ProverState, awaits_grant}
+use Rattle.session_driver.specs.Runs.{IsRun, seen_as}
 use Rattle.session_driver.specs.declared.drive.Outcome.{Outcome}
 use Rattle.session_driver.proofs.Derived.{run_seen}
 use Rattle.session_prover.specs.declared.note.ProverOutcome.{ProverOutcome}
 use Rattle.session_prover.specs.declared.proving.Proving.{Proving}
 use Rattle.session_prover.specs.Notes.{IsEnded}
-use Rattle.session_prover.specs.Proving.{Claims, IsProving, Proved, claim_of, claims_of, greeting_frame, proved, proves}
-use Rattle.session_prover.proofs.Leading.{proving_first, session_ended, claim_told, claim_granted, claim_moved}
+use Rattle.session_prover.specs.Proving.{Claims, IsProving, Proved, claim_of, claims_of, greeting_frame, outcome_told, proved, proves}
+use Rattle.session_prover.specs.Turns.{IsSound}
+use Rattle.session_prover.proofs.Leading.{ClaimEnds, proving_first, session_ended, claim_ended}
 use Rattle.session_prover.proofs.proving.prove.Given.{Over}
 use Rattle.session_prover.proofs.proving.prove.Goals as goal
 
@@ -20,12 +22,21 @@ claims g = claims_of g.C.Claimant.asked g.C.Claimant.answer g.C.Claimant.total g
 abbrev view : (g : Over) → Proving × g.row.C.Denot → Proved g.row.C.Denot
 view g s = proved s.0.core s.0.granted s.0.accepted s.1
 
--- a run from a core that waits for a grant
-run_from : (g : Over) (job : ProverJob) (core start : ProverState) (claimant : g.row.C.Denot) (new : Proved g.row.C.Denot) (outcome : Outcome ProverOutcome) (first now : LineState)
-    → core ≡ start → IsRun (proves (claims g)) (greeting_frame job ∷ []) (proved core None false claimant) new outcome first now
-    → IsRun (proves (claims g)) (greeting_frame job ∷ []) (proved start None false claimant) new outcome first now
-run_from g job core start claimant new outcome first now is run =
-    subst (λ (s : ProverState). IsRun (proves (claims g)) (greeting_frame job ∷ []) (proved s None false claimant) new outcome first now) is run
+-- a run from a core that has read nothing
+module _ (g : Over) (job : ProverJob) (old new : Proving × g.row.C.Denot) (outcome : Outcome ProverOutcome) (first now : LineState)
+    (core : old.0.core ≡ record { job = job; stage = awaits_grant }) (granted : old.0.granted ≡ None) (accepted : old.0.accepted ≡ false)
+    (run : IsRun (seen_as (view g) (proves (claims g))) (greeting_frame job ∷ []) old new outcome first now)
+    (sound : IsSound job) (unasked : (claims g).answer old.1 ≡ None) (side : first.side ≡ Prover) where
+  run_from : IsRun (proves (claims g)) (greeting_frame job ∷ []) (proved (record { job = job; stage = awaits_grant }) None false old.1) (view g new) outcome first now
+  run_from =
+      subst (λ s. IsRun (proves (claims g)) (greeting_frame job ∷ []) s (view g new) outcome first now) (λ i. proved (core i) (granted i) (accepted i) old.1)
+      (run_seen (view g) (proves (claims g)) (greeting_frame job ∷ []) old new outcome first now run)
+
+  claim_from : ClaimEnds (claims g) old.1 new.0.granted new.1
+  claim_from = claim_ended (claims g) old.1 unasked job sound (view g new) outcome first now side run_from
+
+  ended_from : IsEnded job (record { first = first; claim = claim_of (claims g) new.1 }) (outcome_told outcome) now
+  ended_from = session_ended (claims g) old.1 unasked job sound (view g new) outcome first now side run_from
 
 pub run-outcome-requires-clause-holds : goal.run-outcome-requires-clause-holds
 run-outcome-requires-clause-holds g c =
@@ -34,21 +45,13 @@ run-outcome-requires-clause-holds g c =
 
 pub returns-clause-granted : goal.returns-clause-granted
 returns-clause-granted g c =
-    let run = run_from g c.args.job.now c.core_of.result _ c.args.claimant.now _ c.run-outcome.result _ _ c.core_of.ensures
-    (run_seen (view g) (proves (claims g)) (greeting_frame c.args.job.now ∷ []) _ _ c.run-outcome.result _ _ c.run-outcome.ensures.run) in
-    claim_granted (claims g) c.args.claimant.now c.run-outcome.new.party.granted c.run-outcome.new.asked c.requires.unasked
-    (claim_told (claims g) c.args.claimant.now c.requires.unasked c.args.job.now c.requires.sound _ c.run-outcome.result _ _ c.requires.side run)
+    (claim_from g c.args.job.now _ _ _ _ _ c.core_of.ensures refl refl c.run-outcome.ensures.run c.requires.sound c.requires.unasked c.requires.side).told
 
 pub returns-clause-moved : goal.returns-clause-moved
 returns-clause-moved g c =
-    let run = run_from g c.args.job.now c.core_of.result _ c.args.claimant.now _ c.run-outcome.result _ _ c.core_of.ensures
-    (run_seen (view g) (proves (claims g)) (greeting_frame c.args.job.now ∷ []) _ _ c.run-outcome.result _ _ c.run-outcome.ensures.run) in
-    claim_moved (claims g) c.args.claimant.now c.run-outcome.new.party.granted c.run-outcome.new.asked c.requires.unasked
-    (claim_told (claims g) c.args.claimant.now c.requires.unasked c.args.job.now c.requires.sound _ c.run-outcome.result _ _ c.requires.side run)
+    (claim_from g c.args.job.now _ _ _ _ _ c.core_of.ensures refl refl c.run-outcome.ensures.run c.requires.sound c.requires.unasked c.requires.side).moved
 
 pub returns-clause-ends : goal.returns-clause-ends
 returns-clause-ends g c =
-    let run = run_from g c.args.job.now c.core_of.result _ c.args.claimant.now _ c.run-outcome.result _ _ c.core_of.ensures
-    (run_seen (view g) (proves (claims g)) (greeting_frame c.args.job.now ∷ []) _ _ c.run-outcome.result _ _ c.run-outcome.ensures.run) in
     subst (λ o. IsEnded c.args.job.now (record { first = c.args.line.now; claim = claim_of (claims g) c.run-outcome.new.asked }) o c.run-outcome.new.line) (sym c.outcome_of.ensures)
-    (session_ended (claims g) c.args.claimant.now c.requires.unasked c.args.job.now c.requires.sound _ c.run-outcome.result _ _ c.requires.side run)
+    (ended_from g c.args.job.now _ _ _ _ _ c.core_of.ensures refl refl c.run-outcome.ensures.run c.requires.sound c.requires.unasked c.requires.side)

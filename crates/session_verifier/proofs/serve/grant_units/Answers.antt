@@ -20,17 +20,19 @@ grant-requires-clause-may g c =
 pub returns-in-Err-clause-refused : goal.returns-in-Err-clause-refused
 returns-in-Err-clause-refused g c =
     let same : c.take_statement.new.core.job ≡ c.noted-job.result.now = ap (λ (s : VerifierState). s.job) c.take_statement.ensures.core ∙ sym c.noted-job.ensures.noted in
-    let job : c.meet.new.core.job ≡ c.noted-job.result.now = c.in_ok-meet.ensures.job ∙ same in
-    (refl, inr (inl (record {
-      greeted = greeted_by c.args.jobs.now _ _ (frame_value c.args.frame) c.requires.place.0 c.take_statement.ensures.takes
-          (job ∙ c.noted-job.ensures.noted) c.in_ok-meet.ensures.job c.in_ok-meet.ensures.met;
-      fault = c.in-Err.fault;
-      leased = leases_for _ c.units.result c.noted-job.result.now c.meet.new.core.job (Err c.in-Err.fault) _ _ c.units.ensures.units (sym job)
-          (record { told = c.in-Err.ensures.told; asked = c.in-Err.ensures.asked; total = c.in-Err.ensures.total; moves = c.in-Err.ensures.moves });
-      outcome_is = c.from.ensures;
-      code_is = ap (λ (n : ℕ). Some n) c.code_for_lease.ensures;
-      granted = refl;
-    })))
+    let job : c.meet.new.core.job ≡ c.noted-job.result.now = c.in_ok-meet.ensures.job ∙ same in (
+      refl,
+      inr (inl (record {
+        greeted = greeted_by c.args.jobs.now _ _ (frame_value c.args.frame) c.requires.place.0 c.take_statement.ensures.takes
+            (job ∙ c.noted-job.ensures.noted) c.in_ok-meet.ensures.job c.in_ok-meet.ensures.met;
+        fault = c.in-Err.fault;
+        leased = leases_for _ c.units.result c.noted-job.result.now c.meet.new.core.job (Err c.in-Err.fault) _ _ c.units.ensures.units (sym job)
+            (record { told = c.in-Err.ensures.told; asked = c.in-Err.ensures.asked; total = c.in-Err.ensures.total; moves = c.in-Err.ensures.moves });
+        outcome_is = c.from.ensures;
+        code_is = ap (λ (n : ℕ). Some n) c.code_for_lease.ensures;
+        granted = refl;
+      })),
+    )
 
 -- ---- where units were leased
 
@@ -74,12 +76,15 @@ returns-in-Ok-grant_frames-clause-answered g c =
     }
 
 pub returns-in-Err-grant_frames-clause-refused : goal.returns-in-Err-grant_frames-clause-refused
-returns-in-Err-grant_frames-clause-refused g c = (refl, inr (inr (inl (record {
-  greeted = greeted_of g c.before;
-  span = c.in-Ok.span;
-  are = are_of g c.before;
-  leased = leased_of g c.before;
-  outcome_is = refl;
-  code_is = refl;
-  granted = refl;
-}))))
+returns-in-Err-grant_frames-clause-refused g c = (
+  refl,
+  inr (inr (inl (record {
+    greeted = greeted_of g c.before;
+    span = c.in-Ok.span;
+    are = are_of g c.before;
+    leased = leased_of g c.before;
+    outcome_is = refl;
+    code_is = refl;
+    granted = refl;
+  }))),
+)

@@ -1,4 +1,4 @@
-use Rattle.std.proofs.Common.{◌≡◌, ◌<◌, ◌≤◌, ◌+◌, ◌∙◌, ◌++◌, ℕ, [], ◌∷◌, arith, length, take, ap, sym, subst, ⊎_elim}
+use Rattle.std.proofs.Common.{◌≡◌, ◌<◌, ◌≤◌, ◌+◌, ◌∙◌, ◌++◌, ℕ, List, [], ◌∷◌, arith, length, take, ap, sym, subst, ⊎_elim}
 use Rattle.std.specs.Prelude.{slice_index}
 use Rattle.std.proofs.lemmas.Bool.{cases_lt}
 use Rattle.std.proofs.lemmas.List.{take_all}
@@ -6,6 +6,7 @@ use Rattle.std.proofs.lemmas.List.Elements.{All-from_get_or}
 use Rattle.zk_model.specs.Field.{IsElement, ◌-ₚ◌}
 use Rattle.zk_model.specs.Mac.{Pair}
 use Rattle.zk_model.specs.HonestProver.{honest_corrections}
+use Rattle.zk_model.specs.Program.{Program}
 use Rattle.wire_auth.specs.Values.{given_from}
 use Rattle.wire_auth.proofs.Lengths.{length-honest_corrections, next_correction}
 use Rattle.wire_auth.proofs.Making.{given_at, length-given_from}
@@ -36,26 +37,26 @@ loop-i-preserved c =
           (subst IsElement value c.given_value.ensures.element);
     }
 
+-- all corrections, once as many are made as there are products
+all_made : (program : Program) (values corrections : List ℕ) (dealt : List Pair) (n : ℕ) → length program.products ≡ program.givens
+    → program.givens ≤ length dealt → length program.products ≤ n
+    → corrections ≡ take n (honest_corrections (given_from program values) dealt)
+    → (corrections ≡ honest_corrections (given_from program values) dealt) × (length corrections ≡ program.givens)
+all_made program values corrections dealt n counted enough end far =
+    let sized = length-given_from program values in
+    let all = length-honest_corrections (given_from program values) dealt (omega (arith, sized, counted, enough)) in
+    let are = far ∙ take_all n (honest_corrections (given_from program values) dealt) (omega (arith, sized, all, end)) in
+    (are, ap length are ∙ all ∙ sized ∙ counted)
+
 pub returns-clause-corrections : goal.returns-clause-corrections
 returns-clause-corrections c =
-    let given = given_from c.args.program.now c.args.values.now in
-    let sized = length-given_from c.args.program.now c.args.values.now in
-    let counted = length-honest_corrections given c.args.dealt.now
-    (omega (arith, sized, c.products.ensures.held.counted, c.requires.dealt)) in
-    c.loop-i.invariant.so_far
-    ∙ take_all c.loop-i.i (honest_corrections given c.args.dealt.now)
-    (omega (arith, sized, counted, c.loop-i-test.false, c.products-i-end.ensures.count))
+    (all_made c.args.program.now c.args.values.now _ c.args.dealt.now c.loop-i.i c.products.ensures.held.counted c.requires.dealt
+    (omega (arith, c.loop-i-test.false, c.products-i-end.ensures.count)) c.loop-i.invariant.so_far).0
 
 pub returns-clause-one_each : goal.returns-clause-one_each
 returns-clause-one_each c =
-    let given = given_from c.args.program.now c.args.values.now in
-    let sized = length-given_from c.args.program.now c.args.values.now in
-    let counted = length-honest_corrections given c.args.dealt.now
-    (omega (arith, sized, c.products.ensures.held.counted, c.requires.dealt)) in
-    ap length c.loop-i.invariant.so_far
-    ∙ ap length (take_all c.loop-i.i (honest_corrections given c.args.dealt.now)
-    (omega (arith, sized, counted, c.loop-i-test.false, c.products-i-end.ensures.count)))
-    ∙ counted ∙ sized ∙ c.products.ensures.held.counted
+    (all_made c.args.program.now c.args.values.now _ c.args.dealt.now c.loop-i.i c.products.ensures.held.counted c.requires.dealt
+    (omega (arith, c.loop-i-test.false, c.products-i-end.ensures.count)) c.loop-i.invariant.so_far).1
 
 pub returns-clause-elements : goal.returns-clause-elements
 returns-clause-elements c =

@@ -73,7 +73,7 @@ is_fed g c =
     record {
       expected = expected;
       fine = fine;
-      came = came_by inside.side inside.log.entries inside.decoder c.feed.new.self inside.log.room c.min-most.result c.in_ok-count.count (piece_of g c) old new ok.taken;
+      came = came_by inside.side inside.log.entries inside.decoder c.feed.new.self inside.log.room _ c.in_ok-count.count (piece_of g c) old new ok.taken;
       noted = ok.noted ∙ (λ i. record { entries = inside.log.entries ++ bytes_from (c.peer.ensures i) (piece_of g c); room = inside.log.room });
       few = omega (arith, length-take c.in_ok-count.count c.receive.new.buffer, ok.within, c.min-most.ensures, c.wants.ensures.count, wanted_is (earlier_of g c).reading c.args._place fine expected);
       received = counted_receive old.receives new.receives (ap (λ (l : LinkState). l.receives) ok.taken.taken);

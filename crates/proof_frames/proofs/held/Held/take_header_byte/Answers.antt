@@ -1,4 +1,4 @@
-use Rattle.std.proofs.Common.{ℕ, ◌<◌, List, ◌++◌, ◌∷◌, [], length, get_or, refl, ap, sym, ◌∙◌, arith, subst}
+use Rattle.std.proofs.Common.{ℕ, ◌<◌, List, ◌++◌, ◌∷◌, [], length, refl, ap, sym, ◌∙◌, arith, subst}
 use Rattle.zk_model.specs.Frames.{CanGoOn}
 use Rattle.proof_frames.specs.Shapes.{IsHeld, shape_of, told, spelled}
 use Rattle.proof_frames.proofs.Ends.{header_ends}

@@ -1,25 +1,35 @@
-use Rattle.std.proofs.Common.{◌≡◌, ℕ, ◌%◌, ◌-◌, ◌+◌, List, ◌++◌, ◌∷◌, [], length, refl, ap, sym, ◌∙◌, arith, subst}
+use Rattle.std.proofs.Common.{◌≡◌, ℕ, ◌%◌, ◌-◌, ◌+◌, ◌*◌, ◌^◌, ◌<◌, ◌≤◌, List, ◌++◌, ◌∷◌, [], length, refl, ap, sym, ◌∙◌, arith, subst}
+use Rattle.std.specs.Prelude.{vec_len}
 use Rattle.std.proofs.lemmas.Bool.{false≢true}
 use Rattle.zk_model.specs.Frames.{CanGoOn}
-use Rattle.proof_frames.specs.Shapes.{IsHeld, told, level_width, level_most, spelled}
+use Rattle.zk_model.specs.declared.Expect.{Expect}
+use Rattle.proof_frames.specs.Readings.{IsShortPlace}
+use Rattle.proof_frames.specs.Shapes.{IsHeld, shape_of, told, level_width, level_most, spelled}
+use Rattle.proof_frames.specs.declared.held.Held.{Held}
+use Rattle.proof_frames.specs.declared.shape.Level.{Level}
+use Rattle.proof_frames.specs.declared.shape.Payload.TheVariants as payload
 use Rattle.proof_frames.proofs.Lengths.{few_levels}
 use Rattle.proof_frames.proofs.TreeLemmas.{follows}
 use Rattle.proof_frames.proofs.Ends.{tree_ends}
 use Rattle.proof_frames.proofs.Steps.{trees_held, tree_step, start_more, only_raw}
 use Rattle.proof_frames.proofs.held.Held.take_tree_byte.Goals as goal
 
+-- the levels of a tree of which bytes are held are short
+few_held : (held : Held) (place : Expect) (trees height : ℕ) (level : Level) → IsShortPlace place → 5 ≤ vec_len held.start
+    → (shape_of place (told place held.start.items)).payload ≡ payload.Trees trees height level
+    → vec_len held.start < 5 + trees * (level_width level height + 8) → level_width level height + 8 ≤ 2 ^ 24
+few_held held place trees height level short headed shape within =
+    few_levels place (told place held.start.items) trees height level (length held.start.items) short shape
+    (omega (arith, held.start.ok.0)) (omega (arith, held.start.ok.0))
+
 pub overflow_add-at : goal.overflow_add-at
 overflow_add-at c =
-    let old = c.args.self.now in
-    let few = few_levels c.args.place (told c.args.place old.start.items) c.args.trees c.args.height c.args.level (length old.start.items)
-    c.requires.holds.short c.requires.shape (omega (arith, old.start.ok.0)) (omega (arith, old.start.ok.0)) in
+    let few = few_held c.args.self.now c.args.place c.args.trees c.args.height c.args.level c.requires.holds.short c.requires.headed c.requires.shape c.requires.within in
     omega (arith, few, c.width-width.ensures)
 
 pub may_follow-requires-clause-small : goal.may_follow-requires-clause-small
 may_follow-requires-clause-small c =
-    let old = c.args.self.now in
-    let few = few_levels c.args.place (told c.args.place old.start.items) c.args.trees c.args.height c.args.level (length old.start.items)
-    c.requires.holds.short c.requires.shape (omega (arith, old.start.ok.0)) (omega (arith, old.start.ok.0)) in
+    let few = few_held c.args.self.now c.args.place c.args.trees c.args.height c.args.level c.requires.holds.short c.requires.headed c.requires.shape c.requires.within in
     omega (arith, few, c.width-width.ensures)
 
 pub returns-then-not-may_follow : goal.returns-then-not-may_follow

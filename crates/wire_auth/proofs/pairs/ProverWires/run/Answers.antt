@@ -1,4 +1,4 @@
-use Rattle.std.proofs.Common.{◌≡◌, ◌∙◌, List, ℕ, All, length, take, ap, sym, subst}
+use Rattle.std.proofs.Common.{◌∙◌, List, ℕ, All, take, ap, sym, subst}
 use Rattle.std.proofs.lemmas.List.{take-map}
 use Rattle.zk_model.specs.Field.{IsElement}
 use Rattle.zk_model.specs.HonestProver.{honest_corrections}
@@ -11,9 +11,9 @@ use Rattle.wire_auth.proofs.pairs.ProverWires.run.Goals as goal
 
 pub returns-clause-made : goal.returns-clause-made
 returns-clause-made c =
-    are_made c.args.program.now c.args.public.now c.args.inputs.now c.in_ok-values.values.items c.in_ok-macs.macs.items (items_in c.args.dealt)
+    are_made c.args.program.now c.args.public.now c.args.inputs.now c.in_ok-values.values.items c.follow-macs.result.items (items_in c.args.dealt)
     c.givens.ensures.held.counted c.requires.dealt
-    (c.in_ok-values.ensures.carried.whole ∙ sym c.in_ok-macs.ensures.whole) c.in_ok-values.ensures
+    (c.in_ok-values.ensures.carried.whole ∙ sym c.follow-macs.ensures.whole) c.in_ok-values.ensures
 
 pub returns-clause-corrections : goal.returns-clause-corrections
 returns-clause-corrections c =
@@ -32,10 +32,12 @@ returns-clause-given c =
 
 pub returns-clause-carried : goal.returns-clause-carried
 returns-clause-carried c =
-    are_pairs c.args.program.now c.args.public.now c.args.inputs.now c.in_ok-values.values.items c.in_ok-macs.macs.items (items_in c.args.dealt)
+    are_pairs c.args.program.now c.args.public.now c.args.inputs.now c.in_ok-values.values.items c.follow-macs.result.items (items_in c.args.dealt)
     c.givens.ensures.held.counted c.requires.dealt
-    (c.in_ok-values.ensures.carried.whole ∙ sym c.in_ok-macs.ensures.whole) c.in_ok-values.ensures
-    (subst (λ (l : List ℕ). Carries 0 c.args.program.now c.args.public.now l c.in_ok-macs.macs.items)
-    (ap (λ (l : List Pair). macs_of (take c.givens.result l)) c.as_slice-2.ensures
+    (c.in_ok-values.ensures.carried.whole ∙ sym c.follow-macs.ensures.whole) c.in_ok-values.ensures
+    (subst (λ (l : List ℕ). Carries 0 c.args.program.now c.args.public.now l c.follow-macs.result.items)
+    (c.deref-3.ensures.value ∙ c.in_ok-given.ensures ∙ ap (λ (l : List Pair). macs_of (take c.givens.result l)) c.as_slice-2.ensures
     ∙ ap (λ n. macs_of (take n (items_in c.args.dealt))) c.givens.ensures.count
-    ∙ sym (take-map (λ (p : Pair). p.m) c.args.program.now.givens (items_in c.args.dealt))) c.in_ok-macs.ensures)
+    ∙ sym (take-map (λ (p : Pair). p.m) c.args.program.now.givens (items_in c.args.dealt)))
+    (c.follow-macs.ensures.carried c.args.public.now (c.in_ok-begun.ensures c.deref-3.result.now
+    (λ i. take (sym c.inputs.ensures.count i) ((c.deref-3.ensures.value ∙ sym c.deref-2.ensures.value) i)))))

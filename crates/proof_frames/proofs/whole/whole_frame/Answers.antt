@@ -5,7 +5,7 @@ use Rattle.zk_model.specs.declared.Expect.{Expect}
 use Rattle.proof_frames.specs.Rooms.{HasTreeRooms, HasAskRooms, HasReplyRooms}
 use Rattle.proof_frames.specs.Shapes.{FitsTrees}
 use Rattle.proof_frames.proofs.Finished.{hello_held, hello_finished, grant_finished, ask_trees, reply_trees, corrections_finished, sums_finished, openings_finished, verdict_finished}
-use Rattle.proof_frames.proofs.whole.frame_of.Goals as goal
+use Rattle.proof_frames.proofs.whole.whole_frame.Goals as goal
 
 pub hello_of-requires-clause-short : goal.hello_of-requires-clause-short
 hello_of-requires-clause-short c =
