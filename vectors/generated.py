@@ -11,6 +11,7 @@ import bristol
 
 INPUTS = 64
 MOST_OUTPUTS = 32
+MOST_GENERATED = 2**20 - 64
 
 
 class Generated(NamedTuple):

@@ -13,6 +13,7 @@ import bristol
 from common import FILE_ID, sha256
 from dealt_files import Params, deal, journal
 from ends import MOST_UNITS, End, Job, Link, prove_by, verify_by
+from generated import MOST_GENERATED, generate
 from session import LONG, Claim, Extended, products_of
 
 FILE_LIMIT = 2**26
@@ -180,14 +181,34 @@ def run_eval(outside: Outside, words: List[str]) -> Came:
     return Came(outside.say(outputs_of(load_circuit(outside, name), [], bits) + "\n", 0), "plain")
 
 
+def read_circuit(text: bytes) -> bristol.Circuit:
+    circuit = bristol.read(text)
+    assert isinstance(circuit, bristol.Circuit)
+    return circuit
+
+
 def run_rehearse(outside: Outside, words: List[str]) -> Came:
-    (name, word), options = sorted_words(words, ["--section", "--public"], ["--extended"])
-    bits, section = read_bits(word), read_number(options.get("--section", str(LONG)), 1, LONG)
-    public = read_bits(options.get("--public", "none"))
-    circuit = load_circuit(outside, name)
+    places, options = sorted_words(words, ["--section", "--public", "--gates", "--number"], ["--extended"])
+    section = read_number(options.get("--section", str(LONG)), 1, LONG)
+    if not places:
+        if "--public" in options:
+            raise ValueError("--public")
+        gates, number = read_number(options["--gates"], 1, MOST_GENERATED), read_number(options["--number"], 0, 2**64 - 1)
+        made = generate(gates, number)
+        return rehearsed(outside, read_circuit(made.text), [], made.bits, section, "--extended" in options)
+    name, word = places
+    if "--gates" in options or "--number" in options:
+        raise ValueError("--gates")
+    bits, public = read_bits(word), read_bits(options.get("--public", "none"))
+    return rehearsed(outside, load_circuit(outside, name), public, bits, section, "--extended" in options)
+
+
+def rehearsed(
+    outside: Outside, circuit: bristol.Circuit, public: List[int], bits: List[int], section: int, extended: bool
+) -> Came:
     outputs = outputs_of(circuit, public, bits)
     products, sections, need = need_of(circuit, public, section)
-    units = max(1, -(-need // (8 * 1024 if "--extended" in options else 64)))
+    units = max(1, -(-need // (8 * 1024 if extended else 64)))
     if units > MOST_UNITS:
         raise Stopped(f"too large {need} {units}", 9)
     lines = f"outputs {outputs}\nproducts {products} sections {sections} correlations {need} units {units}\naccepted\n"

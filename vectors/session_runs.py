@@ -431,6 +431,18 @@ def public_runs() -> List[Scenario]:
     return scenarios + [run(f"rehearse {circuit} BITS --section 1 --public 1", circuit=circuit, public=1)]
 
 
+def generated_runs() -> List[Scenario]:
+    """Rehearsals of generated circuits, and words that ask for none."""
+    words = ["--gates 1 --number 0", "--gates 4 --number 22", "--number 7 --gates 1000", "--extended --gates 1000 --number 7"]
+    words += ["--gates 1000 --number 7 --section 1", "--gates 31 --number 18446744073709551615", "--gates 0032 --number 00"]
+    words += ["--gates 0 --number 1", "--gates 1048513 --number 1", "--gates 1 --number 18446744073709551616", "--gates 1", "--number 1"]
+    words += ["--gates 1 --number 1 --public 1", "and.txt 11 --gates 1 --number 1", "and.txt --gates 1 --number 1", "--gates 1 --number"]
+    words += ["--gates 1 --gates 1 --number 1", "--gates x --number 1", "--gates  --number 1", "--gates 1 --number -1", ""]
+    scenarios = [run(f"rehearse {each}".rstrip(" ") if each == "" else f"rehearse {each}") for each in words]
+    scenarios += [run("rehearse --gates 1000 --number 7", sink_fails=1), run("rehearse --gates 1000 --number 7", shelf_fails=1)]
+    return scenarios + [run(f"rehearse --gates {gates} --number 5 --section 1") for gates in (174500, 174700)]
+
+
 def public_ends() -> List[Scenario]:
     """Services and proofs about public bits."""
     scenarios = [line("service", **PUBLIC), line("service", **PUBLIC, **ONE_TREE), served(3, **PUBLIC, units=32, logs="l", show="l.0,l.2,disk")]
@@ -786,7 +798,7 @@ def all_scenarios() -> List[Scenario]:
     parts += [leases(), failing_services(), logged_services()]
     parts += [honest_proofs(), unsuited_grants(), taken_units(), wrong_verdicts(), failing_proofs()]
     parts += [false_proofs(), stopped_proofs(), words_of_no_proof(), journals_of_claims()]
-    parts += [public_sessions(), several_statements(), public_runs(), public_ends()]
+    parts += [public_sessions(), several_statements(), public_runs(), generated_runs(), public_ends()]
     return [scenario for part in parts for scenario in part]
 
 

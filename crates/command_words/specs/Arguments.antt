@@ -16,6 +16,7 @@ is_valued word =
     bytes_eq word (codes "--section") || bytes_eq word (codes "--units") || bytes_eq word (codes "--trees")
     || bytes_eq word (codes "--height") || bytes_eq word (codes "--base") || bytes_eq word (codes "--sessions")
     || bytes_eq word (codes "--workers") || bytes_eq word (codes "--logs") || bytes_eq word (codes "--public")
+    || bytes_eq word (codes "--gates") || bytes_eq word (codes "--number")
 
 -- the option that stands by itself
 abbrev pub is_flag : List ℕ → Bool

@@ -2,12 +2,12 @@
 use Rattle.std.specs.Prelude.{ℕ, ◌≤◌}
 use Rattle.std.specs.Option.{option_map}
 use Rattle.zk_model.specs.Files.{AreParams}
-use Rattle.command_words.specs.Words.{Ask, rehearse, rehearse_ask, eval, eval_ask, deal, deal_ask, serve, serve_ask, ServeOptions, serve_options, prove, prove_ask}
+use Rattle.command_words.specs.Words.{Ask, rehearse, rehearse_ask, generate, generate_ask, eval, eval_ask, deal, deal_ask, serve, serve_ask, ServeOptions, serve_options, prove, prove_ask}
 use Rattle.command_words.specs.declared.words.Command.{Command}
-use Rattle.command_words.specs.declared.words.Command.TheVariants.{Rehearse, Eval, Deal, Serve, Prove}
+use Rattle.command_words.specs.declared.words.Command.TheVariants.{Rehearse, RehearseGenerated, Eval, Deal, Serve, Prove}
 use Rattle.command_words.specs.declared.words.ServedOptions.{ServedOptions}
 use Rattle.command_words.specs.declared.words.TheConstants.{MAX_SESSIONS}
-use Rattle.zk_model.specs.declared.limits.TheConstants.{MAX_PASSES, MAX_SECTION_LENGTH}
+use Rattle.zk_model.specs.declared.limits.TheConstants.{MAX_GENERATED_GATES, MAX_PASSES, MAX_SECTION_LENGTH}
 
 -- the options of a service
 abbrev pub named_options : ServedOptions → ServeOptions
@@ -17,6 +17,7 @@ named_options options =
 abbrev pub ask_of : Command → Ask
 ask_of (Rehearse circuit public bits kind section) =
     rehearse (rehearse_ask circuit.now public.items bits.items kind section)
+ask_of (RehearseGenerated gates number kind section) = generate (generate_ask gates number kind section)
 ask_of (Eval circuit bits) = eval (eval_ask circuit.now bits.items)
 ask_of (Deal name params) = deal (deal_ask name.now params)
 ask_of (Serve address file circuit public outputs options) =
@@ -40,6 +41,8 @@ pub record AreServeLimits (options : ServeOptions) : Type 0 where
 -- the numbers that a command names are within their limits
 abbrev pub IsWithinLimits : Command → Type 0
 IsWithinLimits (Rehearse circuit public bits kind section) = IsSectionSize section
+IsWithinLimits (RehearseGenerated gates number kind section) =
+    (1 ≤ gates) × (gates ≤ MAX_GENERATED_GATES) × IsSectionSize section
 IsWithinLimits (Eval circuit bits) = Unit {0}
 IsWithinLimits (Deal name params) = AreParams params
 IsWithinLimits (Serve address file circuit public outputs options) = AreServeLimits (named_options options)

@@ -1,5 +1,5 @@
 -- What the words of a command line ask for.
-use Rattle.std.specs.Prelude.{◌&&◌, nat_le, ℕ, List, [], ◌∷◌, map, Bool, if◌then◌else◌, Option, Some, None, String, string_bytes, codes}
+use Rattle.std.specs.Prelude.{◌&&◌, ◌-◌, ◌^◌, nat_le, ℕ, List, [], ◌∷◌, map, Bool, if◌then◌else◌, Option, Some, None, String, string_bytes, codes}
 use Rattle.std.specs.Option.{option_map, option_and_then, is_some}
 use Rattle.std.specs.List.{list_any}
 use Rattle.std.specs.Str.{bytes_eq}
@@ -13,7 +13,7 @@ use Rattle.zk_model.specs.declared.limits.TheConstants.{FILE_LIMIT}
 use Rattle.command_words.specs.BitWords.{bits_of}
 use Rattle.command_words.specs.Numbers.{number_within}
 use Rattle.command_words.specs.Arguments.{arranged, option_named, stand_once, Word}
-use Rattle.zk_model.specs.declared.limits.TheConstants.{MAX_BASE, MAX_DEALT_UNITS, MAX_HEIGHT, MAX_PASSES, MAX_SECTION_LENGTH, MAX_TREES}
+use Rattle.zk_model.specs.declared.limits.TheConstants.{MAX_BASE, MAX_DEALT_UNITS, MAX_GENERATED_GATES, MAX_HEIGHT, MAX_PASSES, MAX_SECTION_LENGTH, MAX_TREES}
 use Rattle.command_words.specs.declared.words.TheConstants.{MAX_SESSIONS}
 
 -- the words as their bytes
@@ -32,6 +32,17 @@ pub record RehearseAsk : Type 0 where
 abbrev pub rehearse_ask : List ℕ → List Bool → List Bool → Kind → ℕ → RehearseAsk
 rehearse_ask circuit public bits kind section =
     record { circuit = circuit; public = public; bits = bits; kind = kind; section = section }
+
+-- what those of a rehearsal of a generated circuit name: how many gates it has, the number that it is drawn from, the kind of the dealt
+-- files, and how many products a section has
+pub record GenerateAsk : Type 0 where
+  pub gates : ℕ
+  pub number : ℕ
+  pub kind : Kind
+  pub section : ℕ
+
+abbrev pub generate_ask : ℕ → ℕ → Kind → ℕ → GenerateAsk
+generate_ask gates number kind section = record { gates = gates; number = number; kind = kind; section = section }
 
 -- what the words of an evaluation name: the circuit's file and the bits
 pub record EvalAsk : Type 0 where
@@ -92,6 +103,7 @@ prove_ask address file circuit public bits outputs =
 -- what can be asked for
 pub data Ask : Type 0 where
   rehearse : RehearseAsk → Ask
+  generate : GenerateAsk → Ask
   eval : EvalAsk → Ask
   deal : DealAsk → Ask
   serve : ServeAsk → Ask
@@ -124,8 +136,29 @@ section_of options =
 abbrev pub rehearsed_kind : List Word → Kind
 rehearsed_kind options = if is_some (option_named (codes "--extended") options) then Extended else Direct
 
--- `rehearse CIRCUIT BITS [--section G] [--extended] [--public BITS]`
+abbrev pub generate_options : List (List ℕ)
+generate_options = codes "--gates" ∷ codes "--number" ∷ codes "--section" ∷ codes "--extended" ∷ []
+
+-- how many gates are generated
+abbrev pub gates_of : List Word → Option ℕ
+gates_of options = option_and_then (λ word. number_within 1 MAX_GENERATED_GATES word) (option_named (codes "--gates") options)
+
+-- the number that they are drawn from, below 2^64
+abbrev pub drawn_of : List Word → Option ℕ
+drawn_of options = option_and_then (λ word. number_within 0 (2 ^ 64 - 1) word) (option_named (codes "--number") options)
+
+-- `--gates N --number S [--section G] [--extended]`, and nothing else
+abbrev pub generate_of : List Word → Option Ask
+generate_of options =
+    if stand_once_among generate_options options
+    then option_and_then (λ gates. option_and_then (λ number. option_map
+    (λ section. generate (generate_ask gates number (rehearsed_kind options) section))
+    (length_of (option_named (codes "--section") options))) (drawn_of options)) (gates_of options)
+    else None
+
+-- `rehearse CIRCUIT BITS [--section G] [--extended] [--public BITS]`, or `rehearse --gates N --number S [--section G] [--extended]`
 abbrev pub rehearse_of : List (List ℕ) → List Word → Option Ask
+rehearse_of [] options = generate_of options
 rehearse_of (circuit ∷ bits ∷ []) options =
     option_and_then (λ section. option_and_then (λ public. option_map
     (λ read. rehearse (rehearse_ask circuit public read (rehearsed_kind options) section))

@@ -56,6 +56,8 @@ fn is_valued(word: &str) -> bool
         || word == "--workers"
         || word == "--logs"
         || word == "--public"
+        || word == "--gates"
+        || word == "--number"
 }
 
 /// Whether the word is an option that stands by itself.

@@ -19,18 +19,18 @@ fn is_number(word: &str) -> bool
 }
 
 /// The number with one more digit after it, or `most` where that is larger.
-fn then_digit(value: u64, c: u8, most: u64) -> u64
+fn then_digit(value: u128, c: u8, most: u128) -> u128
     ensures { result ≡ min (10 * value + (c - 48)) most }
 {
-    let digit = u64::from(c.saturating_sub(b'0'));
+    let digit = u128::from(c.saturating_sub(b'0'));
     value.saturating_mul(10).saturating_add(digit).min(most)
 }
 
 /// The number that these bytes say as digits, or `most` where it is larger.
-fn capped_value(word: &[u8], most: u64) -> u64
+fn capped_value(word: &[u8], most: u128) -> u128
     ensures { result ≡ min (decimal_value word.now) most }
 {
-    let mut value: u64 = 0;
+    let mut value: u128 = 0;
     for c in word {
         value = then_digit(value, *c, most);
     }
@@ -40,7 +40,6 @@ fn capped_value(word: &[u8], most: u64) -> u64
 /// The number that the digits of the word say, however many zeros lead it, where it lies between `low` and
 /// `high`.
 pub fn read_number(word: &str, low: u64, high: u64) -> Option<u64>
-    requires { high ≤ 2 ^ 32 }
     ensures number { result ≡ number_within low high word.now }
     ensures at_most { IfSome result (λ number. number ≤ high) }
     ensures least { IfSome result (λ number. low ≤ number) }
@@ -48,9 +47,9 @@ pub fn read_number(word: &str, low: u64, high: u64) -> Option<u64>
     if !is_number(word) {
         return None;
     }
-    let value = capped_value(word.as_bytes(), high + 1);
-    if low <= value && value <= high {
-        Some(value)
+    let value = capped_value(word.as_bytes(), u128::from(high) + 1);
+    if u128::from(low) <= value && value <= u128::from(high) {
+        Some(value as u64)
     } else {
         None
     }

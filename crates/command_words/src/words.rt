@@ -2,6 +2,7 @@
 ghost use Rattle.std.specs.Prelude.{◌≡◌, ◌≤◌, ◌^◌, ◌↔◌, map, codes, IfOk, IfSome, IsTrue};
 ghost use Rattle.std.specs.Option.{option_map};
 ghost use Rattle.command_words.specs.Words.{texts, asked, eval_of, rehearse_of, rehearsed_kind, section_of, length_of, public_of};
+ghost use Rattle.command_words.specs.Words.{generate_of};
 ghost use Rattle.command_words.specs.Words.{prove_of, serve_of, serve_options_of, sessions_of, workers_of};
 ghost use Rattle.command_words.specs.Words.{deal_of, params_of, direct_params, extended_of};
 ghost use Rattle.zk_model.specs.FileFaults.{file_length};
@@ -11,7 +12,7 @@ ghost use Rattle.zk_model.specs.declared.limits.TheConstants.{FILE_LIMIT};
 ghost use Rattle.command_words.specs.Arguments.{option_named};
 ghost use Rattle.command_words.specs.PartsOf.{word_of};
 ghost use Rattle.command_words.specs.Commands.{ask_of, named_options, AreServeLimits, IsWithinLimits, IsSectionSize};
-ghost use Rattle.zk_model.specs.declared.limits.TheConstants.{MAX_DEALT_UNITS, MAX_PASSES};
+ghost use Rattle.zk_model.specs.declared.limits.TheConstants.{MAX_DEALT_UNITS, MAX_GENERATED_GATES, MAX_PASSES};
 ghost use Rattle.command_words.specs.declared.words.TheConstants.{MAX_SESSIONS};
 
 use crate::arrange::{Arguments, Named, are_once, arrange, find_option};
@@ -20,7 +21,7 @@ use crate::numbers::read_number;
 use dealer_files::file_length;
 use std::alloc::{AllocError, Global};
 use zk_model::{
-    FILE_LIMIT, Kind, MAX_DEALT_UNITS, MAX_PASSES, MAX_SECTION_LENGTH, MAX_TREES, Params, Side,
+    FILE_LIMIT, Kind, MAX_DEALT_UNITS, MAX_GENERATED_GATES, MAX_PASSES, MAX_SECTION_LENGTH, MAX_TREES, Params, Side,
 };
 
 /// How many sessions a run serves at most.
@@ -47,6 +48,13 @@ pub enum Command<'a> {
         circuit: &'a str,
         public: Vec<bool>,
         bits: Vec<bool>,
+        kind: Kind,
+        section: u32,
+    },
+    /// `rehearse --gates N --number S [--section G] [--extended]`
+    RehearseGenerated {
+        gates: u32,
+        number: u64,
         kind: Kind,
         section: u32,
     },
@@ -105,7 +113,30 @@ pub fn read_words(alloc: Global, words: &[String]) -> Result<Option<Command<'_>>
     }
 }
 
-/// `CIRCUIT BITS [--section G] [--extended] [--public BITS]`
+/// `--gates N --number S [--section G] [--extended]`, and nothing else
+fn read_generate<'a>(options: &[Named]) -> Option<Command<'a>>
+    ensures asked { option_map ask_of result ≡ generate_of (map word_of options.now) }
+    ensures limits { IfSome result IsWithinLimits }
+{
+    if !are_once(
+        options,
+        &["--gates", "--number", "--section", "--extended"],
+    ) {
+        return None;
+    }
+    let gates = find_option(options, "--gates")?;
+    let gates = read_number(gates, 1, u64::from(MAX_GENERATED_GATES))? as u32;
+    let number = read_number(find_option(options, "--number")?, 0, u64::MAX)?;
+    let section = read_length(options)?;
+    Some(Command::RehearseGenerated {
+        gates,
+        number,
+        kind: read_kind(options),
+        section,
+    })
+}
+
+/// `CIRCUIT BITS [--section G] [--extended] [--public BITS]`, or the words of a generated circuit
 fn read_rehearse<'a>(
     alloc: Global,
     positional: &[&'a str],
@@ -115,6 +146,9 @@ fn read_rehearse<'a>(
         ≡ rehearse_of (map (λ p. p.now) positional.now) (map word_of options.now)) }
     ensures limits { IfOk result (λ found. IfSome found IsWithinLimits) }
 {
+    if positional.is_empty() {
+        return Ok(read_generate(options));
+    }
     let [circuit, word] = positional else {
         return Ok(None);
     };

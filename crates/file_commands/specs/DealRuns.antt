@@ -1,5 +1,5 @@
 -- `deal NAME --units N [--trees T --height H --base K]`: what it stores and says, and what it promises of its run.
-use Rattle.std.specs.Prelude.{◌≡◌, ◌⊎◌, ◌<◌, ℕ, List, [], ◌∷◌, ◌++◌, length, map, take, get_or, codes}
+use Rattle.std.specs.Prelude.{◌≡◌, ◌⊎◌, ◌<◌, ℕ, List, [], ◌∷◌, ◌++◌, length, map, take, get_or, codes, Option, Some, None}
 use Rattle.std.specs.Option.{option_map}
 use Rattle.std.specs.Fmt.{decimal}
 use Rattle.hex.specs.Hex.{encode_lower}
@@ -71,6 +71,12 @@ pub record StopsStoring (stores : List (List ℕ × List ℕ)) (shelf : ShelfCha
   pub others : OthersStay (next_name done stores)
       (option_map (all_stored (take done stores)) shelf.old.told) shelf.new.told
   pub cause : (stop ≡ NoMemory) ⊎ ((stop ≡ ShelfFailed) × NameFailed (next_name done stores) shelf)
+
+-- Storing these ended so: all are stored; or the first of them are, and the next stopped it.
+abbrev pub KeepsStores : List (List ℕ × List ℕ) → ShelfChange → Option Refusal → Type 0
+KeepsStores stores shelf None =
+    (shelf.new.told ≡ option_map (all_stored stores) shelf.old.told) × CountsStay shelf
+KeepsStores stores shelf (Some stop) = StopsStoring stores shelf stop
 
 abbrev pub kind_name : Kind → List ℕ
 kind_name Direct = codes "direct"

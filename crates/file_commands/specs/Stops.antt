@@ -1,5 +1,5 @@
 -- What a run says and answers, why it stops, and what is known of the files that it loads.
-use Rattle.std.specs.Prelude.{◌≡◌, ◌≢◌, ◌⊎◌, ◌<◌, ◌≤◌, ℕ, List, length, ◌++◌, codes, Bool, Option, None}
+use Rattle.std.specs.Prelude.{◌≡◌, ◌≢◌, ◌⊎◌, ◌<◌, ◌≤◌, ℕ, List, length, ◌++◌, codes, Bool, true, false, Option, Some, None}
 use Rattle.std.specs.Prelude.{nat_le, if◌then◌else◌}
 use Rattle.std.specs.Fmt.{decimal}
 use Rattle.sha2.specs.Sha256.{sha256}
@@ -140,6 +140,15 @@ StatusMeans Does Cause IsNamed run =
     ⊎ ((run.status ≡ 4) × HasFailed IsNamed run)
     ⊎ (run.status ≡ 7)
     ⊎ ((run.status ≡ 9) × IsOfStop Cause 9)
+
+-- the shelf failed, and memory was missing
+abbrev pub is_shelf_failed : Option Refusal → Bool
+is_shelf_failed (Some stop.ShelfFailed) = true
+is_shelf_failed other = false
+
+abbrev pub is_memory_missing : Option Refusal → Bool
+is_memory_missing (Some stop.NoMemory) = true
+is_memory_missing other = false
 
 -- ---- files that are loaded, and why they can't be had
 

@@ -8,7 +8,7 @@ use Rattle.zk_port.specs.Disks.{DiskState}
 use Rattle.zk_port.specs.Doors.{DoorState}
 use Rattle.zk_port.specs.Links.{LinkState}
 use Rattle.zk_port.specs.Shelves.{ShelfState}
-use Rattle.command_words.specs.Words.{Ask, rehearse, eval, deal, serve, prove}
+use Rattle.command_words.specs.Words.{Ask, rehearse, generate, eval, deal, serve, prove}
 use Rattle.file_commands.specs.Journals.{disk_change}
 use Rattle.zk_cli.specs.Meets.{Meets}
 use Rattle.file_commands.specs.Effects.{SinkChange, Effects, IsName, effects}
@@ -22,7 +22,7 @@ use Rattle.file_commands.specs.declared.refusal.Refusal.TheVariants.{NoMemory}
 use Rattle.file_commands.proofs.Asking.{asks_nothing, loads_nothing}
 use Rattle.file_commands.proofs.DealOutcomes.{deals, stores_none}
 use Rattle.file_commands.proofs.EvalOutcomes.{evaluates}
-use Rattle.zk_cli.proofs.RehearseOutcomes.{rehearses}
+use Rattle.zk_cli.proofs.RehearseOutcomes.{generates, rehearses}
 use Rattle.zk_cli.proofs.ProveOutcomes.{proves}
 use Rattle.file_commands.proofs.Journals.{untouched}
 use Rattle.zk_cli.proofs.ServeDone.{serves}
@@ -47,6 +47,7 @@ meets_memory {F} {L} {B} {D} shelf_tells door_tells link_tells one law claimed a
       rehearses one ask seed Plain run (stops _ tt) (loads_nothing (IsName ask.circuit) (shelf_tells files)),
       record { journal = refl; door = refl },
     )
+    of_ask (generate ask) = (generates ask seed Plain run (stops _ tt) refl, record { journal = refl; door = refl })
     of_ask (eval ask) = (
       evaluates one ask run (inr (stops _ tt)) (loads_nothing (IsName ask.circuit) (shelf_tells files)),
       refl,

@@ -8,9 +8,9 @@ use Rattle.zk_port.specs.Files.{Files, stored}
 use Rattle.zk_port.specs.Files as port
 use Rattle.zk_port.specs.Shelves.{ShelfState}
 use Rattle.session_verifier.specs.declared.note.SessionNote.{SessionNote}
-use Rattle.file_commands.specs.DealRuns.{all_stored}
+use Rattle.file_commands.specs.DealRuns.{all_stored, KeepsStores}
 use Rattle.file_commands.specs.Effects.{CountsStay}
-use Rattle.zk_cli.specs.ServiceLogs.{KeepsLogs, KeepsStores, log_name, log_store, log_stores}
+use Rattle.zk_cli.specs.ServiceLogs.{KeepsLogs, log_name, log_store, log_stores}
 use Rattle.file_commands.specs.declared.refusal.Refusal.{Refusal}
 use Rattle.std.proofs.lemmas.List.{take_all}
 use Rattle.file_commands.proofs.Storing.{StopsAt, stops_behind, stops_first}

@@ -1,20 +1,25 @@
 -- What is handed back and said of a rehearsal gives what its record promises.
-use Rattle.std.proofs.Common.{◌≡◌, ◌⊎◌, ◌<◌, ◌≤◌, ◌+◌, ◌-◌, ◌++◌, ℕ, List, length, refl, ap, sym, ◌∙◌, subst, inl, inr, arith}
+use Rattle.std.proofs.Common.{◌≡◌, ◌⊎◌, ◌<◌, ◌≤◌, ◌+◌, ◌-◌, ◌++◌, ℕ, List, length, refl, ap, sym, ◌∙◌, subst, inl, inr, arith, []}
 use Rattle.std.proofs.lemmas.List.{length-append}
 use Rattle.zk_model.specs.Circuit.{Circuit}
 use Rattle.zk_model.specs.declared.limits.TheConstants.{MAX_UNITS}
 use Rattle.bristol_reader.specs.Laws.{OneCircuit}
-use Rattle.command_words.specs.Words.{RehearseAsk}
-use Rattle.session_rehearsal.specs.Rehearsals.{EndsWithVerdict, rehearsal_units}
-use Rattle.zk_cli.specs.RehearseRuns.{Rehearses, RehearseLines, RehearseStop, Accepts, AnswersFor, verdict_status, rehearsal_lines}
-use Rattle.file_commands.specs.Effects.{ShelfChange, Effects, OnlyLoads, IsName, HasFailed, NameFailed}
-use Rattle.file_commands.specs.Stops.{CircuitStop, IsOfStop, IsReady, PrintsMade, StatusMeans, stop_status}
+use Rattle.command_words.specs.Words.{RehearseAsk, GenerateAsk}
+use Rattle.session_rehearsal.specs.Rehearsals.{EndsWithVerdict, rehearsal_units, RehearseCause}
+use Rattle.zk_cli.specs.RehearseRuns.{Rehearses, RehearseLines, RehearseStop, Accepts, AnswersFor, verdict_status, rehearsal_lines, SaysRehearsal, IsRehearsed, IsGenerated, GenerateStop, Generates, rehearse_refusal}
+use Rattle.file_commands.specs.Effects.{ShelfChange, Effects, OnlyLoads, IsName, HasFailed, NameFailed, SinkFailed}
+use Rattle.file_commands.specs.Stops.{CircuitStop, IsOfStop, IsReady, PrintsMade, StatusMeans, stop_status, SaysStop}
 use Rattle.zk_cli.specs.declared.finish.Part.{Part}
 use Rattle.zk_cli.specs.declared.finish.Part.TheVariants.{Plain, Proved, Rehearsed, Served}
 use Rattle.file_commands.specs.declared.refusal.Refusal.{Refusal}
 use Rattle.file_commands.specs.declared.refusal.Refusal.TheVariants as stop
 use Rattle.file_commands.proofs.Causes.{told_circuit, circuit_lacks}
 use Rattle.file_commands.proofs.Means.{made_means, stop_means}
+use Rattle.zk_model.specs.Generated.{generated_bits, generated_circuit}
+use Rattle.zk_model.specs.declared.Verdict.TheVariants.{Accepted}
+use Rattle.session_rehearsal.specs.declared.rehearsal.Rehearsal.{Rehearsal}
+use Rattle.session_rehearsal.specs.declared.rehearsal.RehearseFault.{RehearseFault}
+use Rattle.session_rehearsal.specs.declared.rehearsal.RehearseFault.TheVariants as faults
 
 pub rehearse_of_circuit : (ask : RehearseAsk) (shelf : ShelfChange) (why : Refusal) → CircuitStop ask.circuit shelf why
     → RehearseStop ask shelf why
@@ -26,18 +31,27 @@ rehearse_of_circuit ask shelf other cause = cause
 abbrev Means : {L : Type 0} → RehearseAsk → Part L → Effects → Type 0
 Means ask part run = StatusMeans (Accepts part run.sink) (RehearseStop ask run.shelf) (IsName ask.circuit) run
 
+-- what the status says of any rehearsal that is accepted, and of a stop
+rehearsal_means : {L : Type 0} (Is : Rehearsal → Type 0) (Stops : Refusal → Type 0) (IsNamed : List ℕ → Type 0) (part : Part L) (run : Effects)
+    → ((r : Rehearsal) → Is r → (r.verdict ≡ Accepted) × EndsWithVerdict r.verdict r.log)
+    → (SaysStop Stops run → StatusMeans (Accepts {L = L} Plain run.sink) Stops IsNamed run)
+    → SaysRehearsal Is Stops part run → StatusMeans (Accepts part run.sink) Stops IsNamed run
+rehearsal_means {L} Is Stops IsNamed (Rehearsed r) run accepts stops lines =
+    let is = accepts r lines.0 in
+    made_means (Accepts {L = L} (Rehearsed r) run.sink) Stops IsNamed (rehearsal_lines r) run
+    (λ all. (is.0, subst (λ v. EndsWithVerdict v r.log) is.0 is.1, all))
+    (subst (λ v. PrintsMade (verdict_status v) (rehearsal_lines r) run.status run.sink) is.0 lines.1)
+rehearsal_means Is Stops IsNamed Plain run accepts stops lines = stops lines
+rehearsal_means Is Stops IsNamed (Served notes) run accepts stops lines = absurd lines
+rehearsal_means Is Stops IsNamed (Proved note) run accepts stops lines = absurd lines
+
 means : {L : Type 0} (ask : RehearseAsk) (seed : List ℕ) (part : Part L) (run : Effects) → RehearseLines ask seed part run
     → Means ask part run
-means {L} ask seed (Rehearsed r) run lines =
-    let is = lines.0.is in
-    made_means (Accepts {L = L} (Rehearsed r) run.sink) (RehearseStop ask run.shelf) (IsName ask.circuit) (rehearsal_lines r) run
-    (λ all. (is.accepted, subst (λ v. EndsWithVerdict v r.log) is.accepted is.ends, all))
-    (subst (λ v. PrintsMade (verdict_status v) (rehearsal_lines r) run.status run.sink) is.accepted lines.1)
-means {L} ask seed Plain run lines =
-    stop_means (Accepts {L = L} Plain run.sink) (RehearseStop ask run.shelf) (IsName ask.circuit) run
-    (λ cause. cause) (λ cause. cause) (λ count cause. cause) (λ output cause. cause) (λ failed. (ask.circuit, refl, failed)) lines
-means ask seed (Served notes) run lines = absurd lines
-means ask seed (Proved note) run lines = absurd lines
+means {L} ask seed part run lines =
+    rehearsal_means (IsRehearsed run.shelf.old.told ask seed) (RehearseStop ask run.shelf) (IsName ask.circuit) part run
+    (λ r is. (is.is.accepted, is.is.ends))
+    (stop_means (Accepts {L = L} Plain run.sink) (RehearseStop ask run.shelf) (IsName ask.circuit) run
+    (λ cause. cause) (λ cause. cause) (λ count cause. cause) (λ output cause. cause) (λ failed. (ask.circuit, refl, failed))) lines
 
 -- why a run stops that a shelf tells a fitting circuit: for want of memory, or since it takes too many units
 lacks : OneCircuit → (ask : RehearseAsk) (shelf : ShelfChange) (circuit : Circuit)
@@ -114,3 +128,61 @@ rehearses one ask seed part run lines kept =
       means = all;
       done = λ circuit ready calm. done one ask seed part run circuit lines ready calm all;
     }
+
+-- ---- of a generated circuit
+
+-- a rehearsal that is handed back takes few enough units
+generated_units : {L : Type 0} (ask : GenerateAsk) (seed : List ℕ) (part : Part L) (run : Effects)
+    → SaysRehearsal (IsGenerated ask seed) (GenerateStop ask) part run → Accepts part run.sink
+    → rehearsal_units (generated_circuit ask.gates ask.number) [] ask.kind ask.section ≤ MAX_UNITS
+generated_units ask seed (Rehearsed r) run lines accepts = subst (λ n. n ≤ MAX_UNITS) lines.0.units lines.0.units_most
+generated_units ask seed Plain run lines accepts = absurd accepts
+generated_units ask seed (Served notes) run lines accepts = absurd accepts
+generated_units ask seed (Proved note) run lines accepts = absurd accepts
+
+-- it stops for want of memory, or since it takes too many units
+generated_lacks : (ask : GenerateAsk) (why : Refusal) → GenerateStop ask why
+    → (stop_status why ≡ 7)
+    ⊎ ((stop_status why ≡ 9) × (MAX_UNITS < rehearsal_units (generated_circuit ask.gates ask.number) [] ask.kind ask.section))
+generated_lacks ask (stop.TooLarge need units) cause = inr (refl, subst (λ n. MAX_UNITS < n) cause.counted cause.many)
+generated_lacks ask stop.NoMemory cause = inl refl
+generated_lacks ask other cause = absurd cause
+
+generated_done : {L : Type 0} (ask : GenerateAsk) (seed : List ℕ) (part : Part L) (run : Effects)
+    → SaysRehearsal (IsGenerated ask seed) (GenerateStop ask) part run → ¬ SinkFailed run.sink
+    → StatusMeans (Accepts part run.sink) (GenerateStop ask) (λ name. ⊥) run
+    → AnswersFor (rehearsal_units (generated_circuit ask.gates ask.number) [] ask.kind ask.section) run.status
+generated_done ask seed part run lines calm (inl m) = inl (m.0, generated_units ask seed part run lines m.1)
+generated_done ask seed part run lines calm (inr (inl m)) = elim (generated_lacks ask m.1.0 m.1.1) [
+  | inl e ↦ let is = m.1.2 in absurd (omega (arith, is, e))
+  | inr e ↦ let is = m.1.2 in let nine = e.0 in absurd (omega (arith, is, nine))
+]
+generated_done ask seed part run lines calm (inr (inr (inl m))) = elim m.1 [
+  | inl named ↦ absurd named.1
+  | inr failed ↦ absurd (calm failed)
+]
+generated_done ask seed part run lines calm (inr (inr (inr (inl at)))) = inr (inr at)
+generated_done ask seed part run lines calm (inr (inr (inr (inr m)))) = elim (generated_lacks ask m.1.0 m.1.1) [
+  | inl e ↦ let is = m.1.2 in absurd (omega (arith, is, e))
+  | inr e ↦ inr (inl (m.0, e.1))
+]
+
+pub generates : {L : Type 0} (ask : GenerateAsk) (seed : List ℕ) (part : Part L) (run : Effects)
+    → SaysRehearsal (IsGenerated ask seed) (GenerateStop ask) part run → run.shelf.new ≡ run.shelf.old → Generates ask seed part run
+generates {L} ask seed part run lines kept =
+    let all : StatusMeans (Accepts part run.sink) (GenerateStop ask) (λ name. ⊥) run =
+    rehearsal_means (IsGenerated ask seed) (GenerateStop ask) (λ name. ⊥) part run (λ r is. (is.accepted, is.ends))
+    (stop_means (Accepts {L = L} Plain run.sink) (GenerateStop ask) (λ name. ⊥) run
+    (λ cause. cause) (λ cause. cause) (λ count cause. cause) (λ output cause. cause) (λ failed. absurd failed)) lines in
+    record { lines = lines; kept = kept; means = all; done = λ calm. generated_done ask seed part run lines calm all }
+
+-- a fault of the rehearsal of that circuit is such a stop
+pub generate_stop : (ask : GenerateAsk) (fault : RehearseFault) → length (generated_bits ask.number) ≡ 64
+    → RehearseCause (generated_circuit ask.gates ask.number) [] (generated_bits ask.number) ask.kind ask.section fault
+    → GenerateStop ask (rehearse_refusal fault)
+generate_stop ask (faults.WrongLength need got) count cause =
+    let needed = cause.needed in
+    let given = cause.given in
+    absurd (cause.differ (omega (arith, needed, given, count)))
+generate_stop ask (faults.TooLarge need units) count cause = cause
+generate_stop ask faults.NoMemory count cause = tt

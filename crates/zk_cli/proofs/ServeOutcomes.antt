@@ -16,8 +16,8 @@ use Rattle.file_commands.specs.Journals.{DiskChange}
 use Rattle.zk_cli.specs.NoteLines.{IsServedText, has_status, served_status, failures, outcome_status}
 use Rattle.file_commands.specs.Effects.{ShelfChange, DoorChange, Effects, SomeFailed}
 use Rattle.zk_cli.specs.ServeRuns.{ServeLines, ServeStop, NotesMean, ServeMeans, SaysNotes}
-use Rattle.zk_cli.specs.ServiceLogs.{IsLogName, KeepsLogs, log_store, log_stores, is_shelf_failed, is_memory_missing}
-use Rattle.file_commands.specs.Stops.{Prints, after_sink_fault}
+use Rattle.zk_cli.specs.ServiceLogs.{IsLogName, KeepsLogs, log_store, log_stores}
+use Rattle.file_commands.specs.Stops.{Prints, after_sink_fault, is_shelf_failed, is_memory_missing}
 use Rattle.zk_cli.specs.declared.finish.Part.{Part}
 use Rattle.zk_cli.specs.declared.finish.Part.TheVariants.{Plain, Proved, Rehearsed, Served}
 use Rattle.file_commands.specs.declared.refusal.Refusal.{Refusal}

@@ -1,10 +1,10 @@
 -- What a run of the program does for what its words ask for.
 use Rattle.std.specs.Prelude.{◌≡◌, ℕ, List}
-use Rattle.command_words.specs.Words.{Ask, rehearse, eval, deal, serve, prove}
+use Rattle.command_words.specs.Words.{Ask, rehearse, eval, deal, serve, prove, generate}
 use Rattle.file_commands.specs.DealRuns.{Deals}
 use Rattle.file_commands.specs.EvalRuns.{Evaluates}
 use Rattle.zk_cli.specs.ProveRuns.{Proves}
-use Rattle.zk_cli.specs.RehearseRuns.{Rehearses}
+use Rattle.zk_cli.specs.RehearseRuns.{Rehearses, Generates}
 use Rattle.file_commands.specs.Journals.{DiskChange}
 use Rattle.zk_cli.specs.Runs.{Run}
 use Rattle.zk_cli.specs.ServeRuns.{Serves}
@@ -28,6 +28,7 @@ pub record SaysUsage {F L B D : Type 0} (run : Run F L B D) : Type 0 where
 -- door come back as they were. Want of memory, status 7, may come at any time and says nothing else.
 abbrev pub Meets : {F L B D : Type 0} → Ask → List ℕ → DiskChange → Run F L B D → Type 0
 Meets (rehearse ask) seed disk run = Rehearses ask seed run.part run.effects × IsLocal run
+Meets (generate ask) seed disk run = Generates ask seed run.part run.effects × IsLocal run
 Meets (eval ask) seed disk run = Evaluates ask run.effects × (run.part ≡ Plain) × IsLocal run
 Meets (deal ask) seed disk run = Deals ask seed run.effects × (run.part ≡ Plain) × IsLocal run
 Meets (serve ask) seed disk run = Serves run.link_tells ask run.part disk run.door run.effects

@@ -1,5 +1,5 @@
 -- `rehearse CIRCUIT BITS [--section G] [--extended] [--public BITS]`: what it hands back and says, and what it promises of its run.
-use Rattle.std.specs.Prelude.{◌≡◌, ◌⊎◌, ◌<◌, ◌≤◌, ℕ, List, ◌++◌, codes, Option}
+use Rattle.std.specs.Prelude.{◌≡◌, ◌⊎◌, ◌<◌, ◌≤◌, ℕ, List, ◌++◌, codes, Option, []}
 use Rattle.std.specs.Fmt.{decimal}
 use Rattle.zk_model.specs.Circuit.{Circuit}
 use Rattle.zk_model.specs.declared.Verdict.{Verdict}
@@ -7,21 +7,31 @@ use Rattle.zk_model.specs.declared.Verdict.TheVariants.{Accepted, RejectedSum, R
 use Rattle.zk_model.specs.declared.limits.TheConstants.{MAX_UNITS}
 use Rattle.zk_port.specs.Files.{Files}
 use Rattle.command_words.specs.BitWords.{bits_word}
-use Rattle.command_words.specs.Words.{RehearseAsk, rehearse_ask}
+use Rattle.command_words.specs.Words.{RehearseAsk, rehearse_ask, GenerateAsk, generate_ask}
 use Rattle.session_rehearsal.specs.Rehearsals.{IsRehearsalOf, IsWrongLength, IsTooLarge, EndsWithVerdict}
 use Rattle.session_rehearsal.specs.Rehearsals.{rehearsal_units}
 use Rattle.session_rehearsal.specs.declared.rehearsal.Rehearsal.{Rehearsal}
-use Rattle.file_commands.specs.Effects.{ShelfChange, SinkChange, Effects, OnlyLoads, IsName, HasFailed}
+use Rattle.file_commands.specs.Effects.{ShelfChange, SinkChange, Effects, OnlyLoads, IsName, HasFailed, SinkFailed}
 use Rattle.file_commands.specs.Stops.{PrintsMade, WritesAll, SaysStop, StatusMeans, HasCircuit, HasFewInputs, IsReady, CircuitStop}
 use Rattle.zk_cli.specs.declared.rehearse_command.RehearseWords.{RehearseWords}
 use Rattle.zk_cli.specs.declared.finish.Part.{Part}
 use Rattle.zk_cli.specs.declared.finish.Part.TheVariants.{Plain, Rehearsed}
 use Rattle.file_commands.specs.declared.refusal.Refusal.{Refusal}
-use Rattle.file_commands.specs.declared.refusal.Refusal.TheVariants.{ManyPublic, WrongBits, TooLarge}
+use Rattle.file_commands.specs.declared.refusal.Refusal.TheVariants.{ManyPublic, WrongBits, TooLarge, NoMemory}
+use Rattle.zk_cli.specs.declared.generate_command.GenerateWords.{GenerateWords}
+use Rattle.zk_model.specs.Generated.{generated_bits, generated_circuit}
+use Rattle.session_rehearsal.specs.declared.rehearsal.RehearseFault.{RehearseFault}
+use Rattle.session_rehearsal.specs.declared.rehearsal.RehearseFault.TheVariants as fault
 
 -- what is asked for
 abbrev pub rehearse_words : RehearseWords → RehearseAsk
 rehearse_words words = rehearse_ask words.circuit.now words.public.now words.bits.now words.kind words.section
+
+-- why there is no rehearsal, as a refusal
+abbrev pub rehearse_refusal : RehearseFault → Refusal
+rehearse_refusal (fault.WrongLength need got) = WrongBits need got
+rehearse_refusal (fault.TooLarge need units) = TooLarge need units
+rehearse_refusal fault.NoMemory = NoMemory
 
 -- 0 where the verifier accepts
 abbrev pub verdict_status : Verdict → ℕ
@@ -63,13 +73,16 @@ RehearseStop ask shelf (TooLarge need units) =
     (λ circuit. IsTooLarge circuit ask.public ask.bits ask.kind ask.section need units)
 RehearseStop ask shelf stop = CircuitStop ask.circuit shelf stop
 
--- a rehearsal is handed back, and its lines are written; or nothing is, and the line of a stop is, which has its cause
+-- such a rehearsal is handed back, and its lines are written; or nothing is, and the line of a stop is, which has its cause
+abbrev pub SaysRehearsal : {L : Type 0} → (Rehearsal → Type 0) → (Refusal → Type 0) → Part L → Effects → Type 0
+SaysRehearsal Is Stops (Rehearsed r) run =
+    Is r × PrintsMade (verdict_status r.verdict) (rehearsal_lines r) run.status run.sink
+SaysRehearsal Is Stops Plain run = SaysStop Stops run
+SaysRehearsal Is Stops part run = ⊥
+
 abbrev pub RehearseLines : {L : Type 0} → RehearseAsk → List ℕ → Part L → Effects → Type 0
-RehearseLines ask seed (Rehearsed r) run =
-    IsRehearsed run.shelf.old.told ask seed r
-    × PrintsMade (verdict_status r.verdict) (rehearsal_lines r) run.status run.sink
-RehearseLines ask seed Plain run = SaysStop (RehearseStop ask run.shelf) run
-RehearseLines ask seed part run = ⊥
+RehearseLines ask seed part run =
+    SaysRehearsal (IsRehearsed run.shelf.old.told ask seed) (RehearseStop ask run.shelf) part run
 
 -- a rehearsal is handed back that is accepted, and its log ends with that; all lines are written, and the sink did not
 -- fail
@@ -92,3 +105,27 @@ pub record Rehearses {L : Type 0} (ask : RehearseAsk) (seed : List ℕ) (part : 
   pub means : StatusMeans (Accepts part run.sink) (RehearseStop ask run.shelf) (IsName ask.circuit) run
   pub done : (circuit : Circuit) → IsReady run.shelf.old.told ask.circuit (ask.public ++ ask.bits) circuit
       → ¬ HasFailed (IsName ask.circuit) run → AnswersFor (rehearsal_units circuit ask.public ask.kind ask.section) run.status
+
+-- ---- `rehearse --gates N --number S [--section G] [--extended]`: of a circuit that is drawn from a number, at its input bits
+
+abbrev pub generate_words : GenerateWords → GenerateAsk
+generate_words words = generate_ask words.gates words.number words.kind words.section
+
+-- this is a rehearsal of that circuit
+abbrev pub IsGenerated : GenerateAsk → List ℕ → Rehearsal → Type 0
+IsGenerated ask seed r = IsRehearsalOf (generated_circuit ask.gates ask.number) [] (generated_bits ask.number) ask.kind ask.section seed r
+
+-- why there is none: it takes too many units, or memory is missing
+abbrev pub GenerateStop : GenerateAsk → Refusal → Type 0
+GenerateStop ask (TooLarge need units) =
+    IsTooLarge (generated_circuit ask.gates ask.number) [] (generated_bits ask.number) ask.kind ask.section need units
+GenerateStop ask NoMemory = Unit {0}
+GenerateStop ask stop = ⊥
+
+-- the same as of a circuit's file, but for that file: nothing is asked of the shelf
+pub record Generates {L : Type 0} (ask : GenerateAsk) (seed : List ℕ) (part : Part L) (run : Effects) : Type 0 where
+  pub lines : SaysRehearsal (IsGenerated ask seed) (GenerateStop ask) part run
+  pub kept : run.shelf.new ≡ run.shelf.old
+  pub means : StatusMeans (Accepts part run.sink) (GenerateStop ask) (λ name. ⊥) run
+  pub done : ¬ SinkFailed run.sink
+      → AnswersFor (rehearsal_units (generated_circuit ask.gates ask.number) [] ask.kind ask.section) run.status

@@ -5,12 +5,11 @@ use Rattle.std.specs.Option.{option_map}
 use Rattle.zk_model.specs.declared.Side.{Side}
 use Rattle.zk_model.specs.declared.Span.{Span}
 use Rattle.session_verifier.specs.declared.note.SessionNote.{SessionNote}
-use Rattle.file_commands.specs.DealRuns.{StopsStoring, all_stored}
+use Rattle.file_commands.specs.DealRuns.{KeepsStores}
 use Rattle.zk_cli.specs.NoteLines.{IsServedText, failures, served_status}
-use Rattle.file_commands.specs.Effects.{ShelfChange, Effects, CountsStay, OnlyStores}
-use Rattle.file_commands.specs.Stops.{Prints}
+use Rattle.file_commands.specs.Effects.{ShelfChange, Effects, OnlyStores}
+use Rattle.file_commands.specs.Stops.{Prints, is_shelf_failed, is_memory_missing}
 use Rattle.file_commands.specs.declared.refusal.Refusal.{Refusal}
-use Rattle.file_commands.specs.declared.refusal.Refusal.TheVariants.{ShelfFailed, NoMemory}
 
 -- the name of a log: what the words say that names begin with, a dot, and the first unit
 abbrev pub log_name : List ℕ → ℕ → List ℕ
@@ -29,24 +28,9 @@ abbrev pub log_stores : {L : Type 0} → Option (List ℕ) → List (SessionNote
 log_stores None notes = []
 log_stores (Some prefix) notes = flat_map (λ note. log_store prefix note.granted note.log) notes
 
--- Storing these ended so: all are stored; or the first of them are, and the next stopped it.
-abbrev pub KeepsStores : List (List ℕ × List ℕ) → ShelfChange → Option Refusal → Type 0
-KeepsStores stores shelf None =
-    (shelf.new.told ≡ option_map (all_stored stores) shelf.old.told) × CountsStay shelf
-KeepsStores stores shelf (Some stop) = StopsStoring stores shelf stop
-
 -- storing the logs ended so
 abbrev pub KeepsLogs : {L : Type 0} → Option (List ℕ) → List (SessionNote L) → ShelfChange → Option Refusal → Type 0
 KeepsLogs prefix notes = KeepsStores (log_stores prefix notes)
-
--- the shelf failed, and memory was missing
-abbrev pub is_shelf_failed : Option Refusal → Bool
-is_shelf_failed (Some ShelfFailed) = true
-is_shelf_failed other = false
-
-abbrev pub is_memory_missing : Option Refusal → Bool
-is_memory_missing (Some NoMemory) = true
-is_memory_missing other = false
 
 -- The logs of these sessions are kept, as far as the shelf takes them; their lines are written, and the status is theirs; or memory was
 -- missing for the lines. Nothing but names of logs is asked of the shelf.

@@ -3,6 +3,7 @@
 #![tactic(auto)]
 
 mod finish;
+mod generate_command;
 mod note_lines;
 mod prove_command;
 mod proved_line;

@@ -2,7 +2,7 @@
 ghost use Rattle.std.specs.Prelude.{◌≡◌, ◌≤◌, ◌^◌, IfOk, IfErr, string_bytes};
 ghost use Rattle.zk_model.specs.declared.limits.TheConstants.{MAX_SECTION_LENGTH};
 ghost use Rattle.zk_port.specs.Changes.{change};
-ghost use Rattle.zk_cli.specs.RehearseRuns.{Rehearses, RehearseStop, IsRehearsed, rehearse_words, counts_line, rehearsal_lines, verdict_line, verdict_status};
+ghost use Rattle.zk_cli.specs.RehearseRuns.{Rehearses, RehearseStop, IsRehearsed, rehearse_refusal, rehearse_words, counts_line, rehearsal_lines, verdict_line, verdict_status};
 ghost use Rattle.file_commands.specs.Effects.{OnlyLoads, IsName, effects};
 ghost use Rattle.file_commands.specs.Stops.{PrintsMade};
 
@@ -54,9 +54,18 @@ fn rehearse_file<F: Shelf>(
         seed,
     ) {
         Ok(rehearsal) => Ok(rehearsal),
-        Err(RehearseFault::WrongLength { need, got }) => Err(Refusal::WrongBits { need, got }),
-        Err(RehearseFault::TooLarge { need, units }) => Err(Refusal::TooLarge { need, units }),
-        Err(RehearseFault::NoMemory) => Err(Refusal::NoMemory),
+        Err(fault) => Err(rehearse_refusal(fault)),
+    }
+}
+
+/// Why there is no rehearsal, as the program says it.
+pub(crate) fn rehearse_refusal(fault: RehearseFault) -> Refusal
+    ensures { result ≡ rehearse_refusal fault }
+{
+    match fault {
+        RehearseFault::WrongLength { need, got } => Refusal::WrongBits { need, got },
+        RehearseFault::TooLarge { need, units } => Refusal::TooLarge { need, units },
+        RehearseFault::NoMemory => Refusal::NoMemory,
     }
 }
 
@@ -107,7 +116,7 @@ fn status_of(verdict: Verdict) -> u8
 }
 
 /// Says what came of the rehearsal, or that there is no memory for its lines, and answers the status.
-fn say_rehearsal<O: Sink>(alloc: Global, out: &mut O, rehearsal: &Rehearsal) -> u8
+pub(crate) fn say_rehearsal<O: Sink>(alloc: Global, out: &mut O, rehearsal: &Rehearsal) -> u8
     ensures { PrintsMade (verdict_status rehearsal.now.verdict) (rehearsal_lines rehearsal.now) result
         (change (O.state out.old) (O.state out.new)) }
 {

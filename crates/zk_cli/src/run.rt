@@ -10,6 +10,7 @@ ghost use Rattle.zk_cli.specs.ServedNotes.{GrantsOnceIn, IsHeadline};
 
 use crate::finish::{Ending, Finish, Part};
 use crate::prove_command::{ProveWords, run_prove};
+use crate::generate_command::{GenerateWords, run_generate};
 use crate::rehearse_command::{RehearseWords, run_rehearse};
 use crate::serve_command::{ServeWords, run_serve};
 use bristol_reader::one_circuit;
@@ -28,7 +29,8 @@ use zk_port::{Disk, Door, Gate, Shelf, Sink};
 /// Words of no command end with 2, or with 7 where memory is missing. `rehearse CIRCUIT BITS [--section G]
 /// [--extended] [--public BITS]` ends with 0 where it is accepted; 3 where the file, or the bits for it, are refused; 4
 /// where a load of the file failed, or the output before a 0; 7 where memory is missing; 9 where the session would take
-/// more than 4,096 units. `eval CIRCUIT BITS` ends with 0 where it wrote the outputs, and with 3, 4 and 7 in the same cases.
+/// more than 4,096 units; and `rehearse --gates N --number S [--section G] [--extended]` with 0, 4, 7 and 9 in the same
+/// cases. `eval CIRCUIT BITS` ends with 0 where it wrote the outputs, and with 3, 4 and 7 in the same cases.
 /// `deal NAME --units N [--trees T --height H --base K]` ends with 0 where all is stored and said, 4 where a store or
 /// the output failed, and 7. `serve ADDRESS FILE CIRCUIT OUTPUTS --sessions N [--workers W] [--section G] [--logs PREFIX]
 /// [--public BITS]` ends with 0 where each session is accepted, or no peer called; 1 where one is not; 3 where a file or
@@ -134,6 +136,26 @@ where
                 section,
             };
             let Ending { status, part } = run_rehearse(alloc, shelf, out, &named, seed);
+            Finish {
+                status,
+                journal,
+                door,
+                part,
+            }
+        }
+        Command::RehearseGenerated {
+            gates,
+            number,
+            kind,
+            section,
+        } => {
+            let named = GenerateWords {
+                gates,
+                number,
+                kind,
+                section,
+            };
+            let Ending { status, part } = run_generate(alloc, shelf, out, &named, seed);
             Finish {
                 status,
                 journal,

@@ -5,7 +5,8 @@ ghost use Rattle.std.specs.Result.{result_err};
 ghost use Rattle.zk_port.specs.Changes.{change};
 ghost use Rattle.file_commands.specs.Effects.{effects};
 ghost use Rattle.zk_cli.specs.NoteLines.{failures};
-ghost use Rattle.zk_cli.specs.ServiceLogs.{SaysService, is_memory_missing, is_shelf_failed};
+ghost use Rattle.zk_cli.specs.ServiceLogs.{SaysService};
+ghost use Rattle.file_commands.specs.Stops.{is_memory_missing, is_shelf_failed};
 
 use crate::note_lines::{Failures, served_status, write_served};
 use crate::service_logs::store_logs;

@@ -1,0 +1,81 @@
+// `rehearse --gates N --number S [--section G] [--extended]`
+ghost use Rattle.std.specs.Prelude.{◌≡◌, ◌≤◌, IfOk, IfErr};
+ghost use Rattle.zk_model.specs.declared.limits.TheConstants.{MAX_GENERATED_GATES, MAX_SECTION_LENGTH};
+ghost use Rattle.zk_port.specs.Changes.{change};
+ghost use Rattle.zk_cli.specs.RehearseRuns.{Generates, GenerateStop, IsGenerated, generate_words};
+ghost use Rattle.file_commands.specs.Effects.{effects};
+
+use crate::finish::{Ending, Part};
+use crate::rehearse_command::{rehearse_refusal, say_rehearsal};
+use bristol_reader::{ReadError, read};
+use circuit_gen::generate;
+use file_commands::{Refusal, say_stop};
+use session_rehearsal::{Rehearsal, rehearse};
+use std::alloc::Global;
+use zk_model::Kind;
+use zk_port::{Shelf, Sink};
+
+/// What the words of the command name.
+#[derive(Clone, Copy, Debug)]
+pub struct GenerateWords {
+    pub gates: u32,
+    pub number: u64,
+    pub kind: Kind,
+    pub section: u32,
+}
+
+/// A rehearsal of the circuit that is drawn from the number, at its input bits.
+fn rehearse_generated(
+    alloc: Global,
+    words: &GenerateWords,
+    seed: &[u8; 32],
+) -> Result<Rehearsal, Refusal>
+    requires some_gates { 1 ≤ words.now.gates }
+    requires few_gates { words.now.gates ≤ MAX_GENERATED_GATES }
+    requires at_least_one { 1 ≤ words.now.section }
+    requires at_most { words.now.section ≤ MAX_SECTION_LENGTH }
+    ensures rehearsed { IfOk result (IsGenerated (generate_words words.now) seed.now) }
+    ensures stop { IfErr result (GenerateStop (generate_words words.now)) }
+{
+    let made = generate(alloc, words.gates, words.number)?;
+    let circuit = match read(alloc, &made.text) {
+        Ok(circuit) => circuit,
+        Err(ReadError::Fault(_)) => unreachable!(),
+        Err(ReadError::NoMemory) => return Err(Refusal::NoMemory),
+    };
+    let (kind, section) = (words.kind, words.section);
+    match rehearse(alloc, circuit, &[], &made.bits, kind, section, seed) {
+        Ok(rehearsal) => Ok(rehearsal),
+        Err(fault) => Err(rehearse_refusal(fault)),
+    }
+}
+
+/// `rehearse --gates N --number S [--section G] [--extended]`: rehearses a session over the circuit of N gates that is drawn from the
+/// number S, says what came of it and hands it back, or says why there is no rehearsal; with the status.
+pub fn run_generate<F: Shelf, O: Sink, L: Drop>(
+    alloc: Global,
+    shelf: &mut F,
+    out: &mut O,
+    words: &GenerateWords,
+    seed: &[u8; 32],
+) -> Ending<L>
+    requires some_gates { 1 ≤ words.now.gates }
+    requires few_gates { words.now.gates ≤ MAX_GENERATED_GATES }
+    requires at_least_one { 1 ≤ words.now.section }
+    requires at_most { words.now.section ≤ MAX_SECTION_LENGTH }
+    ensures kept { shelf.new ≡ shelf.old }
+    ensures generates { Generates (generate_words words.now) seed.now result.part
+        (effects result.status (change (F.state shelf.old) (F.state shelf.new))
+        (change (O.state out.old) (O.state out.new))) }
+{
+    match rehearse_generated(alloc, words, seed) {
+        Ok(rehearsal) => Ending {
+            status: say_rehearsal(alloc, out, &rehearsal),
+            part: Part::Rehearsed(rehearsal),
+        },
+        Err(stop) => Ending {
+            status: say_stop(alloc, out, stop),
+            part: Part::Plain,
+        },
+    }
+}
