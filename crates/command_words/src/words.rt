@@ -21,7 +21,8 @@ use crate::numbers::read_number;
 use dealer_files::file_length;
 use std::alloc::{AllocError, Global};
 use zk_model::{
-    FILE_LIMIT, Kind, MAX_DEALT_UNITS, MAX_GENERATED_GATES, MAX_PASSES, MAX_SECTION_LENGTH, MAX_TREES, Params, Side,
+    FILE_LIMIT, Kind, MAX_DEALT_UNITS, MAX_GENERATED_GATES, MAX_PASSES, MAX_SECTION_LENGTH,
+    MAX_TREES, Params, Side,
 };
 
 /// How many sessions a run serves at most.
@@ -118,10 +119,7 @@ fn read_generate<'a>(options: &[Named]) -> Option<Command<'a>>
     ensures asked { option_map ask_of result ≡ generate_of (map word_of options.now) }
     ensures limits { IfSome result IsWithinLimits }
 {
-    if !are_once(
-        options,
-        &["--gates", "--number", "--section", "--extended"],
-    ) {
+    if !are_once(options, &["--gates", "--number", "--section", "--extended"]) {
         return None;
     }
     let gates = find_option(options, "--gates")?;

@@ -33,7 +33,7 @@ pub struct Replied {
 }
 
 /// The asks of a frame, none where it has none.
-fn asks_in(frame: &Frame) -> &[TreeAsk]
+pub fn asks_in(frame: &Frame) -> &[TreeAsk]
     ensures { result.now ≡ asks_in (frame_value frame.now) }
 {
     match frame {
@@ -43,7 +43,7 @@ fn asks_in(frame: &Frame) -> &[TreeAsk]
 }
 
 /// The replies of a frame, none where it has none.
-fn replies_in(frame: &Frame) -> &[TreeReply]
+pub fn replies_in(frame: &Frame) -> &[TreeReply]
     ensures { result.now ≡ replies_in (frame_value frame.now) }
 {
     match frame {

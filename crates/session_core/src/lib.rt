@@ -25,13 +25,13 @@ mod verifier_job;
 mod verifier_jobs;
 
 pub use circuit_claim::{CircuitClaim, input_bits_prove};
-pub use extending::{Replied, ask_units, finish_units, reply_units};
+pub use extending::{Replied, ask_units, asks_in, finish_units, replies_in, reply_units};
 pub use fault::{Digests, HelloDiffers, ProverFault, VerifierFault};
 pub use judgement::Judgement;
 pub use prover_core::ProverCore;
 pub use prover_job::{Committed, Opened, ProverJob};
 pub use statement::{Statement, bits_digest, elements_of};
-pub use verifier_core::VerifierCore;
+pub use verifier_core::{VerifierCore, difference};
 pub use verifier_job::{TooLarge, VerifierJob, units_for};
 pub use verifier_jobs::VerifierJobs;
 pub use wire_auth::Correlations;

@@ -104,8 +104,8 @@ fn digests_said(hello: &Hello) -> Digests
     }
 }
 
-/// What differs first in a hello for the files of this id and a statement.
-fn difference(id: [u8; 32], statement: &Statement<'_>, hello: &Hello) -> Option<HelloDiffers>
+/// What differs first in a hello for the files of this id and a statement, and nothing exactly where a verifier takes it.
+pub fn difference(id: [u8; 32], statement: &Statement<'_>, hello: &Hello) -> Option<HelloDiffers>
     ensures differs { IfSome result (DiffersFirst id statement.now hello.now) }
     ensures fits { IfNone result (IsHelloFor id statement.now hello.now) }
 {

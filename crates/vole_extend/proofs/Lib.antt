@@ -5,3 +5,4 @@ mod Asked
 mod Found
 mod Replied
 mod Fits
+pub mod AskedAny

@@ -2,7 +2,7 @@
 use Rattle.std.specs.Prelude.{ℕ, ◌-◌, ◌/◌, ◌%◌, ◌^◌, Bool, false, not, nat_eq, List, [], length, map, slice_index_or}
 use Rattle.std.specs.List.{range_with_len}
 use Rattle.zk_model.specs.Bytes.{LeftRight}
-use Rattle.zk_model.specs.Extension.{flip_for, masked_messages, unmasked_message}
+use Rattle.zk_model.specs.Extension.{flip_for, place_of, masked_messages, unmasked_message}
 use Rattle.zk_model.specs.Files.{Transfer}
 
 -- the side away from the way to leaf j, at a level of a tree of height h
@@ -34,3 +34,19 @@ abbrev pub masked_sums : List LeftRight → List Bool → List LeftRight → Lis
 masked_sums pads flips sums =
     map (λ level. masked_messages (both_at pads level) (slice_index_or flips level false) (both_at sums level))
     (range_with_len 0 (length sums))
+
+-- the side that a flip chooses at a level
+abbrev pub flip_choice : List Transfer → List Bool → ℕ → Bool
+flip_choice transfers flips level = flip_for (slice_index_or flips level false) (transfer_at transfers level).bit
+
+-- the place whose path goes away from each of these sides
+abbrev pub flip_place : List Transfer → List Bool → ℕ
+flip_place transfers flips =
+    place_of (map (λ level. not (flip_choice transfers flips level)) (range_with_len 0 (length transfers)))
+
+-- the sums of these sides, their pads taken off
+abbrev pub flip_sums : List Transfer → List Bool → List LeftRight → List (List ℕ)
+flip_sums transfers flips messages =
+    map (λ level. unmasked_message
+    (transfer_at transfers level).pad (flip_choice transfers flips level) (both_at messages level))
+    (range_with_len 0 (length transfers))

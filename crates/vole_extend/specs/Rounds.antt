@@ -77,15 +77,37 @@ pub record IsNoiseOfTrees
 abbrev pub asked_round : ProverTurn → List TreeReply → UnitRound
 asked_round turn replies = record { asks = honest_asks turn.file turn.unit; replies = replies }
 
+-- what the prover knows of a tree after whatever was asked
+abbrev pub view_with : ProverTurn → ℕ → TreeAsk → TreeReply → TreeView
+view_with turn tree ask reply = record {
+  base = tree_base turn tree;
+  base_correction = ask.base_correction;
+  levels = map (level_view (tree_transfers turn tree) ask reply) (range_with_len 0 turn.file.params.height);
+  leaf_offset = reply.leaf_offset;
+}
+
+-- the ask for a tree
+abbrev pub ask_at : List TreeAsk → ℕ → TreeAsk
+ask_at asks tree = slice_index_or asks tree (record { flips = []; base_correction = 0 })
+
+-- entries are the noise of the first trees after such asks, one tree after another
+pub record IsNoiseOfAsked
+    (turn : ProverTurn)
+    (asks : List TreeAsk)
+    (replies : List TreeReply)
+    (count : ℕ)
+    (entries : List Pair) : Type 0 where
+  pub noise : List (List Pair)
+  pub one_each : length noise ≡ count
+  pub each : (tree : ℕ) → tree < count
+      → IsNoiseOf (view_with turn tree (ask_at asks tree) (reply_at replies tree)) (slice_index_or noise tree [])
+  pub joined : entries ≡ flat_map (λ vector. vector) noise
+
 -- ---- the verifier
 
 -- the pads of a tree, level by level
 abbrev pub tree_pads : VerifierTurn → ℕ → List LeftRight
 tree_pads turn tree = slice_index_or (verifier_unit turn.file turn.unit).trees tree []
-
--- the ask for a tree
-abbrev pub ask_at : List TreeAsk → ℕ → TreeAsk
-ask_at asks tree = slice_index_or asks tree (record { flips = []; base_correction = 0 })
 
 -- the replies for the first trees
 abbrev pub first_replies : VerifierTurn → List TreeAsk → ℕ → List TreeReply

@@ -9,8 +9,8 @@ ghost use Rattle.file_commands.specs.Journals.{IsJournalDisk, disk_change};
 ghost use Rattle.zk_cli.specs.ServedNotes.{GrantsOnceIn, IsHeadline};
 
 use crate::finish::{Ending, Finish, Part};
-use crate::prove_command::{ProveWords, run_prove};
 use crate::generate_command::{GenerateWords, run_generate};
+use crate::prove_command::{ProveWords, run_prove};
 use crate::rehearse_command::{RehearseWords, run_rehearse};
 use crate::serve_command::{ServeWords, run_serve};
 use bristol_reader::one_circuit;

@@ -18,3 +18,4 @@ pub mod ExampleRound
 pub mod ExampleFound
 pub mod ExampleExtendedSession
 pub mod ExampleFaults
+pub mod ExampleAudit

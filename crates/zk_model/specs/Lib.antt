@@ -36,3 +36,4 @@ pub mod HonestProver
 pub mod ServedVerifier
 pub mod BothEnds
 pub mod Peers
+pub mod Audit

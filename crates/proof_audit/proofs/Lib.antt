@@ -1,0 +1,17 @@
+pub mod Roots
+pub mod Fed
+pub mod Steps
+pub mod OneVerdict
+pub mod Places
+pub mod Lists
+pub mod VerdictSteps
+pub mod Faultless
+pub mod UnderWay
+pub mod Wires
+pub mod Searched
+pub mod Audited
+pub mod Audits
+pub mod OneReading
+pub mod ServedFaultless
+pub mod OneTranscript
+pub mod AcceptedLogs

@@ -1,0 +1,20 @@
+use Rattle.std.proofs.Common.{ℕ, ◌∷◌, [], sym, ◌∙◌, ap, subst, eq-eqb}
+use Rattle.std.proofs.lemmas.Bool.{false≢true}
+use Rattle.zk_model.specs.Bits.{from_bit}
+use Rattle.zk_model.specs.Field.{IsElement, ◌-ₚ◌}
+use Rattle.zk_model.specs.Mac.{Pair}
+use Rattle.proof_audit.specs.Findings.{IsMacRoot}
+use Rattle.proof_audit.proofs.Roots.{mac_root, bit_element}
+use Rattle.proof_audit.proofs.finding.opening_finding.Goals as goal
+
+pub returns-clause-some : goal.returns-clause-some
+returns-clause-some c =
+    let pair : Pair = record { x = c.output.inside.x; m = c.output.inside.m } in
+    let found : IsMacRoot pair c.args.mac (from_bit c.args.claimed) c.in_ok-polynomial.polynomial.items =
+    mac_root pair c.args.mac _ c.in_ok-polynomial.polynomial.items
+    (subst IsElement c.value-element.ensures.value c.value-element.ensures.below) (bit_element c.args.claimed)
+    (λ same. absurd (false≢true (c.if-eq.ensures ∙ eq-eqb _ _ (same ∙ sym c.from_bit-claim.ensures))))
+    (c.in_ok-polynomial.ensures.items
+    ∙ (λ i. c.sub.ensures i ∷ c.sub-2.ensures i ∷ [])
+    ∙ ap (λ (claim : ℕ). (c.output.inside.m -ₚ c.args.mac) ∷ (c.output.inside.x -ₚ claim) ∷ []) c.from_bit-claim.ensures) in
+    subst (λ (p : Pair). IsMacRoot p c.args.mac (from_bit c.args.claimed) c.in_ok-polynomial.polynomial.items) c.output.view_is found

@@ -1,0 +1,9 @@
+pub mod Findings
+pub mod Reading
+pub mod Stages
+pub mod Sessions
+pub mod Seen
+pub mod SeenWires
+pub mod Searches
+pub mod Audits
+pub mod Laws

@@ -1,0 +1,99 @@
+// The first section with an error, and the first opened wire that is not as claimed.
+ghost use Rattle.std.specs.Prelude.{◌≡◌, ◌+◌, ◌<◌, ◌≤◌, ◌^◌, ℕ, List, drop, length, map, slice_index, slice_index_or, IfNone, IfOk, IfSome};
+ghost use Rattle.zk_model.specs.Bits.{from_bit};
+ghost use Rattle.zk_model.specs.Check.{opened_pairs, section_triples, IsFirstFailure};
+ghost use Rattle.zk_model.specs.Mac.{Pair as model, pair_at};
+ghost use Rattle.zk_model.specs.Program.{section_count};
+ghost use Rattle.proof_audit.specs.Findings.{ShowsSection, ShowsOpening};
+ghost use Rattle.proof_audit.specs.SeenWires.{SeenSide};
+ghost use Rattle.proof_audit.specs.Searches.{SectionsMeet, OpeningsMeet, NoErrorsBefore, AreAsClaimedBefore, ShowsSectionAt, ShowsFirstSection, ShowsFirstOpening};
+
+use crate::finding::{Finding, opening_finding, section_finding};
+use crate::seen::SeenWires;
+use crate::session::Session;
+use mersenne_field::Pair;
+use std::alloc::{AllocError, Global};
+
+/// What a section shows, with the section's number.
+fn numbered(shown: Finding, section: u32) -> Finding
+    ensures { (side : SeenSide) → (pairs : List model) → (s : Session) → ShowsSection s.challenge
+        (section_triples side.program s.grant.section_length side.pairs section)
+        (pair_at (drop side.program.givens pairs) section) (slice_index_or s.sums.items section (0, 0)) shown
+        → ShowsSectionAt section side pairs s result }
+{
+    match shown {
+        Finding::ChallengeRoot { polynomial, .. } => Finding::ChallengeRoot {
+            section,
+            polynomial,
+        },
+        other => other,
+    }
+}
+
+/// What the first section with an error shows, if one has any.
+///
+/// # Errors
+///
+/// Only where memory runs out.
+pub(crate) fn first_wrong_section(
+    alloc: Global,
+    wires: &SeenWires<'_>,
+    pairs: &[Pair],
+    session: &Session,
+) -> Result<Option<Finding>, AllocError>
+    requires some { 1 ≤ session.now.grant.section_length }
+    requires pairs { wires.now.program.givens
+        + section_count wires.now.program session.now.grant.section_length ≤ length pairs.now }
+    requires sums { length session.now.sums.items
+        ≡ section_count wires.now.program session.now.grant.section_length }
+    requires few { section_count wires.now.program session.now.grant.section_length < 2 ^ 32 }
+    requires met { SectionsMeet wires.now pairs.now session.now }
+    ensures none { IfOk result (λ shown. IfNone shown (NoErrorsBefore wires.now session.now
+        (section_count wires.now.program session.now.grant.section_length))) }
+    ensures some { IfOk result (λ shown. IfSome shown (ShowsFirstSection wires.now pairs.now session.now)) }
+{
+    let program = wires.program();
+    let _products = program.products();
+    let givens = program.givens();
+    let g = u64::from(session.grant.section);
+    let sections = program.sections(g) as usize;
+    for s in 0..sections {
+        let triples = wires.section(alloc, g, s)?;
+        let (u, v) = session.sums[s];
+        let mask = pairs[givens + s];
+        let shown = section_finding(alloc, &triples, mask, session.challenge, u, v)?;
+        if let Some(finding) = shown {
+            return Ok(Some(numbered(finding, s as u32)));
+        }
+    }
+    Ok(None)
+}
+
+/// What the first opened wire shows that is not as claimed, if there is one.
+///
+/// # Errors
+///
+/// Only where memory runs out.
+pub(crate) fn first_wrong_output(
+    alloc: Global,
+    wires: &SeenWires<'_>,
+    session: &Session,
+    outputs: &[bool],
+) -> Result<Option<Finding>, AllocError>
+    requires openings { length session.now.openings.items ≡ length wires.now.program.opened }
+    requires outputs { length outputs.now ≡ length wires.now.program.opened }
+    requires met { OpeningsMeet wires.now session.now.openings.items (map from_bit outputs.now) }
+    ensures none { IfOk result (λ shown. IfNone shown (AreAsClaimedBefore wires.now (map from_bit outputs.now)
+        (length wires.now.program.opened))) }
+    ensures some { IfOk result (λ shown. IfSome shown (ShowsFirstOpening wires.now (map from_bit outputs.now)
+        session.now)) }
+{
+    for (o, claimed) in outputs.iter().enumerate() {
+        let output = wires.output(o);
+        let shown = opening_finding(alloc, output, session.openings[o], *claimed)?;
+        if let Some(finding) = shown {
+            return Ok(Some(finding));
+        }
+    }
+    Ok(None)
+}
