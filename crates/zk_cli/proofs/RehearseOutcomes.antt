@@ -5,8 +5,8 @@ use Rattle.zk_model.specs.Circuit.{Circuit}
 use Rattle.zk_model.specs.declared.limits.TheConstants.{MAX_UNITS}
 use Rattle.bristol_reader.specs.Laws.{OneCircuit}
 use Rattle.command_words.specs.Words.{RehearseAsk, GenerateAsk}
-use Rattle.session_rehearsal.specs.Rehearsals.{EndsWithVerdict, rehearsal_units, RehearseCause}
-use Rattle.zk_cli.specs.RehearseRuns.{Rehearses, RehearseLines, RehearseStop, Accepts, AnswersFor, verdict_status, rehearsal_lines, SaysRehearsal, IsRehearsed, IsGenerated, GenerateStop, Generates, rehearse_refusal}
+use Rattle.session_rehearsal.specs.Rehearsals.{EndsWithVerdict, rehearsal_units}
+use Rattle.zk_cli.specs.RehearseRuns.{Rehearses, RehearseStop, Accepts, AnswersFor, verdict_status, rehearsal_lines, SaysRehearsal, IsRehearsed, IsGenerated, GenerateStop, Generates}
 use Rattle.file_commands.specs.Effects.{ShelfChange, Effects, OnlyLoads, IsName, HasFailed, NameFailed, SinkFailed}
 use Rattle.file_commands.specs.Stops.{CircuitStop, IsOfStop, IsReady, PrintsMade, StatusMeans, stop_status, SaysStop}
 use Rattle.zk_cli.specs.declared.finish.Part.{Part}
@@ -18,8 +18,6 @@ use Rattle.file_commands.proofs.Means.{made_means, stop_means}
 use Rattle.zk_model.specs.Generated.{generated_bits, generated_circuit}
 use Rattle.zk_model.specs.declared.Verdict.TheVariants.{Accepted}
 use Rattle.session_rehearsal.specs.declared.rehearsal.Rehearsal.{Rehearsal}
-use Rattle.session_rehearsal.specs.declared.rehearsal.RehearseFault.{RehearseFault}
-use Rattle.session_rehearsal.specs.declared.rehearsal.RehearseFault.TheVariants as faults
 
 pub rehearse_of_circuit : (ask : RehearseAsk) (shelf : ShelfChange) (why : Refusal) → CircuitStop ask.circuit shelf why
     → RehearseStop ask shelf why
@@ -27,6 +25,9 @@ rehearse_of_circuit ask shelf (stop.ManyPublic inputs got) cause = absurd cause
 rehearse_of_circuit ask shelf (stop.WrongBits need got) cause = absurd cause
 rehearse_of_circuit ask shelf (stop.TooLarge need units) cause = absurd cause
 rehearse_of_circuit ask shelf other cause = cause
+
+abbrev Lines : {L : Type 0} → RehearseAsk → List ℕ → Part L → Effects → Type 0
+Lines ask seed part run = SaysRehearsal (IsRehearsed run.shelf.old.told ask seed) (RehearseStop ask run.shelf) part run
 
 abbrev Means : {L : Type 0} → RehearseAsk → Part L → Effects → Type 0
 Means ask part run = StatusMeans (Accepts part run.sink) (RehearseStop ask run.shelf) (IsName ask.circuit) run
@@ -45,7 +46,7 @@ rehearsal_means Is Stops IsNamed Plain run accepts stops lines = stops lines
 rehearsal_means Is Stops IsNamed (Served notes) run accepts stops lines = absurd lines
 rehearsal_means Is Stops IsNamed (Proved note) run accepts stops lines = absurd lines
 
-means : {L : Type 0} (ask : RehearseAsk) (seed : List ℕ) (part : Part L) (run : Effects) → RehearseLines ask seed part run
+means : {L : Type 0} (ask : RehearseAsk) (seed : List ℕ) (part : Part L) (run : Effects) → Lines ask seed part run
     → Means ask part run
 means {L} ask seed part run lines =
     rehearsal_means (IsRehearsed run.shelf.old.told ask seed) (RehearseStop ask run.shelf) (IsName ask.circuit) part run
@@ -83,7 +84,7 @@ lacks one ask shelf circuit ready calm other cause =
 
 -- a rehearsal that is handed back takes few enough units
 few_units : {L : Type 0} → OneCircuit → (ask : RehearseAsk) (seed : List ℕ) (part : Part L) (run : Effects) (circuit : Circuit)
-    → IsReady run.shelf.old.told ask.circuit (ask.public ++ ask.bits) circuit → RehearseLines ask seed part run → Accepts part run.sink
+    → IsReady run.shelf.old.told ask.circuit (ask.public ++ ask.bits) circuit → Lines ask seed part run → Accepts part run.sink
     → rehearsal_units circuit ask.public ask.kind ask.section ≤ MAX_UNITS
 few_units one ask seed (Rehearsed r) run circuit ready lines accepts =
     let made = lines.0 in
@@ -94,7 +95,7 @@ few_units one ask seed (Served notes) run circuit ready lines accepts = absurd a
 few_units one ask seed (Proved note) run circuit ready lines accepts = absurd accepts
 
 done : {L : Type 0} → OneCircuit → (ask : RehearseAsk) (seed : List ℕ) (part : Part L) (run : Effects) (circuit : Circuit)
-    → RehearseLines ask seed part run → IsReady run.shelf.old.told ask.circuit (ask.public ++ ask.bits) circuit → ¬ HasFailed (IsName ask.circuit) run
+    → Lines ask seed part run → IsReady run.shelf.old.told ask.circuit (ask.public ++ ask.bits) circuit → ¬ HasFailed (IsName ask.circuit) run
     → Means ask part run → AnswersFor (rehearsal_units circuit ask.public ask.kind ask.section) run.status
 done {L} one ask seed part run circuit lines ready calm means = of_means means
   where
@@ -120,7 +121,7 @@ done {L} one ask seed part run circuit lines ready calm means = of_means means
     ]
 
 pub rehearses : {L : Type 0} → OneCircuit → (ask : RehearseAsk) (seed : List ℕ) (part : Part L) (run : Effects)
-    → RehearseLines ask seed part run → OnlyLoads (IsName ask.circuit) run.shelf → Rehearses ask seed part run
+    → Lines ask seed part run → OnlyLoads (IsName ask.circuit) run.shelf → Rehearses ask seed part run
 rehearses one ask seed part run lines kept =
     let all = means ask seed part run lines in record {
       lines = lines;
@@ -175,14 +176,3 @@ generates {L} ask seed part run lines kept =
     (stop_means (Accepts {L = L} Plain run.sink) (GenerateStop ask) (λ name. ⊥) run
     (λ cause. cause) (λ cause. cause) (λ count cause. cause) (λ output cause. cause) (λ failed. absurd failed)) lines in
     record { lines = lines; kept = kept; means = all; done = λ calm. generated_done ask seed part run lines calm all }
-
--- a fault of the rehearsal of that circuit is such a stop
-pub generate_stop : (ask : GenerateAsk) (fault : RehearseFault) → length (generated_bits ask.number) ≡ 64
-    → RehearseCause (generated_circuit ask.gates ask.number) [] (generated_bits ask.number) ask.kind ask.section fault
-    → GenerateStop ask (rehearse_refusal fault)
-generate_stop ask (faults.WrongLength need got) count cause =
-    let needed = cause.needed in
-    let given = cause.given in
-    absurd (cause.differ (omega (arith, needed, given, count)))
-generate_stop ask (faults.TooLarge need units) count cause = cause
-generate_stop ask faults.NoMemory count cause = tt

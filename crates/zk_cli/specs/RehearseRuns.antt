@@ -20,18 +20,10 @@ use Rattle.file_commands.specs.declared.refusal.Refusal.{Refusal}
 use Rattle.file_commands.specs.declared.refusal.Refusal.TheVariants.{ManyPublic, WrongBits, TooLarge, NoMemory}
 use Rattle.zk_cli.specs.declared.generate_command.GenerateWords.{GenerateWords}
 use Rattle.zk_model.specs.Generated.{generated_bits, generated_circuit}
-use Rattle.session_rehearsal.specs.declared.rehearsal.RehearseFault.{RehearseFault}
-use Rattle.session_rehearsal.specs.declared.rehearsal.RehearseFault.TheVariants as fault
 
 -- what is asked for
 abbrev pub rehearse_words : RehearseWords → RehearseAsk
 rehearse_words words = rehearse_ask words.circuit.now words.public.now words.bits.now words.kind words.section
-
--- why there is no rehearsal, as a refusal
-abbrev pub rehearse_refusal : RehearseFault → Refusal
-rehearse_refusal (fault.WrongLength need got) = WrongBits need got
-rehearse_refusal (fault.TooLarge need units) = TooLarge need units
-rehearse_refusal fault.NoMemory = NoMemory
 
 -- 0 where the verifier accepts
 abbrev pub verdict_status : Verdict → ℕ
@@ -69,8 +61,7 @@ RehearseStop ask shelf (ManyPublic inputs got) = HasCircuit shelf.old.told ask.c
 RehearseStop ask shelf (WrongBits need got) =
     HasCircuit shelf.old.told ask.circuit (λ circuit. IsWrongLength circuit ask.public ask.bits need got)
 RehearseStop ask shelf (TooLarge need units) =
-    HasCircuit shelf.old.told ask.circuit
-    (λ circuit. IsTooLarge circuit ask.public ask.bits ask.kind ask.section need units)
+    HasCircuit shelf.old.told ask.circuit (λ circuit. IsTooLarge circuit ask.public ask.bits ask.kind ask.section need units)
 RehearseStop ask shelf stop = CircuitStop ask.circuit shelf stop
 
 -- such a rehearsal is handed back, and its lines are written; or nothing is, and the line of a stop is, which has its cause
@@ -80,12 +71,7 @@ SaysRehearsal Is Stops (Rehearsed r) run =
 SaysRehearsal Is Stops Plain run = SaysStop Stops run
 SaysRehearsal Is Stops part run = ⊥
 
-abbrev pub RehearseLines : {L : Type 0} → RehearseAsk → List ℕ → Part L → Effects → Type 0
-RehearseLines ask seed part run =
-    SaysRehearsal (IsRehearsed run.shelf.old.told ask seed) (RehearseStop ask run.shelf) part run
-
--- a rehearsal is handed back that is accepted, and its log ends with that; all lines are written, and the sink did not
--- fail
+-- a rehearsal is handed back that is accepted, and its log ends so; all lines are written, and the sink did not fail
 abbrev pub Accepts : {L : Type 0} → Part L → SinkChange → Type 0
 Accepts (Rehearsed r) sink =
     (r.verdict ≡ Accepted) × EndsWithVerdict Accepted r.log × WritesAll (rehearsal_lines r) sink
@@ -100,7 +86,7 @@ AnswersFor units status =
 -- shelf; what the status says; and where the shelf tells a circuit that the bits fit, and nothing fails, the rehearsal
 -- is accepted, unless it takes too many units.
 pub record Rehearses {L : Type 0} (ask : RehearseAsk) (seed : List ℕ) (part : Part L) (run : Effects) : Type 0 where
-  pub lines : RehearseLines ask seed part run
+  pub lines : SaysRehearsal (IsRehearsed run.shelf.old.told ask seed) (RehearseStop ask run.shelf) part run
   pub kept : OnlyLoads (IsName ask.circuit) run.shelf
   pub means : StatusMeans (Accepts part run.sink) (RehearseStop ask run.shelf) (IsName ask.circuit) run
   pub done : (circuit : Circuit) → IsReady run.shelf.old.told ask.circuit (ask.public ++ ask.bits) circuit
@@ -117,8 +103,7 @@ IsGenerated ask seed r = IsRehearsalOf (generated_circuit ask.gates ask.number) 
 
 -- why there is none: it takes too many units, or memory is missing
 abbrev pub GenerateStop : GenerateAsk → Refusal → Type 0
-GenerateStop ask (TooLarge need units) =
-    IsTooLarge (generated_circuit ask.gates ask.number) [] (generated_bits ask.number) ask.kind ask.section need units
+GenerateStop ask (TooLarge need units) = IsTooLarge (generated_circuit ask.gates ask.number) [] (generated_bits ask.number) ask.kind ask.section need units
 GenerateStop ask NoMemory = Unit {0}
 GenerateStop ask stop = ⊥
 

@@ -6,11 +6,11 @@ ghost use Rattle.zk_cli.specs.RehearseRuns.{Generates, GenerateStop, IsGenerated
 ghost use Rattle.file_commands.specs.Effects.{effects};
 
 use crate::finish::{Ending, Part};
-use crate::rehearse_command::{rehearse_refusal, say_rehearsal};
+use crate::rehearse_command::say_rehearsal;
 use bristol_reader::{ReadError, read};
 use circuit_gen::generate;
 use file_commands::{Refusal, say_stop};
-use session_rehearsal::{Rehearsal, rehearse};
+use session_rehearsal::{RehearseFault, Rehearsal, rehearse};
 use std::alloc::Global;
 use zk_model::Kind;
 use zk_port::{Shelf, Sink};
@@ -46,7 +46,9 @@ fn rehearse_generated(
     let (kind, section) = (words.kind, words.section);
     match rehearse(alloc, circuit, &[], &made.bits, kind, section, seed) {
         Ok(rehearsal) => Ok(rehearsal),
-        Err(fault) => Err(rehearse_refusal(fault)),
+        Err(RehearseFault::WrongLength { .. }) => unreachable!(),
+        Err(RehearseFault::TooLarge { need, units }) => Err(Refusal::TooLarge { need, units }),
+        Err(RehearseFault::NoMemory) => Err(Refusal::NoMemory),
     }
 }
 

@@ -2,7 +2,7 @@
 ghost use Rattle.std.specs.Prelude.{◌≡◌, ◌≤◌, ◌^◌, IfOk, IfErr, string_bytes};
 ghost use Rattle.zk_model.specs.declared.limits.TheConstants.{MAX_SECTION_LENGTH};
 ghost use Rattle.zk_port.specs.Changes.{change};
-ghost use Rattle.zk_cli.specs.RehearseRuns.{Rehearses, RehearseStop, IsRehearsed, rehearse_refusal, rehearse_words, counts_line, rehearsal_lines, verdict_line, verdict_status};
+ghost use Rattle.zk_cli.specs.RehearseRuns.{Rehearses, RehearseStop, IsRehearsed, rehearse_words, counts_line, rehearsal_lines, verdict_line, verdict_status};
 ghost use Rattle.file_commands.specs.Effects.{OnlyLoads, IsName, effects};
 ghost use Rattle.file_commands.specs.Stops.{PrintsMade};
 
@@ -54,18 +54,9 @@ fn rehearse_file<F: Shelf>(
         seed,
     ) {
         Ok(rehearsal) => Ok(rehearsal),
-        Err(fault) => Err(rehearse_refusal(fault)),
-    }
-}
-
-/// Why there is no rehearsal, as the program says it.
-pub(crate) fn rehearse_refusal(fault: RehearseFault) -> Refusal
-    ensures { result ≡ rehearse_refusal fault }
-{
-    match fault {
-        RehearseFault::WrongLength { need, got } => Refusal::WrongBits { need, got },
-        RehearseFault::TooLarge { need, units } => Refusal::TooLarge { need, units },
-        RehearseFault::NoMemory => Refusal::NoMemory,
+        Err(RehearseFault::WrongLength { need, got }) => Err(Refusal::WrongBits { need, got }),
+        Err(RehearseFault::TooLarge { need, units }) => Err(Refusal::TooLarge { need, units }),
+        Err(RehearseFault::NoMemory) => Err(Refusal::NoMemory),
     }
 }
 
