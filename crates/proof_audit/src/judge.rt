@@ -330,7 +330,8 @@ impl<'a> Judge<'a> {
     /// Corrections may be any.
     fn take_corrections(&self, session: Session, frame: Frame) -> Stage
         requires described { IsDescribed self.now (at.Corrections session) }
-        requires expected { Allows (expect.Corrections self.now.statement.program.givens) (frame_value frame) }
+        requires expected { Allows (expect.Corrections self.now.statement.program.givens)
+            (frame_value frame) }
         ensures { Takes self.now (at.Corrections session) (frame_value frame) result }
     {
         let Frame::Corrections(corrections) = frame else {

@@ -286,7 +286,8 @@ where
     ensures left { IsLeft (B.state parts.disk) (B.state result.disk) (S.id session.now) parts.base parts.total
         (S.size session.now) S.granted S.refused result.notes.items }
     ensures refused { All IsUnused passes.items → All (λ note. IfSome (S.refused note)
-        (IsRefusedAmong (S.size session.now) parts.base parts.total result.notes.items note)) result.notes.items }
+        (IsRefusedAmong (S.size session.now) parts.base parts.total result.notes.items note))
+        result.notes.items }
 {
     let blank = Blank::new(passes.len() as u64 + 1);
     serve_named::<S::Note, D::Link, S, Brand, Brand, D, B, G, R>(

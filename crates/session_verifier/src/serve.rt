@@ -67,7 +67,8 @@ fn take_statement<'a>(
     frame: &Frame,
 )
     requires expected { Allows expect.Hello (frame_value frame.now) }
-    ensures takes { (said : Hello) × (frame_value frame.now ≡ model.hello said) × TakesHello jobs.now said taken.new }
+    ensures takes { (said : Hello) × (frame_value frame.now ≡ model.hello said)
+        × TakesHello jobs.now said taken.new }
     ensures core { core.new ≡ record { job = noted_job jobs.now taken.new; stage = awaits_hello } }
     ensures within { IfSome taken.new (λ n. n < length (all_jobs jobs.now)) }
 {
@@ -140,11 +141,13 @@ fn grant_units<'a, R: Grantor, G: Gate>(
     requires expected { Allows expect.Hello (frame_value frame) }
     ensures answered { IfOk result (λ answer.
         GrantsUnits jobs.now (grants_of R.answer R.asked R.total R.may R.moves)
-        (served jobs.now core.old taken.old granted.old grantor.old) (frame_value frame) (map frame_value answer.items)
+        (served jobs.now core.old taken.old granted.old grantor.old) (frame_value frame)
+        (map frame_value answer.items)
         (served jobs.now core.new taken.new granted.new grantor.new)) }
     ensures refused { IfErr result (λ refusal.
         (serves (grants_of R.answer R.asked R.total R.may R.moves)).refuses
-        (served jobs.now core.old taken.old granted.old grantor.old) (frame_value frame) refusal.fault refusal.code
+        (served jobs.now core.old taken.old granted.old grantor.old) (frame_value frame)
+        refusal.fault refusal.code
         (served jobs.now core.new taken.new granted.new grantor.new)) }
     ensures within { IfSome taken.new (λ n. n < length (all_jobs jobs.now)) }
     ensures fewer { OnOk result
@@ -229,12 +232,14 @@ fn step<'a, R: Grantor, G: Gate>(
         (served jobs.now core.old taken.old granted.old grantor.old) }
     ensures answered { IfOk result (λ answer.
         (serves (grants_of R.answer R.asked R.total R.may R.moves)).answers
-        (served jobs.now core.old taken.old granted.old grantor.old) (frame_value frame) (map frame_value answer.items)
+        (served jobs.now core.old taken.old granted.old grantor.old) (frame_value frame)
+        (map frame_value answer.items)
         (served jobs.now core.new taken.new granted.new grantor.new)) }
     ensures short { IfOk result (λ answer. All IsShort (map frame_value answer.items)) }
     ensures refused { IfErr result (λ refusal.
         (serves (grants_of R.answer R.asked R.total R.may R.moves)).refuses
-        (served jobs.now core.old taken.old granted.old grantor.old) (frame_value frame) refusal.fault refusal.code
+        (served jobs.now core.old taken.old granted.old grantor.old) (frame_value frame)
+        refusal.fault refusal.code
         (served jobs.now core.new taken.new granted.new grantor.new)) }
     ensures coded { IfErr result (λ refusal.
         IfSome refusal.code (λ _. IsSome (lack_code_at core.old.stage))) }
@@ -357,7 +362,8 @@ pub(crate) fn serve<L: Link, R: Grantor, G: Gate>(
         (λ _. R.asked grantor.new ≡ Some (units_of_job (noted_job jobs.now result.taken))) }
     ensures moved { MatchOption (R.answer grantor.new) (grantor.new ≡ grantor.old)
         (λ answer. R.moves grantor.old (units_of_job (noted_job jobs.now result.taken)) answer grantor.new) }
-    ensures statement { TakesStatement jobs.now result.taken (R.answer grantor.new) result.outcome line.new.log }
+    ensures statement { TakesStatement jobs.now result.taken (R.answer grantor.new)
+        result.outcome line.new.log }
     ensures course { IsCourse (noted_job jobs.now result.taken) (R.answer grantor.new) result.granted
         result.outcome (snapshot_of line.old) (snapshot_of line.new) }
     ensures within { IfSome result.taken (λ n. n < length (all_jobs jobs.now)) }

@@ -42,23 +42,29 @@ pub fn verify_session<L: Link, R: Grantor, G: Gate>(
     requires total { R.total grantor.old ≤ jobs.now.first.task.file.params.total }
     requires may { (count : ℕ) → 1 ≤ count → count ≤ MAX_UNITS → R.may grantor.old count }
     ensures total_kept { R.total grantor.new ≡ R.total grantor.old }
-    ensures statement { TakesStatement jobs.now result.statement (R.answer grantor.new) result.outcome result.log }
+    ensures statement { TakesStatement jobs.now result.statement (R.answer grantor.new)
+        result.outcome result.log }
     ensures sized { (1 ≤ units_of_job (noted_job jobs.now result.statement))
         × (units_of_job (noted_job jobs.now result.statement) ≤ MAX_UNITS) }
     ensures asked { IfSome (R.answer grantor.new)
         (λ _. R.asked grantor.new ≡ Some (units_of_job (noted_job jobs.now result.statement))) }
     ensures moved { MatchOption (R.answer grantor.new) (grantor.new ≡ grantor.old)
-        (λ answer. R.moves grantor.old (units_of_job (noted_job jobs.now result.statement)) answer grantor.new) }
+        (λ answer. R.moves grantor.old (units_of_job (noted_job jobs.now result.statement)) answer
+        grantor.new) }
     ensures granted { result.granted ≡ granted_by (R.answer grantor.new) }
     ensures refused { AnswersLease (R.answer grantor.new) result.outcome }
-    ensures verdict { JudgesRightly (noted_job jobs.now result.statement) result.granted result.outcome result.log }
+    ensures verdict { JudgesRightly (noted_job jobs.now result.statement) result.granted
+        result.outcome result.log }
     ensures accepted { AcceptsExactly (noted_job jobs.now result.statement) result.outcome result.log }
-    ensures shown { result.outcome ≡ Accepted → IsShown (noted_job jobs.now result.statement) result.granted result.log }
-    ensures sends { SendsRightly (noted_job jobs.now result.statement) result.granted result.outcome result.log }
+    ensures shown { result.outcome ≡ Accepted
+        → IsShown (noted_job jobs.now result.statement) result.granted result.log }
+    ensures sends { SendsRightly (noted_job jobs.now result.statement) result.granted
+        result.outcome result.log }
     ensures related { KeepsKeys (noted_job jobs.now result.statement) result.log }
     ensures cause { EndsBecause (noted_job jobs.now result.statement) (R.answer grantor.new) result.outcome
         (snapshot Verifier [] (L.state link)) (snapshot Verifier result.log (L.state result.link)) }
-    ensures leased { LeasesBehindHello (noted_job jobs.now result.statement) (R.answer grantor.new) result.log }
+    ensures leased { LeasesBehindHello (noted_job jobs.now result.statement) (R.answer grantor.new)
+        result.log }
     ensures told { IsTold (noted_job jobs.now result.statement) result.granted result.outcome
         (snapshot Verifier [] (L.state link)) (snapshot Verifier result.log (L.state result.link)) }
     ensures receives { ReceivesFew
