@@ -10,7 +10,7 @@ use crate::rehearse_command::say_rehearsal;
 use bristol_reader::{ReadError, read};
 use circuit_gen::generate;
 use file_commands::{Refusal, say_stop};
-use session_rehearsal::{RehearseFault, Rehearsal, rehearse};
+use session_rehearsal::{Rehearsal, RehearseFault, rehearse};
 use std::alloc::Global;
 use zk_model::Kind;
 use zk_port::{Shelf, Sink};
