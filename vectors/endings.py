@@ -10,7 +10,7 @@ from common import P, sha256
 from dealt_files import journal
 from ends import Link, hold, prove
 from parties import HELLO_BYTES, SMALL, TINY, Room, Span, Subject
-from processes import SECONDS, Ran, free_address, without_output, without_writes
+from processes import SECONDS, Ran, Service, free_address, without_output, without_writes
 from published import ADDER, AND_GATE
 
 AND = Subject("and", AND_GATE, "11")
@@ -274,6 +274,74 @@ def far_difference(room: Room) -> None:
     begin(room, Other(outputs=wrong), "unsatisfied 3\n", 1)
 
 
+# ---- several statements, audits and help
+
+
+def many_service(room: Room, text: str, sessions: int) -> Service:
+    """A service of the statements of this text."""
+    room.put("statements", text.encode())
+    return Service(room.program, room.folder, ["x.verifier", "statements", "--sessions", str(sessions)], "serve-many")
+
+
+def several_statements(room: Room) -> None:
+    """Provers of each statement, and of none, one after the other."""
+    service = many_service(room, "circuit none 1\ncircuit 1 1", 4)
+    calls = [["11", "1"], ["1", "1", "--public", "1"], ["none", "1", "--public", "11"], ["11", "1"]]
+    said = []
+    for words in calls:
+        said.append(room.run("prove", service.place(), "p0", "circuit", *words))
+    accepted = [(f"units {start}..{start + 1} accepted\n", 0) for start in range(3)]
+    assert said == [accepted[0], accepted[1], ("peer refused 1\n", 8), accepted[2]], said
+    served = service.end()
+    assert served == ("".join(line for line, _ in accepted) + "no grant hello statement\n", 1), served
+
+
+def bad_statements(room: Room) -> None:
+    """Files of statements that are refused, and one whose statement is."""
+    for text, line, status in [
+        ("", "refused Count 2 0\n", 3),
+        ("circuit none 1\n" * 257, "refused Count 2 257\n", 3),
+        ("circuit none 1\ncircuit  1\n", "refused BadLine 1 1\n", 3),
+        ("circuit none 1\ncircuit 111 1\n", "refused public 2 3\n", 3),
+        ("missing none 1\n", "failed shelf\n", 4),
+    ]:
+        ran = many_service(room, text, 1).end()
+        assert ran == (line, status), (text[:40], ran)
+
+
+def wrong_audits(room: Room) -> None:
+    """Audits of a stored log: as it is, of other outputs, cut, changed, and over files of another dealing."""
+    meet(room, [Other()], Said(ACCEPTED, [ACCEPTED]))
+    room.run("deal", "y", "--units", "2")
+    log = room.get("log.0")
+    room.put("cut", log[:-1])
+    room.put("changed", log[:-1] + b"\1")
+    for words, line, status in [
+        (["1", "x.prover", "x.verifier", "log.0"], "inputs 11\n", 0),
+        (["1", "x.prover", "x.verifier", "cut"], "not accepted\n", 1),
+        (["1", "x.prover", "x.verifier", "changed"], f"refused LogFault 1 {len(log) - 1}\n", 3),
+        (["0", "x.prover", "x.verifier", "log.0"], "refused LogFault 1 101\n", 3),
+        (["1", "x.prover", "y.verifier", "log.0"], "refused NotDealt 8 0\n", 3),
+        (["1", "y.prover", "y.verifier", "log.0"], "refused LogFault 1 101\n", 3),
+        (["1", "x.prover", "x.verifier", "missing"], "failed shelf\n", 4),
+    ]:
+        ran = room.run("audit", "circuit", *words)
+        assert ran == (line, status), (words, ran)
+
+
+def helped(room: Room) -> None:
+    """Help and the version, and an output that is full."""
+    commands = ["deal", "eval", "rehearse", "serve", "serve-many", "prove", "audit"]
+    whole = room.run("--help")
+    assert whole == room.run("-h") and whole.status == 0 and all(f"zk {name} " in whole.text for name in commands), whole
+    for name in commands:
+        ran = room.run(name, "--help")
+        assert ran.status == 0 and ran.text.startswith(f"usage: zk {name} ") and "example: zk " in ran.text, ran
+    assert room.run("--version") == room.run("-V") and room.run("--version").status == 0
+    assert room.run("audits", "--help") == (bristol.USAGE + "\n", 2)
+    assert room.run_by(without_output(room.program), "--help").status == 4
+
+
 class Ending(NamedTuple):
     """A scenario in a room of its own: what its sessions are about, and how many units there are."""
 
@@ -305,6 +373,10 @@ ENDINGS = [
     Ending(without_link, AND, 2),
     Ending(without_journal, AND, 2),
     Ending(far_difference, SUM, 7),
+    Ending(several_statements, AND, 4),
+    Ending(bad_statements, AND, 1),
+    Ending(wrong_audits, AND, 2),
+    Ending(helped, AND, 1),
 ]
 
 

@@ -31,21 +31,50 @@ AES_BITS = f"{0x2B7E151628AED2A6ABF7158809CF4F3C3243F6A8885A308D313198A2E0370734
 GE64, AES = ((TOP / "examples" / name).read_bytes() for name in ("ge64.txt", "aes128.txt"))
 
 
+def swapped(text: bytes, half: int) -> bytes:
+    """The same circuit with its first inputs, so many, behind as many others."""
+
+    def wire(word: bytes) -> bytes:
+        number = int(word)
+        return word if number >= 2 * half else str((number + half) % (2 * half)).encode()
+
+    heading, gates = text.split(b"\n\n", 1)
+    lines = []
+    for line in gates.splitlines():
+        words = line.split()
+        if words:
+            reads = 2 + int(words[0])
+            lines.append(b" ".join(words[:2] + [wire(word) for word in words[2 : reads + 1]] + words[reads + 1 :]))
+    return heading + b"\n\n" + b"\n".join(lines) + b"\n"
+
+
+# AES-128 whose first inputs are the block, and then the key: the block may be public, and the key private.
+BLOCK_FIRST, BLOCK_BITS = swapped(AES, 128), AES_BITS[128:] + AES_BITS[:128]
+
+
 class Subject(NamedTuple):
-    """What sessions are about: a circuit's text, the prover's bits, the kind of files and sections."""
+    """What sessions are about: a circuit's text, the prover's bits, the kind of files, sections, and how many bits are public."""
 
     name: str
     text: bytes
     bits: str
     kind: Params = DIRECT
     section: int = LONG
+    public: int = 0
+
+    def words(self) -> List[str]:
+        """The option that names the public bits."""
+        return ["--public", self.bits[: self.public]] if self.public else []
+
+    def private(self) -> str:
+        return self.bits[self.public :] or "none"
 
     def job(self, total: int) -> Job:
         circuit = bristol.read(self.text)
         assert isinstance(circuit, bristol.Circuit)
         bits = [int(bit) for bit in self.bits]
         params = Extended(self.kind.height, self.kind.trees, self.kind.base) if self.kind.kind else None
-        claim = Claim(circuit, sha256(self.text), bits)
+        claim = Claim(circuit, sha256(self.text), bits, self.public)
         return Job(claim, tuple(bristol.evaluate(circuit, bits)), params, total, self.section)
 
     def size(self) -> int:
@@ -110,11 +139,11 @@ class Room:
 
     def service(self, sessions: int, workers: int) -> Service:
         words = ["x.verifier", "circuit", self.outputs, "--sessions", str(sessions)]
-        words += ["--workers", str(workers), "--section", str(self.subject.section), "--logs", "log"]
+        words += ["--workers", str(workers), "--section", str(self.subject.section), "--logs", "log", *self.subject.words()]
         return Service(self.program, self.folder, words)
 
     def proving(self, place: str, holder: str) -> Process:
-        words = ["prove", place, holder, "circuit", self.subject.bits or "none", self.outputs]
+        words = ["prove", place, holder, "circuit", self.subject.private(), self.outputs, *self.subject.words()]
         return Process(self.program, self.folder, words)
 
     # ---- journals
@@ -158,6 +187,13 @@ class Room:
         assert whole.startswith(log), (self.folder, start)
         return log == whole, sent_by_prover(log)
 
+    def check_audit(self, start: int, is_whole: bool) -> None:
+        """An audit of the stored log of this grant finds the prover's bits exactly where it is whole."""
+        words = ["audit", "circuit", self.outputs, "x.prover", "x.verifier", f"log.{start}", *self.subject.words()]
+        found = (f"inputs {self.subject.private()}\n", 0) if is_whole else ("not accepted\n", 1)
+        ran = self.run(*words)
+        assert ran == found, (self.folder, start, ran)
+
 
 def sent_by_prover(log: bytes) -> int:
     """How many bytes of a log are the prover's."""
@@ -185,7 +221,7 @@ class DealtRoom(Room):
     def frames(self) -> List[Tuple[int, int]]:
         """The kinds of the frames of a whole log, and the lengths of their payloads."""
         products, params = len(self.job.products()), self.job.params
-        lengths = [(1, 97), (2, 16)]
+        lengths = [(1, len(self.job.hello()) - 5), (2, 16)]
         if params is not None:
             lengths += [(3, params.trees * (params.height + 8))] * self.size
             lengths += [(4, params.trees * (32 * params.height + 8))] * self.size
@@ -221,7 +257,9 @@ def check_honest(room: Room, workers: int) -> int:
     for holder, (line, _) in zip(room.holders, ran):
         start = starts[lines.index(line)]
         assert room.claims(holder) == claimed[holder] + [(start, start + room.size)], (room.folder, holder)
-    assert all(room.check_log(start)[0] for start in starts), room.folder
+    for start in starts:
+        assert room.check_log(start)[0], room.folder
+        room.check_audit(start, True)
     end = starts[-1] + room.size
     assert room.ceiling() == room.ceiling_over(end), room.folder
     return len(starts)

@@ -77,9 +77,9 @@ class Process:
 class Service(Process):
     """The program, as it serves: it listens, or it is over."""
 
-    def __init__(self, program: Sequence[str], folder: pathlib.Path, words: Sequence[str]):
+    def __init__(self, program: Sequence[str], folder: pathlib.Path, words: Sequence[str], command: str = "serve"):
         self.address = free_address()
-        super().__init__(program, folder, ["serve", self.place(), *words])
+        super().__init__(program, folder, [command, self.place(), *words])
         bound = time.monotonic() + SECONDS
         while not self.is_over() and not self.listens():
             assert time.monotonic() < bound, self.words

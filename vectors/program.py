@@ -10,6 +10,7 @@ import struct
 from typing import Dict, List, NamedTuple, Optional, Tuple
 
 import bristol
+from auditor import audit
 from common import FILE_ID, sha256
 from dealt_files import Params, deal, journal
 from ends import MOST_UNITS, End, Job, Link, prove_by, verify_by
@@ -125,23 +126,27 @@ def read_bits(word: str) -> List[int]:
 
 
 def sorted_words(words: List[str], valued: List[str], flags: List[str]) -> Tuple[List[str], Dict[str, str]]:
-    """The words in their places, and the options, each at most once."""
+    """The words in their places, and the options, each at most once. An option's value may stand behind `=`, and behind a word `--` all
+    words are in places."""
     places: List[str] = []
     options: Dict[str, str] = {}
     rest = iter(words)
     for word in rest:
-        if word in options:
+        name, sign, value = word.partition("=")
+        if name in options:
             raise ValueError(word)
         if word in flags:
             options[word] = ""
-        elif word in valued:
-            options[word] = next(rest, "-")
-            if options[word].startswith("-"):
-                raise ValueError(word)
+        elif name in valued:
+            options[name] = value if sign else next(rest, "-")
+        elif word == "--":
+            places += rest
         elif word.startswith("-"):
             raise ValueError(word)
         else:
             places.append(word)
+    if any(word.startswith("-") for word in [*places, *options.values()]):
+        raise ValueError(words)
     return places, options
 
 
@@ -290,42 +295,72 @@ def log_words(log: List[Tuple[str, bytes]]) -> str:
     return f"log{runs} bytes={len(data)} sha256={sha256(data).hex()}"
 
 
-class Service(NamedTuple):
-    """What the words of a service name."""
+class Claimed(NamedTuple):
+    """A circuit's file, the public bits and the outputs that are claimed."""
 
-    file: str
     circuit: str
     public: List[int]
     outputs: List[int]
+
+
+class Service(NamedTuple):
+    """What the words of a service name, beside what it is about."""
+
+    file: str
     sessions: int
     section: int
     logs: Optional[str]
 
 
-def read_service(words: List[str]) -> Service:
-    names = ["--sessions", "--workers", "--section", "--logs", "--public"]
-    (_, file, circuit, word), options = sorted_words(words, names, [])
+SERVICE_OPTIONS = ["--sessions", "--workers", "--section", "--logs"]
+
+
+def read_service(file: str, options: Dict[str, str]) -> Service:
     sessions = read_number(options["--sessions"], 1, 65536)
     read_number(options.get("--workers", "4"), 1, 1024)
     section = read_number(options.get("--section", str(LONG)), 1, LONG)
-    public = read_bits(options.get("--public", "none"))
-    return Service(file, circuit, public, read_bits(word), sessions, section, options.get("--logs"))
+    return Service(file, sessions, section, options.get("--logs"))
 
 
-def served_job(outside: Outside, service: Service) -> Job:
-    """What the sessions of a service are about."""
-    public, outputs, section = service.public, service.outputs, service.section
-    text = outside.files.get(service.circuit, b"")
-    circuit = load_circuit(outside, service.circuit)
+def read_statements(text: bytes) -> List[Claimed]:
+    """What a file of statements says: the first line that says none is its fault, and else how many there are."""
+    lines = text.split(b"\n")
+    statements = []
+    for number, line in enumerate(lines[: len(lines) - (lines[-1] == b"")]):
+        try:
+            circuit, public, outputs = line.decode().split(" ")
+            if not circuit:
+                raise ValueError(line)
+            statements.append(Claimed(circuit, read_bits(public), read_bits(outputs)))
+        except ValueError:
+            raise Stopped(f"refused BadLine 1 {number}", 3) from None
+    if not 1 <= len(statements) <= 256:
+        raise Stopped(f"refused Count 2 {len(statements)}", 3)
+    return statements
+
+
+def load_claim(outside: Outside, claimed: Claimed) -> Claim:
+    """The claim, whose circuit has inputs for the public bits and as many outputs."""
+    public, outputs = claimed.public, claimed.outputs
+    text = outside.files.get(claimed.circuit, b"")
+    circuit = load_circuit(outside, claimed.circuit)
     check_public(circuit, public)
     if len(outputs) != circuit.outputs:
         raise Stopped(f"refused outputs {circuit.outputs} {len(outputs)}", 3)
+    return Claim(circuit, sha256(text), public, len(public))
+
+
+def served_jobs(outside: Outside, service: Service, statements: List[Claimed]) -> List[Job]:
+    """What the sessions of a service are about."""
+    section = service.section
+    claims = [load_claim(outside, claimed) for claimed in statements]
     params = read_dealt(1, outside.load(service.file))
-    claim = Claim(circuit, sha256(text), public, len(public))
-    job = Job(claim, tuple(outputs), extended_of(params), params.total, section)
-    if job.units(section) > MOST_UNITS:
-        raise Stopped(f"too large {job.need(section)} {job.units(section)}", 9)
-    return job
+    jobs = []
+    for claim, claimed in zip(claims, statements):
+        jobs.append(Job(claim, tuple(claimed.outputs), extended_of(params), params.total, section))
+        if jobs[-1].units(section) > MOST_UNITS:
+            raise Stopped(f"too large {jobs[-1].need(section)} {jobs[-1].units(section)}", 9)
+    return jobs
 
 
 def first_wrong(kind: int, header: bytes, total: int) -> Optional[int]:
@@ -492,7 +527,7 @@ def start_of(note: Note) -> int:
     return 2**64 if units == "none" else int(units.split("..")[0])
 
 
-def lead_sessions(outside: Outside, job: Job, leases: Leases, sessions: int, peers: List[Link]) -> Tuple[List[Note], bool]:
+def lead_sessions(outside: Outside, jobs: List[Job], leases: Leases, sessions: int, peers: List[Link]) -> Tuple[List[Note], bool]:
     """The sessions with the peers that call, by their units, and whether the door failed."""
     notes: List[Note] = []
     rest = iter(peers)
@@ -502,7 +537,7 @@ def lead_sessions(outside: Outside, job: Job, leases: Leases, sessions: int, pee
         peer = next(rest, None)
         if peer is None:
             break
-        notes.append(verify_by([job], peer, leases.grant))
+        notes.append(verify_by(jobs, peer, leases.grant))
     return sorted(notes, key=start_of), False
 
 
@@ -526,12 +561,23 @@ def served_text(notes: List[Note], door_failed: bool) -> str:
 
 
 def run_serve(outside: Outside, words: List[str], peers: List[Link]) -> Came:
-    service = read_service(words)
-    job = served_job(outside, service)
-    leases = open_leases(outside.disk, job.total)
+    (_, file, circuit, outputs), options = sorted_words(words, [*SERVICE_OPTIONS, "--public"], [])
+    claimed = Claimed(circuit, read_bits(options.get("--public", "none")), read_bits(outputs))
+    return serve(outside, read_service(file, options), [claimed], peers)
+
+
+def run_serve_many(outside: Outside, words: List[str], peers: List[Link]) -> Came:
+    (_, file, statements), options = sorted_words(words, SERVICE_OPTIONS, [])
+    service = read_service(file, options)
+    return serve(outside, service, read_statements(outside.load(statements)), peers)
+
+
+def serve(outside: Outside, service: Service, statements: List[Claimed], peers: List[Link]) -> Came:
+    jobs = served_jobs(outside, service, statements)
+    leases = open_leases(outside.disk, jobs[0].total)
     if outside.is_failing("door"):
         raise Stopped("failed door", 4)
-    notes, door_failed = lead_sessions(outside, job, leases, service.sessions, peers)
+    notes, door_failed = lead_sessions(outside, jobs, leases, service.sessions, peers)
     store_failed = store_logs(outside, service.logs, notes)
     statuses = [status_of(outcome) for outcome, _ in notes] + [4 * door_failed, 4 * store_failed]
     status = next(each for each in (7, 5, 6, 4, 1, 0) if each in statuses)
@@ -606,14 +652,36 @@ def run_prove(outside: Outside, words: List[str], peers: List[Link]) -> Came:
     return Came(outside.say(line, status), f"proved {outcome} units={end.units} {log_words(end.log)}")
 
 
+# How an audit says what it finds: its line, and its status.
+FOUND = {
+    "inputs": ("inputs {0}", 0),
+    "challenge-root": ("challenge root section {0} poly {rest}", 1),
+    "key-root": ("key root poly {all}", 1),
+    "not-accepted": ("not accepted", 1),
+    "fault": ("refused LogFault 1 {0}", 3),
+}
+
+
+def run_audit(outside: Outside, words: List[str]) -> Came:
+    (circuit, outputs, prover, verifier, log), options = sorted_words(words, ["--public"], [])
+    claimed = Claimed(circuit, read_bits(options.get("--public", "none")), read_bits(outputs))
+    claim = load_claim(outside, claimed)
+    read_dealt(0, outside.load(prover))
+    params = read_dealt(1, outside.load(verifier))
+    job = Job(claim, tuple(claimed.outputs), extended_of(params), params.total, LONG)
+    name, *fields = audit(job, outside.load(log)).split(":")
+    line, status = FOUND[name]
+    text = line.format(*fields, rest=" ".join(fields[1:]), all=" ".join(fields))
+    return Came(outside.say(text + "\n", status), "plain")
+
+
 def run(outside: Outside, words: List[str], peers: List[Link]) -> Came:
     """What comes of these words, with these peers at the door, or the first of them to connect to."""
-    commands = {"eval": run_eval, "rehearse": run_rehearse, "deal": run_deal}
+    commands = {"eval": run_eval, "rehearse": run_rehearse, "deal": run_deal, "audit": run_audit}
+    parties = {"serve": run_serve, "serve-many": run_serve_many, "prove": run_prove}
     try:
-        if words[0] == "serve":
-            return run_serve(outside, words[1:], peers)
-        if words[0] == "prove":
-            return run_prove(outside, words[1:], peers)
+        if words[0] in parties:
+            return parties[words[0]](outside, words[1:], peers)
         if words[0] not in commands:
             raise ValueError(words[0])
         return commands[words[0]](outside, words[1:])

@@ -18,10 +18,12 @@ from typing import Dict, Iterator, List, NamedTuple, Optional, Tuple
 import bristol
 import dealt_files
 import program
-from common import P, element, frame, sha256
+from auditor import audit
+from chacha import word
+from common import KEY, P, VERIFIER_COINS, dealt_correlations, element, frame, from_word, sha256
 from ends import MOST_RECEIVED, MOST_UNITS, End, Job, Link, hold, prove, verify
 from published import ADDER, AND_GATE, FIVE_GATES, SESSIONS, log_of
-from session import LONG, Claim, Extended, accepted, sent_by_prover, sent_by_verifier, session
+from session import LONG, Claim, Extended, accepted, carried, sent_by_prover, sent_by_verifier, session
 
 TOP = pathlib.Path(__file__).resolve().parent.parent
 CRATE = TOP / "crates" / "session_runs"
@@ -188,6 +190,18 @@ def rehearsal_line(scenario: Scenario) -> str:
     return f"{outcome} units={units} {program.log_words(end.log)}"
 
 
+def audited_log(job: Job) -> bytes:
+    """The log of a rehearsal, in which the hello has 32 zero bytes in place of the circuit's digest."""
+    return b"".join(accepted(job.claim, job.params, job.section))
+
+
+def audit_lines(scenario: Scenario) -> List[str]:
+    """Audits of the log of such a rehearsal, changed as the words say."""
+    job = scenario.job(bytes(32))
+    job, log = job._replace(total=job.units(job.section)), audited_log(job)
+    return [f"{name}{audit(job, changed)}" for name, changed, _ in cases_of(scenario, script_of(scenario, log))]
+
+
 # ---- runs of the program
 
 
@@ -199,6 +213,8 @@ def outside_of(scenario: Scenario, kind: int) -> program.Outside:
     numbers = (0, 0, 0, 0) if params is None else (1, params.height, params.trees, params.base)
     prover, verifier = dealt_files.deal(dealt_files.Params(*numbers, total))
     files = {"x.prover": prover, "x.verifier": verifier, name: text.ljust(scenario.number("size", 0), b"\n")}
+    files["statements"] = scenario.words.get("statements", "").replace("+", " ").replace("/", "\n").encode()
+    files["log"] = bytes.fromhex(scenario.words.get("log", ""))
     fails = [scenario.number(f"{each}-fails", 0) for each in ("shelf", "sink", "door")]
     disk = program.Disk(journal_of(scenario, kind, total), scenario.number("disk-fails", 0))
     return program.Outside(files, disk, *fails)
@@ -251,10 +267,12 @@ def words_line(scenario: Scenario) -> str:
 
 def service_words(scenario: Scenario, job: Job) -> List[str]:
     words = ["serve", "here", "x.verifier", scenario.words.get("circuit", "and.txt"), bristol.word_of(list(job.outputs))]
+    if "statements" in scenario.words:
+        words = ["serve-many", "here", "x.verifier", "statements"]
     words += ["--sessions", scenario.words.get("sessions", "1"), "--section", str(job.section)]
     for name in ("workers", "logs"):
         words += [f"--{name}", scenario.words[name]] if name in scenario.words else []
-    return words + public_words(job)
+    return words + ([] if "statements" in scenario.words else public_words(job))
 
 
 def public_words(job: Job) -> List[str]:
@@ -293,6 +311,8 @@ def lines_of(scenario: Scenario) -> List[str]:
         return [words_line(scenario)]
     if scenario.end == "rehearsal":
         return [rehearsal_line(scenario)]
+    if scenario.end == "audit":
+        return audit_lines(scenario)
     job = scenario.job()
     units = job.units(job.section)
     if units > MOST_UNITS:
@@ -792,13 +812,174 @@ def journals_of_claims() -> List[Scenario]:
     return scenarios + [proof(units=10, claims="0..4", journal_set=place, show="disk") for place in places]
 
 
+def statement_line(**words: object) -> str:
+    """The line of a file of statements about what a scenario of these words is about."""
+    job = line("verifier", **words).job()
+    parts = [str(words.get("circuit", "and.txt")), bristol.word_of(job.claim.public_bits()), bristol.word_of(list(job.outputs))]
+    return "+".join(parts) + "/"
+
+
+BOTH = statement_line() + statement_line(**PUBLIC)
+
+
+def sent_at(start: int, **words: object) -> str:
+    """What an honest prover of this scenario sends to one that grants units from this one on."""
+    return hold(line("verifier", **words, units=64).job(), start)[0].hex()
+
+
+def many_services() -> List[Scenario]:
+    """Services of several statements: with provers of each, of none, and of sessions of different sizes."""
+    scenarios = [served(2, statements=BOTH, units=32, logs="l", show="l.0,l.1,disk"), served(2, **PUBLIC, statements=BOTH, units=32, show="disk")]
+    scenarios += [served(2, **PUBLIC, statements=BOTH, units=2, peer=peer, keep=0, more=sent_at(peer)) for peer in (0, 1)]
+    scenarios += [served(1, public=2, statements=BOTH), served(1, statements=BOTH, outputs=0), served(1, statements=BOTH[:-1])]
+    scenarios += [served(1, statements=BOTH + BOTH), served(1, **PUBLIC, statements=statement_line() * 255 + statement_line(**PUBLIC))]
+    scenarios += [line("service", statements=BOTH, **words) for words in ({"cut": "95..110"}, {"change": "95..105:1"}, {"fail": "1..10"})]
+    scenarios += [line("service", **PUBLIC, statements=BOTH, change="95..110:1"), line("service", **ONE_TREE, statements=BOTH)]
+    few, many = statement_line(**TEN_UNITS, public=64), statement_line(**TEN_UNITS)
+    for units in (17, 18, 32):
+        others = {"peer": 1, "keep": 0, "more": sent_at(line("verifier", **TEN_UNITS).job().units(3), **TEN_UNITS, public=64)}
+        scenarios.append(served(2, **TEN_UNITS, statements=few + many, units=units, **others, show="disk"))
+    return scenarios + [line("service", statements=BOTH, **{name: number}) for name in ("door-fails", "sink-fails") for number in (1, 2)]
+
+
+MANY = "serve-many here x.verifier statements --sessions 1"
+
+
+def statement_files() -> List[Scenario]:
+    """Files of statements with each fault, and statements that no verifier takes."""
+    lines = ["", "/", "//", "and.txt+none+1", "and.txt+none+1/", "and.txt+none+1//", "+and.txt+none+1/", "and.txt+none+1+/", "and.txt++none+1/"]
+    lines += ["and.txt+none/", "and.txt+none+1+1/", "and.txt+2+1/", "and.txt+none+/", "and.txt+none+x/", BOTH + "x/", BOTH + "and.txt"]
+    lines += [statement_line() * 256, statement_line() * 257, statement_line() * 257 + "x", "missing+none+1/", BOTH + "missing+none+1/"]
+    lines += ["and.txt+111+1/", "and.txt+none+11/", "and.txt+111+11/", BOTH + "and.txt+none+none/", "x.verifier+none+1/", "missing+111+1/" + BOTH]
+    scenarios = [run(MANY, statements=text) for text in lines if text] + [run(MANY), run(MANY, statements=BOTH, show="x.verifier,statements")]
+    scenarios += [run(MANY, statements=BOTH, shelf_fails=number) for number in range(1, 6)]
+    scenarios += [run(f"serve-many here {file} statements --sessions 1", statements=BOTH) for file in ("missing", "x.prover", "and.txt")]
+    scenarios += [run(words) for words in ("serve-many", "serve-many here x.verifier statements", MANY + " --public 1", MANY + " more")]
+    scenarios += [run("serve-many here x.verifier missing --sessions 1"), run(MANY + " --workers 0"), run(MANY + " --section 0")]
+    large = statement_line(circuit="more_inputs.txt", section=1)
+    return scenarios + [run(MANY + " --section 1", circuit="more_inputs.txt", statements=large, show="disk")]
+
+
+AUDIT = "audit and.txt 1 x.prover x.verifier log"
+
+
+def audit_runs() -> List[Scenario]:
+    """Runs of `audit`: what each answer prints, files that are refused, calls that fail, and words of no audit."""
+    log = b"".join(accepted(line("verifier").job().claim, None, LONG)).hex()
+    scenarios = [run(AUDIT, log=log), run(AUDIT, log=log[:-2]), run(AUDIT, log=log + "00"), run(AUDIT), run(AUDIT, log="00")]
+    scenarios += [run(AUDIT, log=log, **{f"{name}_fails": number}) for name, most in (("shelf", 5), ("sink", 2)) for number in range(1, most)]
+    scenarios += [run(AUDIT.replace(*words), log=log) for words in ((" 1 ", " 11 "), (" 1 ", " 0 "), ("x.prover", "x.verifier"), ("x.verifier", "log"))]
+    scenarios += [run(AUDIT.replace(name, "missing"), log=log) for name in ("and.txt", "x.prover", "x.verifier", "log")]
+    scenarios += [run(AUDIT + words, log=log) for words in (" --public 1", " --public 111", " --public 2", " --public", " --section 1", " more")]
+    scenarios += [run("audit"), run("audit and.txt 2 x.prover x.verifier log"), run("audit and.txt 1 x.prover x.verifier")]
+    extended = b"".join(accepted(line("verifier").job().claim, Extended(height=1, trees=1, base=10), LONG)).hex()
+    scenarios += [run(AUDIT, log=extended, **ONE_TREE), run(AUDIT, log=log, **ONE_TREE), run(AUDIT, log=extended)]
+    public = b"".join(accepted(line("verifier", **PUBLIC).job().claim, None, LONG)).hex()
+    scenarios += [run(AUDIT + " --public 1", log=public), run(AUDIT, log=public), run("audit and.txt 1 --public 11 x.prover x.verifier log", log=public)]
+    chain = "audit chain.txt {} x.prover x.verifier log".format(bristol.word_of(list(line("verifier", circuit="chain.txt", bits="10").job().outputs)))
+    long_log = b"".join(accepted(line("verifier", circuit="chain.txt", bits="10").job().claim, None, LONG)).hex()
+    scenarios.append(run(chain, circuit="chain.txt", units=128, log=long_log))
+    told = [scenario.words for scenario in told_provers()]
+    return scenarios + [run(AUDIT.replace(" 1 ", f" {words['outputs']} "), log=words["more"]) for words in told]
+
+
+class Told(NamedTuple):
+    """A prover that is told the verifier's key and coins: it fixes these values, and sends what meets the checks but for `spoilt`."""
+
+    job: Job
+    fixed: List[int]
+    spoilt: int = 0
+
+    def log(self) -> bytes:
+        job, products = self.job, self.job.products()
+        dealt = dealt_correlations(0, 64)
+        values = carried(job.claim, self.fixed, 1)
+        tags = carried(job.claim, [c.m for c in dealt[: len(products)]], 0)
+        challenge = CHALLENGE_COIN
+        constant, linear, last = dealt[len(products)].m, dealt[len(products)].x, 0
+        for j, ((a, b), c) in enumerate(zip(products, self.fixed)):
+            power = pow(challenge, j + 1, P)
+            constant += power * tags[a] * tags[b]
+            linear += power * (values[a] * tags[b] + values[b] * tags[a] - dealt[j].m)
+            last += power * (values[a] * values[b] - c)
+        opened = range(job.claim.circuit.wires - job.claim.circuit.outputs, job.claim.circuit.wires)
+        macs = [(tags[wire] + (values[wire] - bit) * KEY) % P for wire, bit in zip(opened, job.outputs)]
+        corrections = [element((c - dealt[i].x) % P) for i, c in enumerate(self.fixed)]
+        sums = element((constant + self.spoilt) % P) + element((linear + last * KEY) % P)
+        sent = job.hello() + frame(5, b"".join(corrections)) + frame(7, sums) + frame(8, b"".join(map(element, macs)))
+        _, end = verify(job, Link(sent))
+        return b"".join(data for _, data in end.log)
+
+
+CHALLENGE_COIN = from_word(word(VERIFIER_COINS, 1, 0))
+
+
+def told_provers() -> List[Scenario]:
+    """Audits of sessions with provers that are told the key, and so make the verifier accept what is not so."""
+
+    def about(bits: str, outputs: int, fixed: List[int], spoilt: int = 0) -> Scenario:
+        claimed = line("audit", bits=bits, outputs=outputs)
+        log = Told(claimed.job(bytes(32)), fixed, spoilt).log()
+        return line("audit", bits=bits, outputs=outputs, keep=0, more=log.hex())
+
+    # A product that is not that of its factors; an output that is not as claimed; errors with a root at the challenge.
+    return [
+        about("10", 1, [1, 0, 1]),
+        about("10", 1, [1, 0, 1], spoilt=1),
+        about("1", 0, [1, 1, 1]),
+        about("1", 1, [-(CHALLENGE_COIN**2) % P, 1, 1]),
+        about("1", 1, [1, 1, 1]),
+    ]
+
+
+def audits() -> List[Scenario]:
+    """Audits of logs: whole ones, each beginning, and each byte that is another; refusals, rejections, and wrong grants."""
+    scenarios = [line("audit", **words, section=section) for words in ({}, EIGHT_TREES) for section in (1, LONG)]
+    scenarios += [line("audit", circuit="five_gates.txt", bits=f"{bits:04b}", section=2) for bits in range(16)]
+    scenarios += [line("audit", circuit="chain.txt", bits="10", section=section) for section in (1, 1000, LONG)]
+    scenarios.append(line("audit", circuit="chain.txt", bits="10", public=1, section=1000, **EIGHT_TREES))
+    scenarios += [line("audit", circuit="adder64.txt", bits="10", section=3), line("audit", circuit="no_wires.txt", bits="none")]
+    scenarios += [line("audit", **PUBLIC, bits=bits) for bits in ("11", "10", "01")]
+    scenarios += [line("audit", public=2), line("audit", **PUBLIC, change="0..233:1"), line("audit", **PUBLIC, cut="97..140")]
+    scenarios += [line("audit", cut="0..210"), line("audit", more="00"), line("audit", outputs=0)]
+    scenarios += [line("audit", change=f"0..209:{mask}") for mask in (1, 128)]
+    scenarios += [line("audit", circuit="five_gates.txt", bits="1101", section=2, change="102..305:1")]
+    scenarios += [line("audit", **EIGHT_TREES, change=change) for change in ("100..280:1", "280..300:128", "2890..2987:1")]
+    scenarios += [line("audit", **EIGHT_TREES, cut="2970..2988"), line("audit", **EIGHT_TREES, more="00")]
+    for number in range(6):
+        scenarios += [line("audit", keep=102, more=frame(10, bytes([number])).hex() + more) for more in ("", "00")]
+    for start, count, section in ((0, 1, 1), (0, 1, 0), (0, 1, LONG + 1), (0, 2, LONG), (1, 1, LONG), (0, 0, LONG)):
+        scenarios.append(line("audit", keep=102, more=frame(2, struct.pack("<QII", start, count, section)).hex()))
+    rejected = [verify(AND_JOB._replace(claim=AND_JOB.claim._replace(digest=bytes(32))), Link(sent)) for sent in rejected_provers()]
+    for _, end in rejected:
+        log = b"".join(data for _, data in end.log)
+        scenarios += [line("audit", keep=0, more=log.hex()), line("audit", keep=0, more=log.hex() + "00")]
+        scenarios.append(line("audit", keep=0, more=log[:-5].hex() + "0000000000"))
+    check_lengths()
+    return scenarios + told_provers()
+
+
+def check_lengths() -> None:
+    """The ranges of audits end with the logs."""
+    logs = ({}, 209), ({**PUBLIC}, 233), ({"circuit": "five_gates.txt", "bits": "1101", "section": 2}, 305), (EIGHT_TREES, 2987)
+    for words, length in logs:
+        assert len(audited_log(line("audit", **words).job(bytes(32)))) == length, (words, length)
+
+
+def rejected_provers() -> List[bytes]:
+    """Provers whose first sum, or whose opening, is another."""
+    sent = hold(AND_JOB._replace(claim=AND_JOB.claim._replace(digest=bytes(32))))[0]
+    return [sent[:at] + bytes([sent[at] ^ 1]) + sent[at + 1 :] for at in (136, 157)]
+
+
 def all_scenarios() -> List[Scenario]:
     parts = [published(), honest_sessions(), wrong_provers(), wrong_askers(), refused_leases(), wrong_verifiers(), refused_claims()]
     parts += [failing_runs(), large_runs(), stopped_services(), limits(), journals(), services()]
     parts += [leases(), failing_services(), logged_services()]
     parts += [honest_proofs(), unsuited_grants(), taken_units(), wrong_verdicts(), failing_proofs()]
     parts += [false_proofs(), stopped_proofs(), words_of_no_proof(), journals_of_claims()]
-    parts += [public_sessions(), several_statements(), public_runs(), generated_runs(), public_ends()]
+    parts += [public_sessions(), several_statements(), public_runs(), generated_runs(), public_ends(), audits()]
+    parts += [many_services(), statement_files(), audit_runs()]
     return [scenario for part in parts for scenario in part]
 
 

@@ -159,6 +159,7 @@ def check_lines(room: Room, ran: Ran, before: int) -> List[Granted]:
         if line.span:
             is_whole, came = room.check_log(line.span[0])
             assert is_whole == (line.words == "accepted"), line
+            room.check_audit(line.span[0], is_whole)
             assert "ended" not in line.words or came == line.came, line
     return lines
 

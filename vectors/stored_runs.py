@@ -104,7 +104,6 @@ WRONG_WORDS = [
     "rehearse and.txt 11 --section x",
     "rehearse and.txt 11 --section ",
     "rehearse and.txt 11 --section -1",
-    "rehearse and.txt 11 --section=1",
     "rehearse and.txt 11 --sections 1",
     "rehearse and.txt 12 --section 1",
     "rehearse and.txt  --section 1",
@@ -262,6 +261,33 @@ def rehearse_run(case: Case, section: Optional[int] = 1, extended: bool = False,
     words = f"rehearse {case.file} {case.bits[public:] or 'none'}" + (f" --section {section}" if section else "")
     words += (" --extended" if extended else "") + (f" --public {case.bits[:public]}" if public else "")
     return Run(words, [f"outputs {case.outputs}", counts, "accepted"], 0)
+
+
+def other_forms() -> List[Run]:
+    """Words that are not valid and are read as such: a value behind `=`, and words behind `--`."""
+    case = next(case for case in small_cases() if case == Case("and.txt", "11", "1"))
+    forms = ["rehearse and.txt 11 --section=1", "rehearse --section=1 -- and.txt 11", "rehearse --section 1 and.txt -- 11"]
+    wrong = ["rehearse and.txt 11 --section=-1", "rehearse and.txt 11 --section=", "rehearse and.txt 11 --section=1 --section 1"]
+    wrong += ["rehearse -- -and.txt 11", "rehearse -- and.txt 11 --section 1", "rehearse and.txt 11 --sect=1", "eval -- and.txt 11 --"]
+    runs = [rehearse_run(case)._replace(words=words) for words in forms]
+    return runs + [Run("eval -- and.txt 11", ["1"], 0)] + [Run(words, [bristol.USAGE], 2) for words in wrong]
+
+
+def audits() -> List[Run]:
+    """Audits over files that are dealt for different sessions, and of what is no log."""
+    given: List[Tuple[str, List[str], int]] = [
+        ("z.prover y.verifier and.txt", ["refused NotDealt 8 0"], 3),
+        ("y.prover z.verifier and.txt", ["refused NotDealt 8 0"], 3),
+        ("x.prover z.verifier and.txt", ["refused NotDealt 8 0"], 3),
+        ("z.prover z.verifier and.txt", ["refused LogFault 1 0"], 3),
+        ("y.prover y.verifier z.prover", ["refused LogFault 1 0"], 3),
+        ("z.verifier z.prover and.txt", ["refused BadKind 2"], 3),
+        ("z.prover z.prover and.txt", ["refused BadKind 2"], 3),
+        ("z.prover missing and.txt", ["failed shelf"], 4),
+        # The log is loaded before the files are compared.
+        ("z.prover y.verifier missing", ["failed shelf"], 4),
+    ]
+    return [Run(f"audit and.txt 1 {words}", lines, status) for words, lines, status in given]
 
 
 def refusals() -> List[Run]:
@@ -435,7 +461,7 @@ def all_runs() -> List[Run]:
         runs += [eval_run(case.file, case.bits, case.outputs, 0), rehearse_run(case)]
     runs += [eval_run(case.file, case.bits, case.outputs, 0) for case in aes]
     runs += [rehearse_run(aes[1])] + refusals() + orders() + sections() + extensions() + public_bits() + dealings()
-    return runs + services() + proofs() + too_large()
+    return runs + services() + proofs() + audits() + other_forms() + too_large()
 
 
 def alone() -> bytes:

@@ -4,8 +4,8 @@
 `python3 vectors/two_parties.py PROGRAM [WORKERS]` does this with 1, 2, 4 and 8 workers, or with so many:
 
   - honest sessions about every example circuit and some others, over files of both kinds, with eight
-    provers at once: all are accepted, by the lines and the statuses of both sides, and logs and journals
-    are as computed apart;
+    provers at once: all are accepted, by the lines and the statuses of both sides, logs and journals
+    are as computed apart, and an audit of each stored log finds its prover's bits;
   - sessions that end in other ways, by `endings.py`: of these both sides' lines and statuses are
     computed apart too;
   - sessions of which either side is killed at a moment that is drawn from a fixed seed, again and again
@@ -21,7 +21,7 @@ import tempfile
 from typing import List
 
 from endings import check_endings
-from parties import AES, AES_BITS, GE64, SMALL, TINY, WIDE, DealtRoom, Room, Subject, are_apart, check_honest
+from parties import AES, AES_BITS, BLOCK_BITS, BLOCK_FIRST, GE64, SMALL, TINY, WIDE, DealtRoom, Room, Subject, are_apart, check_honest
 from processes import end_all
 from published import ADDER, AND_GATE, FIVE_GATES
 from session_runs import CIRCUITS
@@ -51,6 +51,8 @@ KNOWN = [
 LARGE = [
     Subject("aes", AES, AES_BITS),
     Subject("aes", AES, AES_BITS, WIDE, 1000),
+    Subject("aes of a public block", BLOCK_FIRST, BLOCK_BITS, public=128),
+    Subject("aes of a public block", BLOCK_FIRST, BLOCK_BITS, WIDE, 1000, public=128),
     Subject("chain", CIRCUITS["chain.txt"], "10"),
     Subject("chain", CIRCUITS["chain.txt"], "10", SMALL),
 ]

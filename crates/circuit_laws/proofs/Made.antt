@@ -2,7 +2,7 @@
 use Rattle.std.proofs.Common.{◌≡◌, ℕ, zero, suc, ◌+◌, ◌*◌, ◌-◌, ◌%◌, ◌<◌, ◌≤◌, ⊎_elim, inl, inr, Bool, List, map, take, drop, length, sym, ◌∙◌, ap, subst, arith}
 use Rattle.std.specs.Prelude.{Some, All, get_or, slice_get, slice_index}
 use Rattle.std.proofs.lemmas.Bool.{cases_lt}
-use Rattle.std.proofs.lemmas.List.{length-map, get_or-take, drop-take, ext_get_or}
+use Rattle.std.proofs.lemmas.List.{length-map, get_or-take, ext_get_or}
 use Rattle.std.proofs.lemmas.Option.{slice_get_within, get_or_from_slice_get}
 use Rattle.zk_model.specs.Bits.{from_bit}
 use Rattle.zk_model.specs.Field.{prime, ◌*ₚ◌}
@@ -12,7 +12,7 @@ use Rattle.circuit_laws.specs.Circuits.{OneMade, BitsAreMade}
 use Rattle.circuit_laws.proofs.Programs.{set_later, weighted_same}
 use Rattle.circuit_laws.proofs.Unique.{step_met, public_wire, input_wire}
 use Rattle.circuit_laws.proofs.BitsSolve.{value_of_bit, bits_solve}
-use Rattle.circuit_laws.proofs.Satisfied.{inputs_are}
+use Rattle.circuit_laws.proofs.Satisfied.{bits_behind, inputs_are}
 use Rattle.zk_model.specs.declared.Product.{Product}
 
 -- ---- given values
@@ -128,9 +128,6 @@ bits_are_made public circuit inputs bits formed few met =
       first =
           sym solved.carried.inputs
           ∙ inputs_are public private bits (map from_bit bits) (sym (length-map bits from_bit)) (λ i below. value_of_bit bits (public + i))
-          ∙ ap (map from_bit)
-          (sym (drop-take public private bits)
-          ∙ ap (λ n. drop public (take n bits)) sum
-          ∙ ap (drop public) met.first);
+          ∙ ap (map from_bit) (bits_behind public private bits sum ∙ ap (drop public) met.first);
       others = λ n d below low. solved.multiplied n d below;
     }

@@ -67,6 +67,10 @@ split_bits k n bits few =
     sym (take-append-drop k (take n bits))
     ∙ (λ i. take-take k n bits few i ++ (ap (λ m. drop k (take m bits)) (sym sum) ∙ drop-take k (n - k) bits) i)
 
+-- the bits behind the public ones
+pub bits_behind : (public private : ℕ) {n : ℕ} (bits : List Bool) → public + private ≡ n → take private (drop public bits) ≡ drop public (take n bits)
+bits_behind public private bits sum = sym (drop-take public private bits) ∙ ap (λ n. drop public (take n bits)) sum
+
 -- values of bits on each of some wires in a row are the bits
 pub inputs_are : (k n : ℕ) (bits : List Bool) (wires : List ℕ) → length bits ≡ length wires
     → ((i : ℕ) → i < n → HasBit bits wires (k + i))
@@ -137,11 +141,7 @@ satisfied_is_solved circuit known inputs outputs formed few satisfied =
       first =
           sym solved.carried.inputs
           ∙ inputs_are public private bits (map from_bit bits) (sym (length-map bits from_bit)) (λ i below. value_of_bit bits (public + i))
-          ∙ ap (map from_bit)
-          (sym (drop-take public private bits)
-          ∙ ap (λ n. drop public (take n bits)) sum
-          ∙ ap (drop public) satisfied.1.first
-          ∙ drop-append_seam known inputs);
+          ∙ ap (map from_bit) (bits_behind public private bits sum ∙ ap (drop public) satisfied.1.first ∙ drop-append_seam known inputs);
       last =
           outputs_are public circuit bits (map from_bit bits) satisfied.1.whole formed.outputs_within (λ o below. value_of_bit bits (output_wire circuit o))
           ∙ ap (map from_bit) satisfied.2;

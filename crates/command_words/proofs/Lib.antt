@@ -1,2 +1,17 @@
 pub mod Decimals
 pub mod Orders
+pub mod Forms
+pub mod Finding
+pub mod Rows
+pub mod Steps
+pub mod Walks
+pub mod Ends
+pub mod Taking
+pub mod Writing
+pub mod ReadBy
+pub mod TheForms
+pub mod Inversions
+pub mod TheReadings
+pub mod Named
+pub mod RehearseReading
+pub mod Unasked

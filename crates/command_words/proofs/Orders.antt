@@ -1,9 +1,8 @@
 -- The function and the relation say the same.
 use Rattle.std.proofs.Common.{◌≡◌, ℕ, List, [], ◌∷◌, true, false, Some, None, Option, refl, ap, ◌∙◌, cond, IfSome, subst}
 use Rattle.std.specs.Option.{option_map}
-use Rattle.command_words.specs.Arguments.{kind_of, begins_with_dash, Word, Parts, arranged, alone, step, before}
+use Rattle.command_words.specs.Arguments.{Positional, Valued, Flag, Unknown, kind_of, begins_with_dash, Word, Parts, arranged, alone, step, before}
 use Rattle.command_words.specs.Orders.{StandsAmong, nothing, place, valued, flag}
-use Rattle.command_words.specs.declared.arrange.WordKind.TheVariants.{Positional, Valued, Flag, Unknown}
 
 abbrev Stands : List (List ℕ) → Parts → Type 0
 Stands words p = StandsAmong words p.0 p.1

@@ -2,8 +2,6 @@
 use Rattle.std.specs.Prelude.{ℕ, List, [], ◌∷◌, ◌++◌, Bool, true, false, if◌then◌else◌, Option, Some, None, codes, is_some, not, ◌&&◌, ◌||◌}
 use Rattle.std.specs.Option.{option_map}
 use Rattle.std.specs.Str.{bytes_eq}
-use Rattle.command_words.specs.declared.arrange.WordKind.{WordKind}
-use Rattle.command_words.specs.declared.arrange.WordKind.TheVariants.{Positional, Valued, Flag, Unknown}
 
 -- the first byte is a dash
 abbrev pub begins_with_dash : List ℕ → Bool
@@ -22,7 +20,14 @@ is_valued word =
 abbrev pub is_flag : List ℕ → Bool
 is_flag word = bytes_eq word (codes "--extended")
 
--- what a word is, by itself
+-- what a word after the name is, by itself: it stands in its place, is an option that a value follows, an option that stands by itself, or
+-- any other word that begins with a dash
+pub data WordKind : Type 0 where
+  Positional : WordKind
+  Valued : WordKind
+  Flag : WordKind
+  Unknown : WordKind
+
 abbrev pub kind_of : List ℕ → WordKind
 kind_of word =
     if is_valued word then Valued else if is_flag word then Flag else if begins_with_dash word then Unknown else Positional

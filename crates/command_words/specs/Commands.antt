@@ -1,10 +1,10 @@
 -- Commands as what they ask for.
-use Rattle.std.specs.Prelude.{ℕ, ◌≤◌}
+use Rattle.std.specs.Prelude.{ℕ, ◌≤◌, string_bytes}
 use Rattle.std.specs.Option.{option_map}
 use Rattle.zk_model.specs.Files.{AreParams}
-use Rattle.command_words.specs.Words.{Ask, rehearse, rehearse_ask, generate, generate_ask, eval, eval_ask, deal, deal_ask, serve, serve_ask, ServeOptions, serve_options, prove, prove_ask}
+use Rattle.command_words.specs.Words.{Ask, rehearse, rehearse_ask, generate, generate_ask, eval, eval_ask, deal, deal_ask, serve, serve_ask, serve_many, serve_many_ask, ServeOptions, serve_options, prove, prove_ask, audit, audit_ask}
 use Rattle.command_words.specs.declared.words.Command.{Command}
-use Rattle.command_words.specs.declared.words.Command.TheVariants.{Rehearse, RehearseGenerated, Eval, Deal, Serve, Prove}
+use Rattle.command_words.specs.declared.words.Command.TheVariants.{Rehearse, RehearseGenerated, Eval, Deal, Serve, ServeMany, Prove, Audit}
 use Rattle.command_words.specs.declared.words.ServedOptions.{ServedOptions}
 use Rattle.command_words.specs.declared.words.TheConstants.{MAX_SESSIONS}
 use Rattle.zk_model.specs.declared.limits.TheConstants.{MAX_GENERATED_GATES, MAX_PASSES, MAX_SECTION_LENGTH}
@@ -12,18 +12,22 @@ use Rattle.zk_model.specs.declared.limits.TheConstants.{MAX_GENERATED_GATES, MAX
 -- the options of a service
 abbrev pub named_options : ServedOptions → ServeOptions
 named_options options =
-    serve_options options.sessions options.workers options.section (option_map (λ logs. logs.now) options.logs)
+    serve_options options.sessions options.workers options.section (option_map (λ logs. string_bytes logs) options.logs)
 
 abbrev pub ask_of : Command → Ask
 ask_of (Rehearse circuit public bits kind section) =
-    rehearse (rehearse_ask circuit.now public.items bits.items kind section)
+    rehearse (rehearse_ask (string_bytes circuit) public.items bits.items kind section)
 ask_of (RehearseGenerated gates number kind section) = generate (generate_ask gates number kind section)
-ask_of (Eval circuit bits) = eval (eval_ask circuit.now bits.items)
-ask_of (Deal name params) = deal (deal_ask name.now params)
+ask_of (Eval circuit bits) = eval (eval_ask (string_bytes circuit) bits.items)
+ask_of (Deal name params) = deal (deal_ask (string_bytes name) params)
 ask_of (Serve address file circuit public outputs options) =
-    serve (serve_ask address.now file.now circuit.now public.items outputs.items (named_options options))
+    serve (serve_ask (string_bytes address) (string_bytes file) (string_bytes circuit) public.items outputs.items (named_options options))
+ask_of (ServeMany address file statements options) =
+    serve_many (serve_many_ask (string_bytes address) (string_bytes file) (string_bytes statements) (named_options options))
 ask_of (Prove address file circuit public bits outputs) =
-    prove (prove_ask address.now file.now circuit.now public.items bits.items outputs.items)
+    prove (prove_ask (string_bytes address) (string_bytes file) (string_bytes circuit) public.items bits.items outputs.items)
+ask_of (Audit circuit public outputs prover verifier log) =
+    audit (audit_ask (string_bytes circuit) public.items outputs.items (string_bytes prover) (string_bytes verifier) (string_bytes log))
 
 -- a section has so many products
 pub record IsSectionSize (section : ℕ) : Type 0 where
@@ -46,4 +50,6 @@ IsWithinLimits (RehearseGenerated gates number kind section) =
 IsWithinLimits (Eval circuit bits) = Unit {0}
 IsWithinLimits (Deal name params) = AreParams params
 IsWithinLimits (Serve address file circuit public outputs options) = AreServeLimits (named_options options)
+IsWithinLimits (ServeMany address file statements options) = AreServeLimits (named_options options)
 IsWithinLimits (Prove address file circuit public bits outputs) = Unit {0}
+IsWithinLimits (Audit circuit public outputs prover verifier log) = Unit {0}

@@ -1,7 +1,10 @@
 pub mod Arguments
 pub mod BitWords
 pub mod Commands
+pub mod Forms
+pub mod Found
+pub mod Given
+pub mod Help
 pub mod Numbers
 pub mod Orders
-pub mod PartsOf
 pub mod Words

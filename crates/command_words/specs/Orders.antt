@@ -1,7 +1,6 @@
 -- The words after a command's name, as they may stand.
 use Rattle.std.specs.Prelude.{◌≡◌, ℕ, List, [], ◌∷◌, false}
-use Rattle.command_words.specs.Arguments.{kind_of, begins_with_dash, Word}
-use Rattle.command_words.specs.declared.arrange.WordKind.TheVariants.{Positional, Valued, Flag}
+use Rattle.command_words.specs.Arguments.{Positional, Valued, Flag, kind_of, begins_with_dash, Word}
 
 -- places in their order, and options anywhere among them in theirs
 pub data StandsAmong : List (List ℕ) → List (List ℕ) → List Word → Type 0 where

@@ -1,5 +1,5 @@
 -- What the words of a command line ask for.
-use Rattle.std.specs.Prelude.{◌&&◌, ◌-◌, ◌^◌, nat_le, ℕ, List, [], ◌∷◌, map, Bool, if◌then◌else◌, Option, Some, None, String, string_bytes, codes}
+use Rattle.std.specs.Prelude.{◌≡◌, ◌&&◌, ◌-◌, ◌^◌, nat_le, ℕ, List, [], ◌∷◌, map, Bool, if◌then◌else◌, Option, Some, None, String, string_bytes, codes}
 use Rattle.std.specs.Option.{option_map, option_and_then, is_some}
 use Rattle.std.specs.List.{list_any}
 use Rattle.std.specs.Str.{bytes_eq}
@@ -86,6 +86,18 @@ abbrev pub serve_ask : List ℕ → List ℕ → List ℕ → List Bool → List
 serve_ask address file circuit public outputs options =
     record { address = address; file = file; circuit = circuit; public = public; outputs = outputs; options = options }
 
+-- what the words of a verifier that serves several statements name: where provers connect, the verifier's file, the file of the statements,
+-- and the options
+pub record ServeManyAsk : Type 0 where
+  pub address : List ℕ
+  pub file : List ℕ
+  pub statements : List ℕ
+  pub options : ServeOptions
+
+abbrev pub serve_many_ask : List ℕ → List ℕ → List ℕ → ServeOptions → ServeManyAsk
+serve_many_ask address file statements options =
+    record { address = address; file = file; statements = statements; options = options }
+
 -- what the words of a prover name: where the verifier listens, the prover's file, the circuit's file, the public input bits and the
 -- private ones, and the claimed outputs
 pub record ProveAsk : Type 0 where
@@ -100,6 +112,19 @@ abbrev pub prove_ask : List ℕ → List ℕ → List ℕ → List Bool → List
 prove_ask address file circuit public bits outputs =
     record { address = address; file = file; circuit = circuit; public = public; bits = bits; outputs = outputs }
 
+-- what the words of an audit name: the circuit's file, the public input bits, the claimed outputs, both dealt files, and a session's log
+pub record AuditAsk : Type 0 where
+  pub circuit : List ℕ
+  pub public : List Bool
+  pub outputs : List Bool
+  pub prover : List ℕ
+  pub verifier : List ℕ
+  pub log : List ℕ
+
+abbrev pub audit_ask : List ℕ → List Bool → List Bool → List ℕ → List ℕ → List ℕ → AuditAsk
+audit_ask circuit public outputs prover verifier log =
+    record { circuit = circuit; public = public; outputs = outputs; prover = prover; verifier = verifier; log = log }
+
 -- what can be asked for
 pub data Ask : Type 0 where
   rehearse : RehearseAsk → Ask
@@ -107,7 +132,9 @@ pub data Ask : Type 0 where
   eval : EvalAsk → Ask
   deal : DealAsk → Ask
   serve : ServeAsk → Ask
+  serve_many : ServeManyAsk → Ask
   prove : ProveAsk → Ask
+  audit : AuditAsk → Ask
 
 -- each option has one of these names, and no two the same
 abbrev pub stand_once_among : List (List ℕ) → List Word → Bool
@@ -222,19 +249,21 @@ abbrev pub workers_of : Option (List ℕ) → Option ℕ
 workers_of None = Some 4
 workers_of (Some word) = number_within 1 MAX_PASSES word
 
+-- what the options say of a service
+abbrev pub service_of : List Word → Option ServeOptions
+service_of options =
+    option_and_then (λ sessions. option_and_then (λ workers. option_map
+    (λ section. serve_options sessions workers section (option_named (codes "--logs") options))
+    (length_of (option_named (codes "--section") options)))
+    (workers_of (option_named (codes "--workers") options))) (sessions_of options)
+
 abbrev pub served_options : List (List ℕ)
 served_options =
     codes "--sessions" ∷ codes "--workers" ∷ codes "--section" ∷ codes "--logs" ∷ codes "--public" ∷ []
 
 -- `--sessions N [--workers W] [--section G] [--logs PREFIX] [--public BITS]`, and nothing else, without the bits
 abbrev pub serve_options_of : List Word → Option ServeOptions
-serve_options_of options =
-    if stand_once_among served_options options
-    then option_and_then (λ sessions. option_and_then (λ workers. option_map
-    (λ section. serve_options sessions workers section (option_named (codes "--logs") options))
-    (length_of (option_named (codes "--section") options)))
-    (workers_of (option_named (codes "--workers") options))) (sessions_of options)
-    else None
+serve_options_of options = if stand_once_among served_options options then service_of options else None
 
 -- `serve ADDRESS FILE CIRCUIT OUTPUTS --sessions N [--workers W] [--section G] [--logs PREFIX] [--public BITS]`
 abbrev pub serve_of : List (List ℕ) → List Word → Option Ask
@@ -244,18 +273,39 @@ serve_of (address ∷ file ∷ circuit ∷ outputs ∷ []) options =
     (bits_of outputs)) (public_of (option_named (codes "--public") options))) (serve_options_of options)
 serve_of positional options = None
 
-abbrev pub prove_options : List (List ℕ)
-prove_options = codes "--public" ∷ []
+abbrev pub serve_many_options : List (List ℕ)
+serve_many_options = codes "--sessions" ∷ codes "--workers" ∷ codes "--section" ∷ codes "--logs" ∷ []
+
+-- `serve-many ADDRESS FILE STATEMENTS --sessions N [--workers W] [--section G] [--logs PREFIX]`
+abbrev pub serve_many_of : List (List ℕ) → List Word → Option Ask
+serve_many_of (address ∷ file ∷ statements ∷ []) options =
+    if stand_once_among serve_many_options options
+    then option_map (λ found. serve_many (serve_many_ask address file statements found)) (service_of options)
+    else None
+serve_many_of positional options = None
+
+-- the one option of a proof, and of an audit
+abbrev pub public_option : List (List ℕ)
+public_option = codes "--public" ∷ []
 
 -- `prove ADDRESS FILE CIRCUIT BITS OUTPUTS [--public BITS]`
 abbrev pub prove_of : List (List ℕ) → List Word → Option Ask
 prove_of (address ∷ file ∷ circuit ∷ bits ∷ outputs ∷ []) options =
-    if stand_once_among prove_options options
+    if stand_once_among public_option options
     then option_and_then (λ public. option_and_then (λ read. option_map
     (λ claimed. prove (prove_ask address file circuit public read claimed)) (bits_of outputs)) (bits_of bits))
     (public_of (option_named (codes "--public") options))
     else None
 prove_of positional options = None
+
+-- `audit CIRCUIT OUTPUTS PROVERFILE VERIFIERFILE LOG [--public BITS]`
+abbrev pub audit_of : List (List ℕ) → List Word → Option Ask
+audit_of (circuit ∷ outputs ∷ prover ∷ verifier ∷ log ∷ []) options =
+    if stand_once_among public_option options
+    then option_and_then (λ public. option_map (λ claimed. audit (audit_ask circuit public claimed prover verifier log))
+    (bits_of outputs)) (public_of (option_named (codes "--public") options))
+    else None
+audit_of positional options = None
 
 -- what the words ask for, if they are valid
 abbrev pub asked : List (List ℕ) → Option Ask
@@ -265,5 +315,16 @@ asked (name ∷ words) = option_and_then (λ parts.
     else if bytes_eq name (codes "eval") then eval_of parts.0 parts.1
     else if bytes_eq name (codes "deal") then deal_of parts.0 parts.1
     else if bytes_eq name (codes "serve") then serve_of parts.0 parts.1
+    else if bytes_eq name (codes "serve-many") then serve_many_of parts.0 parts.1
     else if bytes_eq name (codes "prove") then prove_of parts.0 parts.1
+    else if bytes_eq name (codes "audit") then audit_of parts.0 parts.1
     else None) (arranged words)
+
+-- these valid words ask for it
+abbrev pub IsAsked : Ask → Type 0
+IsAsked ask = (words : List (List ℕ)) × (asked words ≡ Some ask)
+
+-- what may be read of words: what they ask for, where they are valid; of others nothing, or what some valid words ask for
+pub record IsRead (words : List (List ℕ)) (found : Option Ask) : Type 0 where
+  pub valid : {ask : Ask} → asked words ≡ Some ask → found ≡ Some ask
+  pub other : {ask : Ask} → found ≡ Some ask → IsAsked ask

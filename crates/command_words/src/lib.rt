@@ -1,19 +1,23 @@
 //! The words of a command line: which command they ask for, and the word of a list of bits.
 //!
-//! `words` has `Command` and `read_words`; `arrange` sorts words into positional ones and options; `numbers` and `bits` read
-//! single words; `laws` says in plain terms which words have which meaning. As the top call uses it:
+//! `words` has `Command` and `read_words`; `found` has clap find a command's words in places and its options, and `readings` reads what
+//! these ask for; `numbers` and `bits` read single words; `help` has the help texts; `laws` says in plain terms which words have which
+//! meaning. As the top call uses it:
 //!
 //!     let Some(command) = read_words(alloc, words)? else {
 //!         return say_stop(alloc, out, Refusal::Usage);
 //!     };
 #![tactic(auto)]
 
-mod arrange;
 mod bits;
+mod found;
+mod help;
 mod laws;
 mod numbers;
+mod readings;
 mod words;
 
 pub use bits::{read_bits, write_bits};
+pub use help::help_text;
 pub use laws::words_stand_so;
 pub use words::{Command, MAX_SESSIONS, ServedOptions, read_words};

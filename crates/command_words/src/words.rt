@@ -1,52 +1,39 @@
 // What the words of a command line ask for.
-ghost use Rattle.std.specs.Prelude.{◌≡◌, ◌≤◌, ◌^◌, ◌↔◌, map, codes, IfOk, IfSome, IsTrue};
+ghost use Rattle.std.specs.Prelude.{◌≡◌, IfOk, IfSome};
 ghost use Rattle.std.specs.Option.{option_map};
-ghost use Rattle.command_words.specs.Words.{texts, asked, eval_of, rehearse_of, rehearsed_kind, section_of, length_of, public_of};
-ghost use Rattle.command_words.specs.Words.{generate_of};
-ghost use Rattle.command_words.specs.Words.{prove_of, serve_of, serve_options_of, sessions_of, workers_of};
-ghost use Rattle.command_words.specs.Words.{deal_of, params_of, direct_params, extended_of};
-ghost use Rattle.zk_model.specs.FileFaults.{file_length};
-ghost use Rattle.zk_model.specs.Files.{AreParams};
-ghost use Rattle.zk_model.specs.declared.Side.TheVariants.{Prover, Verifier};
-ghost use Rattle.zk_model.specs.declared.limits.TheConstants.{FILE_LIMIT};
-ghost use Rattle.command_words.specs.Arguments.{option_named};
-ghost use Rattle.command_words.specs.PartsOf.{word_of};
-ghost use Rattle.command_words.specs.Commands.{ask_of, named_options, AreServeLimits, IsWithinLimits, IsSectionSize};
-ghost use Rattle.zk_model.specs.declared.limits.TheConstants.{MAX_DEALT_UNITS, MAX_GENERATED_GATES, MAX_PASSES};
-ghost use Rattle.command_words.specs.declared.words.TheConstants.{MAX_SESSIONS};
+ghost use Rattle.command_words.specs.Commands.{ask_of, IsWithinLimits};
+ghost use Rattle.command_words.specs.Found.{IsReadBy};
+ghost use Rattle.command_words.specs.Forms.{IsReadAs, rehearse_form, eval_form, deal_form, serve_form};
+ghost use Rattle.command_words.specs.Forms.{serve_many_form, prove_form, audit_form};
+ghost use Rattle.command_words.specs.Words.{texts, IsRead, rehearse_of, eval_of, deal_of, serve_of};
+ghost use Rattle.command_words.specs.Words.{serve_many_of, prove_of, audit_of};
 
-use crate::arrange::{Arguments, Named, are_once, arrange, find_option};
-use crate::bits::read_bits;
-use crate::numbers::read_number;
-use dealer_files::file_length;
-use std::alloc::{AllocError, Global};
-use zk_model::{
-    FILE_LIMIT, Kind, MAX_DEALT_UNITS, MAX_GENERATED_GATES, MAX_PASSES, MAX_SECTION_LENGTH,
-    MAX_TREES, Params, Side,
+use crate::found::find_words;
+use crate::readings::{
+    audit_found, deal_found, eval_found, prove_found, rehearse_found, serve_found, serve_many_found,
 };
+use std::alloc::{AllocError, Global};
+use zk_model::{Kind, Params};
 
 /// How many sessions a run serves at most.
 pub const MAX_SESSIONS: u32 = 65_536;
 
-/// How many workers serve where no word says it.
-const WORKERS: u32 = 4;
-
 /// The options of `serve`: how many sessions, by how many workers at once, how many products a section has, and what the names of the
 /// logs begin with, where they are kept.
-#[derive(Clone, Copy, Debug)]
-pub struct ServedOptions<'a> {
+#[derive(Debug, Drop)]
+pub struct ServedOptions {
     pub sessions: u32,
     pub workers: u32,
     pub section: u32,
-    pub logs: Option<&'a str>,
+    pub logs: Option<String>,
 }
 
 /// A command with its words.
 #[derive(Debug, Drop)]
-pub enum Command<'a> {
+pub enum Command {
     /// `rehearse CIRCUIT BITS [--section G] [--extended] [--public BITS]`
     Rehearse {
-        circuit: &'a str,
+        circuit: String,
         public: Vec<bool>,
         bits: Vec<bool>,
         kind: Kind,
@@ -61,362 +48,196 @@ pub enum Command<'a> {
     },
     /// `eval CIRCUIT BITS`
     Eval {
-        circuit: &'a str,
+        circuit: String,
         bits: Vec<bool>,
     },
     /// `deal NAME --units N [--trees T --height H --base K]`
     Deal {
-        name: &'a str,
+        name: String,
         params: Params,
     },
     /// `serve ADDRESS FILE CIRCUIT OUTPUTS --sessions N [--workers W] [--section G] [--logs PREFIX] [--public BITS]`
     Serve {
-        address: &'a str,
-        file: &'a str,
-        circuit: &'a str,
+        address: String,
+        file: String,
+        circuit: String,
         public: Vec<bool>,
         outputs: Vec<bool>,
-        options: ServedOptions<'a>,
+        options: ServedOptions,
+    },
+    /// `serve-many ADDRESS FILE STATEMENTS --sessions N [--workers W] [--section G] [--logs PREFIX]`
+    ServeMany {
+        address: String,
+        file: String,
+        statements: String,
+        options: ServedOptions,
     },
     /// `prove ADDRESS FILE CIRCUIT BITS OUTPUTS [--public BITS]`
     Prove {
-        address: &'a str,
-        file: &'a str,
-        circuit: &'a str,
+        address: String,
+        file: String,
+        circuit: String,
         public: Vec<bool>,
         bits: Vec<bool>,
         outputs: Vec<bool>,
     },
+    /// `audit CIRCUIT OUTPUTS PROVERFILE VERIFIERFILE LOG [--public BITS]`
+    Audit {
+        circuit: String,
+        public: Vec<bool>,
+        outputs: Vec<bool>,
+        prover: String,
+        verifier: String,
+        log: String,
+    },
 }
 
-/// The command that the words ask for, if they are valid.
-pub fn read_words(alloc: Global, words: &[String]) -> Result<Option<Command<'_>>, AllocError>
-    ensures asked { IfOk result (λ found. option_map ask_of found ≡ asked (texts words.now)) }
+/// The command that the words ask for, if they are valid. Of words that are not valid nothing is read, unless clap reads them as valid
+/// ones: `--section=5` as `--section 5`.
+pub fn read_words(alloc: Global, words: &[String]) -> Result<Option<Command>, AllocError>
+    ensures asked { IfOk result (λ found. IsRead (texts words.now) (option_map ask_of found)) }
+    ensures alike { IfOk result (λ found.
+        IfSome found (λ command. IsReadAs (texts words.now) (ask_of command))) }
     ensures limits { IfOk result (λ found. IfSome found IsWithinLimits) }
 {
-    let [name, rest @ ..] = words else {
+    let [name, ..] = words else {
         return Ok(None);
     };
-    let Some(found) = arrange(alloc, rest)? else {
-        return Ok(None);
-    };
-    let Arguments {
-        positional,
-        options,
-    } = found;
     match name.as_str() {
-        "rehearse" => read_rehearse(alloc, &positional, &options),
-        "eval" => read_eval(alloc, &positional, &options),
-        "deal" => Ok(read_deal(&positional, &options)),
-        "serve" => read_serve(alloc, &positional, &options),
-        "prove" => read_prove(alloc, &positional, &options),
+        "rehearse" => read_rehearse(alloc, words),
+        "eval" => read_eval(alloc, words),
+        "deal" => read_deal(alloc, words),
+        "serve" => read_serve(alloc, words),
+        "serve-many" => read_serve_many(alloc, words),
+        "prove" => read_prove(alloc, words),
+        "audit" => read_audit(alloc, words),
         _ => Ok(None),
     }
 }
 
-/// `--gates N --number S [--section G] [--extended]`, and nothing else
-fn read_generate<'a>(options: &[Named]) -> Option<Command<'a>>
-    ensures asked { option_map ask_of result ≡ generate_of (map word_of options.now) }
-    ensures limits { IfSome result IsWithinLimits }
-{
-    if !are_once(options, &["--gates", "--number", "--section", "--extended"]) {
-        return None;
-    }
-    let gates = find_option(options, "--gates")?;
-    let gates = read_number(gates, 1, u64::from(MAX_GENERATED_GATES))? as u32;
-    let number = read_number(find_option(options, "--number")?, 0, u64::MAX)?;
-    let section = read_length(options)?;
-    Some(Command::RehearseGenerated {
-        gates,
-        number,
-        kind: read_kind(options),
-        section,
-    })
-}
-
-/// `CIRCUIT BITS [--section G] [--extended] [--public BITS]`, or the words of a generated circuit
-fn read_rehearse<'a>(
-    alloc: Global,
-    positional: &[&'a str],
-    options: &[Named],
-) -> Result<Option<Command<'a>>, AllocError>
-    ensures asked { IfOk result (λ found. option_map ask_of found
-        ≡ rehearse_of (map (λ p. p.now) positional.now) (map word_of options.now)) }
+/// `rehearse CIRCUIT BITS [--section G] [--extended] [--public BITS]`, or `rehearse --gates N --number S [--section G] [--extended]`
+fn read_rehearse(alloc: Global, words: &[String]) -> Result<Option<Command>, AllocError>
+    ensures read { IfOk result (λ found.
+        IsReadBy rehearse_form rehearse_of (texts words.now) (option_map ask_of found)) }
     ensures limits { IfOk result (λ found. IfSome found IsWithinLimits) }
 {
-    if positional.is_empty() {
-        return Ok(read_generate(options));
+    let found = find_words(
+        alloc,
+        words,
+        &["CIRCUIT", "BITS"],
+        &["section", "public", "gates", "number"],
+        &["extended"],
+    )?;
+    match found {
+        Some(found) => rehearse_found(alloc, &found),
+        None => Ok(None),
     }
-    let [circuit, word] = positional else {
-        return Ok(None);
-    };
-    let Some(section) = read_section(options) else {
-        return Ok(None);
-    };
-    let Some(public) = read_public(alloc, options)? else {
-        return Ok(None);
-    };
-    let Some(bits) = read_bits(alloc, word)? else {
-        return Ok(None);
-    };
-    Ok(Some(Command::Rehearse {
-        circuit,
-        public,
-        bits,
-        kind: read_kind(options),
-        section,
-    }))
 }
 
-/// `CIRCUIT BITS`, and no option
-fn read_eval<'a>(
-    alloc: Global,
-    positional: &[&'a str],
-    options: &[Named],
-) -> Result<Option<Command<'a>>, AllocError>
-    ensures asked { IfOk result (λ found. option_map ask_of found
-        ≡ eval_of (map (λ p. p.now) positional.now) (map word_of options.now)) }
+/// `eval CIRCUIT BITS`
+fn read_eval(alloc: Global, words: &[String]) -> Result<Option<Command>, AllocError>
+    ensures read { IfOk result (λ found.
+        IsReadBy eval_form eval_of (texts words.now) (option_map ask_of found)) }
     ensures limits { IfOk result (λ found. IfSome found IsWithinLimits) }
 {
-    let [circuit, word] = positional else {
-        return Ok(None);
-    };
-    if !options.is_empty() {
-        return Ok(None);
-    }
-    let Some(bits) = read_bits(alloc, word)? else {
-        return Ok(None);
-    };
-    Ok(Some(Command::Eval { circuit, bits }))
-}
-
-/// The public input bits: those of the first `--public`, or else none.
-fn read_public(alloc: Global, options: &[Named]) -> Result<Option<Vec<bool>>, AllocError>
-    ensures { IfOk result (λ found. option_map (λ bits. bits.items) found
-        ≡ public_of (option_named (codes "--public") (map word_of options.now))) }
-{
-    match find_option(options, "--public") {
-        Some(word) => read_bits(alloc, word),
-        None => Ok(Some(Vec::new(alloc))),
+    let found = find_words(alloc, words, &["CIRCUIT", "BITS"], &[], &[])?;
+    match found {
+        Some(found) => eval_found(alloc, &found),
+        None => Ok(None),
     }
 }
 
-/// The length of a section: the value of `--section`, beside which only `--extended` and `--public` may stand, or else the greatest.
-fn read_section(options: &[Named]) -> Option<u32>
-    ensures value { result ≡ section_of (map word_of options.now) }
-    ensures size { IfSome result IsSectionSize }
-{
-    if !are_once(options, &["--section", "--extended", "--public"]) {
-        return None;
-    }
-    read_length(options)
-}
-
-/// The kind of the dealt files: extended where `--extended` stands.
-fn read_kind(options: &[Named]) -> Kind
-    ensures { result ≡ rehearsed_kind (map word_of options.now) }
-{
-    match find_option(options, "--extended") {
-        Some(_) => Kind::Extended,
-        None => Kind::Direct,
-    }
-}
-
-/// The value of the first `--section`, or else the greatest.
-fn read_length(options: &[Named]) -> Option<u32>
-    ensures value { result ≡ length_of (option_named (codes "--section") (map word_of options.now)) }
-    ensures size { IfSome result IsSectionSize }
-{
-    let Some(value) = find_option(options, "--section") else {
-        return Some(MAX_SECTION_LENGTH);
-    };
-    Some(read_number(value, 1, u64::from(MAX_SECTION_LENGTH))? as u32)
-}
-
-/// `ADDRESS FILE CIRCUIT OUTPUTS --sessions N [--workers W] [--section G] [--logs PREFIX] [--public BITS]`
-fn read_serve<'a>(
-    alloc: Global,
-    positional: &[&'a str],
-    options: &[Named<'a>],
-) -> Result<Option<Command<'a>>, AllocError>
-    ensures asked { IfOk result (λ found. option_map ask_of found
-        ≡ serve_of (map (λ p. p.now) positional.now) (map word_of options.now)) }
+/// `serve ADDRESS FILE CIRCUIT OUTPUTS --sessions N [--workers W] [--section G] [--logs PREFIX] [--public BITS]`
+fn read_serve(alloc: Global, words: &[String]) -> Result<Option<Command>, AllocError>
+    ensures read { IfOk result (λ found.
+        IsReadBy serve_form serve_of (texts words.now) (option_map ask_of found)) }
     ensures limits { IfOk result (λ found. IfSome found IsWithinLimits) }
 {
-    let [address, file, circuit, word] = positional else {
-        return Ok(None);
-    };
-    let Some(found) = read_serve_options(options) else {
-        return Ok(None);
-    };
-    let Some(public) = read_public(alloc, options)? else {
-        return Ok(None);
-    };
-    let Some(outputs) = read_bits(alloc, word)? else {
-        return Ok(None);
-    };
-    Ok(Some(Command::Serve {
-        address,
-        file,
-        circuit,
-        public,
-        outputs,
-        options: found,
-    }))
+    let found = find_words(
+        alloc,
+        words,
+        &["ADDRESS", "FILE", "CIRCUIT", "OUTPUTS"],
+        &["sessions", "workers", "section", "logs", "public"],
+        &[],
+    )?;
+    match found {
+        Some(found) => serve_found(alloc, &found),
+        None => Ok(None),
+    }
 }
 
-/// `ADDRESS FILE CIRCUIT BITS OUTPUTS [--public BITS]`
-fn read_prove<'a>(
-    alloc: Global,
-    positional: &[&'a str],
-    options: &[Named],
-) -> Result<Option<Command<'a>>, AllocError>
-    ensures asked { IfOk result (λ found. option_map ask_of found
-        ≡ prove_of (map (λ p. p.now) positional.now) (map word_of options.now)) }
+/// `serve-many ADDRESS FILE STATEMENTS --sessions N [--workers W] [--section G] [--logs PREFIX]`
+fn read_serve_many(alloc: Global, words: &[String]) -> Result<Option<Command>, AllocError>
+    ensures read { IfOk result (λ found.
+        IsReadBy serve_many_form serve_many_of (texts words.now) (option_map ask_of found)) }
     ensures limits { IfOk result (λ found. IfSome found IsWithinLimits) }
 {
-    let [address, file, circuit, bits, outputs] = positional else {
-        return Ok(None);
-    };
-    if !are_once(options, &["--public"]) {
-        return Ok(None);
-    }
-    let Some(public) = read_public(alloc, options)? else {
-        return Ok(None);
-    };
-    let Some(bits) = read_bits(alloc, bits)? else {
-        return Ok(None);
-    };
-    let Some(outputs) = read_bits(alloc, outputs)? else {
-        return Ok(None);
-    };
-    Ok(Some(Command::Prove {
-        address,
-        file,
-        circuit,
-        public,
-        bits,
-        outputs,
-    }))
-}
-
-/// `--sessions N`, and at most `--workers W`, `--section G`, `--logs PREFIX` and `--public BITS` beside it; the bits apart.
-fn read_serve_options<'a>(options: &[Named<'a>]) -> Option<ServedOptions<'a>>
-    ensures value { option_map named_options result ≡ serve_options_of (map word_of options.now) }
-    ensures limits { IfSome result (λ found. AreServeLimits (named_options found)) }
-{
-    if !are_once(
-        options,
-        &["--sessions", "--workers", "--section", "--logs", "--public"],
-    ) {
-        return None;
-    }
-    let sessions = read_sessions(options)?;
-    let workers = read_workers(options)?;
-    let section = read_length(options)?;
-    Some(ServedOptions {
-        sessions,
-        workers,
-        section,
-        logs: find_option(options, "--logs"),
-    })
-}
-
-/// How many sessions are served.
-fn read_sessions(options: &[Named]) -> Option<u32>
-    ensures value { result ≡ sessions_of (map word_of options.now) }
-    ensures limits { IfSome result (λ sessions. (1 ≤ sessions) × (sessions ≤ MAX_SESSIONS)) }
-{
-    let word = find_option(options, "--sessions")?;
-    Some(read_number(word, 1, u64::from(MAX_SESSIONS))? as u32)
-}
-
-/// How many workers serve: the value of the first `--workers`, or else four.
-fn read_workers(options: &[Named]) -> Option<u32>
-    ensures value { result ≡ workers_of (option_named (codes "--workers") (map word_of options.now)) }
-    ensures limits { IfSome result (λ workers. (1 ≤ workers) × (workers ≤ MAX_PASSES)) }
-{
-    let Some(value) = find_option(options, "--workers") else {
-        return Some(WORKERS);
-    };
-    Some(read_number(value, 1, u64::from(MAX_PASSES))? as u32)
-}
-
-/// `NAME --units N [--trees T --height H --base K]`
-fn read_deal<'a>(positional: &[&'a str], options: &[Named]) -> Option<Command<'a>>
-    ensures asked { option_map ask_of result
-        ≡ deal_of (map (λ p. p.now) positional.now) (map word_of options.now) }
-    ensures limits { IfSome result IsWithinLimits }
-{
-    let [name] = positional else {
-        return None;
-    };
-    if !are_once(options, &["--units", "--trees", "--height", "--base"]) {
-        return None;
-    }
-    let params = read_params(options)?;
-    Some(Command::Deal { name, params })
-}
-
-/// What dealt files are made for, if both may be loaded again.
-fn read_params(options: &[Named]) -> Option<Params>
-    ensures params { result ≡ params_of (map word_of options.now) }
-    ensures limits { IfSome result AreParams }
-{
-    let units = read_number(find_option(options, "--units")?, 1, MAX_DEALT_UNITS)?;
-    let trees = find_option(options, "--trees");
-    let height = find_option(options, "--height");
-    let base = find_option(options, "--base");
-    let params = match (trees, height, base) {
-        (None, None, None) => direct_params(units),
-        (Some(trees), Some(height), Some(base)) => read_extended(units, trees, height, base)?,
-        _ => return None,
-    };
-    if are_loadable(&params) {
-        Some(params)
-    } else {
-        None
+    let found = find_words(
+        alloc,
+        words,
+        &["ADDRESS", "FILE", "STATEMENTS"],
+        &["sessions", "workers", "section", "logs"],
+        &[],
+    )?;
+    match found {
+        Some(found) => serve_many_found(alloc, &found),
+        None => Ok(None),
     }
 }
 
-/// What direct files are made for, of so many units.
-fn direct_params(units: u64) -> Params
-    ensures { result ≡ direct_params units }
+/// `prove ADDRESS FILE CIRCUIT BITS OUTPUTS [--public BITS]`
+fn read_prove(alloc: Global, words: &[String]) -> Result<Option<Command>, AllocError>
+    ensures read { IfOk result (λ found.
+        IsReadBy prove_form prove_of (texts words.now) (option_map ask_of found)) }
+    ensures limits { IfOk result (λ found. IfSome found IsWithinLimits) }
 {
-    Params {
-        kind: Kind::Direct,
-        height: 0,
-        trees: 0,
-        base: 0,
-        total: units,
+    let found = find_words(
+        alloc,
+        words,
+        &["ADDRESS", "FILE", "CIRCUIT", "BITS", "OUTPUTS"],
+        &["public"],
+        &[],
+    )?;
+    match found {
+        Some(found) => prove_found(alloc, &found),
+        None => Ok(None),
     }
 }
 
-/// What extended files are made for, of so many units.
-fn read_extended(units: u64, trees: &str, height: &str, base: &str) -> Option<Params>
-    requires at_least_one { 1 ≤ units }
-    requires at_most { units ≤ MAX_DEALT_UNITS }
-    ensures params { result ≡ extended_of units trees.now height.now base.now }
-    ensures limits { IfSome result AreParams }
+/// `audit CIRCUIT OUTPUTS PROVERFILE VERIFIERFILE LOG [--public BITS]`
+fn read_audit(alloc: Global, words: &[String]) -> Result<Option<Command>, AllocError>
+    ensures read { IfOk result (λ found.
+        IsReadBy audit_form audit_of (texts words.now) (option_map ask_of found)) }
+    ensures limits { IfOk result (λ found. IfSome found IsWithinLimits) }
 {
-    let trees = read_number(trees, 1, u64::from(MAX_TREES))? as u32;
-    let height = read_number(height, 1, 16)? as u8;
-    let base = read_number(base, 10, 65_536)? as u32;
-    Some(Params {
-        kind: Kind::Extended,
-        height,
-        trees,
-        base,
-        total: units,
-    })
+    let found = find_words(
+        alloc,
+        words,
+        &["CIRCUIT", "OUTPUTS", "PROVERFILE", "VERIFIERFILE", "LOG"],
+        &["public"],
+        &[],
+    )?;
+    match found {
+        Some(found) => audit_found(alloc, &found),
+        None => Ok(None),
+    }
 }
 
-/// Whether no file of these numbers has more bytes than may be loaded.
-fn are_loadable(params: &Params) -> bool
-    requires { AreParams params.now }
-    ensures { IsTrue result ↔ ((file_length Prover params.now ≤ FILE_LIMIT)
-        × (file_length Verifier params.now ≤ FILE_LIMIT)) }
+/// `deal NAME --units N [--trees T --height H --base K]`
+fn read_deal(alloc: Global, words: &[String]) -> Result<Option<Command>, AllocError>
+    ensures read { IfOk result (λ found.
+        IsReadBy deal_form deal_of (texts words.now) (option_map ask_of found)) }
+    ensures limits { IfOk result (λ found. IfSome found IsWithinLimits) }
 {
-    file_length(Side::Prover, params) <= FILE_LIMIT
-        && file_length(Side::Verifier, params) <= FILE_LIMIT
+    let found = find_words(
+        alloc,
+        words,
+        &["NAME"],
+        &["units", "trees", "height", "base"],
+        &[],
+    )?;
+    match found {
+        Some(found) => deal_found(alloc, &found),
+        None => Ok(None),
+    }
 }

@@ -1,7 +1,7 @@
 //! Tests of the parts that stand below sessions, against values that the program did not make.
 //!
-//! `worked_values` has worked values of the field, checks, circuits and frames, `port_tests` the objects in memory, `dealing_tests` dealt files
-//! and journals against bytes that `vectors/dealt_files.py` computes, which `vectors` has.
+//! `worked_values` has worked values of the field, checks, circuits, frames and findings, `port_tests` the objects in memory,
+//! `dealing_tests` dealt files and journals against bytes that `vectors/dealt_files.py` computes, which `vectors` has.
 #![tactic(auto)]
 
 #[cfg(test)]

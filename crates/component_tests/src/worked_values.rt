@@ -1,4 +1,6 @@
 // Each part of a session at rows that the program did not make.
+ghost use Rattle.std.specs.Prelude.{◌≡◌};
+ghost use Rattle.zk_model.specs.Field.{from_word};
 ghost use Rattle.proof_frames.specs.Readings.{IsShortPlace};
 
 use crate::dealing_tests::{DIRECT, EXTENDED};
@@ -11,6 +13,7 @@ use gate_translate::translate;
 use mersenne_field::{Fe, Pair};
 use mult_check::{check_openings, section_left, section_sums};
 use pad_transfer::Masked;
+use proof_audit::{Finding, opening_finding, section_finding};
 use proof_frames::{
     BadFrame, Decoder, Expect, Frame, encode_asks, encode_elements, encode_replies,
 };
@@ -22,12 +25,16 @@ use zk_coins::CoinBox;
 use zk_model::{FrameKind, Params, Span};
 
 /// The element of a small number.
-fn small(number: u64) -> Fe {
+fn small(number: u64) -> Fe
+    ensures { result ≡ from_word number }
+{
     Fe::from_word(number)
 }
 
 /// The pair of two small numbers.
-fn small_pair(x: u64, m: u64) -> Pair {
+fn small_pair(x: u64, m: u64) -> Pair
+    ensures { result ≡ record { x = from_word x; m = from_word m } }
+{
     Pair {
         x: small(x),
         m: small(m),
@@ -40,6 +47,15 @@ fn circuit_of(alloc: Global, text: &[u8]) -> Result<Circuit, Fail> {
         return Err(Fail::new("no circuit"));
     };
     Ok(circuit)
+}
+
+/// The coefficients of a polynomial.
+fn polynomial(alloc: Global, coefficients: &[u64]) -> Result<Vec<Fe>, Fail> {
+    let elements: Vec<Fe> = coefficients
+        .iter()
+        .map(|a| Fe::from_word(*a))
+        .collect(alloc)?;
+    Ok(elements)
 }
 
 #[test]
@@ -74,6 +90,59 @@ fn both_sides_of_a_check_agree(rt: HostRuntime) {
     assert_eq!(rt; (u, v), (small(409), small(50)));
     assert_eq!(rt; section_left(&[keys], small(2), small(29), key), small(659));
     assert_eq!(rt; u + v * key, small(659));
+}
+
+#[test]
+fn a_wrong_product_with_a_fitting_sum_has_the_key_as_a_root(rt: HostRuntime) -> Result<(), Fail> {
+    let alloc = rt.alloc();
+    let triple = Triple {
+        a: small_pair(1, 10),
+        b: small_pair(1, 20),
+        c: small_pair(0, 7),
+    };
+    let mask = small_pair(4, 9);
+    let (u, v) = (small(459), small(50));
+    let found = section_finding(alloc, &[triple], mask, small(2), u, v)?;
+    let polynomial = polynomial(alloc, &[2_305_843_009_213_693_901, 0, 2])?;
+    assert_eq!(rt; found, Some(Finding::KeyRoot { polynomial }));
+    Ok(())
+}
+
+#[test]
+fn errors_that_cancel_have_the_challenge_as_a_root(rt: HostRuntime) -> Result<(), Fail> {
+    let alloc = rt.alloc();
+    let products = [
+        Triple {
+            a: small_pair(1, 0),
+            b: small_pair(1, 0),
+            c: small_pair(3, 0),
+        },
+        Triple {
+            a: small_pair(1, 0),
+            b: small_pair(1, 0),
+            c: small_pair(0, 0),
+        },
+    ];
+    let (u, v) = (Fe::ZERO, Fe::from_word(2_305_843_009_213_693_951 - 6));
+    let found = section_finding(alloc, &products, small_pair(0, 0), small(2), u, v)?;
+    let polynomial = polynomial(alloc, &[0, 2_305_843_009_213_693_949, 1])?;
+    assert_eq!(rt;
+        found,
+        Some(Finding::ChallengeRoot {
+            section: 0,
+            polynomial
+        })
+    );
+    Ok(())
+}
+
+#[test]
+fn an_opened_wire_with_a_fitting_mac_has_the_key_as_a_root(rt: HostRuntime) -> Result<(), Fail> {
+    let alloc = rt.alloc();
+    let found = opening_finding(alloc, small_pair(1, 7), small(12), false)?;
+    let polynomial = polynomial(alloc, &[2_305_843_009_213_693_946, 1])?;
+    assert_eq!(rt; found, Some(Finding::KeyRoot { polynomial }));
+    Ok(())
 }
 
 #[test]

@@ -1,5 +1,5 @@
 -- What causes a stop, and what does not where a shelf tells what is wanted.
-use Rattle.std.proofs.Common.{◌≡◌, ◌⊎◌, ◌<◌, ℕ, List, length, Option, Some, None, IsSomeAnd, refl, sym, ap, subst, inl, inr, arith}
+use Rattle.std.proofs.Common.{◌≡◌, ◌⊎◌, ◌<◌, ◌≤◌, ◌∙◌, ℕ, Bool, List, length, Option, Some, None, IsSomeAnd, refl, sym, ap, subst, inl, inr, arith}
 use Rattle.std.specs.Prelude.{◌≢◌}
 use Rattle.zk_model.specs.Bristol.{IsText}
 use Rattle.zk_model.specs.Circuit.{Circuit}
@@ -13,7 +13,7 @@ use Rattle.dealer_files.specs.Faults.{IsDealtFile, IsFirstFault}
 use Rattle.dealer_files.specs.declared.fault.FileFault.{FileFault}
 use Rattle.dealer_files.specs.declared.fault.FileFault.TheVariants as file
 use Rattle.file_commands.specs.Effects.{ShelfChange, NameFailed}
-use Rattle.file_commands.specs.Stops.{IsLoaded, IsCircuitFile, HasText, LoadStop, CircuitStop, FileStop, stop_status}
+use Rattle.file_commands.specs.Stops.{IsLoaded, IsCircuitFile, HasCircuit, HasText, LoadStop, CircuitStop, ClaimStop, FileStop, stop_status}
 use Rattle.file_commands.specs.declared.refusal.Refusal.{Refusal}
 use Rattle.file_commands.specs.declared.refusal.Refusal.TheVariants as stop
 
@@ -29,6 +29,23 @@ pub circuit_of_text : (name : List ℕ) (shelf : ShelfChange) (text : List ℕ) 
 circuit_of_text name shelf text why loaded (inl e) = subst (CircuitStop name shelf) (sym e) tt
 circuit_of_text name shelf text why loaded (inr unread) =
     subst (CircuitStop name shelf) (sym unread.2) (record { text = text; loaded = loaded; says = unread.1 })
+
+pub claim_of_circuit : (name : List ℕ) (public outputs : List Bool) (shelf : ShelfChange) (why : Refusal) → CircuitStop name shelf why
+    → ClaimStop name public outputs shelf why
+claim_of_circuit name public outputs shelf (stop.ManyPublic inputs got) cause = absurd cause
+claim_of_circuit name public outputs shelf (stop.WrongOutputs need got) cause = absurd cause
+claim_of_circuit name public outputs shelf other cause = cause
+
+-- a dealt file that can't be had
+pub file_of_load : (side : Side) (name : List ℕ) (shelf : ShelfChange) (why : Refusal) → LoadStop name shelf why → FileStop side name shelf why
+file_of_load side name shelf (stop.BadFile fault) cause = absurd cause
+file_of_load side name shelf other cause = cause
+
+-- nor one whose bytes are none
+pub file_of_bytes : (side : Side) (name : List ℕ) (shelf : ShelfChange) (text read : List ℕ) (fault : FileFault)
+    → IsLoaded shelf.old.told name text → read ≡ text → IsFirstFault side read fault → FileStop side name shelf (stop.BadFile fault)
+file_of_bytes side name shelf text read fault loaded same first =
+    record { text = text; loaded = loaded; says = subst (λ (bytes : List ℕ). IsFirstFault side bytes fault) same first }
 
 -- ---- where a shelf tells, nothing else stands under a name than what is told
 
@@ -68,6 +85,23 @@ circuit_lacks one name shelf circuit tells file calm (stop.BadText fault) cause 
     absurd (cause.says.no_circuit circuit (subst (IsText circuit) (sym same) file.says))
 circuit_lacks one name shelf circuit tells file calm other cause =
     load_lacks name shelf file.text tells file.loaded calm other cause
+
+-- nor a claim, where the circuit has inputs for the public bits and as many outputs as are claimed
+pub claim_lacks : OneCircuit → (name : List ℕ) (public outputs : List Bool) (shelf : ShelfChange) → shelf.old.told ≢ None
+    → HasCircuit shelf.old.told name (λ circuit. (length public ≤ circuit.inputs) × (length outputs ≡ circuit.outputs))
+    → ¬ NameFailed name shelf → (why : Refusal) → ClaimStop name public outputs shelf why → why ≡ stop.NoMemory
+claim_lacks one name public outputs shelf tells ready calm (stop.ManyPublic inputs got) cause =
+    let same = ap (λ c. c.inputs) (told_circuit one shelf.old.told name ready.circuit cause.circuit tells ready.file cause.file) in
+    let few = ready.is.0 in
+    let has = cause.is.has in
+    let given = cause.is.given in
+    let beyond = cause.is.beyond in
+    absurd (omega (arith, same, few, has, given, beyond))
+claim_lacks one name public outputs shelf tells ready calm (stop.WrongOutputs need got) cause =
+    let same = told_circuit one shelf.old.told name ready.circuit cause.circuit tells ready.file cause.file in
+    absurd (cause.is.3 (cause.is.1 ∙ ap (λ c. c.outputs) same ∙ sym ready.is.1 ∙ sym cause.is.2))
+claim_lacks one name public outputs shelf tells ready calm other cause =
+    circuit_lacks one name shelf ready.circuit tells ready.file calm other cause
 
 undecoded_7 : (side : Side) (bytes : List ℕ) (fault : FileFault) → IsDealtFile side bytes → IsFirstFault side bytes fault
     → stop_status (stop.BadFile fault) ≡ 7

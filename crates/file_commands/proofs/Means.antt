@@ -49,6 +49,10 @@ high_stop (stop.TooLong limit) high = omega arith
 high_stop (stop.ManyPublic inputs got) high = omega arith
 high_stop (stop.WrongBits need got) high = omega arith
 high_stop (stop.WrongOutputs need got) high = omega arith
+high_stop (stop.NotDealt unit) high = omega arith
+high_stop (stop.BadLog place) high = omega arith
+high_stop (stop.StatementLine line) high = omega arith
+high_stop (stop.StatementCount lines) high = omega arith
 high_stop (stop.Unsatisfied output) high = absurd high
 high_stop stop.DoorFailed high = omega arith
 high_stop stop.ShelfFailed high = omega arith
@@ -90,6 +94,14 @@ zero_answers text answer sink (inl (inr (inl fault))) = inr (inl (fault.0, fault
 zero_answers text answer sink (inl (inr (inr short))) = inr (inr short.0)
 zero_answers text answer sink (inr prints) = inr (inr (memory_answers answer sink prints))
 
+-- of a line of status 0 or 1
+pub low_answers : (status : ℕ) (text : List ℕ) (answer : ℕ) (sink : SinkChange) → after_sink_fault status ≡ 4 → PrintsMade status text answer sink
+    → ((answer ≡ status) × WritesAll text sink) ⊎ ((answer ≡ 4) × SinkFailed sink) ⊎ (answer ≡ 7)
+low_answers status text answer sink four (inl (inl whole)) = inl whole
+low_answers status text answer sink four (inl (inr (inl fault))) = inr (inl (fault.0 ∙ four, fault.2))
+low_answers status text answer sink four (inl (inr (inr short))) = inr (inr short.0)
+low_answers status text answer sink four (inr prints) = inr (inr (memory_answers answer sink prints))
+
 -- ---- what the status says
 
 -- of a run whose text is written
@@ -127,6 +139,10 @@ stop_means Does Cause IsNamed run asked undoored undisked satisfied failed says 
     of_stop (stop.ManyPublic inputs got) cause at = inr (inl (at, (stop.ManyPublic inputs got, cause, refl)))
     of_stop (stop.WrongBits need got) cause at = inr (inl (at, (stop.WrongBits need got, cause, refl)))
     of_stop (stop.WrongOutputs need got) cause at = inr (inl (at, (stop.WrongOutputs need got, cause, refl)))
+    of_stop (stop.NotDealt unit) cause at = inr (inl (at, (stop.NotDealt unit, cause, refl)))
+    of_stop (stop.BadLog place) cause at = inr (inl (at, (stop.BadLog place, cause, refl)))
+    of_stop (stop.StatementLine line) cause at = inr (inl (at, (stop.StatementLine line, cause, refl)))
+    of_stop (stop.StatementCount lines) cause at = inr (inl (at, (stop.StatementCount lines, cause, refl)))
     of_stop stop.DoorFailed cause at = absurd (undoored cause)
     of_stop stop.ShelfFailed cause at = inr (inr (inl (at, inl (failed cause))))
     of_stop stop.NoMemory cause at = inr (inr (inr (inl at)))
@@ -148,6 +164,10 @@ no_nine Cause small found = of_stop found.0 found.1 found.2
     of_stop (stop.ManyPublic inputs got) cause at = omega (arith, at)
     of_stop (stop.WrongBits need got) cause at = omega (arith, at)
     of_stop (stop.WrongOutputs need got) cause at = omega (arith, at)
+    of_stop (stop.NotDealt unit) cause at = omega (arith, at)
+    of_stop (stop.BadLog place) cause at = omega (arith, at)
+    of_stop (stop.StatementLine line) cause at = omega (arith, at)
+    of_stop (stop.StatementCount lines) cause at = omega (arith, at)
     of_stop (stop.Unsatisfied output) cause at = omega (arith, at)
     of_stop stop.DoorFailed cause at = omega (arith, at)
     of_stop stop.ShelfFailed cause at = omega (arith, at)

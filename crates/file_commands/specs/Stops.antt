@@ -79,7 +79,7 @@ file_line file.NoMemory = codes "memory\n"
 
 -- the line that is written
 abbrev pub stop_line : Refusal → List ℕ
-stop_line stop.Usage = codes "usage: zk deal, eval, rehearse, prove, serve or audit\n"
+stop_line stop.Usage = codes "usage: zk deal, eval, rehearse, prove, serve, serve-many or audit\n"
 stop_line (stop.BadText fault) = fault_line fault
 stop_line (stop.BadFile fault) = file_line fault
 stop_line (stop.TooLong limit) = refused_line (codes "TooLong 0") limit
@@ -88,6 +88,10 @@ stop_line (stop.WrongBits need got) = pair_line (codes "refused bits") need got
 stop_line (stop.WrongOutputs need got) = pair_line (codes "refused outputs") need got
 stop_line (stop.Unsatisfied output) = codes "unsatisfied " ++ decimal output ++ codes "\n"
 stop_line (stop.TooLarge need units) = pair_line (codes "too large") need units
+stop_line (stop.NotDealt unit) = refused_line (codes "NotDealt 8") unit
+stop_line (stop.BadLog place) = refused_line (codes "LogFault 1") place
+stop_line (stop.StatementLine line) = refused_line (codes "BadLine 1") line
+stop_line (stop.StatementCount lines) = refused_line (codes "Count 2") lines
 stop_line stop.ShelfFailed = codes "failed shelf\n"
 stop_line stop.DoorFailed = codes "failed door\n"
 stop_line (stop.JournalShort need got) = pair_line (codes "refused Short 1") need got
@@ -107,6 +111,10 @@ stop_status (stop.ManyPublic inputs got) = 3
 stop_status (stop.WrongBits need got) = 3
 stop_status (stop.WrongOutputs need got) = 3
 stop_status (stop.Unsatisfied output) = 1
+stop_status (stop.NotDealt unit) = 3
+stop_status (stop.BadLog place) = 3
+stop_status (stop.StatementLine line) = 3
+stop_status (stop.StatementCount lines) = 3
 stop_status stop.ShelfFailed = 4
 stop_status stop.DoorFailed = 4
 stop_status (stop.JournalShort need got) = 3
@@ -207,6 +215,19 @@ pub record HasFewInputs (circuit : Circuit) (public : List Bool) (inputs got : �
 abbrev pub PublicStop : Circuit → List Bool → Refusal → Type 0
 PublicStop circuit public (stop.ManyPublic inputs got) = HasFewInputs circuit public inputs got
 PublicStop circuit public other = ⊥
+
+-- why there is no claim: the circuit has fewer inputs than there are public bits, or another number of outputs; or it can't be had
+abbrev pub ClaimStop : List ℕ → List Bool → List Bool → ShelfChange → Refusal → Type 0
+ClaimStop name public outputs shelf (stop.ManyPublic inputs got) =
+    HasCircuit shelf.old.told name (λ circuit. HasFewInputs circuit public inputs got)
+ClaimStop name public outputs shelf (stop.WrongOutputs need got) = HasCircuit shelf.old.told name
+    (λ circuit. (length public ≤ circuit.inputs) × (need ≡ circuit.outputs) × (got ≡ length outputs) × (need ≢ got))
+ClaimStop name public outputs shelf other = CircuitStop name shelf other
+
+-- why these can't be its outputs
+abbrev pub OutputsStop : Circuit → List Bool → Refusal → Type 0
+OutputsStop circuit outputs (stop.WrongOutputs need got) = (need ≡ circuit.outputs) × (got ≡ length outputs) × (need ≢ got)
+OutputsStop circuit outputs other = ⊥
 
 -- a shelf that tells has this circuit under the name, and the bits fit it
 pub record IsReady (told : Option Files) (name : List ℕ) (bits : List Bool) (circuit : Circuit) : Type 0 where

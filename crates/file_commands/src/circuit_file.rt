@@ -5,11 +5,14 @@ ghost use Rattle.zk_model.specs.declared.ReadFault.{ReadFault};
 ghost use Rattle.zk_port.specs.Changes.{change};
 ghost use Rattle.bristol_reader.specs.Reads.{IsOnlyFault};
 ghost use Rattle.file_commands.specs.Effects.{OnlyLoads, IsName};
-ghost use Rattle.file_commands.specs.Stops.{IsLoaded, IsCircuitFile, LoadStop, CircuitStop, PublicStop};
+ghost use Rattle.zk_model.specs.Statement.{circuit_statement};
+ghost use Rattle.zk_model.specs.Bytes.{AreBytes};
+ghost use Rattle.file_commands.specs.Stops.{IsLoaded, IsClaim, IsCircuitFile, LoadStop, CircuitStop, ClaimStop, OutputsStop, PublicStop};
 ghost use Rattle.file_commands.specs.declared.refusal.Refusal.TheVariants as stops;
 
 use crate::refusal::Refusal;
 use bristol_reader::{Circuit, ReadError, read};
+use sha2::{Digest, Sha256};
 use std::alloc::Global;
 use zk_model::FILE_LIMIT;
 use zk_port::{LoadFault, Shelf};
@@ -63,4 +66,47 @@ pub fn load_circuit<F: Shelf>(alloc: Global, shelf: &mut F, name: &str) -> Resul
 {
     let text = load_file(alloc, shelf, name)?;
     read_circuit(alloc, &text)
+}
+
+/// A circuit about whose outputs a claim is, with SHA-256 of its text.
+#[derive(Drop)]
+pub struct ClaimedCircuit {
+    pub circuit: Circuit,
+    pub digest: [u8; 32],
+}
+
+/// Whether as many outputs are claimed as the circuit has.
+fn check_outputs(circuit: &Circuit, outputs: &[bool]) -> Result<(), Refusal>
+    ensures fits { OnOk result (length outputs.now ≡ circuit.now.outputs) }
+    ensures stop { IfErr result (OutputsStop circuit.now outputs.now) }
+{
+    let (need, got) = (circuit.outputs() as u64, outputs.len() as u64);
+    if need != got {
+        return Err(Refusal::WrongOutputs { need, got });
+    }
+    Ok(())
+}
+
+/// The circuit that the file of this name says, of which with these public bits these outputs may be claimed.
+pub fn load_claimed<F: Shelf>(
+    alloc: Global,
+    shelf: &mut F,
+    name: &str,
+    public: &[bool],
+    outputs: &[bool],
+) -> Result<ClaimedCircuit, Refusal>
+    ensures claim { IfOk result (λ claimed. IsClaim (F.state shelf.old).told name.now public.now outputs.now
+        claimed.circuit (circuit_statement claimed.circuit claimed.digest public.now outputs.now)) }
+    ensures digest { IfOk result (λ claimed. AreBytes 32 claimed.digest) }
+    ensures stop { IfErr result (ClaimStop name.now public.now outputs.now
+        (change (F.state shelf.old) (F.state shelf.new))) }
+    ensures kept { OnlyLoads (IsName name.now) (change (F.state shelf.old) (F.state shelf.new)) }
+    ensures quiet { OnOk result (F.state shelf.new ≡ F.state shelf.old) }
+{
+    let text = load_file(alloc, shelf, name)?;
+    let circuit = read_circuit(alloc, &text)?;
+    check_public(&circuit, public)?;
+    check_outputs(&circuit, outputs)?;
+    let digest = Sha256::digest(&text);
+    Ok(ClaimedCircuit { circuit, digest })
 }

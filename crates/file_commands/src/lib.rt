@@ -1,17 +1,21 @@
 //! What commands load, open, say and stop by; and the commands that hold no session: `deal` and `eval`.
 //!
-//! `zk_cli` has the other commands and the top call.
+//! `proof_audit` has `audit`, and `zk_cli` the other commands and the top call.
 #![tactic(auto)]
 
 mod circuit_file;
 mod deal_command;
+mod dealt_file;
 mod eval_command;
 mod journal_file;
 mod refusal;
 mod saying;
 
-pub use circuit_file::{check_public, load_circuit, load_file, read_circuit};
+pub use circuit_file::{
+    ClaimedCircuit, check_public, load_circuit, load_claimed, load_file, read_circuit,
+};
 pub use deal_command::run_deal;
+pub use dealt_file::{load_prover, load_verifier};
 pub use eval_command::run_eval;
 pub use journal_file::{open_ceilings, open_claims};
 pub use refusal::Refusal;

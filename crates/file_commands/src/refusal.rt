@@ -9,6 +9,8 @@ use std::alloc::AllocError;
 /// Why a run stops before its work is done; each has its status and its line.
 #[derive(Clone, Copy, Debug, PartialEq, Eq)]
 pub enum Refusal {
+    /// Memory was missing.
+    NoMemory,
     /// The words ask for nothing.
     Usage,
     /// A circuit's text is refused.
@@ -27,6 +29,14 @@ pub enum Refusal {
     Unsatisfied { output: u64 },
     /// The session needs so many correlations, and units of them above 4,096.
     TooLarge { need: u64, units: u64 },
+    /// Two dealt files are not of one dealing: the first unit that is not.
+    NotDealt { unit: u64 },
+    /// The log of a session has a fault at this byte.
+    BadLog { place: u64 },
+    /// This line of a file of statements, counted from 0, names none.
+    StatementLine { line: u64 },
+    /// A file of statements has so many lines, none or too many.
+    StatementCount { lines: u64 },
     /// A call of the shelf failed.
     ShelfFailed,
     /// The door does not listen.
@@ -39,8 +49,6 @@ pub enum Refusal {
     JournalBody { slot: u64 },
     /// A call of the disk failed, which has failed so often now.
     JournalFailed { count: u64 },
-    /// Memory was missing.
-    NoMemory,
 }
 
 impl From<AllocError> for Refusal {

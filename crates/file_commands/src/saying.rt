@@ -85,7 +85,7 @@ fn write_stop(alloc: Global, stop: Refusal) -> Result<String, AllocError>
         Refusal::Usage => {
             String::from_str(
                 alloc,
-                "usage: zk deal, eval, rehearse, prove, serve or audit\n",
+                "usage: zk deal, eval, rehearse, prove, serve, serve-many or audit\n",
             )
         }
         Refusal::BadText(fault) => write_fault(alloc, fault),
@@ -96,6 +96,10 @@ fn write_stop(alloc: Global, stop: Refusal) -> Result<String, AllocError>
         Refusal::WrongOutputs { need, got } => write_pair(alloc, "refused outputs", need, got),
         Refusal::Unsatisfied { output } => Ok(format!(in alloc; "unsatisfied {output}\n")?),
         Refusal::TooLarge { need, units } => write_pair(alloc, "too large", need, units),
+        Refusal::NotDealt { unit } => write_refused(alloc, "NotDealt 8", unit),
+        Refusal::BadLog { place } => write_refused(alloc, "LogFault 1", place),
+        Refusal::StatementLine { line } => write_refused(alloc, "BadLine 1", line),
+        Refusal::StatementCount { lines } => write_refused(alloc, "Count 2", lines),
         Refusal::ShelfFailed => String::from_str(alloc, "failed shelf\n"),
         Refusal::DoorFailed => String::from_str(alloc, "failed door\n"),
         Refusal::JournalShort { need, got } => write_pair(alloc, "refused Short 1", need, got),
@@ -120,6 +124,10 @@ fn status_of(stop: Refusal) -> u8
         | Refusal::ManyPublic { .. }
         | Refusal::WrongBits { .. }
         | Refusal::WrongOutputs { .. }
+        | Refusal::NotDealt { .. }
+        | Refusal::BadLog { .. }
+        | Refusal::StatementLine { .. }
+        | Refusal::StatementCount { .. }
         | Refusal::JournalShort { .. }
         | Refusal::JournalHeader { .. }
         | Refusal::JournalBody { .. } => 3,

@@ -1,9 +1,9 @@
 -- What a receive that brings nothing, or a bad byte, makes of a line.
-use Rattle.std.proofs.Common.{◌≡◌, ◌⊎◌, ℕ, ◌+◌, ◌≤◌, ◌<◌, List, [], ◌∷◌, ◌++◌, length, take, Option, Some, None, Bool, true, refl, ap, sym, ◌∙◌, subst, arith, append-nil, append_assoc}
-use Rattle.std.proofs.Common.{Result, Ok, Err, IfErr, OnOk, inl, inr, false, if◌then◌else◌, nat_eq, length-append}
+use Rattle.std.proofs.Common.{◌≡◌, ◌⊎◌, ℕ, ◌+◌, ◌≤◌, ◌<◌, List, [], ◌∷◌, ◌++◌, length, take, Option, Some, None, Bool, true, refl, ap, sym, ◌∙◌, subst, arith, append-nil, append_assoc, Result, Ok, Err, IfErr, OnOk, inl, inr, false, if◌then◌else◌, nat_eq, length-append, flat_map, add-one}
 use Rattle.std.specs.Result.{IsErrAnd}
-use Rattle.std.proofs.lemmas.List.{take_all, map-append}
-use Rattle.zk_model.specs.Frames.{CanGoOn, IsFirstBad}
+use Rattle.std.proofs.lemmas.List.{take_all, map-append, take-map}
+use Rattle.std.proofs.lemmas.Option.{none-some, same_Some}
+use Rattle.zk_model.specs.Frames.{CanGoOn, IsFirstBad, frame_length, bytes_wanted, Frame, frame_spelling}
 use Rattle.proof_frames.proofs.Begun.{held_goes_on}
 use Rattle.proof_frames.proofs.Lengths.{told_within}
 use Rattle.proof_frames.proofs.Steps.{nothing_held}
@@ -12,17 +12,20 @@ use Rattle.proof_frames.specs.declared.decoder.BadFrame.{BadFrame}
 use Rattle.frame_link.specs.declared.fault.LineFault.{LineFault}
 use Rattle.frame_link.specs.declared.fault.LineFault.TheVariants as fault
 use Rattle.zk_model.specs.Transcript.{bytes_from}
-use Rattle.zk_model.specs.Frames.{frame_length, bytes_wanted}
 use Rattle.zk_model.specs.declared.Expect.{Expect}
 use Rattle.zk_model.specs.declared.Expect.TheVariants as expect
 use Rattle.zk_model.specs.declared.Side.{Side}
-use Rattle.zk_port.specs.Counts.{Rose}
-use Rattle.zk_port.specs.Logs.{appended, put_before}
+use Rattle.zk_port.specs.Counts.{Rose, counted}
+use Rattle.zk_port.specs.Logs.{appended, put_before, bytes_of}
 use Rattle.zk_port.specs.declared.fault.PortFault.{PortFault}
 use Rattle.zk_port.specs.declared.fault.PortFault.TheVariants as port
-use Rattle.frame_link.specs.Sides.{peer_of}
-use Rattle.frame_link.specs.Lines.{LineState, Came, Breaks, PieceComes, PiecesBegin, Fails, PieceFails, CountsFault, IsPartOnly, port_fault, longest}
+use Rattle.frame_link.specs.Sides.{peer_of, side_of, seen_by}
+use Rattle.frame_link.specs.Lines.{LineState, Came, Breaks, PieceComes, PiecesBegin, Fails, PieceFails, CountsFault, IsPartOnly, port_fault, longest, Sends, OnlySends, counted_times, line_state, IsSendRefused, IsSendCause, RefusesReceive}
 use Rattle.frame_link.specs.declared.fault.LineFault.TheVariants.{Link, NoMemory}
+use Rattle.std.specs.Option.{option_map}
+use Rattle.zk_port.specs.Links.{LinkState, after_send, SendsPart, Receives}
+use Rattle.zk_port.specs.declared.way.Way.{Way}
+use Rattle.zk_port.specs.declared.way.Way.TheVariants.{Sent, Received}
 
 pub appended_none : {T : Type 0} (told : Option (List T)) → told ≡ appended [] told
 appended_none None = refl
@@ -107,19 +110,8 @@ done_as P result value is holds = subst (λ r. OnOk r P) (sym is) holds
 pub done_not : {T E : Type 0} (P : Type 0) (result : Result T E) (fault : E) → result ≡ Err fault → OnOk result P
 done_not P result fault is = subst (λ r. OnOk r P) (sym is) tt
 
-same_place : (some other : Expect) → Some some ≡ Some other → some ≡ other
-same_place some other same = ap (λ (o : Option Expect). or_else o) same
-  where
-    or_else : Option Expect → Expect
-    or_else None = some
-    or_else (Some place) = place
-
 pub none_is_some : {T : Type 0} {value : T} → None ≡ Some value → ⊥
-none_is_some same = subst (λ o. if_none o) same tt
-  where
-    if_none : {T : Type 0} → Option T → Type 0
-    if_none None = Unit {0}
-    if_none (Some value) = ⊥
+none_is_some same = none-some _ same
 
 -- a byte was bad
 pub fed_badly : (place : Expect) (old new : LineState) (piece : List ℕ) (bad : BadFrame) → Came piece old new
@@ -130,7 +122,7 @@ pub fed_badly : (place : Expect) (old new : LineState) (piece : List ℕ) (bad :
     → PieceFails place (fault.BadFrame bad.place) old new
 fed_badly place old new piece bad came fine expected few within (inl again) receives unfailed = absurd (none_is_some (sym fine ∙ again.0))
 fed_badly place old new piece bad came fine expected few within (inr turns) receives unfailed =
-    let there : turns.place ≡ place = same_place turns.place place (sym turns.expected ∙ expected) in
+    let there : turns.place ≡ place = same_Some turns.place place (sym turns.expected ∙ expected) in
     let all : take (bytes_wanted turns.place old.reading.taken) piece ≡ piece =
     ap (λ p. take (bytes_wanted p old.reading.taken) piece) there ∙ take_all (bytes_wanted place old.reading.taken) piece few in
     let most = frame_most place old.reading.taken in
@@ -249,3 +241,132 @@ pub is_done : (reading : Reading) (place : Expect) → reading.bad ≡ None → 
 is_done reading place fine expected none (inl (inl idle)) = none_is_some (sym idle ∙ expected)
 is_done reading place fine expected none (inl (inr bad)) = bad fine
 is_done reading place fine expected none (inr some) = absurd (omega (arith, none, some))
+
+-- ---- what an answer makes of a line, and one send more
+
+-- one send more
+pub one_send_more : (n before now : ℕ) → now ≡ counted true (counted_times n before) → now ≡ counted_times (n + 1) before
+one_send_more n before now is = is ∙ ap (λ (k : ℕ). counted_times k before) (sym (add-one n))
+
+-- a line after an answer, whether it has frames or none
+pub record IsAnswered (answer : List Frame) (old new : LineState) : Type 0 where
+  pub logged : new.log ≡ old.log ++ bytes_from old.side (flat_map frame_spelling answer)
+  pub told : new.told ≡ appended (bytes_from old.side (flat_map frame_spelling answer)) old.told
+  pub sends : ((answer ≡ []) × (new.sends ≡ old.sends)) ⊎ ((1 ≤ length answer) × (new.sends ≡ counted true old.sends))
+  pub others : OnlySends old new
+  pub unfailed : new.faults ≡ old.faults
+
+nothing_sent : (old new : LineState) → new ≡ old → IsAnswered [] old new
+nothing_sent old new same = record {
+  logged = ap (λ (l : LineState). l.log) same ∙ sym (append-nil old.log);
+  told = ap (λ (l : LineState). l.told) same ∙ appended_none old.told;
+  sends = inl (refl, ap (λ (l : LineState). l.sends) same);
+  others = record {
+    side = ap (λ (l : LineState). l.side) same;
+    reading = ap (λ (l : LineState). l.reading) same;
+    to_come = ap (λ (l : LineState). l.to_come) same;
+    ended = ap (λ (l : LineState). l.ended) same;
+    is_open = ap (λ (l : LineState). l.is_open) same;
+    receives = ap (λ (l : LineState). l.receives) same;
+  };
+  unfailed = ap (λ (l : LineState). l.faults) same;
+}
+
+pub is_answered : (answer : List Frame) (old new : LineState)
+    → ((answer ≡ []) × (new ≡ old)) ⊎ ((1 ≤ length answer) × Sends (flat_map frame_spelling answer) old new)
+    → IsAnswered answer old new
+is_answered answer old new (inl none) = subst (λ a. IsAnswered a old new) (sym none.0) (nothing_sent old new none.1)
+is_answered answer old new (inr some) = record {
+  logged = some.1.logged;
+  told = some.1.told;
+  sends = inr (some.0, some.1.sends);
+  others = some.1.others;
+  unfailed = some.1.unfailed;
+}
+
+-- ---- what a link tells, seen from one side
+
+seen-bytes_of : (mine : Side) (way : Way) (bytes : List ℕ) → seen_by mine (bytes_of way bytes) ≡ bytes_from (side_of mine way) bytes
+seen-bytes_of mine way [] = refl
+seen-bytes_of mine way (b ∷ bytes) = ap (λ l. (side_of mine way, b) ∷ l) (seen-bytes_of mine way bytes)
+
+-- bytes that went one way, after a log
+pub seen-appended : (mine : Side) (way : Way) (bytes : List ℕ) (told : Option (List (Way × ℕ)))
+    → option_map (seen_by mine) (appended (bytes_of way bytes) told) ≡ appended (bytes_from (side_of mine way) bytes) (option_map (seen_by mine) told)
+seen-appended mine way bytes None = refl
+seen-appended mine way bytes (Some before) =
+    ap Some (map-append (λ (e : Way × ℕ). (side_of mine e.0, e.1)) before (bytes_of way bytes) ∙ ap (λ l. seen_by mine before ++ l) (seen-bytes_of mine way bytes))
+
+-- a receive
+pub came_by : (side : Side) (log : List (Side × ℕ)) (was reading : Reading) (room size n : ℕ) (piece : List ℕ) (old new : LinkState) → Receives size n piece old new
+    → Came piece (line_state side log was room old) (line_state side (log ++ bytes_from (peer_of side) piece) reading room new)
+came_by side log was reading room size n piece old new is = record {
+  logged = refl;
+  told = ap (λ (s : LinkState). option_map (seen_by side) s.log) is.taken ∙ seen-appended side Received piece old.log;
+  came = is.next;
+  side = refl;
+  is_open = ap (λ (s : LinkState). s.is_open) is.taken;
+  sends = ap (λ (s : LinkState). s.sends) is.taken;
+  room = refl;
+}
+
+-- and counts once
+pub counted_receive : (before now : ℕ) → now ≡ counted true before → now ≤ before + 1
+counted_receive before now is = omega (arith, is)
+
+-- a receive that was refused
+pub untaken_by : (side : Side) (log : List (Side × ℕ)) (reading : Reading) (room : ℕ) (old new : LinkState) → RefusesReceive old new
+    → Came [] (line_state side log reading room old) (line_state side log reading room new)
+untaken_by side log reading room old new is =
+    came_none (line_state side log reading room old) (line_state side log reading room new) refl
+    (ap (λ (s : LinkState). option_map (seen_by side) s.log) is.untaken) (ap (λ (s : LinkState). s.to_come) is.untaken) refl
+    (ap (λ (s : LinkState). s.is_open) is.untaken) (ap (λ (s : LinkState). s.sends) is.untaken) refl
+
+-- a send
+pub sends_by : (side : Side) (log : List (Side × ℕ)) (reading : Reading) (room left : ℕ) (bytes : List ℕ) (old new : LinkState) → new ≡ after_send bytes old
+    → Sends bytes (line_state side log reading room old) (line_state side (log ++ bytes_from side bytes) reading left new)
+sends_by side log reading room left bytes old new is = record {
+  logged = refl;
+  told = ap (λ (s : LinkState). option_map (seen_by side) s.log) is ∙ seen-appended side Sent bytes old.log;
+  sends = ap (λ (s : LinkState). s.sends) is;
+  others = record {
+    side = refl;
+    reading = refl;
+    to_come = ap (λ (s : LinkState). s.to_come) is;
+    ended = ap (λ (s : LinkState). s.ended) is;
+    is_open = ap (λ (s : LinkState). s.is_open) is;
+    receives = ap (λ (s : LinkState). s.receives) is;
+  };
+  unfailed = ap (λ (s : LinkState). s.faults) is;
+}
+
+send_cause : (refused : PortFault) (old new : LineState) → (refused ≡ port.Failed → IsSendCause old new fault.Link) → IsSendCause old new (port_fault refused)
+send_cause port.Failed old new rose = rose refl
+send_cause port.NoMemory old new rose = tt
+
+-- a send that was refused
+pub unsent_by : (side : Side) (log : List (Side × ℕ)) (reading : Reading) (room : ℕ) (bytes : List ℕ) (refused : PortFault) (old new : LinkState) → SendsPart bytes old new
+    → old.faults ≤ new.faults → (refused ≡ port.Failed → Rose old.faults new.faults) → (refused ≡ port.NoMemory → new.faults ≡ old.faults)
+    → IsSendRefused bytes (port_fault refused) (line_state side log reading room old) (line_state side log reading room new)
+unsent_by side log reading room bytes refused old new is later rose same =
+    let before = line_state side log reading room old in
+    let after = line_state side log reading room new in
+    record {
+      logged = refl;
+      told = record {
+        count = is.count;
+        part = ap (λ (s : LinkState). option_map (seen_by side) s.log) is.part ∙ seen-appended side Sent (take is.count bytes) old.log
+            ∙ ap (λ l. appended l (option_map (seen_by side) old.log)) (sym (take-map (λ (byte : ℕ). (side, byte)) is.count bytes));
+      };
+      sends = ap (λ (s : LinkState). s.sends) is.part;
+      others = record {
+        side = refl;
+        reading = refl;
+        to_come = ap (λ (s : LinkState). s.to_come) is.part;
+        ended = ap (λ (s : LinkState). s.ended) is.part;
+        is_open = ap (λ (s : LinkState). s.is_open) is.part;
+        receives = ap (λ (s : LinkState). s.receives) is.part;
+      };
+      cause = send_cause refused before after rose;
+      count = counts_by before after refused later same;
+    }

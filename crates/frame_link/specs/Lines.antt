@@ -55,37 +55,20 @@ snapshot side log link = record {
   faults = link.faults;
 }
 
--- One end of a stream: whose end it is, what is logged, what was read of the peer's bytes, for how many bytes of one send there is
--- room in the log, and what the link tells: its log, seen from this side, what is to come, whether the peer has ended, whether it
--- is open, and how many sends, receives and failed calls there were.
+-- One end of a stream: whose end it is, what was read of the peer's bytes, for how many bytes of one send there is room in the log,
+-- whether the link is open, and what is logged and the link tells.
 pub record LineState : Type 0 where
   pub side : Side
-  pub log : List (Side × ℕ)
   pub reading : Reading
   pub room : ℕ
-  pub told : Option (List (Side × ℕ))
-  pub to_come : Option (List ℕ)
-  pub ended : Option Bool
   pub is_open : Bool
-  pub sends : ℕ
-  pub receives : ℕ
-  pub faults : ℕ
+  pub seen : LinkSnapshot
+  pub open seen use *
 
 -- by the side, what is logged, what was read, the room, and what the link tells
 abbrev pub line_state : Side → List (Side × ℕ) → Reading → ℕ → LinkState → LineState
-line_state side log reading room link = record {
-  side = side;
-  log = log;
-  reading = reading;
-  room = room;
-  told = option_map (seen_by side) link.log;
-  to_come = link.to_come;
-  ended = link.ended;
-  is_open = link.is_open;
-  sends = link.sends;
-  receives = link.receives;
-  faults = link.faults;
-}
+line_state side log reading room link =
+    record { side = side; reading = reading; room = room; is_open = link.is_open; seen = snapshot side log link }
 
 -- a line of this side over which nothing is logged or read yet
 abbrev pub fresh_line : Side → LinkState → LineState
@@ -93,15 +76,7 @@ fresh_line side link = line_state side [] (record { received = 0; expected = Non
 
 -- what is logged on a line, and what its link tells
 abbrev pub snapshot_of : LineState → LinkSnapshot
-snapshot_of line = record {
-  log = line.log;
-  told = line.told;
-  to_come = line.to_come;
-  ended = line.ended;
-  sends = line.sends;
-  receives = line.receives;
-  faults = line.faults;
-}
+snapshot_of line = line.seen
 
 -- These bytes of the peer's have come: they are logged, the link tells them, and they are no longer to come; nothing is sent, and
 -- the room in the log stays.
@@ -149,13 +124,8 @@ pub record Arrives (place : Expect) (frame : Frame) (old new : LineState) : Type
 abbrev pub longest : Expect → ℕ
 longest expect.Hello = LONG_HELLO_LENGTH
 longest expect.Grant = 21
-longest (expect.Ask height trees left) = frame_length (expect.Ask height trees left) []
-longest (expect.Reply height trees left) = frame_length (expect.Reply height trees left) []
-longest (expect.Corrections count) = frame_length (expect.Corrections count) []
-longest expect.Challenge = frame_length expect.Challenge []
-longest (expect.Sums sections) = frame_length (expect.Sums sections) []
-longest (expect.Openings count) = frame_length (expect.Openings count) []
 longest expect.Verdict = 10
+longest place = frame_length place []
 
 -- Why no frame came, where these are all bytes of it that came: the peer has ended, with bytes still wanted; one of them is
 -- bad; the link failed; memory was missing.
@@ -172,10 +142,8 @@ Breaks place bytes old new NoMemory = Unit {0}
 
 -- it is not the link that failed
 abbrev pub IsNoLink : LineFault → Type 0
-IsNoLink (PeerEnded at) = Unit {0}
-IsNoLink (BadFrame at) = Unit {0}
 IsNoLink Link = ⊥
-IsNoLink NoMemory = Unit {0}
+IsNoLink fault = Unit {0}
 
 -- no failed call but where the link failed
 pub record CountsFault (fault : LineFault) (old new : LineState) : Type 0 where
@@ -189,10 +157,8 @@ pub record IsCutShort (place : Expect) (bytes : List ℕ) : Type 0 where
 
 -- it is no bad byte for which no frame came
 abbrev pub IsNoBadByte : LineFault → Type 0
-IsNoBadByte (PeerEnded at) = Unit {0}
 IsNoBadByte (BadFrame at) = ⊥
-IsNoBadByte Link = Unit {0}
-IsNoBadByte NoMemory = Unit {0}
+IsNoBadByte fault = Unit {0}
 
 -- these bytes are no whole frame: more are wanted, or one is bad
 abbrev pub IsUnfinished : Expect → List ℕ → Type 0
@@ -242,10 +208,9 @@ pub record Sends (bytes : List ℕ) (old new : LineState) : Type 0 where
 
 -- why a send is refused: the link failed, or memory was missing
 abbrev pub IsSendCause : LineState → LineState → LineFault → Type 0
-IsSendCause old new (PeerEnded at) = ⊥
-IsSendCause old new (BadFrame at) = ⊥
 IsSendCause old new Link = Rose old.faults new.faults
 IsSendCause old new NoMemory = Unit {0}
+IsSendCause old new fault = ⊥
 
 -- The one send of these bytes was refused: nothing of it is logged, and the link tells a first part, maybe none or all.
 pub record IsSendRefused (bytes : List ℕ) (fault : LineFault) (old new : LineState) : Type 0 where

@@ -1,14 +1,14 @@
 -- The log of an accepted session is read in one way: as that.
-use Rattle.std.proofs.Common.{◌≡◌, ℕ, ◌≤◌, ◌⊎◌, inl, inr, None, List, [], ◌∷◌, ◌++◌, length, refl, sym, ◌∙◌, ap, subst, arith, append_assoc, append-nil, length-append}
+use Rattle.std.proofs.Common.{◌≡◌, ℕ, ◌⊎◌, inl, inr, None, List, [], ◌∷◌, ◌++◌, length, refl, sym, ◌∙◌, ap, subst, arith, append_assoc, append-nil, length-append}
 use Rattle.zk_model.specs.Files.{IsVerifierFile}
 use Rattle.zk_model.specs.Transcript.{Transcript, IsTranscript, spelling}
-use Rattle.zk_model.specs.Frames.{Frame, hello, grant, asks, replies, corrections, challenge, sums, openings, verdict, refuse, frame_spelling}
+use Rattle.zk_model.specs.Frames.{Frame, corrections, challenge, sums, openings, verdict, frame_spelling}
 use Rattle.zk_model.specs.ServedVerifier.{VerifierTask}
 use Rattle.zk_model.specs.Audit.{setup_frames, session_frames, frames_spelling, place_after, Declines, HasFaultAt, EndsEarly, EndsDeclined, IsReadAs, IsAcceptedLog}
 use Rattle.zk_model.specs.declared.Verdict.TheVariants.{Accepted}
 use Rattle.proof_audit.proofs.Faultless.{session_spelled}
 use Rattle.proof_audit.proofs.OneReading.{Reads, read_as, whole_logs_are_right}
-use Rattle.proof_audit.proofs.Places.{none_behind}
+use Rattle.proof_audit.proofs.Places.{frame_some, none_behind}
 use Rattle.proof_audit.proofs.ServedFaultless.{served_faultless}
 use Rattle.proof_audit.proofs.OneTranscript.{one_transcript}
 use Rattle.zk_laws.proofs.OneFinding.{one_finding}
@@ -23,23 +23,10 @@ last_same [] (b ∷ ys) x y same = absurd (omega (arith, ap length same, length-
 last_same (a ∷ xs) [] x y same = absurd (omega (arith, ap length same, length-append xs (x ∷ [])))
 last_same (a ∷ xs) (b ∷ ys) x y same = last_same xs ys x y cc
 
--- a frame has bytes
-has_bytes : (frame : Frame) → 1 ≤ length (frame_spelling frame)
-has_bytes (hello said) = omega arith
-has_bytes (grant given) = omega arith
-has_bytes (asks said) = omega arith
-has_bytes (replies said) = omega arith
-has_bytes (corrections elements) = omega arith
-has_bytes (challenge element) = omega arith
-has_bytes (sums both) = omega arith
-has_bytes (openings macs) = omega arith
-has_bytes (verdict code number) = omega arith
-has_bytes (refuse code) = omega arith
-
 none_spelled : (frames : List Frame) → [] ≡ frames_spelling frames → frames ≡ []
 none_spelled [] same = refl
 none_spelled (frame ∷ frames) same =
-    absurd (omega (arith, ap length same, length-append (frame_spelling frame) (frames_spelling frames), has_bytes frame))
+    absurd (omega (arith, ap length same, length-append (frame_spelling frame) (frames_spelling frames), frame_some frame))
 
 -- the session is whole
 whole_read : (task : VerifierTask) (log : List ℕ) (t : Transcript) → IsVerifierFile task.file → IsAcceptedLog task log t

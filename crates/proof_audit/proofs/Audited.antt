@@ -37,13 +37,13 @@ use Rattle.proof_audit.specs.declared.session.Session.{Session}
 -- ---- the session
 
 -- it is whole by the prover's numbers
-whole : (prover : ProverFile) (task : VerifierTask) (s : Session) → (audited : IsAudited prover task s)
+pub whole : (prover : ProverFile) (task : VerifierTask) (s : Session) → (audited : IsAudited prover task s)
     → IsTranscript prover.params task.statement.program (transcript_read task audited.greeting s 0 0)
 whole prover task s audited = subst (λ (params : Params). IsTranscript params task.statement.program (transcript_read task audited.greeting s 0 0))
     (sym audited.dealt.params) audited.served.in_order.transcript
 
 -- the round of a session of kind extended
-round_whole : (prover : ProverFile) (task : VerifierTask) (s : Session) → IsAudited prover task s → prover.params.kind ≡ Extended
+pub round_whole : (prover : ProverFile) (task : VerifierTask) (s : Session) → IsAudited prover task s → prover.params.kind ≡ Extended
     → IsRound prover.params s.grant (record { asks = asks_of s.asked.items; replies = replies_of s.replied.items })
 round_whole prover task s audited is =
     (subst (λ (kind : Kind). All (IsRound prover.params s.grant) (rounds_read kind (asks_of s.asked.items) (replies_of s.replied.items)))
@@ -234,6 +234,17 @@ pub record AreKnown (prover : ProverFile) (statement : Statement) (s : Session) 
   pub given : side.pairs.given ≡ corrected_pairs pairs s.corrections.items
   pub carried : ArePairsOf statement.program statement.public side.pairs
 
+-- what is seen of a session, from what is held
+pub are_known : (prover : ProverFile) (statement : Statement) (s : Session) (held pairs : List Pair) (corrections : List ℕ) (side : SeenSide)
+    → AreSeenPairs prover s held → pairs ≡ held → side.program ≡ statement.program → side.pairs.given ≡ corrected_pairs pairs corrections
+    → corrections ≡ s.corrections.items → ArePairsOf statement.program statement.public side.pairs → AreKnown prover statement s pairs side
+are_known prover statement s held pairs corrections side seen same program given said carried = record {
+  seen = subst (AreSeenPairs prover s) (sym same) seen;
+  program = program;
+  given = given ∙ ap (corrected_pairs pairs) said;
+  carried = carried;
+}
+
 abbrev pub are_seen : (prover : ProverFile) (task : VerifierTask) (statement : Statement) (s : Session) (pairs : List Pair) (side : SeenSide)
     → AreKnown prover statement s pairs side → task.statement ≡ statement → IsAudited prover task s → AreSeen prover task s pairs side.pairs
 are_seen prover task statement s pairs side known same audited = record {
@@ -247,6 +258,13 @@ pub side_same : (prover : ProverFile) (task : VerifierTask) (statement : Stateme
     → AreKnown prover statement s pairs side → task.statement ≡ statement → side ≡ side_of task side.pairs
 side_same prover task statement s pairs side known same =
     λ i. record { program = (known.program ∙ ap (λ (st : Statement). st.program) (sym same)) i; pairs = side.pairs }
+
+-- both
+abbrev pub as_seen : (prover : ProverFile) (task : VerifierTask) (statement : Statement) (s : Session) (pairs : List Pair) (side : SeenSide)
+    → AreKnown prover statement s pairs side → task.statement ≡ statement → IsAudited prover task s
+    → AreSeen prover task s pairs side.pairs × (side ≡ side_of task side.pairs)
+as_seen prover task statement s pairs side known same audited =
+    (are_seen prover task statement s pairs side known same audited, side_same prover task statement s pairs side known same)
 
 -- few sections
 pub few_sections : (n g : ℕ) → 1 ≤ g → n ≤ 1048576 → part_count n g < 2 ^ 32

@@ -8,10 +8,14 @@ pub mod VerdictSteps
 pub mod Faultless
 pub mod UnderWay
 pub mod Wires
+pub mod Errors
+pub mod SeenValues
 pub mod Searched
 pub mod Audited
+pub mod SeenPairs
 pub mod Audits
 pub mod OneReading
 pub mod ServedFaultless
 pub mod OneTranscript
 pub mod AcceptedLogs
+pub mod AuditOutcomes

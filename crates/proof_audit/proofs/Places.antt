@@ -1,5 +1,5 @@
 -- The place of the next frame, by what stands before it.
-use Rattle.std.proofs.Common.{◌≡◌, ℕ, ◌+◌, ◌-◌, ◌<◌, Some, None, List, [], ◌∷◌, ◌++◌, map, flat_map, length, get_or, refl, sym, ◌∙◌, ap, arith, append-nil, length-append}
+use Rattle.std.proofs.Common.{◌≡◌, ℕ, ◌+◌, ◌-◌, ◌<◌, ◌≤◌, Some, None, List, [], ◌∷◌, ◌++◌, map, flat_map, length, get_or, refl, sym, ◌∙◌, ap, arith, append-nil, length-append}
 use Rattle.std.specs.Prelude.{All, slice_get}
 use Rattle.std.specs.List.{range_with_len}
 use Rattle.std.proofs.Math.ListN.{get_or-append}
@@ -9,13 +9,18 @@ use Rattle.std.proofs.lemmas.Option.{slice_get-get_or, slice_get_past}
 use Rattle.zk_model.specs.Program.{Program, section_count}
 use Rattle.zk_model.specs.Files.{rounds_of}
 use Rattle.zk_model.specs.Transcript.{Grant, Round, Setup, IsRound, IsSetup}
-use Rattle.zk_model.specs.Frames.{Frame, grant, asks, replies}
+use Rattle.zk_model.specs.Frames.{Frame, hello, grant, asks, replies, frame_spelling}
 use Rattle.zk_model.specs.Audit.{round_frames, setup_frames, round_places, places_behind, place_after}
 use Rattle.zk_model.specs.declared.Expect.{Expect}
 use Rattle.zk_model.specs.declared.Expect.TheVariants as expect
 use Rattle.zk_model.specs.declared.Kind.{Kind}
 use Rattle.zk_model.specs.declared.Kind.TheVariants.{Direct, Extended}
 use Rattle.zk_model.specs.declared.Params.{Params}
+
+-- a frame has bytes
+pub frame_some : (frame : Frame) → 1 ≤ length (frame_spelling frame)
+frame_some (hello said) = omega arith
+frame_some frame = omega arith
 
 -- ---- the places of rounds
 

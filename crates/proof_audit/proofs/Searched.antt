@@ -1,5 +1,6 @@
 -- What the first section with an error shows.
-use Rattle.std.proofs.Common.{ℕ, ◌<◌, List, sym, ◌∙◌, ap, subst}
+use Rattle.std.proofs.Common.{ℕ, ◌+◌, ◌<◌, ◌≤◌, inl, inr, List, sym, ◌∙◌, ap, subst, arith}
+use Rattle.std.proofs.Math.Nat.{eq-or-lt_of_le}
 use Rattle.zk_model.specs.Mac.{Pair}
 use Rattle.zk_model.specs.Polynomial.{IsZero}
 use Rattle.zk_model.specs.Check.{IsFirstFailure}
@@ -29,3 +30,10 @@ shows_first side pairs s i (ChallengeRoot section polynomial) shows before below
       polynomial_is = shows.1.polynomial_is ∙ ap (errors_at side s) at;
       met = shows.1.met;
     }
+
+-- one section more has no error
+pub before_more : (side : SeenSide) (s : Session) (n : ℕ) → NoErrorsBefore side s n → IsZero (errors_at side s n) → NoErrorsBefore side s (n + 1)
+before_more side s n before zero i below = let at : i ≤ n = omega (arith, below) in elim (eq-or-lt_of_le at) [
+  | inl same ↦ subst (λ k. IsZero (errors_at side s k)) (sym same) zero
+  | inr less ↦ before i less
+]

@@ -374,16 +374,16 @@ pub replies_last : (task : VerifierTask) (s : Session) (done : ℕ) (frame : Fra
 unfolding behind_grant
 replies_last task s done frame trees is same all =
     subst (λ (f : Frame). Takes task (at.Replies s done) f (at.Corrections s)) (sym is)
-    (λ frames described.
-    let read = round_read task s done described.0 described.2 described.3 described.4 in
-    record {
-      given = due_given task s done frames trees described same;
+    (λ frames described. record {
       described = (
         described.0,
-        replied_frames s done described.0 frames trees (omega (arith, all, read.replied_count)) described.1 same
-            ∙ all_replied task s (done + 1) described.0 described.3 (all ∙ sym read.replied_count),
+        replied_frames s done described.0 frames trees
+            (let counted = (round_read task s done described.0 described.2 described.3 described.4).replied_count in omega (arith, all, counted)) described.1 same
+            ∙ all_replied task s (done + 1) described.0 described.3
+            (all ∙ sym (round_read task s done described.0 described.2 described.3 described.4).replied_count),
         described.2,
       );
+      given = due_given task s done frames trees described same;
     })
 
 -- other replies are wrong

@@ -1,8 +1,8 @@
 -- What has been read of a log, frame by frame.
-use Rattle.std.proofs.Common.{zero, suc, false, nat_eq, ◌≡◌, ℕ, ◌+◌, ◌-◌, ◌<◌, ◌≤◌, inl, inr, List, [], ◌∷◌, ◌++◌, map, length, refl, sym, ◌∙◌, ap, subst, arith, append_assoc, append-nil, length-append}
+use Rattle.std.proofs.Common.{zero, suc, false, nat_eq, ◌≡◌, ℕ, ◌+◌, ◌-◌, ◌<◌, inl, inr, List, [], ◌∷◌, ◌++◌, map, length, refl, sym, ◌∙◌, ap, subst, arith, append_assoc, append-nil, length-append}
 use Rattle.std.specs.Prelude.{Option, Some, None, IfNone, IfSome}
 use Rattle.std.proofs.lemmas.List.{length-map}
-use Rattle.zk_model.specs.Frames.{Frame, hello, grant, asks, replies, corrections, challenge, sums, openings, verdict, refuse, frame_spelling, Allows}
+use Rattle.zk_model.specs.Frames.{Frame, hello, asks, frame_spelling, Allows}
 use Rattle.zk_model.specs.ServedVerifier.{VerifierTask}
 use Rattle.zk_model.specs.Audit.{place_after, frames_spelling, IsPlaced, IsBadAt, IsReadAs, HasFaultAt, EndsEarly, EndsDeclined, IsNotAccepted}
 use Rattle.zk_model.specs.declared.Expect.{Expect}
@@ -18,7 +18,7 @@ use Rattle.proof_audit.specs.declared.reading.LogReader.{LogReader}
 use Rattle.proof_audit.specs.declared.session.Session.{Session}
 use Rattle.proof_audit.specs.declared.session.Stage.{Stage}
 use Rattle.proof_audit.specs.declared.session.Stage.TheVariants as at
-use Rattle.proof_audit.proofs.Places.{place_behind, none_behind, place_of_ask, place_of_reply}
+use Rattle.proof_audit.proofs.Places.{frame_some, place_behind, none_behind, place_of_ask, place_of_reply}
 use Rattle.proof_audit.proofs.Steps.{round_facts}
 use Rattle.proof_audit.proofs.Faultless.{none_faultless, more_faultless, more_spelled, session_spelled}
 
@@ -113,19 +113,6 @@ bad_fault task log reader stage place found some bad under = record {
   at = bad.at_is ∙ ap (λ n. n + bad.n) under.received;
 }
 
--- a frame has bytes
-frame_some : (frame : Frame) → 1 ≤ length (frame_spelling frame)
-frame_some (hello said) = omega arith
-frame_some (grant given) = omega arith
-frame_some (asks said) = omega arith
-frame_some (replies said) = omega arith
-frame_some (corrections elements) = omega arith
-frame_some (challenge element) = omega arith
-frame_some (sums both) = omega arith
-frame_some (openings macs) = omega arith
-frame_some (verdict code number) = omega arith
-frame_some (refuse code) = omega arith
-
 -- a wrong frame
 pub wrong_fault : (task : VerifierTask) (log : List ℕ) (old new : LogReader) (stage : Stage) (place : Expect) (frame : Frame) (found : ℕ)
     → expected_at task stage ≡ Some place → TakesFrame place frame old new → Wrongs task stage frame → found ≡ new.decoder.received - 1
@@ -195,6 +182,7 @@ reads_session task log reader stage s is whole =
     record {
       greeting = described.0;
       served = described.2;
+      kept = described.3;
       bytes = whole.under_way.read.bytes
           ∙ (λ i. frames_spelling (described.1 i) ++ whole.ended i)
           ∙ append-nil _

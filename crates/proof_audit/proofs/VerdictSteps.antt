@@ -187,18 +187,18 @@ whole_transcript : (task : VerifierTask) (s : Session) (greeting : Hello) (code 
     → IsOpened task (commitment_read task greeting s) s.keys.items s.challenge s.sums.items s.openings.items → FitsVerdict code number
     → IsTranscript task.file.params task.statement.program (transcript_read task greeting s code number)
 whole_transcript task s greeting code number opened fits = record {
+  code = fits.said;
+  number = fits.numbered;
+  sum_count = opened.summed.sums.counted;
   commitment = record {
     setup = opened.summed.challenged.committed.set.whole;
     count = opened.summed.challenged.committed.corrections.counted;
     elements = opened.summed.challenged.committed.corrections.ranged;
   };
   challenge = opened.summed.challenged.ranged;
-  sum_count = opened.summed.sums.counted;
   sums = opened.summed.sums.ranged;
   opening_count = opened.openings.counted;
   openings = opened.openings.ranged;
-  code = fits.said;
-  number = fits.numbered;
 }
 
 -- a verdict of the checks that accepts
@@ -234,6 +234,7 @@ verdict_accepts task s frame code number judgement is stated finds coded numbere
             said = record { code = refl; number = refl };
           };
         },
+        described.2.summed.challenged.committed.set.kept,
       );
     })
   where

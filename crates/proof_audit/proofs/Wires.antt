@@ -11,7 +11,7 @@ use Rattle.zk_model.specs.Program.{Program, Carries}
 use Rattle.zk_model.specs.Check.{WirePairs, WireKeys, KeyTriple, Triple, ArePairsOf, key_triple, product_triple, opened_pairs}
 use Rattle.zk_model.specs.declared.Product.{Product}
 use Rattle.wire_auth.specs.Sides.{VerifierSide, joined}
-use Rattle.proof_audit.specs.SeenWires.{joined_pairs, AreSideBySide}
+use Rattle.proof_audit.specs.SeenWires.{SeenSide, joined_pairs, AreSideBySide}
 
 -- ---- lists of pairs
 
@@ -136,6 +136,11 @@ product_more program pairs first i before now triple behind below far is pushed 
 
     made : triple ≡ product_triple pairs (get_or rest (i - first) none)
     made = is (get_or program.products i none) (slice_get-get_or program.products i none below) ∙ ap (product_triple pairs) (sym at)
+
+-- so many products as the program of a side
+pub products_of : {n : ℕ} {program : Program} {side other : SeenSide} → n ≡ length program.products → program ≡ side.program → side ≡ other
+    → n ≡ length other.program.products
+products_of is of same = is ∙ ap (λ (p : Program). length p.products) (of ∙ ap (λ (s : SeenSide). s.program) same)
 
 -- one bit more
 pub bit_more : (given : List Pair) (i : ℕ) (before now : List Bool) (x : ℕ) → i < length given

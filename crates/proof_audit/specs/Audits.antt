@@ -11,7 +11,7 @@ use Rattle.zk_model.specs.ServedVerifier.{VerifierTask, IsServed}
 use Rattle.zk_model.specs.Audit.{HasFaultAt, IsNotAccepted, IsFoundIn}
 use Rattle.zk_model.specs.declared.Verdict.TheVariants.{Accepted}
 use Rattle.dealer_files.specs.Dealt.{IsFirstApart}
-use Rattle.proof_audit.specs.Stages.{transcript_read}
+use Rattle.proof_audit.specs.Stages.{KeepsKeys, transcript_read}
 use Rattle.proof_audit.specs.declared.fault.AuditFault.{AuditFault}
 use Rattle.proof_audit.specs.declared.fault.AuditFault.TheVariants.{NotDealt, LogFault, NoMemory}
 use Rattle.proof_audit.specs.declared.finding.Finding.{Finding}
@@ -20,7 +20,7 @@ use Rattle.proof_audit.specs.declared.session.Session.{Session}
 
 -- ---- a session
 
--- what has been read is a session that the verifier leads and accepts, over files that are dealt together
+-- what has been read is a session that the verifier leads and accepts, over files that are dealt together, with the keys that its round makes
 pub record IsAudited (prover : ProverFile) (task : VerifierTask) (s : Session) : Type 0 where
   pub prover_file : IsProverFile prover
   pub verifier_file : IsVerifierFile task.file
@@ -28,6 +28,7 @@ pub record IsAudited (prover : ProverFile) (task : VerifierTask) (s : Session) :
   pub greeting : Hello
   pub served : IsServed task (transcript_read task greeting s 0 0) Accepted
       (spelling (transcript_read task greeting s 0 0))
+  pub kept : KeepsKeys task.file.params.kind task.file s.grant s.keys.items
 
 -- these bits are inputs that are 1, and the others not
 pub record AreBitsOf

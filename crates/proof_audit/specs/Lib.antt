@@ -3,7 +3,9 @@ pub mod Reading
 pub mod Stages
 pub mod Sessions
 pub mod Seen
+pub mod SeenValues
 pub mod SeenWires
 pub mod Searches
 pub mod Audits
 pub mod Laws
+pub mod AuditRuns

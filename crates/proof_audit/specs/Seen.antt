@@ -1,5 +1,5 @@
 -- What the prover's file and a session fix.
-use Rattle.std.specs.Prelude.{◌≡◌, ℕ, ◌+◌, ◌*◌, ◌<◌, ◌≤◌, List, [], length, flat_map, slice_index_or, All}
+use Rattle.std.specs.Prelude.{◌≡◌, ℕ, ◌+◌, ◌*◌, ◌≤◌, List, [], length, slice_index_or, All}
 use Rattle.zk_model.specs.Mac.{Pair}
 use Rattle.zk_model.specs.Files.{ProverFile, prover_unit, correlations_per_unit, span_pairs}
 use Rattle.zk_model.specs.Transcript.{TreeAsk, TreeReply}
@@ -9,22 +9,14 @@ use Rattle.zk_model.specs.View.{span_of}
 use Rattle.zk_model.specs.declared.Kind.{Kind}
 use Rattle.zk_model.specs.declared.Kind.TheVariants.{Direct, Extended}
 use Rattle.session_core.specs.Extending.{asks_of, replies_of}
+use Rattle.session_core.specs.Fixing.{AreUnits}
 use Rattle.proof_audit.specs.declared.session.Session.{Session}
 
 -- the pairs of the units from this one on, by what was asked for each and replied
-pub record AreUnitPairs
-    (file : ProverFile)
-    (start : ℕ)
-    (asked : List (List TreeAsk))
-    (replied : List (List TreeReply))
-    (pairs : List Pair) : Type 0 where
-  pub units : List (List Pair)
-  pub one_each : length units ≡ length asked
-  pub each : (i : ℕ) → i < length asked
-      → IsExtension file.params file.code_seed (prover_unit file (start + i))
-      (record { asks = slice_index_or asked i []; replies = slice_index_or replied i [] })
-      (slice_index_or units i [])
-  pub joined : pairs ≡ flat_map (λ unit. unit) units
+abbrev pub AreUnitPairs : ProverFile → ℕ → List (List TreeAsk) → List (List TreeReply) → List Pair → Type 0
+AreUnitPairs file start asked replied pairs =
+    AreUnits (λ i unit. IsExtension file.params file.code_seed (prover_unit file (start + i))
+    (record { asks = slice_index_or asked i []; replies = slice_index_or replied i [] }) unit) (length asked) pairs
 
 -- in kind extended, asks and replies for each unit of the grant
 pub record HasRound (file : ProverFile) (s : Session) : Type 0 where

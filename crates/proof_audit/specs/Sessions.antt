@@ -6,7 +6,7 @@ use Rattle.zk_model.specs.ServedVerifier.{VerifierTask, IsServed}
 use Rattle.zk_model.specs.Audit.{frames_spelling, bytes_in, IsReadAs, HasFaultAt}
 use Rattle.zk_model.specs.declared.Verdict.TheVariants.{Accepted}
 use Rattle.proof_audit.specs.Reading.{IsBetween}
-use Rattle.proof_audit.specs.Stages.{Describes, expected_at, transcript_read}
+use Rattle.proof_audit.specs.Stages.{Describes, KeepsKeys, expected_at, transcript_read}
 use Rattle.proof_audit.specs.declared.fault.AuditFault.{AuditFault}
 use Rattle.proof_audit.specs.declared.fault.AuditFault.TheVariants.{NotDealt, LogFault, NoMemory}
 use Rattle.proof_audit.specs.declared.reading.LogReader.{LogReader}
@@ -31,11 +31,12 @@ pub record IsReadWhole
   pub ended : reader.rest.now ≡ []
   pub last : expected_at task stage ≡ None
 
--- what has been read of a log is a whole session that the verifier leads and accepts
+-- what has been read of a log is a whole session that the verifier leads and accepts, with the keys that its round makes
 pub record IsReadSession (task : VerifierTask) (log : List ℕ) (s : Session) : Type 0 where
   pub greeting : Hello
   pub served : IsServed task (transcript_read task greeting s 0 0) Accepted
       (spelling (transcript_read task greeting s 0 0))
+  pub kept : KeepsKeys task.file.params.kind task.file s.grant s.keys.items
   pub bytes : log ≡ bytes_in (spelling (transcript_read task greeting s 0 0))
 
 -- why a log is not read: it has a fault

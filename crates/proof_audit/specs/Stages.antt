@@ -161,6 +161,7 @@ Describes task frames (at.Accepted s) = (greeting : Hello)
     × (frames ≡ session_frames (transcript_read task greeting s 0 0))
     × IsServed task (transcript_read task greeting s 0 0) Accepted
     (spelling (transcript_read task greeting s 0 0))
+    × KeepsKeys task.file.params.kind task.file s.grant s.keys.items
 Describes task frames at.Declined = (before : List Frame) × (last : Frame)
     × (frames ≡ before ++ last ∷ [])
     × Declines last

@@ -35,16 +35,17 @@ fn session_finding(
     statement: &Statement<'_>,
     outputs: &[bool],
     prover: &ProverFile,
+    verifier: &VerifierFile,
     session: &Session,
 ) -> Result<Finding, AllocError>
     requires claims { statement.now.claims ≡ map from_bit outputs.now }
     requires audited { (task : VerifierTask) × (task.statement ≡ statement.now)
-        × IsAudited prover.now task session.now }
+        × IsAudited prover.now task session.now × (task.file ≡ verifier.now) }
     ensures { IfOk result (λ finding. (task : VerifierTask) → task.statement ≡ statement.now
         → (audited : IsAudited prover.now task session.now)
         → Gives prover.now task.statement (transcript_read task audited.greeting session.now 0 0) finding) }
 {
-    let held = seen_pairs(alloc, prover, session)?;
+    let held = seen_pairs(alloc, prover, verifier, session)?;
     let pairs = held.as_slice();
     let wires = SeenWires::see(alloc, statement, pairs, &session.corrections)?;
     let _products = wires.program().products();
@@ -95,6 +96,6 @@ pub fn audit(
     let Some(session) = read_session(alloc, &judge, log)? else {
         return Ok(Finding::NotAccepted);
     };
-    let finding = session_finding(alloc, &statement, outputs, prover, &session)?;
+    let finding = session_finding(alloc, &statement, outputs, prover, verifier, &session)?;
     Ok(finding)
 }

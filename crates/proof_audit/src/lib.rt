@@ -4,11 +4,12 @@
 //! `auditing` has `audit`; `finding` has `Finding`, and what one section or one opened wire shows; `fault` has why there is none. `reading`
 //! reads frames from a log's bytes, `judge` says which of them are given, and `log` reads a `session` with both. `pairs` has the pairs that
 //! the prover's file and a session fix, `seen` those of all wires, and `search` the first section or opened wire that shows something.
-//! `laws` says what a log can be at once.
+//! `laws` says what a log can be at once, and `audit_command` has the command `audit`.
 //!
 //!     let finding = audit(alloc, &circuit, digest, &public, &outputs, &prover, &verifier, &log)?;
 #![tactic(auto)]
 
+mod audit_command;
 mod auditing;
 mod fault;
 mod finding;
@@ -20,9 +21,9 @@ mod reading;
 mod search;
 mod seen;
 mod session;
-#[cfg(test)]
-mod worked_values;
+mod values;
 
+pub use audit_command::{AuditWords, run_audit};
 pub use auditing::audit;
 pub use fault::AuditFault;
 pub use finding::{Finding, opening_finding, section_finding};

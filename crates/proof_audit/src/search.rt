@@ -58,6 +58,9 @@ pub(crate) fn first_wrong_section(
     let g = u64::from(session.grant.section);
     let sections = program.sections(g) as usize;
     for s in 0..sections {
+        if wires.is_right(g, s) {
+            continue;
+        }
         let triples = wires.section(alloc, g, s)?;
         let (u, v) = session.sums[s];
         let mask = pairs[givens + s];

@@ -1,17 +1,19 @@
 // The values and MACs of all wires, as the prover's pairs and its corrections fix them.
-ghost use Rattle.std.specs.Prelude.{◌≡◌, ◌<◌, ◌≤◌, length, map, take, All, IfOk, nat_eq, slice_get, Some};
+ghost use Rattle.std.specs.Prelude.{◌≡◌, ◌↔◌, ◌<◌, ◌≤◌, length, map, take, All, IfOk, IsTrue, nat_eq, slice_get, Some};
 ghost use Rattle.zk_model.specs.Field.{IsElement};
 ghost use Rattle.zk_model.specs.Mac.{pair_at, values_of, macs_of, corrected_pairs};
-ghost use Rattle.zk_model.specs.Check.{ArePairsOf, opened_pairs, product_triple, section_triples};
+ghost use Rattle.zk_model.specs.Check.{ArePairsOf, error_polynomial, opened_pairs, product_error, product_triple, section_triples};
+ghost use Rattle.zk_model.specs.Polynomial.{IsZero};
 ghost use Rattle.zk_model.specs.Program.{section_count};
 ghost use Rattle.zk_model.specs.declared.Product as zk;
 
+use crate::values::values_of;
 use field_program::FieldProgram;
 use mersenne_field::{Fe, Pair};
 use session_core::Statement;
 use std::alloc::{AllocError, Global};
 use std::marker::Model;
-use wire_auth::{Triple, VerifierWires};
+use wire_auth::{KeyTriple, Triple, VerifierWires};
 
 /// The values and the MACs of a session's wires, which follow from the pairs and the corrections as keys follow under one key: values
 /// under the key 1, MACs under the key 0.
@@ -32,13 +34,6 @@ impl<'a> Model for SeenWires<'a> {
     } };
 
     ghost invariant = { λ w. seen.AreSideBySide w.values w.macs };
-}
-
-/// The values of pairs.
-fn values_of(alloc: Global, pairs: &[Pair]) -> Result<Vec<Fe>, AllocError>
-    ensures { IfOk result (λ values. values.items ≡ values_of pairs.now) }
-{
-    pairs.iter().map(|pair| pair.x).collect(alloc)
 }
 
 /// The MACs of pairs.
@@ -139,6 +134,35 @@ impl<'a> SeenWires<'a> {
             triples.push(self.triple(i))?;
         }
         Ok(triples)
+    }
+
+    /// How far product i is from that of its factors.
+    fn error(&self, i: usize) -> Fe
+        requires { i < length self.now.program.products }
+        ensures { (product : zk.Product) → slice_get self.now.program.products i ≡ Some product
+            → result ≡ product_error (product_triple self.now.pairs product) }
+    {
+        let KeyTriple { a, b, c } = self.values.triple(i);
+        a * b - c
+    }
+
+    /// Whether each product of section s is that of its factors, where a section has g.
+    pub fn is_right(&self, g: u64, s: usize) -> bool
+        requires some { 1 ≤ g }
+        requires there { s < section_count self.now.program g }
+        ensures { IsTrue result
+            ↔ IsZero (error_polynomial (section_triples self.now.program g self.now.pairs s)) }
+    {
+        let products = self.values.program().products();
+        let g = g as usize;
+        let first = s * g;
+        let count = g.min(products - first);
+        for i in first..first + count {
+            if self.error(i) != Fe::ZERO {
+                return false;
+            }
+        }
+        true
     }
 
     /// The private inputs as bits.

@@ -15,7 +15,7 @@ of_commitment prover verifier statement t dealt whole =
     subst (λ (params : Params). IsCommitment params statement.program t.commitment) (sym dealt.params) whole.commitment
 
 pub of_accepted_log : NoErrorSolves → HeadlineIsOfAcceptedLog
-of_accepted_log solves told ask granted log shown = (
+of_accepted_log solves told service claim granted log shown = (
   record { t = shown.t; in_order = shown.in_order; checks = shown.checks; said = shown.said },
   λ prover valid dealt. record {
     shows = shown.shows prover valid dealt;

@@ -17,8 +17,9 @@ use Rattle.lease_core.specs.declared.event.Event.TheVariants.{Begin, Claim, Cras
 use Rattle.lease_core.proofs.Reached.{is_consistent, reached_first, reached_goes_on, reached_inv}
 use Rattle.lease_store.specs.Ceilings.{FindsCeiling, SaysCeiling, last_ceiling}
 use Rattle.claim_store.specs.Claims.{AreClaims}
-use Rattle.session_pool.specs.Notes.{AreApart, IsBetween}
-use Rattle.zk_cli.specs.NoteLines.{start_of}
+use Rattle.session_pool.specs.Notes.{AreApart}
+use Rattle.run_laws.specs.RunsInTurn.{IsGranted}
+use Rattle.session_verifier.specs.NoteLines.{start_of}
 use Rattle.run_laws.specs.MachineRuns.{AreInTurn, ClaimsAreEvents, EventsLead, HasClaimed, IsDown, IsMachineOf, PastRun, RunLeaves, RunsAreEvents, RunsLeave, all_granted, granted_spans}
 use Rattle.run_laws.proofs.Eras.{IsCeiling, Serves, ServesBelow, at_once, by_event, grant, raise_to, then}
 use Rattle.run_laws.proofs.ClaimsInTurn.{nothing_more}
@@ -43,29 +44,34 @@ is_ceiling id total ceiling bytes said =
 
 -- what comes after a span among those of a run
 after_it : (units low ceiling : ℕ) (s : Span) (o : Option Span) → 0 < units → s.end ≡ s.start + units → s.start ≤ start_of o → AreApart (Some s) o
-    → IsBetween units low ceiling o → IsBetween units s.end ceiling o
-after_it units low ceiling s None some size later apart between = tt
-after_it units low ceiling s (Some t) some size later (inl apart) between = (apart, between.1, between.2)
-after_it units low ceiling s (Some t) some size later (inr apart) between = let ends = between.1 in absurd (omega (arith, some, ends, later, apart))
+    → IsGranted low ceiling o → IsGranted s.end ceiling o
+after_it units low ceiling s None some size later apart between = between
+after_it units low ceiling s (Some t) some size later (inl apart) between = (between.0, between.1, between.2, (apart, between.3.1, between.3.2))
+after_it units low ceiling s (Some t) some size later (inr apart) between =
+    let ends = between.3.1 in
+    let own = between.1 in
+    absurd (omega (arith, own, ends, later, apart))
 
-in_turn : (units low ceiling : ℕ) (granted : List (Option Span)) → 0 < units → units ≤ 4096 → low ≤ ceiling → IsNonDecreasingBy start_of granted
-    → AllPairs AreApart granted → All (IsBetween units low ceiling) granted → AreInTurn low (granted_spans granted) ceiling
-in_turn units low ceiling [] some few rises ordered apart between = rises
-in_turn units low ceiling (None ∷ granted) some few rises ordered apart between =
-    in_turn units low ceiling granted some few rises
+in_turn : (low ceiling : ℕ) (granted : List (Option Span)) → low ≤ ceiling → IsNonDecreasingBy start_of granted
+    → AllPairs AreApart granted → All (IsGranted low ceiling) granted → AreInTurn low (granted_spans granted) ceiling
+in_turn low ceiling [] rises ordered apart between = rises
+in_turn low ceiling (None ∷ granted) rises ordered apart between =
+    in_turn low ceiling granted rises
     (λ i j d less within. ordered (suc i) (suc j) d (omega (arith, less)) (omega (arith, within)))
     (λ i j d less within. apart (suc i) (suc j) d (omega (arith, less)) (omega (arith, within)))
     (λ k d within. between (suc k) d (omega (arith, within)))
-in_turn units low ceiling (Some s ∷ granted) some few rises ordered apart between =
+in_turn low ceiling (Some s ∷ granted) rises ordered apart between =
     let first = between 0 None (omega arith) in
-    let size = first.1 in (
-      first.0,
+    let some = first.1 in
+    let few = first.2 in
+    let size = first.3.1 in (
+      first.3.0,
       omega (arith, size, some),
       omega (arith, size, few),
-      in_turn units s.end ceiling granted some few first.2
+      in_turn s.end ceiling granted first.3.2
           (λ i j d less within. ordered (suc i) (suc j) d (omega (arith, less)) (omega (arith, within)))
           (λ i j d less within. apart (suc i) (suc j) d (omega (arith, less)) (omega (arith, within)))
-          (λ k d within. after_it units low ceiling s (get_or granted k d) some size (ordered 0 (suc k) d (omega arith) (omega (arith, within)))
+          (λ k d within. after_it first.0 low ceiling s (get_or granted k d) some size (ordered 0 (suc k) d (omega arith) (omega (arith, within)))
           (apart 0 (suc k) d (omega arith) (omega (arith, within))) (between (suc k) d (omega (arith, within)))),
     )
 
@@ -73,16 +79,15 @@ turn_rises : (low high : ℕ) (spans : List Span) → AreInTurn low spans high �
 turn_rises low high [] stand = stand
 turn_rises low high (s ∷ spans) stand = let rest = turn_rises s.end high spans stand.3 in let a = stand.0 in let b = stand.1 in omega (arith, a, b, rest)
 
-of_run : (id : List ℕ) (total units base ceiling : ℕ) (granted : List (Option Span)) (first later : List ℕ) → 0 < units → units ≤ 4096
-    → SaysCeiling id total base first → base ≤ ceiling → FindsCeiling id total ceiling first later → IsNonDecreasingBy start_of granted
-    → AllPairs AreApart granted → All (IsBetween units base ceiling) granted → RunLeaves id total first (granted_spans granted) later
-of_run id total units base ceiling granted first later some few began rises found ordered apart between = record {
+of_run : (id : List ℕ) (total base ceiling : ℕ) (granted : List (Option Span)) (first later : List ℕ) → SaysCeiling id total base first → base ≤ ceiling → FindsCeiling id total ceiling first later → IsNonDecreasingBy start_of granted
+    → AllPairs AreApart granted → All (IsGranted base ceiling) granted → RunLeaves id total first (granted_spans granted) later
+of_run id total base ceiling granted first later began rises found ordered apart between = record {
   base = base;
   ceiling = last_ceiling found.bodies;
   began = began;
   left = says_found id total ceiling first later found;
   stand = higher base ceiling (last_ceiling found.bodies) (granted_spans granted) found.reaches
-      (in_turn units base ceiling granted some few rises ordered apart between);
+      (in_turn base ceiling granted rises ordered apart between);
 } where
   higher : (low high above : ℕ) (spans : List Span) → high ≤ above → AreInTurn low spans high → AreInTurn low spans above
   higher low high above [] more stand = omega (arith, more, stand)
@@ -109,12 +114,12 @@ begins : (total : ℕ) (spent : List Span) (base ceiling : ℕ) (m : Machine) �
 begins total spent base ceiling m d rises = by_event m Begin may (record {
   shown = base;
   serves = record {
-    reached = (reached_goes_on m Begin d.reached may).0;
     up = refl;
-    has_pass = d.has_pass;
     stage_is = refl;
-    total_is = d.total_is;
     free = refl;
+    reached = (reached_goes_on m Begin d.reached may).0;
+    has_pass = d.has_pass;
+    total_is = d.total_is;
     next_is = d.durable_is;
     shown_is = d.durable_is;
     spent_is = d.spent_is;

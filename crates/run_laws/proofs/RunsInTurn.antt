@@ -6,8 +6,8 @@ use Rattle.zk_model.specs.declared.JournalKind.TheVariants.{Ceilings}
 use Rattle.zk_model.specs.declared.Span.{Span}
 use Rattle.lease_journal.proofs.Sound.{recovers_same}
 use Rattle.lease_store.specs.Ceilings.{FindsCeiling, SaysCeiling, last_ceiling}
-use Rattle.session_pool.specs.Notes.{AreApart, IsBetween}
-use Rattle.run_laws.specs.RunsInTurn.{KeepsUp, RunsGrantOnce}
+use Rattle.session_pool.specs.Notes.{AreApart}
+use Rattle.run_laws.specs.RunsInTurn.{IsGranted, KeepsUp, RunsGrantOnce}
 
 -- a journal says one ceiling at most
 pub one_ceiling : (id : List ℕ) (total a b : ℕ) (bytes : List ℕ) → SaysCeiling id total a bytes → SaysCeiling id total b bytes → a ≡ b
@@ -55,13 +55,13 @@ in_turn id total first middle last one other = record {
 }
 
 -- a span below a ceiling and one above it are apart
-apart_at : (units base ceiling later_units later_base later_ceiling : ℕ) (one other : Option Span) → ceiling ≤ later_base
-    → IsBetween units base ceiling one → IsBetween later_units later_base later_ceiling other → AreApart one other
-apart_at units base ceiling later_units later_base later_ceiling None other low below above = tt
-apart_at units base ceiling later_units later_base later_ceiling (Some s) None low below above = tt
-apart_at units base ceiling later_units later_base later_ceiling (Some s) (Some t) low below above =
-    let ends = below.2 in
-    let starts = above.0 in
+apart_at : (base ceiling later_base later_ceiling : ℕ) (one other : Option Span) → ceiling ≤ later_base
+    → IsGranted base ceiling one → IsGranted later_base later_ceiling other → AreApart one other
+apart_at base ceiling later_base later_ceiling None other low below above = tt
+apart_at base ceiling later_base later_ceiling (Some s) None low below above = tt
+apart_at base ceiling later_base later_ceiling (Some s) (Some t) low below above =
+    let ends = below.3.2 in
+    let starts = above.3.0 in
     inl (omega (arith, low, ends, starts))
 
 -- where an earlier run left a ceiling, a later one begins at or above it
@@ -78,8 +78,8 @@ pub runs_grant_once : RunsGrantOnce
 runs_grant_once = record {
   keeps_up = keeps_up;
   in_turn = in_turn;
-  apart = λ id total units base ceiling granted first image later_units later_base later_ceiling later_granted later below found kept said above.
+  apart = λ id total base ceiling granted first image later_base later_ceiling later_granted later below found kept said above.
       let low = begins_above id total ceiling later_base first image later found kept said in
       λ k default within other_k other_default other_within.
-      apart_at units base ceiling later_units later_base later_ceiling _ _ low (below k default within) (above other_k other_default other_within);
+      apart_at base ceiling later_base later_ceiling _ _ low (below k default within) (above other_k other_default other_within);
 }

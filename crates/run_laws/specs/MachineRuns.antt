@@ -10,8 +10,8 @@ use Rattle.lease_core.specs.declared.event.Event.{Event}
 use Rattle.lease_store.specs.Ceilings.{FindsCeiling, SaysCeiling}
 use Rattle.claim_store.specs.Claims.{AreClaims}
 use Rattle.session_pool.specs.Notes as note
-use Rattle.session_pool.specs.Notes.{IsBetween}
-use Rattle.zk_cli.specs.NoteLines.{start_of}
+use Rattle.run_laws.specs.RunsInTurn.{IsGranted}
+use Rattle.session_verifier.specs.NoteLines.{start_of}
 
 -- ---- runs of `serve`
 
@@ -78,9 +78,8 @@ pub record EventsLead (m : Machine) (IsSuch : Machine → Type 0) : Type 0 where
 -- machine that was granted the same, and no two of these spans have a unit in common.
 pub record RunsAreEvents : Type 0 where
   -- a run that handed its sessions back, from its record `GrantsOnce`
-  pub of_run : (id : List ℕ) (total units base ceiling : ℕ) (granted : List (Option Span)) (first later : List ℕ)
-      → 0 < units → units ≤ MAX_UNITS → SaysCeiling id total base first → base ≤ ceiling → FindsCeiling id total ceiling first later
-      → IsNonDecreasingBy start_of granted → AllPairs note.AreApart granted → All (IsBetween units base ceiling) granted
+  pub of_run : (id : List ℕ) (total base ceiling : ℕ) (granted : List (Option Span)) (first later : List ℕ) → SaysCeiling id total base first → base ≤ ceiling → FindsCeiling id total ceiling first later
+      → IsNonDecreasingBy start_of granted → AllPairs note.AreApart granted → All (IsGranted base ceiling) granted
       → RunLeaves id total first (granted_spans granted) later
   -- a run that was stopped: nobody was told what it had granted
   pub of_stop : (id : List ℕ) (total base : ℕ) (first later : List ℕ)

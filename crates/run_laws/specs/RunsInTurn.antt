@@ -1,12 +1,17 @@
 -- Runs over one file's journals, one after the other.
-use Rattle.std.specs.Prelude.{ℕ, ◌≤◌, ◌∷◌, [], ◌++◌, List, All, Option}
+use Rattle.std.specs.Prelude.{ℕ, ◌<◌, ◌≤◌, ◌∷◌, [], ◌++◌, List, All, Option}
 use Rattle.zk_model.specs.declared.Span.{Span}
+use Rattle.zk_model.specs.declared.limits.TheConstants.{MAX_UNITS}
 use Rattle.lease_core.specs.Spans.{IsApart}
 use Rattle.lease_store.specs.Ceilings.{FindsCeiling, SaysCeiling}
 use Rattle.claim_store.specs.Claims.{AreClaims, SaysClaims, SaysOldOrNew}
 use Rattle.session_pool.specs.Notes.{AreApart, IsBetween}
 
 -- ---- journals of ceilings
+
+-- granted units, if any are, are 1 to 4,096, and lie between these
+abbrev pub IsGranted : ℕ → ℕ → Option Span → Type 0
+IsGranted base ceiling granted = (units : ℕ) × (0 < units) × (units ≤ MAX_UNITS) × IsBetween units base ceiling granted
 
 -- a journal's bytes say a ceiling, and later ones the same or a higher one
 pub record KeepsUp (id : List ℕ) (total : ℕ) (first later : List ℕ) : Type 0 where
@@ -24,11 +29,11 @@ pub record RunsGrantOnce : Type 0 where
       → FindsCeiling id total ceiling first image → KeepsUp id total first image
   pub in_turn : (id : List ℕ) (total : ℕ) (first middle last : List ℕ) → KeepsUp id total first middle → KeepsUp id total middle last
       → KeepsUp id total first last
-  pub apart : (id : List ℕ) (total units base ceiling : ℕ) (granted : List (Option Span)) (first image : List ℕ)
-      (later_units later_base later_ceiling : ℕ) (later_granted : List (Option Span)) (later : List ℕ)
-      → All (IsBetween units base ceiling) granted → FindsCeiling id total ceiling first image
+  pub apart : (id : List ℕ) (total base ceiling : ℕ) (granted : List (Option Span)) (first image : List ℕ)
+      (later_base later_ceiling : ℕ) (later_granted : List (Option Span)) (later : List ℕ)
+      → All (IsGranted base ceiling) granted → FindsCeiling id total ceiling first image
       → KeepsUp id total image later → SaysCeiling id total later_base later
-      → All (IsBetween later_units later_base later_ceiling) later_granted
+      → All (IsGranted later_base later_ceiling) later_granted
       → All (λ one. All (AreApart one) later_granted) granted
 
 -- ---- journals of claims

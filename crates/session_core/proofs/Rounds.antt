@@ -2,7 +2,7 @@
 use Rattle.std.proofs.Common.{◌≡◌, ℕ, zero, suc, ◌+◌, ◌*◌, ◌<◌, ◌≤◌, List, [], ◌∷◌, ◌++◌, map, flat_map, drop, length, get_or, refl, sym, ◌∙◌, ap, subst, arith, append-nil, length-append, ◌⊎◌, inl, inr}
 use Rattle.std.specs.Prelude.{slice_index_or, All}
 use Rattle.std.specs.List.{range_with_len, enumerate_from}
-use Rattle.std.proofs.lemmas.List.{length-map, get_or-map, map-append, get_or_append_left, get_or-append-add}
+use Rattle.std.proofs.lemmas.List.{length-map, get_or-map, map-append}
 use Rattle.std.proofs.lemmas.List.Concat.{flat_map-append}
 use Rattle.std.proofs.lemmas.List.FromFn.{fill_by_all, map-range_with_len_more, length-enumerate_from, get_or-enumerate_from, get_or-map-range_with_len}
 use Rattle.zk_model.specs.Mac.{Pair}
@@ -11,11 +11,12 @@ use Rattle.zk_model.specs.Transcript.{Hello, Grant, TreeAsk, TreeReply, Setup}
 use Rattle.zk_model.specs.Correlations.{IsExtension, IsProverView}
 use Rattle.zk_model.specs.HonestProver.{honest_asks, round_asks}
 use Rattle.circuit_laws.proofs.Ranges.{range-append}
+use Rattle.zk_laws.proofs.WholePairs.{each_more}
 use Rattle.zk_model.specs.Frames as model
 use Rattle.proof_frames.specs.Frames.{frame_value}
 use Rattle.proof_frames.specs.declared.frame.Frame.{Frame}
 use Rattle.session_core.specs.Extending.{asks_in, replies_in, asks_of, replies_of}
-use Rattle.session_core.specs.Fixing.{AreFirstPairs}
+use Rattle.session_core.specs.Fixing.{AreFirstPairs, AreUnits}
 
 -- ---- lists that grow
 
@@ -35,30 +36,6 @@ one_part_more make start n j items now part at far pushed is =
     ∙ (λ i. far i ++ (is ∙ ap make (sym at) ∙ sym (append-nil (make (start + n)))) i)
     ∙ sym (flat_map-append make (range_with_len start n) ((start + n) ∷ []))
     ∙ ap (flat_map make) (sym (range-append start n 1))
-
-le_or : (a b : ℕ) → (a ≤ b) ⊎ (b < a)
-le_or zero b = inl (omega arith)
-le_or (suc a) zero = inr (omega arith)
-le_or (suc a) (suc b) = either (le_or a b)
-  where
-    either : (a ≤ b) ⊎ (b < a) → (suc a ≤ suc b) ⊎ (suc b < suc a)
-    either (inl most) = inl (omega (arith, most))
-    either (inr less) = inr (omega (arith, less))
-
--- what holds of each part by its number holds of one part more
-pub each_more : {B : Type 0} (P : ℕ → List B → Type 0) (parts : List (List B)) (part : List B) (n : ℕ) → length parts ≡ n
-    → ((k : ℕ) → k < n → P k (get_or parts k [])) → P n part
-    → (k : ℕ) → k < n + 1 → P k (get_or (parts ++ part ∷ []) k [])
-each_more P parts part n sized far now k below = by_stage (le_or n k)
-  where
-    last : get_or (parts ++ part ∷ []) n [] ≡ part
-    last = ap (λ m. get_or (parts ++ part ∷ []) m []) (omega (arith, sized)) ∙ get_or-append-add parts (part ∷ []) 0 []
-
-    by_stage : (n ≤ k) ⊎ (k < n) → P k (get_or (parts ++ part ∷ []) k [])
-    by_stage (inl end) =
-        let at : n ≡ k = omega (arith, end, below) in
-        subst (λ m. P m (get_or (parts ++ part ∷ []) m [])) at (subst (P n) (sym last) now)
-    by_stage (inr before) = subst (P k) (sym (get_or_append_left parts (part ∷ []) [] k (omega (arith, sized, before)))) (far k before)
 
 -- items by their numbers, in two ways
 pub numbered : {A B : Type 0} (f : ℕ → A → B) (a : ℕ) (items : List A) (none : A) (other : B)
@@ -144,3 +121,9 @@ units_more P trees none units n size pairs now more sized far joined counted is 
   pushed ∙ (λ i. joined i ++ sym (append-nil more) i) ∙ sym (flat_map-append (λ unit. unit) units (more ∷ [])),
   omega (arith, ap length pushed, length-append pairs more, counted, long),
 )
+
+-- all of them
+pub units_all : {Holds : ℕ → List Pair → Type 0} (units : List (List Pair)) (n count : ℕ) (pairs : List Pair) → length units ≡ n → n ≡ count
+    → ((k : ℕ) → k < n → Holds k (get_or units k [])) → pairs ≡ flat_map (λ unit. unit) units → AreUnits Holds count pairs
+units_all units n count pairs sized all each joined =
+    record { units = units; one_each = sized ∙ all; each = λ k below. each k (omega (arith, below, all)); joined = joined }

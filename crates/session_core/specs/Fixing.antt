@@ -23,13 +23,17 @@ pub record IsFixedUnder (job : ProverJob) (grant : Grant) (wires : ProverSide) :
   pub program : wires.program ≡ job.statement.program
   pub enough : AreEnough job grant.section_length wires.dealt
 
--- the pairs of the first units of a grant, from the replies that have come, unit by unit
-pub record AreFirstPairs (file : ProverFile) (grant : Grant) (replies : List (List TreeReply)) (pairs : List Pair) : Type 0 where
+-- the pairs of so many units, unit by unit, of each of which this holds by its number
+pub record AreUnits (Holds : ℕ → List Pair → Type 0) (count : ℕ) (pairs : List Pair) : Type 0 where
   pub units : List (List Pair)
-  pub one_each : length units ≡ length replies
-  pub each : (i : ℕ) → i < length replies
-      → AreRoundPairs file (grant.start + i) (slice_index_or replies i []) (slice_index_or units i [])
+  pub one_each : length units ≡ count
+  pub each : (i : ℕ) → i < count → Holds i (slice_index_or units i [])
   pub joined : pairs ≡ flat_map (λ unit. unit) units
+
+-- the pairs of the first units of a grant, from the replies that have come, unit by unit
+abbrev pub AreFirstPairs : ProverFile → Grant → List (List TreeReply) → List Pair → Type 0
+AreFirstPairs file grant replies pairs =
+    AreUnits (λ i unit. AreRoundPairs file (grant.start + i) (slice_index_or replies i []) unit) (length replies) pairs
 
 -- a prover that waits for replies has as many pairs as the units give whose replies have come, and the columns of its code
 pub record IsGrowing (job : ProverJob) (grant : Grant) (done : ℕ) (pairs : List Pair) (columns : Code) : Type 0 where

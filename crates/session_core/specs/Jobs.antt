@@ -14,6 +14,18 @@ use Rattle.wire_auth.specs.Values.{given_made}
 use Rattle.session_core.specs.declared.verifier_job.TooLarge.{TooLarge}
 use Rattle.zk_model.specs.declared.limits.TheConstants.{MAX_SECTION_LENGTH, MAX_STATEMENTS, MAX_UNITS}
 
+-- a statement of these parts: a program, the values of its public wires and the claimed ones, and the digests of the circuit, of the claims
+-- and of the public values
+abbrev pub statement_of : Program → List ℕ → List ℕ → List ℕ → List ℕ → List ℕ → Statement
+statement_of program public claims circuit outputs public_digest = record {
+  program = program;
+  public = public;
+  claims = claims;
+  circuit = circuit;
+  outputs = outputs;
+  public_digest = public_digest;
+}
+
 -- a verifier's file and statement, and how many products its sections have
 pub record VerifierJob : Type 0 where
   pub task : VerifierTask

@@ -29,26 +29,15 @@ pub struct CircuitClaim {
 impl Model for CircuitClaim {
     ghost use Rattle.zk_model.specs.Statement.{IsStatement};
     ghost use Rattle.zk_model.specs.Statement as model;
+    ghost use Rattle.session_core.specs.Jobs.{statement_of};
 
     ghost Value = { model.Statement };
 
-    ghost view = { λ c. record {
-      program = c.program;
-      public = c.public.items;
-      claims = c.claims.items;
-      circuit = c.circuit;
-      outputs = c.outputs;
-      public_digest = c.public_digest;
-    } };
+    ghost view = { λ c.
+        statement_of c.program c.public.items c.claims.items c.circuit c.outputs c.public_digest };
 
-    ghost invariant = { λ c. IsStatement (record {
-      program = c.program;
-      public = c.public.items;
-      claims = c.claims.items;
-      circuit = c.circuit;
-      outputs = c.outputs;
-      public_digest = c.public_digest;
-    }) };
+    ghost invariant = { λ c. IsStatement
+        (statement_of c.program c.public.items c.claims.items c.circuit c.outputs c.public_digest) };
 }
 
 impl CircuitClaim {

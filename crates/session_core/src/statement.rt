@@ -2,6 +2,7 @@
 ghost use Rattle.std.specs.Prelude.{◌≡◌, length, map, IfOk};
 ghost use Rattle.zk_model.specs.Bits.{digits_of, from_bit};
 ghost use Rattle.session_core.specs.Cores.{digests_of};
+ghost use Rattle.session_core.specs.Jobs.{statement_of};
 ghost use Rattle.zk_model.specs.Statement.{IsStatement};
 ghost use Rattle.zk_model.specs.Transcript.{wanted_hello, digest_sent, version_of};
 ghost use Rattle.sha2.specs.Sha256.{sha256};
@@ -29,26 +30,15 @@ pub struct Statement<'a> {
 impl<'a> Model for Statement<'a> {
     ghost use Rattle.zk_model.specs.Statement.{IsStatement};
     ghost use Rattle.zk_model.specs.Statement as model;
+    ghost use Rattle.session_core.specs.Jobs.{statement_of};
 
     ghost Value = { model.Statement };
 
-    ghost view = { λ s. record {
-      program = s.program.now;
-      public = s.public.now;
-      claims = s.claims.now;
-      circuit = s.circuit;
-      outputs = s.outputs;
-      public_digest = s.public_digest;
-    } };
+    ghost view = { λ s.
+        statement_of s.program.now s.public.now s.claims.now s.circuit s.outputs s.public_digest };
 
-    ghost invariant = { λ s. IsStatement (record {
-      program = s.program.now;
-      public = s.public.now;
-      claims = s.claims.now;
-      circuit = s.circuit;
-      outputs = s.outputs;
-      public_digest = s.public_digest;
-    }) };
+    ghost invariant = { λ s. IsStatement
+        (statement_of s.program.now s.public.now s.claims.now s.circuit s.outputs s.public_digest) };
 }
 
 impl<'a> Statement<'a> {
@@ -62,22 +52,10 @@ impl<'a> Statement<'a> {
         outputs: [u8; 32],
         public_digest: [u8; 32],
     ) -> Self
-        requires { IsStatement (record {
-          program = program.now;
-          public = public.now;
-          claims = claims.now;
-          circuit = circuit;
-          outputs = outputs;
-          public_digest = public_digest;
-        }) }
-        ensures { result ≡ record {
-          program = program.now;
-          public = public.now;
-          claims = claims.now;
-          circuit = circuit;
-          outputs = outputs;
-          public_digest = public_digest;
-        } }
+        requires { IsStatement
+            (statement_of program.now public.now claims.now circuit outputs public_digest) }
+        ensures { result
+            ≡ statement_of program.now public.now claims.now circuit outputs public_digest }
     {
         Statement {
             program,

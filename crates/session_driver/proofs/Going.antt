@@ -1,20 +1,70 @@
 -- A session goes on by one turn.
-use Rattle.std.proofs.Common.{◌≡◌, ℕ, ◌+◌, ◌*◌, ◌^◌, ◌≤◌, ◌<◌, List, [], ◌∷◌, ◌++◌, flat_map, length, None, refl, ap, sym, ◌∙◌, subst, arith, append-nil, length-append}
+use Rattle.std.proofs.Common.{◌≡◌, ◌⊎◌, inl, inr, ℕ, ◌+◌, ◌≤◌, List, [], ◌∷◌, ◌++◌, flat_map, length, true, ap, sym, ◌∙◌, arith, append_assoc, append-nil, ◌*◌, ◌^◌, ◌<◌, None, refl, subst, length-append, Option, Some}
+use Rattle.std.proofs.lemmas.Grind.{flat_map-append}
 use Rattle.zk_model.specs.Transcript.{bytes_from, sent_by}
-use Rattle.zk_model.specs.Frames.{Frame, IsWhole, frame_spelling}
+use Rattle.zk_model.specs.Frames.{Frame, frame_spelling, IsWhole}
+use Rattle.zk_model.specs.declared.Side.{Side}
+use Rattle.zk_model.specs.declared.Side.TheVariants.{Prover, Verifier}
+use Rattle.frame_laws.proofs.SentBytes.{sent_by-append, own_bytes, none_of_verifier, none_of_prover}
+use Rattle.zk_port.specs.Counts.{counted}
+use Rattle.frame_link.specs.Sides.{peer_of}
+use Rattle.frame_link.specs.Lines.{counted_times, LineState, Arrives, longest, Fails}
+use Rattle.frame_link.proofs.LineLemmas.{one_send_more, appended_none, appended_more, before_none, before_more, frame_most, IsAnswered, is_answered, came_none, none_fails}
+use Rattle.session_driver.specs.Runs.{Turn, said, turn_log, whole_log, sends_of, answers_sent, sends_in, Moves, IsTurn, Goes, IsFresh, HasPassed, SendsAll, TurnGoes, Runs, IsUnsent, TurnStops}
 use Rattle.zk_model.specs.declared.Expect.{Expect}
 use Rattle.zk_model.specs.declared.Expect.TheVariants as places
-use Rattle.zk_model.specs.declared.Side.{Side}
 use Rattle.zk_port.specs.Logs.{appended, put_before}
 use Rattle.proof_frames.specs.Readings.{Reading, IsShortPlace}
 use Rattle.proof_frames.proofs.Lengths.{whole_length}
-use Rattle.frame_link.specs.Sides.{peer_of}
-use Rattle.frame_link.specs.Lines.{LineState, Arrives, longest}
-use Rattle.frame_link.proofs.LineLemmas.{appended_none, appended_more, before_none, before_more, frame_most}
-use Rattle.frame_link.proofs.AnswerLemmas.{IsAnswered, is_answered}
-use Rattle.session_driver.specs.Sayings.{Turn, said, sends_of, sends_in}
-use Rattle.session_driver.specs.Runs.{Moves, IsTurn, Goes, IsFresh, HasPassed, SendsAll, TurnGoes, Runs}
-use Rattle.session_driver.proofs.Bytes.{came_more, came_same, whole_more, sends_more, sends_counted}
+use Rattle.frame_link.specs.declared.fault.LineFault.{LineFault}
+use Rattle.frame_link.specs.declared.fault.LineFault.TheVariants.{NoMemory}
+use Rattle.session_driver.specs.declared.drive.Outcome.TheVariants.{Cut}
+
+-- ---- the bytes of a log side by side, and how many sends they took
+
+-- none of one side's bytes are the other's
+pub none_of_own : (side : Side) (bytes : List ℕ) → sent_by (peer_of side) (bytes_from side bytes) ≡ []
+none_of_own Prover bytes = none_of_prover bytes
+none_of_own Verifier bytes = none_of_verifier bytes
+
+-- after bytes of the peer's, and after own ones
+pub came_more : (side : Side) (log : List (Side × ℕ)) (bytes : List ℕ)
+    → sent_by (peer_of side) (log ++ bytes_from (peer_of side) bytes) ≡ sent_by (peer_of side) log ++ bytes
+came_more side log bytes =
+    sent_by-append (peer_of side) log (bytes_from (peer_of side) bytes) ∙ ap (λ l. sent_by (peer_of side) log ++ l) (own_bytes (peer_of side) bytes)
+
+pub came_same : (side : Side) (log : List (Side × ℕ)) (bytes : List ℕ)
+    → sent_by (peer_of side) (log ++ bytes_from side bytes) ≡ sent_by (peer_of side) log
+came_same side log bytes =
+    sent_by-append (peer_of side) log (bytes_from side bytes)
+    ∙ ap (λ l. sent_by (peer_of side) log ++ l) (none_of_own side bytes) ∙ append-nil (sent_by (peer_of side) log)
+
+-- one turn more
+pub whole_more : (side : Side) (greeting : List Frame) (turns : List Turn) (turn : Turn)
+    → (whole_log side greeting turns ++ bytes_from (peer_of side) (frame_spelling turn.frame)) ++ said side turn.answer
+    ≡ whole_log side greeting (turns ++ turn ∷ [])
+whole_more side greeting turns turn =
+    append_assoc (whole_log side greeting turns) (bytes_from (peer_of side) (frame_spelling turn.frame)) (said side turn.answer)
+    ∙ append_assoc (said side greeting) (flat_map (turn_log side) turns) (turn_log side turn)
+    ∙ ap (λ l. said side greeting ++ (flat_map (turn_log side) turns ++ l)) (sym (append-nil (turn_log side turn)))
+    ∙ ap (λ l. said side greeting ++ l) (sym (flat_map-append (turn_log side) turns (turn ∷ [])))
+
+-- and its sends
+pub answers_more : (turns : List Turn) (turn : Turn) → answers_sent (turns ++ turn ∷ []) ≡ answers_sent turns + sends_of turn.answer
+answers_more [] turn = omega arith
+answers_more (first ∷ turns) turn = omega (arith, answers_more turns turn)
+
+pub sends_more : (greeting : List Frame) (turns : List Turn) (turn : Turn)
+    → sends_in greeting (turns ++ turn ∷ []) ≡ sends_in greeting turns + sends_of turn.answer
+sends_more greeting turns turn = omega (arith, answers_more turns turn)
+
+-- frames that are sent together are counted once
+pub sends_counted : (frames : List Frame) (n before old new : ℕ) → old ≡ counted_times n before
+    → ((frames ≡ []) × (new ≡ old)) ⊎ ((1 ≤ length frames) × (new ≡ counted true old)) → new ≡ counted_times (n + sends_of frames) before
+sends_counted [] n before old new counts (inl none) = none.1 ∙ counts ∙ ap (λ (k : ℕ). counted_times k before) (omega arith)
+sends_counted [] n before old new counts (inr some) = absurd (omega (arith, some.0))
+sends_counted (frame ∷ frames) n before old new counts (inl none) = absurd (omega (arith, ap length none.0))
+sends_counted (frame ∷ frames) n before old new counts (inr some) = one_send_more n before new (some.1 ∙ ap (counted true) counts)
 
 -- ---- turns in order
 
@@ -134,11 +184,7 @@ longest_short places.Hello short = omega arith
 longest_short places.Grant short = omega arith
 longest_short places.Challenge short = omega arith
 longest_short places.Verdict short = omega arith
-longest_short (places.Ask height trees left) short = short
-longest_short (places.Reply height trees left) short = short
-longest_short (places.Corrections count) short = short
-longest_short (places.Sums sections) short = short
-longest_short (places.Openings count) short = short
+longest_short other short = short
 
 frame_short : (place : Expect) (bytes : List ℕ) (frame : Frame) → IsShortPlace place → IsWhole place bytes frame → length bytes ≤ 2 ^ 24 + 5
 frame_short place bytes frame short whole =
@@ -164,3 +210,39 @@ pub few_first : (greeting : List Frame) (left : ℕ) (first now : LineState) →
 few_first greeting left first now fresh sent =
     let answered = is_answered greeting first now sent in
     omega (arith, ap (λ (r : Reading). r.received) answered.others.reading, ap (λ (r : Reading). r.received) fresh.reading)
+
+-- ---- one turn over a line, from what its calls ensure
+
+-- there was no room for a refusal, and nothing came
+pub lacks_room : (place : Expect) (old new : LineState) → new ≡ old → Fails place NoMemory (record old { room = new.room }) new
+lacks_room place old new same =
+    let before = record old { room = new.room } in
+    none_fails place before new
+    (came_none before new (ap (λ (l : LineState). l.log) same) (ap (λ (l : LineState). l.told) same) (ap (λ (l : LineState). l.to_come) same)
+    (ap (λ (l : LineState). l.side) same) (ap (λ (l : LineState). l.is_open) same) (ap (λ (l : LineState). l.sends) same) refl)
+    (ap (λ (l : LineState). l.receives) same) (ap (λ (l : LineState). l.faults) same)
+
+module _ {S F : Type 0} (moves : Moves S F) (old new : S) (place : Expect) (frame : Frame) (room : ℕ) (line heard now : LineState)
+    (expected : moves.expects old ≡ Some place) (arrives : Arrives place frame (record line { room = room }) heard) where
+  pub turn_goes : (answer sent : List Frame) → IsShortPlace place → moves.answers old frame answer new → sent ≡ answer → SendsAll sent heard now
+      → TurnGoes moves old new line now
+  turn_goes answer sent short answered same sends = record {
+    turn = record { frame = frame; answer = answer };
+    is = record { place = place; expected = expected; allowed = arrives.whole.allowed; answered = answered };
+    short = short;
+    room = room;
+    heard = heard;
+    arrives = arrives;
+    sends = subst (λ l. SendsAll l heard now) same sends;
+  }
+
+  pub turn_unsent : (answer sent : List Frame) (lack : Option ℕ) (fault : LineFault) → moves.answers old frame answer new → sent ≡ answer
+      → lack ≡ moves.lack_code old → IsUnsent lack sent fault heard now → TurnStops moves old new (Cut fault) line now
+  turn_unsent answer sent lack fault answered same code unsent = inl (record {
+    turn = record { frame = frame; answer = answer };
+    is = record { place = place; expected = expected; allowed = arrives.whole.allowed; answered = answered };
+    room = room;
+    heard = heard;
+    arrives = arrives;
+    unsent = subst (λ (q : Option ℕ × List Frame). IsUnsent q.0 q.1 fault heard now) (λ i. (code i, same i)) unsent;
+  })

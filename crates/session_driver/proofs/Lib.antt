@@ -1,5 +1,2 @@
-pub mod Bytes
 pub mod Going
-pub mod Turning
 pub mod Ending
-pub mod Derived

@@ -1,14 +1,14 @@
 -- What a prover's answers make of a session, and where they stop.
-use Rattle.std.proofs.Common.{◌≡◌, ◌⊎◌, inl, inr, ℕ, ◌+◌, ◌-◌, ◌<◌, ◌≤◌, List, [], ◌∷◌, ◌++◌, map, flat_map, length, Some, refl, ap, sym, ◌∙◌, subst, append_assoc, append-nil, length-append, arith}
+use Rattle.std.proofs.Common.{◌≡◌, ◌⊎◌, inl, inr, ℕ, ◌+◌, ◌-◌, ◌≤◌, List, [], ◌∷◌, ◌++◌, map, flat_map, length, Some, refl, ap, sym, ◌∙◌, subst, append_assoc, append-nil, length-append, arith, ◌*◌, ◌^◌}
 use Rattle.std.specs.Prelude.{All}
 use Rattle.std.proofs.lemmas.Bool.{cases_lt}
-use Rattle.std.proofs.lemmas.List.Elements.{All-nil, All-push}
+use Rattle.std.proofs.lemmas.List.Elements.{All-nil, All-push, All-cons, All-map, All-weaker}
 use Rattle.zk_model.specs.Mac.{Pair}
 use Rattle.zk_model.specs.Check.{WirePairs}
-use Rattle.zk_model.specs.Files.{span_pairs}
+use Rattle.zk_model.specs.Files.{span_pairs, AreWithinLimits, ProverFile, IsProverFile}
 use Rattle.zk_model.specs.Correlations.{IsProverView}
-use Rattle.zk_model.specs.Transcript.{Grant, TreeAsk, TreeReply, Round, IsGrant, bytes_from, sent_by, ask_frame, reply_frame, corrections_frame, sums_frame, openings_frame}
-use Rattle.zk_model.specs.Frames.{Frame, grant, asks, replies, corrections, challenge, sums, openings, refuse, AreReplies, frame_spelling}
+use Rattle.zk_model.specs.Transcript.{Grant, TreeAsk, TreeReply, Round, IsGrant, bytes_from, sent_by, ask_frame, reply_frame, corrections_frame, sums_frame, openings_frame, IsTreeAsk}
+use Rattle.zk_model.specs.Frames.{Frame, grant, asks, replies, corrections, challenge, sums, openings, refuse, AreReplies, frame_spelling, AreAsks}
 use Rattle.zk_model.specs.HonestProver.{IsWitness, AreHonestBytes, round_asks}
 use Rattle.zk_model.specs.View.{span_of}
 use Rattle.zk_model.specs.declared.Expect.{Expect}
@@ -20,16 +20,26 @@ use Rattle.zk_model.specs.declared.Side.TheVariants.{Prover, Verifier}
 use Rattle.frame_link.specs.Lines.{IsUnfinished}
 use Rattle.session_core.specs.Jobs.{ProverJob}
 use Rattle.session_core.specs.Ends.{IsFixed}
-use Rattle.session_core.specs.Cores.{ProverStage, awaits_grant, awaits_replies, awaits_challenge, awaits_verdict, has_ended, prover_expects, Commits, AnswersGrant, AreRoundPairs, GoesOn, ProverAnswers}
+use Rattle.session_core.specs.Cores.{ProverStage, awaits_grant, awaits_replies, awaits_challenge, awaits_verdict, prover_expects, Commits, AnswersGrant, AreRoundPairs, GoesOn, ProverAnswers}
 use Rattle.session_prover.specs.Stages.{Claim, ClaimedFor, AreAskedRounds, AreSomeReplies, IsLogAt, IsLogTaken, setup_for, all_asks, granted_log, asked_log, replied_log, rounds_log, challenged_log, sums_for, openings_for}
 use Rattle.session_prover.specs.Notes.{task_of}
-use Rattle.session_prover.specs.Turns.{IsSound}
+use Rattle.session_prover.specs.Proving.{IsSound}
 use Rattle.session_prover.proofs.Sides.{bytes_more, prover_says, verifier_hears}
 use Rattle.session_core.proofs.DirectViews.{pairs_seen}
 use Rattle.session_core.proofs.Rounds.{whole_view}
-use Rattle.session_prover.proofs.Rounds.{first_none, first_more, unit_pairs, asked_none, asked_round}
-use Rattle.session_prover.proofs.Honest.{fixed_by}
-use Rattle.session_prover.proofs.Waiting.{has_answered}
+use Rattle.session_prover.proofs.Heard.{first_none, first_more, unit_pairs, asked_none, asked_round}
+use Rattle.session_prover.proofs.Waiting.{fixed_by, setup_is, committed, has_answered}
+use Rattle.std.proofs.lemmas.Nat.{mul-le}
+use Rattle.std.proofs.lemmas.List.{length-map}
+use Rattle.std.proofs.lemmas.List.FromFn.{length-map-range_with_len}
+use Rattle.session_laws.proofs.Shapes.{round_asks_shaped}
+use Rattle.proof_frames.proofs.TreeFrames.{asks_fit}
+use Rattle.proof_frames.proofs.TreeLemmas.{length-trees}
+use Rattle.zk_model.specs.Bytes.{element_bytes}
+use Rattle.zk_model.specs.Program.{section_count}
+use Rattle.zk_model.specs.declared.Params.{Params}
+use Rattle.proof_frames.specs.Frames.{IsShort}
+use Rattle.session_core.proofs.Enough.{parts_within}
 
 -- ---- frames that differ
 
@@ -39,41 +49,23 @@ same_grant one other is = cc
 pub same_element : (one other : ℕ) → challenge one ≡ challenge other → one ≡ other
 same_element one other is = cc
 
--- which kinds there are of a frame that a prover answers
-abbrev IsGrantFrame : Frame → Type 0
-IsGrantFrame (grant said) = Unit {0}
-IsGrantFrame frame = ⊥
+pub same_trees : (one other : List TreeReply) → replies one ≡ replies other → one ≡ other
+same_trees one other is = cc
 
 pub no_challenge_is_grant : (element : ℕ) (given : Grant) → challenge element ≡ grant given → ⊥
-no_challenge_is_grant element given is = subst IsGrantFrame (sym is) tt
+no_challenge_is_grant element given is = cc
 
 pub no_refusal_is_grant : (code : ℕ) (given : Grant) → refuse code ≡ grant given → ⊥
-no_refusal_is_grant code given is = subst IsGrantFrame (sym is) tt
-
-abbrev IsChallengeFrame : Frame → Type 0
-IsChallengeFrame (challenge said) = Unit {0}
-IsChallengeFrame frame = ⊥
+no_refusal_is_grant code given is = cc
 
 pub no_refusal_is_challenge : (code element : ℕ) → refuse code ≡ challenge element → ⊥
-no_refusal_is_challenge code element is = subst IsChallengeFrame (sym is) tt
-
-trees_or : List TreeReply → Frame → List TreeReply
-trees_or other (replies said) = said
-trees_or other frame = other
-
-pub same_trees : (one other : List TreeReply) → replies one ≡ replies other → one ≡ other
-unfolding trees_or
-same_trees one other is = ap (trees_or one) is
+no_refusal_is_challenge code element is = cc
 
 pub no_replies_is_grant : (trees : List TreeReply) (given : Grant) → replies trees ≡ grant given → ⊥
-no_replies_is_grant trees given is = subst IsGrantFrame (sym is) tt
-
-abbrev IsRefusal : Frame → Type 0
-IsRefusal (refuse code) = Unit {0}
-IsRefusal frame = ⊥
+no_replies_is_grant trees given is = cc
 
 pub no_refusal_is_replies : (code : ℕ) (trees : List TreeReply) → refuse code ≡ replies trees → ⊥
-no_refusal_is_replies code trees is = subst IsRefusal is tt
+no_refusal_is_replies code trees is = cc
 
 -- ---- the answer to a grant, by the kind
 
@@ -225,6 +217,9 @@ answered job claim (awaits_replies given done pairs) frame answer now log sound 
     replies_at job claim given done pairs more came trees answer now log sound claimed some are at
     (subst (λ t. AreRoundPairs job.file (given.start + done) t more) (sym (same_trees trees other (sym is ∙ is_too))) one) goes
 answered job claim (awaits_challenge given pairs wires) frame answer now log sound (element, rounds, d, is, ranged, claimed, fixes, at) (other, is_too, said, next) =
+    let same : element ≡ other = same_element element other (sym is ∙ is_too) in
+    let u : List ℕ = sums_frame (sums_for job given pairs wires element) in
+    let o : List ℕ = openings_frame (openings_for job wires) in
     subst (λ p. IsLogAt job claim p (log ++ bytes_from Prover (flat_map frame_spelling answer))) (sym next) (record {
       given = given;
       claimed = claimed;
@@ -241,17 +236,7 @@ answered job claim (awaits_challenge given pairs wires) frame answer now log sou
           ∙ ap (λ l. challenged_log job given rounds d element ++ l) (bytes_more Prover u o)
           ∙ sym (append_assoc (challenged_log job given rounds d element) (bytes_from Prover u) (bytes_from Prover o));
     })
-  where
-    same : element ≡ other
-    same = same_element element other (sym is ∙ is_too)
-
-    u : List ℕ
-    u = sums_frame (sums_for job given pairs wires element)
-
-    o : List ℕ
-    o = openings_frame (openings_for job wires)
-answered job claim awaits_verdict frame answer now log sound taken answers = absurd taken
-answered job claim has_ended frame answer now log sound taken answers = absurd taken
+answered job claim other frame answer now log sound taken answers = absurd taken
 
 -- where a prover waits after its answer it expects a frame
 record IsNext (job : ProverJob) (now : ProverStage) : Type 0 where
@@ -273,19 +258,17 @@ next_challenge job given pairs answer now (d, wires, fixed, said, next) =
 
 next_of : (job : ProverJob) (claim : Claim) (stage : ProverStage) (frame : Frame) (answer : List Frame) (now : ProverStage) (log : List (Side × ℕ))
     → IsLogTaken job claim stage frame log → ProverAnswers job stage frame answer now → IsNext job now
-next_of job claim awaits_grant frame answer now log taken (other, is_too, fits, answers) = of_answer (grant_answer job other answer now answers)
-  where
-    of_answer : IsGrantAnswer job other answer now → IsNext job now
-    of_answer (inl (direct, commits)) = next_challenge job other (span_pairs job.file (span_of other)) answer now commits
-    of_answer (inr (extended, said, next)) = next_reply job other 0 [] now next
+next_of job claim awaits_grant frame answer now log taken (other, is_too, fits, answers) = elim (grant_answer job other answer now answers) [
+  | inl (direct, commits) ↦ next_challenge job other (span_pairs job.file (span_of other)) answer now commits
+  | inr (extended, said, next) ↦ next_reply job other 0 [] now next
+]
 next_of job claim (awaits_replies given done pairs) frame answer now log taken (other, more, is_too, one, inl (less, said, next)) =
     next_reply job given (done + 1) (pairs ++ more) now next
 next_of job claim (awaits_replies given done pairs) frame answer now log taken (other, more, is_too, one, inr (all, commits)) =
     next_challenge job given (pairs ++ more) answer now commits
 next_of job claim (awaits_challenge given pairs wires) frame answer now log taken (other, is_too, said, next) =
     record { awaited = expect.Verdict; expected = ap (prover_expects job) next; none_yet = inl (omega arith) }
-next_of job claim awaits_verdict frame answer now log taken answers = absurd taken
-next_of job claim has_ended frame answer now log taken answers = absurd taken
+next_of job claim other frame answer now log taken answers = absurd taken
 
 -- a frame that has come has an answer
 pub answer_exists : (job : ProverJob) (claim : Claim) (stage : ProverStage) (frame : Frame) (log : List (Side × ℕ)) → IsSound job
@@ -294,43 +277,122 @@ answer_exists job claim awaits_grant frame log sound (given, is, claimed, grante
     let found = answer_of_kind job job.file.params.kind given (λ direct. commits_to job given [] (span_pairs job.file (span_of given)) sound granted
     (asked_none job given direct) (pairs_seen job.file (setup_for job given []))) in
     (found.0, found.1, (given, is, granted, found.2))
-answer_exists job claim (awaits_replies given done pairs) frame log sound (trees, came, is, are, claimed, some, at) = by_count (cases_lt (done + 1) given.count)
+answer_exists job claim (awaits_replies given done pairs) frame log sound (trees, came, is, are, claimed, some, at) =
+    elim (cases_lt (done + 1) given.count) [
+      | inl less ↦ ([], awaits_replies given (done + 1) (pairs ++ found.0), (trees, found.0, is, found.1, inl (less, refl, refl)))
+      | inr few ↦
+          let all : done + 1 ≡ given.count = (let less = some.more in omega (arith, few, less)) in
+          let replied = replied_more job given done pairs came trees some are in
+          let c = commits_to job given (round_with job given (came ++ trees ∷ [])) (pairs ++ found.0) sound some.granted
+          (asked_round job given (came ++ trees ∷ []) sound.file some.granted some.extended (replied.0 ∙ all) replied.1)
+          (whole_view job.file (setup_for job given []).hello given (came ++ trees ∷ []) (pairs ++ found.0) (replied.0 ∙ all)
+          (first_more job.file given came trees pairs found.0 done some.count some.made found.1)) in
+          (corrections c.d ∷ [], awaits_challenge given (pairs ++ found.0) c.wires, (trees, found.0, is, found.1, inr (all, (c.d, c.wires, c.fixed, refl, refl))))
+    ]
   where
     found : (more : List Pair) × AreRoundPairs job.file (given.start + done) trees more
     found = unit_pairs job.file (given.start + done) trees sound.file some.extended
         (let within = some.granted.within in let less = some.more in omega (arith, within, less)) are
-
-    by_count : (done + 1 < given.count) ⊎ (given.count ≤ done + 1)
-        → (answer : List Frame) × (now : ProverStage) × ProverAnswers job (awaits_replies given done pairs) frame answer now
-    by_count (inl less) = ([], awaits_replies given (done + 1) (pairs ++ found.0), (trees, found.0, is, found.1, inl (less, refl, refl)))
-    by_count (inr few) =
-        let all : done + 1 ≡ given.count = (let less = some.more in omega (arith, few, less)) in
-        let replied = replied_more job given done pairs came trees some are in
-        let c = commits_to job given (round_with job given (came ++ trees ∷ [])) (pairs ++ found.0) sound some.granted
-        (asked_round job given (came ++ trees ∷ []) sound.file some.granted some.extended (replied.0 ∙ all) replied.1)
-        (whole_view job.file (setup_for job given []).hello given (came ++ trees ∷ []) (pairs ++ found.0) (replied.0 ∙ all)
-        (first_more job.file given came trees pairs found.0 done some.count some.made found.1)) in
-        (corrections c.d ∷ [], awaits_challenge given (pairs ++ found.0) c.wires, (trees, found.0, is, found.1, inr (all, (c.d, c.wires, c.fixed, refl, refl))))
 answer_exists job claim (awaits_challenge given pairs wires) frame log sound (element, rounds, d, is, ranged, claimed, fixes, at) =
     (sums (sums_for job given pairs wires element) ∷ openings (openings_for job wires) ∷ [], awaits_verdict, (element, is, refl, refl))
-answer_exists job claim awaits_verdict frame log sound taken = absurd taken
-answer_exists job claim has_ended frame log sound taken = absurd taken
+answer_exists job claim other frame log sound taken = absurd taken
 
 -- the answer is what an honest prover sends next
 pub answer_is_honest : (job : ProverJob) (claim : Claim) (stage : ProverStage) (frame : Frame) (answer : List Frame) (now : ProverStage) (log : List (Side × ℕ)) (inputs values : List ℕ)
     → IsSound job → IsLogTaken job claim stage frame log → ProverAnswers job stage frame answer now → IsWitness job.statement inputs values job.given
     → AreHonestBytes (task_of job inputs) (sent_by Verifier log) (sent_by Prover log ++ flat_map frame_spelling answer)
 answer_is_honest job claim stage frame answer now log inputs values sound taken answers witness =
+    let bytes : List ℕ = flat_map frame_spelling answer in
+    let said : List (Side × ℕ) = bytes_from Prover bytes in
+    let next : IsNext job now = next_of job claim stage frame answer now log taken answers in
     subst (λ (q : List ℕ × List ℕ). AreHonestBytes (task_of job inputs) q.0 q.1)
     (λ i. ((ap (sent_by Verifier) (append-nil (log ++ said)) ∙ verifier_hears log bytes) i, (ap (sent_by Prover) (append-nil (log ++ said)) ∙ prover_says log bytes) i))
     (has_answered job claim now next.awaited (log ++ said) [] inputs values sound (answered job claim stage frame answer now log sound taken answers) next.expected
     (omega arith) next.none_yet witness)
-  where
-    bytes : List ℕ
-    bytes = flat_map frame_spelling answer
 
-    said : List (Side × ℕ)
-    said = bytes_from Prover bytes
+-- ---- a prover's frames are short
 
-    next : IsNext job now
-    next = next_of job claim stage frame answer now log taken answers
+elements_length : (elements : List ℕ) → length (flat_map element_bytes elements) ≡ 8 * length elements
+elements_length [] = refl
+elements_length (x ∷ elements) =
+    let rest = elements_length elements in
+    length-append (element_bytes x) (flat_map element_bytes elements) ∙ omega (arith, rest)
+
+sums_length : (both : List (ℕ × ℕ)) → length (flat_map (λ (q : ℕ × ℕ). element_bytes q.0 ++ element_bytes q.1) both) ≡ 16 * length both
+sums_length [] = refl
+sums_length (q ∷ both) =
+    let rest = sums_length both in
+    let first = length-append (element_bytes q.0) (element_bytes q.1) in
+    length-append (element_bytes q.0 ++ element_bytes q.1) (flat_map (λ (q : ℕ × ℕ). element_bytes q.0 ++ element_bytes q.1) both) ∙ omega (arith, rest, first)
+
+corrections_short : (d : List ℕ) → length d ≤ 2 ^ 20 → IsShort (corrections d)
+corrections_short d few = let all = elements_length d in omega (arith, few, all)
+
+openings_short : (d : List ℕ) → length d ≤ 2 ^ 20 → IsShort (openings d)
+openings_short d few = let all = elements_length d in omega (arith, few, all)
+
+sums_short : (both : List (ℕ × ℕ)) → length both ≤ 2 ^ 20 → IsShort (sums both)
+sums_short both few = let all = sums_length both in omega (arith, few, all)
+
+-- ---- the asks of a unit
+
+few_asks : (params : Params) (kind : Kind) → AreWithinLimits kind params → params.trees * (params.height + 8) ≤ 2 ^ 20
+few_asks params Direct limits = let none = ap (λ n. n * (params.height + 8)) limits.1 in omega (arith, none)
+few_asks params Extended limits =
+    let most = mul-le params.trees (params.height + 8) 1024 24 limits.3 (let low = limits.1 in omega (arith, low)) in omega (arith, most)
+
+asks_short : (params : Params) (trees : List TreeAsk) → AreWithinLimits params.kind params → AreAsks params.height params.trees trees → IsShort (asks trees)
+asks_short params trees limits are =
+    let whole = length-trees params.trees params.height 1 _ (asks_fit params.height params.trees trees are) in
+    let few = few_asks params params.kind limits in
+    omega (arith, whole, few)
+
+all_asks_short : (file : ProverFile) (given : Grant) → IsProverFile file → given.start + given.count ≤ file.params.total
+    → All IsShort (map asks (round_asks file given))
+all_asks_short file given is within =
+    All-map IsShort asks (round_asks file given)
+    (All-weaker (λ trees. (length trees ≡ file.params.trees) × All (IsTreeAsk file.params.height) trees) (λ trees. IsShort (asks trees))
+    (λ trees each. asks_short file.params trees is.params.limits (record { counted = each.0; each = each.1 }))
+    (round_asks file given) (round_asks_shaped file given is within).1)
+
+-- ---- corrections
+
+commits_short : (job : ProverJob) (given : Grant) (rounds : List Round) (pairs : List Pair) (answer : List Frame) (now : ProverStage) → IsSound job
+    → IsGrant job.file.params job.statement.program given → AreAskedRounds job given rounds → IsProverView job.file (setup_for job given rounds) pairs
+    → Commits job given pairs answer now → All IsShort answer
+commits_short job given rounds pairs answer now sound granted asked seen (d, wires, fixed, said, next) =
+    let count : length d ≡ job.statement.program.givens =
+    (committed job given rounds pairs d sound (setup_is job given rounds sound granted asked) seen fixed.corrections_are).count in
+    let few : job.statement.program.givens ≤ 2 ^ 20 = sound.givens in
+    subst (All IsShort) (sym said) (All-cons IsShort (corrections d) [] (corrections_short d (omega (arith, count, few))) (All-nil IsShort))
+
+pub answer_short : (job : ProverJob) (claim : Claim) (stage : ProverStage) (frame : Frame) (answer : List Frame) (now : ProverStage) (log : List (Side × ℕ))
+    → IsSound job → IsLogTaken job claim stage frame log → ProverAnswers job stage frame answer now → All IsShort answer
+answer_short job claim awaits_grant frame answer now log sound taken (given, is, granted, answers) =
+    elim (grant_answer job given answer now answers) [
+      | inl (direct, commits) ↦
+          commits_short job given [] (span_pairs job.file (span_of given)) answer now sound granted (asked_none job given direct)
+          (pairs_seen job.file (setup_for job given [])) commits
+      | inr (extended, said, next) ↦ subst (All IsShort) (sym said) (all_asks_short job.file given sound.file granted.within)
+    ]
+answer_short job claim (awaits_replies given done pairs) frame answer now log sound taken (trees, more, is, one, inl (less, said, next)) =
+    subst (All IsShort) (sym said) (All-nil IsShort)
+answer_short job claim (awaits_replies given done pairs) frame answer now log sound (trees, came, is, are, claimed, some, at) (other, more, is_too, one, inr (all, commits)) =
+    let replied = replied_more job given done pairs came trees some are in
+    let asked = asked_round job given (came ++ trees ∷ []) sound.file some.granted some.extended (replied.0 ∙ all) replied.1 in
+    commits_short job given (round_with job given (came ++ trees ∷ [])) (pairs ++ more) answer now sound some.granted asked
+    (whole_view job.file (setup_for job given []).hello given (came ++ trees ∷ []) (pairs ++ more) (replied.0 ∙ all)
+    (first_more job.file given came trees pairs more done some.count some.made
+    (subst (λ t. AreRoundPairs job.file (given.start + done) t more) (sym (same_trees trees other (sym is ∙ is_too))) one))) commits
+answer_short job claim (awaits_challenge given pairs wires) frame answer now log sound (element, rounds, d, is, ranged, claimed, fixes, at) (other, is_too, said, next) =
+    let u : List (ℕ × ℕ) = sums_for job given pairs wires other in
+    let o : List ℕ = openings_for job wires in
+    let few : section_count job.statement.program given.section_length ≤ length job.statement.program.products =
+    parts_within (length job.statement.program.products) given.section_length fixes.granted.section_some in
+    let most : length job.statement.program.products ≤ 2 ^ 20 = sound.products in
+    let count : length u ≡ section_count job.statement.program given.section_length = length-map-range_with_len _ 0 _ in
+    let opened : length o ≡ length job.statement.program.opened = length-map _ _ ∙ length-map _ _ in
+    let few_opened : length job.statement.program.opened ≤ 2 ^ 20 = sound.opened in
+    subst (All IsShort) (sym said) (All-cons IsShort (sums u) (openings o ∷ []) (sums_short u (omega (arith, few, count, most)))
+    (All-cons IsShort (openings o) [] (openings_short o (omega (arith, opened, few_opened))) (All-nil IsShort)))
+answer_short job claim other frame answer now log sound taken answers = absurd taken

@@ -1,5 +1,5 @@
 -- With an honest verifier no other outcome is left.
-use Rattle.std.proofs.Common.{◌≡◌, inl, inr, ℕ, suc, ◌+◌, ◌<◌, ◌≤◌, List, [], ◌∷◌, ◌++◌, take, length, refl, ap, sym, ◌∙◌, subst, append_assoc, append-nil, length-append, arith}
+use Rattle.std.proofs.Common.{slice_index_or, ◌≡◌, inl, inr, ℕ, suc, ◌+◌, ◌<◌, ◌≤◌, List, [], ◌++◌, length, refl, ap, sym, ◌∙◌, subst, append_assoc, append-nil, length-append, arith}
 use Rattle.std.proofs.lemmas.List.{take_all}
 use Rattle.session_laws.proofs.Turns.{answered, fewer_answered}
 use Rattle.session_laws.proofs.Sizes.{count_is}
@@ -24,10 +24,9 @@ use Rattle.session_prover.specs.declared.note.ProverOutcome.TheVariants as outco
 use Rattle.session_prover.specs.Stages.{Claim, greeted_log}
 use Rattle.session_prover.specs.Notes.{StopsBehind, IsOutcome, task_of, WaitsFor}
 use Rattle.session_prover.specs.Completing.{HasSpoken, HasHonestPeer, Completes}
-use Rattle.session_prover.specs.Turns.{IsSound}
+use Rattle.session_prover.specs.Proving.{IsSound}
 use Rattle.session_prover.proofs.Sides.{verifier_says}
-use Rattle.session_prover.proofs.Heard.{IsNextFrame}
-use Rattle.session_prover.proofs.Unheard.{same_bytes_grant}
+use Rattle.session_prover.proofs.Heard.{IsNextFrame, same_bytes_grant}
 use Rattle.session_prover.proofs.GrantPlace.{none_bad}
 use Rattle.session_prover.proofs.Waiting.{turns_at, next_frame, greeted_heard, granted_heard}
 use Rattle.session_prover.proofs.Related.{suits_is}
@@ -49,20 +48,16 @@ of_job job inputs verifier t counterparts is = subst (λ (q : Params × Program)
 
 is_said : (job : ProverJob) (inputs : List ℕ) (verifier : VerifierTask) (result : ProverOutcome) (log : List (Side × ℕ))
     → HasHonestPeer job inputs verifier result log → IsSaid job (sent_by Verifier log)
-is_said job inputs verifier result log peer = record {
-  t = peer.honest.t;
-  is = of_job job inputs verifier peer.honest.t peer.counterparts peer.honest.served.in_order.transcript;
-  more = peer.honest.begun.0 ++ later.0;
-  begun = ap (λ turns. answered turns) (sym (take_all (length ts) ts (omega arith))) ∙ later.1
-      ∙ ap (λ l. l ++ later.0) peer.honest.begun.1 ∙ append_assoc (sent_by Verifier log) peer.honest.begun.0 later.0;
-}
-  where
-    ts : List (List ℕ × List ℕ)
-    ts = session_turns peer.honest.t
-
-    later : (rest : List ℕ) × (answered (take (length (session_turns peer.honest.t)) (session_turns peer.honest.t))
-        ≡ answered (take peer.honest.turns (session_turns peer.honest.t)) ++ rest)
-    later = fewer_answered peer.honest.turns (length ts) ts peer.honest.within
+is_said job inputs verifier result log peer =
+    let ts : List (List ℕ × List ℕ) = session_turns peer.honest.t in
+    let later = fewer_answered peer.honest.turns (length ts) ts peer.honest.within in
+    record {
+      t = peer.honest.t;
+      is = of_job job inputs verifier peer.honest.t peer.counterparts peer.honest.served.in_order.transcript;
+      more = peer.honest.begun.0 ++ later.0;
+      begun = ap (λ turns. answered turns) (sym (take_all (length ts) ts (omega arith))) ∙ later.1
+          ∙ ap (λ l. l ++ later.0) peer.honest.begun.1 ∙ append_assoc (sent_by Verifier log) peer.honest.begun.0 later.0;
+    }
 
 -- or all of it
 all_said : (job : ProverJob) (inputs : List ℕ) (verifier : VerifierTask) (log : List (Side × ℕ))
@@ -88,6 +83,9 @@ said_next : (job : ProverJob) (claim : Claim) (awaited : Expect) (before log : L
     → (said : IsSaid job (sent_by Verifier log)) → log ≡ before ++ bytes_from Verifier rest → WaitsFor job claim before awaited
     → IsNextFrame awaited (rest ++ said.more)
 said_next job claim awaited before log rest inputs sound said logged waits =
+    let ts : List (List ℕ × List ℕ) = session_turns said.t in
+    let later = fewer_answered (suc (turns_at job waits.stage)) (length ts) ts
+    (let few = few_turns job waits.stage in let count = count_is job.file.params job.statement.program said.t said.is in omega (arith, few, count)) in
     next_frame job claim waits.stage awaited before (rest ++ said.more) inputs sound waits.waited waits.expected (record {
       u = said.t;
       is = said.is;
@@ -96,14 +94,6 @@ said_next job claim awaited before log rest inputs sound said logged waits =
           ∙ ap (λ l. l ++ said.more) (sym (verifier_says before rest) ∙ ap (sent_by Verifier) (sym logged)) ∙ sym said.begun
           ∙ ap (λ turns. answered turns) (sym (take_all (length ts) ts (omega arith))) ∙ later.1;
     })
-  where
-    ts : List (List ℕ × List ℕ)
-    ts = session_turns said.t
-
-    later : (rest : List ℕ) × (answered (take (length (session_turns said.t)) (session_turns said.t))
-        ≡ answered (take (suc (turns_at job waits.stage)) (session_turns said.t)) ++ rest)
-    later = fewer_answered (suc (turns_at job waits.stage)) (length ts) ts
-        (let few = few_turns job waits.stage in let count = count_is job.file.params job.statement.program said.t said.is in omega (arith, few, count))
 
 -- ---- outcomes that are left out
 
@@ -153,23 +143,10 @@ completes job claim log first now outcome.BadGrant law sound (given, fits, unsui
     (ap (λ l. l ++ said.more) (sym (ap (sent_by Verifier) logged ∙ granted_heard job given)) ∙ sym said.begun))))
 completes job claim log first now (outcome.PeerRefused code) law sound (fits, logged) inputs verifier peer free calm =
     let said = is_said job inputs verifier (outcome.PeerRefused code) log peer in
-    let kinds : 10 ≡ 2 = ap (head_or 0)
+    let kinds : 10 ≡ 2 = ap (λ l. slice_index_or l 0 0)
     (ap (λ l. l ++ said.more) (sym (ap (sent_by Verifier) logged ∙ verifier_says (greeted_log job) (refuse_frame code)
     ∙ ap (λ l. l ++ refuse_frame code) (greeted_heard job))) ∙ sym said.begun) in
     absurd (omega (arith, kinds))
-  where
-    head_or : ℕ → List ℕ → ℕ
-    head_or other [] = other
-    head_or other (x ∷ l) = x
-completes job claim log first now (outcome.Broken count) law sound (given, suits, refused, logged) inputs verifier peer free calm =
-    absurd (free _ refused.answer)
-completes job claim log first now (outcome.OutOfRange total) law sound (given, suits, refused, logged) inputs verifier peer free calm =
-    absurd (free _ refused.answer)
-completes job claim log first now (outcome.Overlap earlier) law sound (given, suits, refused, logged) inputs verifier peer free calm =
-    absurd (free _ refused.answer)
-completes job claim log first now (outcome.Full slots) law sound (given, suits, refused, logged) inputs verifier peer free calm =
-    absurd (free _ refused.answer)
-completes job claim log first now outcome.Device law sound (given, suits, refused, logged) inputs verifier peer free calm =
-    absurd (free _ refused.answer)
 completes job claim log first now outcome.Link law sound (rose, where_failed) inputs verifier peer free calm = absurd (calm rose)
 completes job claim log first now outcome.NoMemory law sound caused inputs verifier peer free calm = inr refl
+completes job claim log first now other law sound refused inputs verifier peer free calm = absurd (free _ refused.2.answer)

@@ -13,15 +13,17 @@ use Rattle.claim_store.specs.declared.ClaimFault.{ClaimFault}
 use Rattle.frame_link.specs.Lines.{IsUnfinished}
 use Rattle.proof_frames.proofs.Lengths.{whole_length}
 use Rattle.proof_frames.proofs.Unique.{one_frame}
+use Rattle.zk_model.specs.View.{span_of}
+use Rattle.frame_link.proofs.LineLemmas.{none_is_some}
 use Rattle.session_core.specs.Jobs.{ProverJob, Suits}
 use Rattle.session_prover.specs.declared.note.ProverOutcome.{ProverOutcome}
 use Rattle.session_prover.specs.declared.note.ProverOutcome.TheVariants as outcome
 use Rattle.session_prover.specs.Outcomes.{claim_outcome}
 use Rattle.session_prover.specs.Stages.{Claim, ClaimedFor, RefusedFor, greeted_log, granted_log}
 use Rattle.session_prover.specs.Notes.{AnswersGrantPlace}
-use Rattle.session_prover.specs.Turns.{IsSound}
+use Rattle.session_prover.specs.Proving.{IsSound}
 use Rattle.session_prover.proofs.Sides.{verifier_says}
-use Rattle.session_prover.proofs.Unheard.{same_bytes_grant}
+use Rattle.session_prover.proofs.Heard.{same_bytes_grant}
 use Rattle.session_prover.proofs.Waiting.{greeted_heard, granted_heard}
 use Rattle.session_prover.proofs.Related.{suits_is}
 use Rattle.session_prover.proofs.Answering.{same_grant}
@@ -66,16 +68,13 @@ take_of_front (suc k) (x ∷ a) b few = ap (λ l. x ∷ l) (take_of_front k a b 
 pub none_bad : (stage : Expect) (frame : Frame) (rest more tail : List ℕ) (n : ℕ) → Allows stage frame
     → length rest ≤ length (frame_spelling frame) → rest ++ more ≡ frame_spelling frame ++ tail → IsFirstBad stage rest n → ⊥
 none_bad stage frame rest more tail n allowed few is bad =
+    let fronts : take (n + 1) rest ≡ take (n + 1) (frame_spelling frame) =
+    let within = bad.within in
+    sym (take_of_front (n + 1) rest more (omega (arith, within))) ∙ ap (take (n + 1)) is
+    ∙ take_of_front (n + 1) (frame_spelling frame) tail (omega (arith, within, few)) in
+    let same : frame_spelling frame ≡ take (n + 1) rest ++ drop (n + 1) (frame_spelling frame) =
+    sym (take-append-drop (n + 1) (frame_spelling frame)) ∙ ap (λ l. l ++ drop (n + 1) (frame_spelling frame)) (sym fronts) in
     bad.ends (record { frame = frame; allowed = allowed; begun = (drop (n + 1) (frame_spelling frame), same) })
-  where
-    fronts : take (n + 1) rest ≡ take (n + 1) (frame_spelling frame)
-    fronts =
-        let within = bad.within in
-        sym (take_of_front (n + 1) rest more (omega (arith, within))) ∙ ap (take (n + 1)) is
-        ∙ take_of_front (n + 1) (frame_spelling frame) tail (omega (arith, within, few))
-
-    same : frame_spelling frame ≡ take (n + 1) rest ++ drop (n + 1) (frame_spelling frame)
-    same = sym (take-append-drop (n + 1) (frame_spelling frame)) ∙ ap (λ l. l ++ drop (n + 1) (frame_spelling frame)) (sym fronts)
 
 -- a whole frame is not unfinished
 pub whole_is_finished : (stage : Expect) (frame : Frame) (bytes : List ℕ) → Allows stage frame → bytes ≡ frame_spelling frame → IsUnfinished stage bytes → ⊥
@@ -86,26 +85,12 @@ whole_is_finished stage frame bytes allowed is (inr (n, bad)) =
 
 -- ---- what the claimant answered
 
-abbrev IsSome : {T : Type 0} → Option T → Type 0
-IsSome None = ⊥
-IsSome (Some value) = Unit {0}
-
-some_is_none : {T : Type 0} (value : T) → Some value ≡ None → ⊥
-some_is_none value same = subst IsSome same tt
-
-abbrev IsClaimed : Option (Result Span ClaimFault) → Type 0
-IsClaimed None = ⊥
-IsClaimed (Some (Ok span)) = Unit {0}
-IsClaimed (Some (Err fault)) = ⊥
-
-fault_or : ClaimFault → Option (Result Span ClaimFault) → ClaimFault
-fault_or other None = other
-fault_or other (Some (Ok span)) = other
-fault_or other (Some (Err fault)) = fault
-
 same_fault : (answer : Option (Result Span ClaimFault)) (one other : ClaimFault) → answer ≡ Some (Err one) → answer ≡ Some (Err other) → one ≡ other
-unfolding fault_or
-same_fault answer one other first second = ap (fault_or one) (sym first ∙ second)
+same_fault answer one other first second = cc
+
+claimed_or_refused : (answer : Option (Result Span ClaimFault)) (span : Span) (fault : ClaimFault) → answer ≡ Some (Ok span)
+    → answer ≡ Some (Err fault) → ⊥
+claimed_or_refused answer span fault first second = cc
 
 -- ---- the outcome
 
@@ -113,7 +98,7 @@ same_fault answer one other first second = ap (fault_or one) (sym first ∙ seco
 pub answers_unread : (job : ProverJob) (claim : Claim) (result : ProverOutcome) (log : List (Side × ℕ)) → claim.answer ≡ None
     → ((frame : Frame) → Allows expect.Grant frame → sent_by Verifier log ≡ frame_spelling frame → ⊥) → AnswersGrantPlace job claim result log
 answers_unread job claim result log unasked none = record {
-  refused = λ fault is. absurd (some_is_none (Err fault) (sym is ∙ unasked));
+  refused = λ fault is. absurd (none_is_some (sym unasked ∙ is));
   unsuited = λ given fits unsuited logged. absurd (none (grant given) (inl (given, refl, fits)) (ap (sent_by Verifier) logged ∙ granted_heard job given));
   turned_away = λ code fits logged. absurd (none (refuse code) (inr (code, refl, fits)) (ap (sent_by Verifier) logged ∙ refused_heard job code));
   asked = λ given fits suits logged _. none (grant given) (inl (given, refl, fits)) (ap (sent_by Verifier) logged ∙ granted_heard job given);
@@ -123,7 +108,7 @@ answers_unread job claim result log unasked none = record {
 pub answers_unsuited : (job : ProverJob) (claim : Claim) (given : Grant) (log : List (Side × ℕ)) → claim.answer ≡ None → FitsGrant given
     → (Suits job.file.params job.statement.program given → ⊥) → log ≡ granted_log job given → AnswersGrantPlace job claim outcome.BadGrant log
 answers_unsuited job claim given log unasked fits unsuited is = record {
-  refused = λ fault asked. absurd (some_is_none (Err fault) (sym asked ∙ unasked));
+  refused = λ fault asked. absurd (none_is_some (sym unasked ∙ asked));
   unsuited = λ other _ _ _. refl;
   turned_away = λ code _ logged. absurd (no_grant_refuses given code [] (append-nil (grant_frame given) ∙ sym heard ∙ ap (sent_by Verifier) logged ∙ refused_heard job code));
   asked = λ other fits_too suits logged _. unsuited (subst (λ (g : Grant). Suits job.file.params job.statement.program g)
@@ -137,7 +122,7 @@ answers_unsuited job claim given log unasked fits unsuited is = record {
 pub answers_refusal : (job : ProverJob) (claim : Claim) (code : ℕ) (log : List (Side × ℕ)) → claim.answer ≡ None → FitsRefusal code
     → log ≡ greeted_log job ++ bytes_from Verifier (refuse_frame code) → AnswersGrantPlace job claim (outcome.PeerRefused code) log
 answers_refusal job claim code log unasked fits is = record {
-  refused = λ fault asked. absurd (some_is_none (Err fault) (sym asked ∙ unasked));
+  refused = λ fault asked. absurd (none_is_some (sym unasked ∙ asked));
   unsuited = λ given _ _ logged. absurd (no_grant given logged);
   turned_away = λ other fits_too logged. ap outcome.PeerRefused (same_refusal code other fits fits_too (sym heard ∙ ap (sent_by Verifier) logged ∙ refused_heard job other));
   asked = λ given _ _ logged _. no_grant given logged;
@@ -161,7 +146,7 @@ answers_unclaimed job claim given fault log fits suits refused is = record {
   unsuited = λ other fits_too unsuited logged. absurd (unsuited (subst (λ (g : Grant). Suits job.file.params job.statement.program g)
       (same_fits given other fits fits_too (sym heard ∙ ap (sent_by Verifier) logged ∙ granted_heard job other)) suits));
   turned_away = λ code _ logged. absurd (no_grant_refuses given code [] (append-nil (grant_frame given) ∙ sym heard ∙ ap (sent_by Verifier) logged ∙ refused_heard job code));
-  asked = λ other _ _ _ none. some_is_none (Err fault) (sym refused.answer ∙ none);
+  asked = λ other _ _ _ none. none_is_some (sym none ∙ refused.answer);
 }
   where
     heard : sent_by Verifier log ≡ grant_frame given
@@ -171,12 +156,12 @@ answers_unclaimed job claim given fault log fits suits refused is = record {
 pub answers_claimed : (job : ProverJob) (claim : Claim) (given : Grant) (result : ProverOutcome) (log : List (Side × ℕ)) → IsSound job → ClaimedFor claim given
     → IsGrant job.file.params job.statement.program given → BeginsWith log (granted_log job given) → AnswersGrantPlace job claim result log
 answers_claimed job claim given result log sound claimed granted begun = record {
-  refused = λ fault is. absurd (subst IsClaimed (sym claimed.answer ∙ is) tt);
+  refused = λ fault is. absurd (claimed_or_refused claim.answer (span_of given) fault claimed.answer is);
   unsuited = λ other fits unsuited logged. absurd (unsuited (suits_is job.file.params job.statement.program other
       (same_bytes_grant job.file.params job.statement.program other given [] (sent_by Verifier begun.0) sound.file.params.total fits granted
       (append-nil (grant_frame other) ∙ sym (granted_heard job other) ∙ ap (sent_by Verifier) (sym logged) ∙ heard))));
   turned_away = λ code _ logged. absurd (no_grant_refuses given code (sent_by Verifier begun.0) (sym heard ∙ ap (sent_by Verifier) logged ∙ refused_heard job code));
-  asked = λ other _ _ _ none. some_is_none _ (sym claimed.answer ∙ none);
+  asked = λ other _ _ _ none. none_is_some (sym none ∙ claimed.answer);
 }
   where
     heard : sent_by Verifier log ≡ grant_frame given ++ sent_by Verifier begun.0

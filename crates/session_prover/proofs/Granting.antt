@@ -21,19 +21,16 @@ use Rattle.session_prover.specs.declared.note.ProverOutcome.TheVariants as outco
 use Rattle.session_prover.specs.Outcomes.{line_outcome, claim_outcome}
 use Rattle.session_prover.specs.Stages.{Claim, RefusedFor, Course, IsLogTaken, GoesWell, greeting, greeted_log, granted_log}
 use Rattle.session_prover.specs.Notes.{task_of, IsRelated, IsOutcome, SendsHonestly, AnswersGrantPlace, IsEnded}
-use Rattle.session_prover.specs.Turns.{IsSound, SendStops, Comes, IsGrantTaken, IsNoGrant}
+use Rattle.session_prover.specs.Proving.{IsSound, SendStops, Comes, IsGrantTaken, IsNoGrant}
 use Rattle.frame_laws.proofs.SentBytes.{own_bytes}
-use Rattle.session_prover.proofs.Sides.{prover_hears}
-use Rattle.session_prover.proofs.Heard.{Hears, honest_bytes}
-use Rattle.session_prover.proofs.Unheard.{one_grant}
-use Rattle.session_prover.proofs.Waiting.{greeted_sent, granted_sent, granted_heard, from_ended}
-use Rattle.session_prover.proofs.Ending.{mine, well_of, logged_whole}
+use Rattle.session_prover.proofs.Sides.{prover_hears, verifier_says, frame_is_some}
+use Rattle.session_prover.proofs.Heard.{Hears, honest_bytes, one_grant, IsUnheard, unread}
+use Rattle.session_prover.proofs.Waiting.{greeted_sent, greeted_heard, granted_sent, granted_heard, from_ended}
+use Rattle.session_prover.proofs.Ending.{mine, well_of, ends_well}
 use Rattle.session_prover.proofs.Related.{suits_is, related_greeting, related_part}
 use Rattle.session_prover.proofs.Answering.{same_grant, no_refusal_is_grant, answer_exists, answer_is_honest}
-use Rattle.session_prover.proofs.GrantPlace.{refused_heard, same_code, answers_unread, answers_unsuited, answers_refusal, answers_unclaimed}
+use Rattle.session_prover.proofs.GrantPlace.{same_code, answers_unread, answers_unsuited, answers_refusal, answers_unclaimed}
 use Rattle.session_prover.proofs.Stopping.{IsDue, stops_sending_at, taken_unheard}
-use Rattle.session_prover.proofs.Unread.{IsUnheard, unread}
-use Rattle.session_prover.proofs.Counting.{frame_is_some}
 
 -- ---- the greeting
 
@@ -68,36 +65,30 @@ stops_greeting job claim f first new sound unasked fresh stops =
 
 -- ---- what comes
 
-refused_sent : (job : ProverJob) (code : ℕ) → sent_by Prover (greeted_log job ++ bytes_from Verifier (refuse_frame code)) ≡ greeting job
-refused_sent job code = prover_hears (greeted_log job) (refuse_frame code) ∙ greeted_sent job
-
--- a log, where the greeting alone was sent and is what an honest prover sends
-ends_greeted : (job : ProverJob) (course : Course) (result : ProverOutcome) (new : LineState) → GoesWell course.first new
-    → course.claim.answer ≡ None → sent_by Prover new.log ≡ greeting job
-    → ((inputs wires : List ℕ) → IsWitness job.statement inputs wires job.given → HasEndedHonestly (task_of job inputs) new.log)
-    → IsUnheard job new.log
-    → SendsHonestly job new.log result
-    → AnswersGrantPlace job course.claim result new.log
-    → IsOutcome job course.claim new.log (snapshot_of course.first) (snapshot_of new) result
+-- what came in the grant's place is no grant that fits: the greeting alone was sent, and is what an honest prover sends
+ends_unmet : (job : ProverJob) (course : Course) (result : ProverOutcome) (bytes : List ℕ) (new : LineState) → GoesWell course.first new
+    → course.claim.answer ≡ None → new.log ≡ greeted_log job ++ bytes_from Verifier bytes
+    → ((inputs : List ℕ) → Hears (task_of job inputs) bytes 0 → ⊥)
+    → (((inputs wires : List ℕ) → IsWitness job.statement inputs wires job.given
+    → HasEndedHonestly (task_of job inputs) new.log × (sent_by Prover new.log ≡ greeting job)) → SendsHonestly job new.log result)
+    → AnswersGrantPlace job course.claim result new.log → IsOutcome job course.claim new.log (snapshot_of course.first) (snapshot_of new) result
     → IsEnded job course result new
-ends_greeted job course result new well unasked sent ended unheard honest answers is = record {
-  outcome_is = is;
-  answers = answers;
-  asked = inl unasked;
-  honest = honest;
-  claimed = inl ([], sym (append-nil (sent_by Prover new.log) ∙ sent));
-  related = related_greeting job new.log sent;
-  verdict = unread job result new.log unheard;
-  sends = inl well.sends;
-  logged = logged_whole job course.claim result new.log course.first.told new.told well.told
-      (λ inputs wires witness. from_ended job inputs new.log (ended inputs wires witness))
-      (inl ([], sym (append-nil (sent_by Prover new.log) ∙ sent)));
-  came = well.came;
-  receives = (let few = well.receives in omega (arith, few));
-  count = (let same = well.faults in record { later = omega (arith, same); unfailed = λ _. same });
-  side = well.side;
-  is_open = well.is_open;
-}
+ends_unmet job course result bytes new well unasked logged unmet honest answers is =
+    ends_well job course result new well is (inl unasked) (inl ([], sym (append-nil (sent_by Prover new.log) ∙ sent)))
+    (related_greeting job new.log sent)
+    answers
+    (unread job result new.log (record { turn = 0; unheard = λ h. unmet [] (subst (λ l. Hears (task_of job []) l 0) heard h) }))
+    (honest (λ inputs wires witness. (ended inputs, sent))) (λ inputs wires witness. from_ended job inputs new.log (ended inputs))
+  where
+    sent : sent_by Prover new.log ≡ greeting job
+    sent = ap (sent_by Prover) logged ∙ prover_hears (greeted_log job) bytes ∙ greeted_sent job
+
+    heard : sent_by Verifier new.log ≡ bytes
+    heard = ap (sent_by Verifier) logged ∙ verifier_says (greeted_log job) bytes ∙ ap (λ l. l ++ bytes) (greeted_heard job)
+
+    ended : (inputs : List ℕ) → HasEndedHonestly (task_of job inputs) new.log
+    ended inputs = subst (λ (q : List ℕ × List ℕ). AreHonestBytes (task_of job inputs) q.0 q.1) (λ i. (sym heard i, sym sent i))
+        (greets job inputs bytes (unmet inputs))
 
 -- a grant has come
 pub grant_taken : (job : ProverJob) (course : Course) (frame : Frame) (given : Grant) (new : LineState) → Comes job course awaits_grant frame new
@@ -116,60 +107,23 @@ grant_taken job course frame given new come allowed is = record {
 pub ends_ungranted : (job : ProverJob) (course : Course) (frame : Frame) (result : ProverOutcome) (new : LineState) → IsSound job
     → Comes job course awaits_grant frame new → Allows expect.Grant frame → IsNoGrant job frame result → IsEnded job course result new
 ends_ungranted job course frame outcome.BadGrant new sound come allowed (given, is, unsuited) =
-    ends_greeted job course outcome.BadGrant new come.well come.waited.0 sent ended unheard (λ inputs wires witness. (ended inputs wires witness, sent))
-    (answers_unsuited job course.claim given new.log come.waited.0 taken.fits unsuited taken.log)
+    let taken : IsGrantTaken job course.first given new = grant_taken job course frame given new come allowed is in
+    ends_unmet job course outcome.BadGrant (grant_frame given) new come.well come.waited.0 taken.log
+    (λ inputs heard. unsuited (suits_is job.file.params job.statement.program given
+    (one_grant (task_of job inputs) given sound.file.params.total taken.fits heard)))
+    (λ both. both) (answers_unsuited job course.claim given new.log come.waited.0 taken.fits unsuited taken.log)
     (given, taken.fits, unsuited, taken.log)
-  where
-    taken : IsGrantTaken job course.first given new
-    taken = grant_taken job course frame given new come allowed is
-
-    unmet : (inputs : List ℕ) → Hears (task_of job inputs) (grant_frame given) 0 → ⊥
-    unmet inputs heard = unsuited (suits_is job.file.params job.statement.program given
-        (one_grant (task_of job inputs) given sound.file.params.total taken.fits heard))
-
-    sent : sent_by Prover new.log ≡ greeting job
-    sent = ap (sent_by Prover) taken.log ∙ granted_sent job given
-
-    ended : (inputs wires : List ℕ) → IsWitness job.statement inputs wires job.given → HasEndedHonestly (task_of job inputs) new.log
-    ended inputs wires witness =
-        subst (λ (q : List ℕ × List ℕ). AreHonestBytes (task_of job inputs) q.0 q.1)
-        (λ i. (sym (ap (sent_by Verifier) taken.log ∙ granted_heard job given) i, sym sent i))
-        (greets job inputs (grant_frame given) (unmet inputs))
-
-    unheard : IsUnheard job new.log
-    unheard = record {
-      turn = 0;
-      unheard = λ h. unmet [] (subst (λ l. Hears (task_of job []) l 0) (ap (sent_by Verifier) taken.log ∙ granted_heard job given) h);
-    }
 ends_ungranted job course frame (outcome.PeerRefused code) new sound come allowed is =
-    ends_greeted job course (outcome.PeerRefused code) new come.well come.waited.0 sent ended unheard (λ inputs wires witness. (ended inputs wires witness, sent))
-    (answers_refusal job course.claim code new.log come.waited.0 (fits allowed) logged)
-    (fits allowed, logged)
+    ends_unmet job course (outcome.PeerRefused code) (refuse_frame code) new come.well come.waited.0 logged
+    (λ inputs heard. let whole = ap length heard.begun in absurd (omega (arith, whole)))
+    (λ both. both) (answers_refusal job course.claim code new.log come.waited.0 (fits allowed) logged) (fits allowed, logged)
   where
     logged : new.log ≡ greeted_log job ++ bytes_from Verifier (refuse_frame code)
     logged = come.logged ∙ (λ i. come.waited.1 i ++ bytes_from Verifier (frame_spelling (is i)))
 
-    sent : sent_by Prover new.log ≡ greeting job
-    sent = ap (sent_by Prover) logged ∙ refused_sent job code
-
-    too_short : (inputs : List ℕ) → Hears (task_of job inputs) (refuse_frame code) 0 → ⊥
-    too_short inputs heard = let whole = ap length heard.begun in absurd (omega (arith, whole))
-
     fits : Allows expect.Grant frame → FitsRefusal code
     fits (inl (given, is_too, ranged)) = absurd (no_refusal_is_grant code given (sym is ∙ is_too))
     fits (inr (other, is_too, ranged)) = subst FitsRefusal (same_code other code (sym is_too ∙ is)) ranged
-
-    ended : (inputs wires : List ℕ) → IsWitness job.statement inputs wires job.given → HasEndedHonestly (task_of job inputs) new.log
-    ended inputs wires witness =
-        subst (λ (q : List ℕ × List ℕ). AreHonestBytes (task_of job inputs) q.0 q.1)
-        (λ i. (sym (ap (sent_by Verifier) logged ∙ refused_heard job code) i, sym sent i))
-        (greets job inputs (refuse_frame code) (too_short inputs))
-
-    unheard : IsUnheard job new.log
-    unheard = record {
-      turn = 0;
-      unheard = λ h. too_short [] (subst (λ l. Hears (task_of job []) l 0) (ap (sent_by Verifier) logged ∙ refused_heard job code) h);
-    }
 ends_ungranted job course frame other new sound come allowed is = absurd is
 
 -- ---- the claim
@@ -189,23 +143,12 @@ granted_is job given suits within = record {
 pub ends_unclaimed : (job : ProverJob) (course : Course) (given : Grant) (f : ClaimFault) (line : LineState) → IsSound job
     → Suits job.file.params job.statement.program given → IsGrantTaken job course.first given line → RefusedFor course.claim given f
     → IsEnded job course (claim_outcome f) line
-ends_unclaimed job course given f line sound suits taken refused = record {
-  outcome_is = caused f refused;
-  answers = answers_unclaimed job course.claim given f line.log taken.fits suits refused taken.log;
-  asked = inr (given, record { suits = suits; begun = ([], taken.log ∙ sym (append-nil (granted_log job given))) }, inr (f, refused));
-  honest = honest f;
-  claimed = inl ([], sym (append-nil (sent_by Prover line.log) ∙ sent));
-  related = related_greeting job line.log sent;
-  verdict = unread job (claim_outcome f) line.log unheard;
-  sends = inl taken.well.sends;
-  logged = logged_whole job course.claim (claim_outcome f) line.log course.first.told line.told taken.well.told from
-      (inl ([], sym (append-nil (sent_by Prover line.log) ∙ sent)));
-  came = taken.well.came;
-  receives = (let few = taken.well.receives in omega (arith, few));
-  count = (let same = taken.well.faults in record { later = omega (arith, same); unfailed = λ _. same });
-  side = taken.well.side;
-  is_open = taken.well.is_open;
-}
+ends_unclaimed job course given f line sound suits taken refused =
+    ends_well job course (claim_outcome f) line taken.well (caused f refused)
+    (inr (given, record { suits = suits; begun = ([], taken.log ∙ sym (append-nil (granted_log job given))) }, inr (f, refused)))
+    (inl ([], sym (append-nil (sent_by Prover line.log) ∙ sent))) (related_greeting job line.log sent)
+    (answers_unclaimed job course.claim given f line.log taken.fits suits refused taken.log)
+    (unread job (claim_outcome f) line.log unheard) (honest f) from
   where
     sent : sent_by Prover line.log ≡ greeting job
     sent = ap (sent_by Prover) taken.log ∙ granted_sent job given
@@ -247,7 +190,8 @@ ends_unclaimed job course given f line sound suits taken refused = record {
         by_range false within =
             let granted = granted_is job given suits (ltb-false job.file.params.total (given.start + given.count) within) in
             let other : Claim = record { asked = Some (given.start, given.count); answer = Some (Ok (span_of given)) } in
-            let taken_by : IsLogTaken job other awaits_grant (grant given) line.log = (given, refl, record { asked = refl; answer = refl }, granted, taken.log) in
+            let taken_by : IsLogTaken job other awaits_grant (grant given) line.log =
+            (given, refl, record { asked = refl; answer = refl }, granted, taken.log) in
             let found = answer_exists job other awaits_grant (grant given) line.log sound taken_by in (
               sent_by Prover line.log ++ flat_map frame_spelling found.0,
               answer_is_honest job other awaits_grant (grant given) found.0 found.1 line.log inputs wires sound taken_by found.2 witness,

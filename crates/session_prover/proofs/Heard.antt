@@ -1,27 +1,223 @@
 -- What stands next in what a verifier says, where a prover waits; and what an honest prover sends when it is not there.
-use Rattle.std.proofs.Common.{◌≡◌, inl, ℕ, zero, suc, ◌+◌, ◌*◌, ◌<◌, ◌≤◌, ◌^◌, List, [], ◌∷◌, ◌++◌, flat_map, take, length, Bool, true, false, nat_lt, refl, ap, sym, ◌∙◌, append_assoc, append-nil, arith}
-use Rattle.std.specs.Prelude.{All}
+use Rattle.std.proofs.Common.{◌≡◌, ℕ, zero, suc, ◌+◌, ◌*◌, ◌<◌, List, [], ◌∷◌, ◌++◌, flat_map, length, replicate, slice_index_or, refl, ap, sym, ◌∙◌, subst, append_assoc, append-nil, length-append, add-zero, arith, inl, ◌≤◌, ◌^◌, take, Bool, true, false, nat_lt, inr, drop}
+use Rattle.std.specs.Prelude.{All, None}
 use Rattle.std.specs.List.{AllByRecursion}
-use Rattle.std.proofs.lemmas.Bool.{ltb-true, ltb-false}
-use Rattle.std.proofs.lemmas.List.{length-map}
-use Rattle.std.proofs.lemmas.List.Elements.{recursion_from_All}
+use Rattle.std.proofs.lemmas.List.{length-replicate, length-map, take-append-drop}
+use Rattle.std.proofs.lemmas.Grind.{flat_map-append}
+use Rattle.std.proofs.lemmas.List.Elements.{All-nil, All-cons, All-weaker, All-replicate, recursion_from_All}
+use Rattle.std.proofs.lemmas.List.FromFn.{get_or-map-range_with_len}
 use Rattle.frame_laws.proofs.Codes.{same_front}
-use Rattle.frame_laws.proofs.FrameCodes.{grant_code}
+use Rattle.zk_laws.proofs.FoundPairs.{pairs_exist}
+use Rattle.session_laws.proofs.Shapes.{round_asks_shaped}
 use Rattle.session_laws.proofs.Turns.{answered, fewer_answered}
+use Rattle.proof_frames.proofs.TreeFrames.{replies_fit}
+use Rattle.proof_frames.proofs.TreeLemmas.{length-trees}
+use Rattle.zk_model.specs.Bytes.{LeftRight, AreBothBytes}
+use Rattle.zk_model.specs.Mac.{Pair}
+use Rattle.zk_model.specs.Files.{ProverFile, IsProverFile, prover_unit, rounds_of}
+use Rattle.zk_model.specs.Frames.{AreReplies, Frame, grant, replies, challenge, verdict, Allows, FitsGrant, frame_spelling}
+use Rattle.zk_model.specs.Transcript.{Hello, Grant, TreeAsk, TreeReply, Round, Setup, IsGrant, IsRound, IsTreeReply, ForEachTree, reply_frame, Transcript, IsTranscript, session_turns, grant_frame, corrections_frame, challenge_frame, sums_frame, openings_frame, verdict_frame, IsInOrder, sent_by}
+use Rattle.zk_model.specs.Correlations.{IsExtension, IsProverView}
+use Rattle.zk_model.specs.HonestProver.{honest_asks, round_asks, ProverTask, SentAfter, AreHonestBytes}
+use Rattle.zk_model.specs.declared.Kind.{Kind}
+use Rattle.zk_model.specs.declared.Kind.TheVariants.{Direct, Extended}
+use Rattle.zk_model.specs.declared.Params.{Params}
+use Rattle.session_core.specs.Jobs.{ProverJob}
+use Rattle.session_core.specs.Cores.{AreRoundPairs}
+use Rattle.session_core.specs.Fixing.{AreFirstPairs}
+use Rattle.session_core.specs.Rounds.{round_turns}
+use Rattle.session_prover.specs.Stages.{AreAskedRounds}
+use Rattle.std.proofs.lemmas.Bool.{ltb-true, ltb-false}
+use Rattle.frame_laws.proofs.FrameCodes.{grant_code}
 use Rattle.session_laws.proofs.Followed.{last_two}
 use Rattle.session_laws.proofs.Sizes.{count_is}
 use Rattle.zk_model.specs.Program.{Program}
-use Rattle.zk_model.specs.Files.{IsProverFile, rounds_of}
-use Rattle.zk_model.specs.Transcript.{Grant, TreeReply, Round, Transcript, IsGrant, IsRound, IsTranscript, session_turns, grant_frame, reply_frame, corrections_frame, challenge_frame, sums_frame, openings_frame, verdict_frame}
-use Rattle.zk_model.specs.Frames.{Frame, grant, replies, challenge, verdict, Allows, AreReplies, FitsGrant, frame_spelling}
-use Rattle.zk_model.specs.HonestProver.{ProverTask, SentAfter, AreHonestBytes}
 use Rattle.zk_model.specs.declared.Expect.{Expect}
 use Rattle.zk_model.specs.declared.Expect.TheVariants as expect
-use Rattle.zk_model.specs.declared.Kind.TheVariants.{Extended}
-use Rattle.zk_model.specs.declared.Params.{Params}
-use Rattle.frame_link.specs.Lines.{longest}
-use Rattle.session_core.specs.Rounds.{round_turns}
-use Rattle.session_prover.proofs.Rounds.{unit_size, unit_length, each_replied, rounds_length, next_part}
+use Rattle.frame_link.specs.Lines.{longest, IsUnfinished}
+use Rattle.frame_link.proofs.LineLemmas.{frame_most}
+use Rattle.proof_frames.proofs.Unique.{one_frame}
+use Rattle.frame_laws.proofs.SentBytes.{sent_by-verifier}
+use Rattle.frame_laws.proofs.OneTranscript.{one_transcript}
+use Rattle.zk_model.specs.declared.Side.{Side}
+use Rattle.zk_model.specs.declared.Side.TheVariants.{Verifier}
+use Rattle.session_prover.specs.declared.note.ProverOutcome.{ProverOutcome}
+use Rattle.session_prover.specs.Outcomes.{verdict_outcome}
+use Rattle.session_prover.specs.Notes.{task_of, ReadsVerdict, AnswersVerdict}
+use Rattle.session_prover.specs.Proving.{IsSound}
+
+-- ---- the replies of a round, unit by unit: how long they are
+
+-- the replies for a unit
+abbrev pub unit_size : Params → ℕ
+unit_size params = 5 + params.trees * (32 * params.height + 8)
+
+pub unit_length : (params : Params) (trees : List TreeReply) → AreReplies params.height params.trees trees
+    → length (reply_frame trees) ≡ unit_size params
+unit_length params trees are =
+    let whole = length-trees params.trees (32 * params.height) 255 _ (replies_fit params.height params.trees trees are) in omega (arith, whole)
+
+pub units_length : (params : Params) (came : List (List TreeReply)) → AllByRecursion (AreReplies params.height params.trees) came
+    → length (flat_map reply_frame came) ≡ length came * unit_size params
+units_length params [] all = omega arith
+units_length params (trees ∷ came) all =
+    let first = unit_length params trees all.0 in
+    let rest = units_length params came all.1 in
+    length-append (reply_frame trees) (flat_map reply_frame came) ∙ omega (arith, first, rest)
+
+-- the replies of a round, one for each unit
+pub each_replied : (params : Params) (given : Grant) (came : List (List TreeReply)) → ForEachTree params given (IsTreeReply params.height) came
+    → All (AreReplies params.height params.trees) came
+each_replied params given came all =
+    All-weaker (λ trees. (length trees ≡ params.trees) × All (IsTreeReply params.height) trees) (AreReplies params.height params.trees)
+    (λ trees each. record { counted = each.0; each = each.1 }) came all.1
+
+pub replied_each : (params : Params) (given : Grant) (came : List (List TreeReply)) → length came ≡ given.count
+    → All (AreReplies params.height params.trees) came → ForEachTree params given (IsTreeReply params.height) came
+replied_each params given came count all = (
+  count,
+  All-weaker (AreReplies params.height params.trees) (λ trees. (length trees ≡ params.trees) × All (IsTreeReply params.height) trees)
+      (λ trees each. (each.counted, each.each)) came all,
+)
+
+pub rounds_length : (params : Params) (given : Grant) (rounds : List Round) → AllByRecursion (IsRound params given) rounds
+    → length (answered (round_turns rounds)) ≡ length rounds * (given.count * unit_size params)
+rounds_length params given [] all = omega arith
+rounds_length params given (round ∷ rounds) all =
+    let first = units_length params round.replies (recursion_from_All (AreReplies params.height params.trees) round.replies (each_replied params given round.replies all.0.replies)) in
+    let rest = rounds_length params given rounds all.1 in
+    length-append (flat_map reply_frame round.replies) (answered (round_turns rounds))
+    ∙ (λ i. first i + rest i) ∙ ap (λ n. n * unit_size params + length rounds * (given.count * unit_size params)) all.0.replies.0
+    ∙ omega arith
+
+-- ---- the next of some parts
+
+-- after parts that are fewer than others, where all are of one length, stands the next of those
+pub next_part : {A : Type 0} (f : A → List ℕ) (P : A → Type 0) (per : ℕ) → ((x : A) → P x → length (f x) ≡ per)
+    → (xs ys : List A) (bytes tail : List ℕ) → AllByRecursion P xs → AllByRecursion P ys → length xs < length ys
+    → flat_map f xs ++ bytes ≡ flat_map f ys ++ tail
+    → (y : A) × P y × (rest : List ℕ) × (bytes ≡ f y ++ rest)
+next_part f P per each [] [] bytes tail left right less same = absurd (omega (arith, less))
+next_part f P per each (x ∷ xs) [] bytes tail left right less same = absurd (omega (arith, less))
+next_part f P per each [] (y ∷ ys) bytes tail left right less same =
+    (y, right.0, flat_map f ys ++ tail, same ∙ append_assoc (f y) (flat_map f ys) tail)
+next_part f P per each (x ∷ xs) (y ∷ ys) bytes tail left right less same =
+    next_part f P per each xs ys bytes tail left.1 right.1 (omega (arith, less))
+    (same_front (f x) (f y) (flat_map f xs ++ bytes) (flat_map f ys ++ tail) (each x left.0 ∙ sym (each y right.0))
+    (sym (append_assoc (f x) (flat_map f xs) bytes) ∙ same ∙ append_assoc (f y) (flat_map f ys) tail)).1
+
+-- ---- and the pairs that they make
+
+-- what holds of two lists place by place holds of one item more of each
+each_more : {A B : Type 0} (P : ℕ → A → B → Type 0) (xs : List A) (ys : List B) (x a : A) (y b : B) → length xs ≡ length ys
+    → ((i : ℕ) → i < length xs → P i (slice_index_or xs i a) (slice_index_or ys i b)) → P (length xs) x y
+    → (i : ℕ) → i < length xs + 1 → P i (slice_index_or (xs ++ x ∷ []) i a) (slice_index_or (ys ++ y ∷ []) i b)
+each_more P [] [] x a y b same each last zero below = last
+each_more P [] [] x a y b same each last (suc i) below = absurd (omega (arith, below))
+each_more P [] (v ∷ ys) x a y b same each last i below = absurd (omega (arith, same))
+each_more P (u ∷ xs) [] x a y b same each last i below = absurd (omega (arith, same))
+each_more P (u ∷ xs) (v ∷ ys) x a y b same each last zero below = each 0 (omega arith)
+each_more P (u ∷ xs) (v ∷ ys) x a y b same each last (suc i) below =
+    each_more (λ j. P (suc j)) xs ys x a y b (omega (arith, same)) (λ j less. each (suc j) (omega (arith, less))) last i (omega (arith, below))
+
+-- the pairs of one unit more
+pub first_more : (file : ProverFile) (given : Grant) (came : List (List TreeReply)) (trees : List TreeReply) (pairs more : List Pair) (done : ℕ)
+    → length came ≡ done → AreFirstPairs file given came pairs → AreRoundPairs file (given.start + done) trees more
+    → AreFirstPairs file given (came ++ trees ∷ []) (pairs ++ more)
+first_more file given came trees pairs more done counted first one = record {
+  units = first.units ++ more ∷ [];
+  one_each = length-append first.units (more ∷ []) ∙ ap (λ n. n + 1) first.one_each ∙ sym (length-append came (trees ∷ []));
+  each = λ i below. each_more (λ j replied made. AreRoundPairs file (given.start + j) replied made) came first.units trees [] more [] (sym first.one_each) first.each
+      (subst (λ n. AreRoundPairs file (given.start + n) trees more) (sym counted) one) i (let whole = length-append came (trees ∷ []) in omega (arith, below, whole));
+  joined = ap (λ l. l ++ more) first.joined ∙ ap (λ l. flat_map (λ unit. unit) first.units ++ l) (sym (append-nil more))
+      ∙ sym (flat_map-append (λ unit. unit) first.units (more ∷ []));
+}
+
+-- no replies make no pairs
+pub first_none : (file : ProverFile) (given : Grant) → AreFirstPairs file given [] []
+first_none file given = record { units = []; one_each = refl; each = λ i below. absurd (omega (arith, below)); joined = refl }
+
+-- a unit has pairs that the replies to its asks make
+pub unit_pairs : (file : ProverFile) (unit : ℕ) (trees : List TreeReply) → IsProverFile file → file.params.kind ≡ Extended
+    → unit < file.params.total → AreReplies file.params.height file.params.trees trees
+    → (pairs : List Pair) × AreRoundPairs file unit trees pairs
+unit_pairs file unit trees is extended below are =
+    let alone : Grant = record { start = unit; count = 1; section_length = 1 } in
+    let hello : Hello = record { id = []; circuit = []; outputs = []; version = 0; public = None } in
+    let setup : Setup = record { hello = hello; grant = alone; rounds = record { asks = round_asks file alone; replies = trees ∷ [] } ∷ [] } in
+    let found : (pairs : List Pair) × IsProverView file setup pairs = pairs_exist file setup is (record {
+      within = omega (arith, below);
+      count = sym (ap rounds_of extended);
+      each = All-cons (IsRound file.params alone) _ [] (record {
+        asks = round_asks_shaped file alone is (omega (arith, below));
+        replies = replied_each file.params alone (trees ∷ []) refl
+            (All-cons (AreReplies file.params.height file.params.trees) trees [] are (All-nil (AreReplies file.params.height file.params.trees)));
+      }) (All-nil (IsRound file.params alone));
+    }) in (
+      slice_index_or found.1.units 0 [],
+      subst (λ n. AreRoundPairs file n trees (slice_index_or found.1.units 0 [])) (add-zero unit)
+          (subst (λ (asks : List TreeAsk). IsExtension file.params file.code_seed (prover_unit file (unit + 0))
+          (record { asks = asks; replies = trees }) (slice_index_or found.1.units 0 []))
+          (get_or-map-range_with_len (honest_asks file) unit 1 0 (unit + 0) [] (omega arith) refl) (found.1.each 0 (omega arith))),
+    )
+
+-- ---- rounds that are asked for
+
+-- none in kind direct
+pub asked_none : (job : ProverJob) (given : Grant) → job.file.params.kind ≡ Direct → AreAskedRounds job given []
+asked_none job given direct = record {
+  count = sym (ap rounds_of direct);
+  ranged = All-nil (IsRound job.file.params given);
+  asks = All-nil (λ round. round.asks ≡ round_asks job.file given);
+}
+
+-- a round with these replies
+pub asked_round : (job : ProverJob) (given : Grant) (came : List (List TreeReply)) → IsProverFile job.file
+    → IsGrant job.file.params job.statement.program given → job.file.params.kind ≡ Extended
+    → length came ≡ given.count → All (AreReplies job.file.params.height job.file.params.trees) came
+    → AreAskedRounds job given (record { asks = round_asks job.file given; replies = came } ∷ [])
+asked_round job given came is granted extended count all = record {
+  count = sym (ap rounds_of extended);
+  ranged = All-cons (IsRound job.file.params given) _ [] (record {
+    asks = round_asks_shaped job.file given is granted.within;
+    replies = replied_each job.file.params given came count all;
+  }) (All-nil (IsRound job.file.params given));
+  asks = All-cons (λ round. round.asks ≡ round_asks job.file given) _ [] refl (All-nil (λ round. round.asks ≡ round_asks job.file given));
+}
+
+-- a reply of zeros
+abbrev zeros : LeftRight
+zeros = record { left = replicate 16 0; right = replicate 16 0 }
+
+abbrev blank : ℕ → TreeReply
+blank height = record { messages = replicate height zeros; leaf_offset = 0 }
+
+zeros_are : AreBothBytes 16 zeros
+zeros_are = ((refl, All-replicate (λ byte. byte < 256) 16 0 (omega arith)), (refl, All-replicate (λ byte. byte < 256) 16 0 (omega arith)))
+
+blank_is : (height : ℕ) → IsTreeReply height (blank height)
+blank_is height = record {
+  count = length-replicate height zeros;
+  messages = All-replicate (AreBothBytes 16) height zeros zeros_are;
+  leaf_offset = omega arith;
+}
+
+-- some rounds that may be under a grant, whatever the kind
+pub some_rounds : (job : ProverJob) (given : Grant) → IsProverFile job.file → IsGrant job.file.params job.statement.program given
+    → (rounds : List Round) × AreAskedRounds job given rounds
+some_rounds job given is granted = by_kind job.file.params.kind refl
+  where
+    by_kind : (kind : Kind) → job.file.params.kind ≡ kind → (rounds : List Round) × AreAskedRounds job given rounds
+    by_kind Direct same = ([], asked_none job given same)
+    by_kind Extended same =
+        let trees : List TreeReply = replicate job.file.params.trees (blank job.file.params.height) in (
+          record { asks = round_asks job.file given; replies = replicate given.count trees } ∷ [],
+          asked_round job given (replicate given.count trees) is granted same (length-replicate given.count trees)
+              (All-replicate (AreReplies job.file.params.height job.file.params.trees) given.count trees (record {
+                counted = length-replicate job.file.params.trees (blank job.file.params.height);
+                each = All-replicate (IsTreeReply job.file.params.height) job.file.params.trees (blank job.file.params.height) (blank_is job.file.params.height);
+              })),
+        )
 
 -- ---- turns after rounds
 
@@ -177,31 +373,23 @@ pub next_challenge : (task : ProverTask) (given : Grant) (rounds : List Round) (
     → All (IsRound task.file.params given) rounds → IsTranscript task.file.params task.statement.program u
     → (grant_frame given ++ answered (round_turns rounds)) ++ bytes ≡ answered (take (suc (suc (rounds_of task.file.params.kind))) (session_turns u)) ++ more
     → IsNextFrame expect.Challenge bytes
-next_challenge task given rounds u bytes more file granted count ranged is begun = record {
-  frame = challenge u.challenge;
-  allowed = (u.challenge, refl, is.challenge);
-  long = omega arith;
-  tail = more;
-  begun = (same_front (answered (round_turns rounds)) (answered us) bytes (c ++ more) (rounds_alike task given rounds u count ranged is there.same)
-      (there.rest ∙ ap (λ l. l ++ more) shape ∙ append_assoc (answered us) c more)).1;
-}
-  where
-    us : List (List ℕ × List ℕ)
-    us = round_turns u.commitment.setup.rounds
-
-    c : List ℕ
-    c = challenge_frame u.challenge
-
-    shape : answered (take (suc (rounds_of task.file.params.kind)) (round_turns u.commitment.setup.rounds ++ last_two u)) ≡ answered us ++ c
-    shape = ap (λ n. answered (take (suc n) (round_turns u.commitment.setup.rounds ++ last_two u))) (turn_count task u is)
-        ∙ turns_to (λ (turn : List ℕ × List ℕ). turn.1) us (corrections_frame u.commitment.corrections, c)
-        ((sums_frame u.sums ++ openings_frame u.openings, verdict_frame u.code u.number) ∷ [])
-
-    there : IsBehind given u (answered (round_turns rounds) ++ bytes)
-        (answered (take (suc (rounds_of task.file.params.kind)) (round_turns u.commitment.setup.rounds ++ last_two u)) ++ more)
-    there = behind task given u (answered (round_turns rounds) ++ bytes)
-        (answered (take (suc (rounds_of task.file.params.kind)) (round_turns u.commitment.setup.rounds ++ last_two u))) more file granted is
-        (sym (append_assoc (grant_frame given) (answered (round_turns rounds)) bytes) ∙ begun)
+next_challenge task given rounds u bytes more file granted count ranged is begun =
+    let us : List (List ℕ × List ℕ) = round_turns u.commitment.setup.rounds in
+    let c : List ℕ = challenge_frame u.challenge in
+    let k : ℕ = suc (rounds_of task.file.params.kind) in
+    let shape : answered (take k (us ++ last_two u)) ≡ answered us ++ c = ap (λ n. answered (take (suc n) (us ++ last_two u))) (turn_count task u is)
+    ∙ turns_to (λ (turn : List ℕ × List ℕ). turn.1) us (corrections_frame u.commitment.corrections, c)
+    ((sums_frame u.sums ++ openings_frame u.openings, verdict_frame u.code u.number) ∷ []) in
+    let there = behind task given u (answered (round_turns rounds) ++ bytes) (answered (take k (us ++ last_two u))) more file granted is
+    (sym (append_assoc (grant_frame given) (answered (round_turns rounds)) bytes) ∙ begun) in
+    record {
+      frame = challenge u.challenge;
+      allowed = (u.challenge, refl, is.challenge);
+      long = omega arith;
+      tail = more;
+      begun = (same_front (answered (round_turns rounds)) (answered us) bytes (c ++ more) (rounds_alike task given rounds u count ranged is there.same)
+          (there.rest ∙ ap (λ l. l ++ more) shape ∙ append_assoc (answered us) c more)).1;
+    }
 
 -- and of a verdict
 pub next_verdict : (task : ProverTask) (given : Grant) (rounds : List Round) (element : ℕ) (u : Transcript) (bytes more : List ℕ) → IsProverFile task.file
@@ -210,33 +398,107 @@ pub next_verdict : (task : ProverTask) (given : Grant) (rounds : List Round) (el
     → ((grant_frame given ++ answered (round_turns rounds)) ++ challenge_frame element) ++ bytes
     ≡ answered (take (suc (suc (suc (rounds_of task.file.params.kind)))) (session_turns u)) ++ more
     → IsNextFrame expect.Verdict bytes
-next_verdict task given rounds element u bytes more file granted count ranged is begun = record {
-  frame = verdict u.code u.number;
-  allowed = (u.code, u.number, refl, record { said = is.code; numbered = is.number });
-  long = omega arith;
-  tail = more;
-  begun = (same_front (challenge_frame element) c bytes (v ++ more) (omega arith)
-      ((same_front (answered (round_turns rounds)) (answered us) (challenge_frame element ++ bytes) (c ++ (v ++ more)) (rounds_alike task given rounds u count ranged is there.same)
-      (there.rest ∙ ap (λ l. l ++ more) shape ∙ append_assoc (answered us) (c ++ v) more ∙ ap (λ l. answered us ++ l) (append_assoc c v more))).1)).1;
-}
+next_verdict task given rounds element u bytes more file granted count ranged is begun =
+    let us : List (List ℕ × List ℕ) = round_turns u.commitment.setup.rounds in
+    let c : List ℕ = challenge_frame u.challenge in
+    let v : List ℕ = verdict_frame u.code u.number in
+    let k : ℕ = suc (suc (rounds_of task.file.params.kind)) in
+    let shape : answered (take k (us ++ last_two u)) ≡ answered us ++ (c ++ v) =
+    ap (λ n. answered (take (suc (suc n)) (us ++ last_two u))) (turn_count task u is)
+    ∙ turns_all (λ (turn : List ℕ × List ℕ). turn.1) us (corrections_frame u.commitment.corrections, c)
+    (sums_frame u.sums ++ openings_frame u.openings, v) in
+    let there = behind task given u (answered (round_turns rounds) ++ (challenge_frame element ++ bytes)) (answered (take k (us ++ last_two u)))
+    more file granted is
+    (sym (append_assoc (grant_frame given) (answered (round_turns rounds)) (challenge_frame element ++ bytes))
+    ∙ sym (append_assoc (grant_frame given ++ answered (round_turns rounds)) (challenge_frame element) bytes) ∙ begun) in
+    record {
+      frame = verdict u.code u.number;
+      allowed = (u.code, u.number, refl, record { said = is.code; numbered = is.number });
+      long = omega arith;
+      tail = more;
+      begun = (same_front (challenge_frame element) c bytes (v ++ more) (omega arith)
+          ((same_front (answered (round_turns rounds)) (answered us) (challenge_frame element ++ bytes) (c ++ (v ++ more)) (rounds_alike task given rounds u count ranged is there.same)
+          (there.rest ∙ ap (λ l. l ++ more) shape ∙ append_assoc (answered us) (c ++ v) more ∙ ap (λ l. answered us ++ l) (append_assoc c v more))).1)).1;
+    }
+
+-- ---- bytes that are no whole frame are none that an honest prover answers
+
+take_rest : (n : ℕ) (l : List ℕ) → l ≡ take n l ++ drop n l
+take_rest zero l = refl
+take_rest (suc n) [] = refl
+take_rest (suc n) (x ∷ l) = ap (λ r. x ∷ r) (take_rest n l)
+
+nothing_more : (a b : List ℕ) → length (a ++ b) ≤ length a → a ++ b ≡ a
+nothing_more [] [] few = refl
+nothing_more [] (y ∷ b) few = absurd (omega (arith, few))
+nothing_more (x ∷ a) b few = ap (λ l. x ∷ l) (nothing_more a b (omega (arith, few)))
+
+-- bytes that are no whole frame don't begin with the longest frame of the place
+pub unstarted : (stage : Expect) (rest : List ℕ) (frame : Frame) (more : List ℕ) → Allows stage frame
+    → length (frame_spelling frame) ≡ longest stage → length rest ≤ longest stage → IsUnfinished stage rest
+    → rest ≡ frame_spelling frame ++ more → ⊥
+unstarted stage rest frame more allowed long few (inl wanting) is =
+    let whole = ap length is in
+    let all = length-append (frame_spelling frame) more in
+    let most = frame_most stage rest in
+    absurd (omega (arith, whole, all, long, most, wanting))
+unstarted stage rest frame more allowed long few (inr (n, bad)) is =
+    bad.ends (record { frame = frame; allowed = allowed; begun = (drop (n + 1) rest, sym same ∙ take_rest (n + 1) rest) })
   where
-    us : List (List ℕ × List ℕ)
-    us = round_turns u.commitment.setup.rounds
+    same : rest ≡ frame_spelling frame
+    same = is ∙ nothing_more (frame_spelling frame) more (subst (λ (l : List ℕ). length l ≤ length (frame_spelling frame)) is (omega (arith, few, long)))
 
-    c : List ℕ
-    c = challenge_frame u.challenge
+-- bytes that begin with a grant's frame, and that are the frame of a grant that fits
+pub same_bytes_grant : (params : Params) (program : Program) (given other : Grant) (more tail : List ℕ) → params.total ≤ 2 ^ 32 → FitsGrant given
+    → IsGrant params program other → grant_frame given ++ more ≡ grant_frame other ++ tail → IsGrant params program given
+same_bytes_grant params program given other more tail total fits is begins = subst (λ (g : Grant). IsGrant params program g) same is
+  where
+    frames : grant given ≡ grant other
+    frames = one_frame expect.Grant (grant_frame given) (grant given) (grant other)
+        (record { allowed = inl (given, refl, fits); spelled = refl })
+        (record { allowed = inl (other, refl, grant_fits params program other total is); spelled = (same_front (grant_frame given) (grant_frame other) more tail (omega arith) begins).0 })
 
-    v : List ℕ
-    v = verdict_frame u.code u.number
+    grant_or : Grant → Frame → Grant
+    grant_or instead (grant said) = said
+    grant_or instead frame = instead
 
-    shape : answered (take (suc (suc (rounds_of task.file.params.kind))) (round_turns u.commitment.setup.rounds ++ last_two u)) ≡ answered us ++ (c ++ v)
-    shape = ap (λ n. answered (take (suc (suc n)) (round_turns u.commitment.setup.rounds ++ last_two u))) (turn_count task u is)
-        ∙ turns_all (λ (turn : List ℕ × List ℕ). turn.1) us (corrections_frame u.commitment.corrections, c)
-        (sums_frame u.sums ++ openings_frame u.openings, v)
+    same : other ≡ given
+    same = sym (ap (grant_or given) frames)
 
-    there : IsBehind given u (answered (round_turns rounds) ++ (challenge_frame element ++ bytes))
-        (answered (take (suc (suc (rounds_of task.file.params.kind))) (round_turns u.commitment.setup.rounds ++ last_two u)) ++ more)
-    there = behind task given u (answered (round_turns rounds) ++ (challenge_frame element ++ bytes))
-        (answered (take (suc (suc (rounds_of task.file.params.kind))) (round_turns u.commitment.setup.rounds ++ last_two u))) more file granted is
-        (sym (append_assoc (grant_frame given) (answered (round_turns rounds)) (challenge_frame element ++ bytes))
-        ∙ sym (append_assoc (grant_frame given ++ answered (round_turns rounds)) (challenge_frame element) bytes) ∙ begun)
+-- no grant but that which is there
+pub one_grant : (task : ProverTask) (given : Grant) → task.file.params.total ≤ 2 ^ 32 → FitsGrant given
+    → Hears task (grant_frame given) 0 → IsGrant task.file.params task.statement.program given
+one_grant task given total fits heard =
+    same_bytes_grant task.file.params task.statement.program given heard.u.commitment.setup.grant [] ([] ++ heard.more) total fits heard.is.commitment.setup.grant
+    (append-nil (grant_frame given) ∙ heard.begun ∙ append_assoc (grant_frame heard.u.commitment.setup.grant) [] heard.more)
+
+-- ---- where no whole session was heard, no verdict was
+
+-- in a whole session in order all turns are heard
+in_order_heard : (job : ProverJob) (t : Transcript) (log : List (Side × ℕ)) (k : ℕ) → IsInOrder job.file.params job.file.id job.statement t log
+    → Hears (task_of job []) (sent_by Verifier log) k
+in_order_heard job t log k is = record {
+  u = t;
+  is = is.transcript;
+  more = answered (drop (suc k) (session_turns t));
+  begun = ap (sent_by Verifier) is.bytes ∙ sent_by-verifier (session_turns t)
+      ∙ ap answered (sym (take-append-drop (suc k) (session_turns t)))
+      ∙ flat_map-append (λ turn. turn.1) (take (suc k) (session_turns t)) (drop (suc k) (session_turns t));
+}
+
+-- a turn that was not heard
+pub record IsUnheard (job : ProverJob) (log : List (Side × ℕ)) : Type 0 where
+  pub turn : ℕ
+  pub unheard : Hears (task_of job []) (sent_by Verifier log) turn → ⊥
+
+pub unread : (job : ProverJob) (outcome : ProverOutcome) (log : List (Side × ℕ)) → IsUnheard job log → AnswersVerdict job outcome log
+unread job outcome log unheard t is = absurd (unheard.unheard (in_order_heard job t log unheard.turn is))
+
+-- a verdict that was read
+pub read_so : (job : ProverJob) (outcome : ProverOutcome) (log : List (Side × ℕ)) (code number : ℕ) → IsSound job → ReadsVerdict job log code number
+    → outcome ≡ verdict_outcome code number → AnswersVerdict job outcome log
+read_so job outcome log code number sound reads is t in_order =
+    let same : reads.t ≡ t =
+    one_transcript job.file.params job.statement.program reads.t t sound.file.params reads.in_order.transcript in_order.transcript
+    (sym reads.in_order.bytes ∙ in_order.bytes) in
+    is ∙ (λ i. verdict_outcome (sym reads.code_is i) (sym reads.number_is i)) ∙ ap (λ (u : Transcript). verdict_outcome u.code u.number) same

@@ -16,45 +16,36 @@ use Rattle.frame_link.proofs.LineLemmas.{none_is_some}
 use Rattle.proof_frames.specs.Frames.{IsShort}
 use Rattle.session_core.specs.Jobs.{ProverJob, Suits}
 use Rattle.session_core.specs.Cores.{ProverStage, ProverState, ProverAnswers, ProverRefuses, awaits_grant, awaits_replies, awaits_challenge, awaits_verdict, has_ended, prover_expects}
-use Rattle.session_driver.specs.Sayings.{Turn, said, whole_log, sends_of, sends_in}
-use Rattle.session_driver.specs.Runs.{HasPassed, IsTurn, Goes, IsMissing, IsUnsent, TriesRefusal, StopsBy, IsRun}
+use Rattle.session_driver.specs.Runs.{Turn, said, whole_log, sends_of, sends_in, HasPassed, IsTurn, Goes, IsMissing, IsUnsent, TriesRefusal, StopsBy, IsRun}
 use Rattle.session_driver.specs.declared.drive.Outcome.{Outcome}
 use Rattle.session_driver.specs.declared.drive.Outcome.TheVariants.{Done, Refused, Cut}
-use Rattle.session_driver.proofs.Bytes.{whole_more, sends_more}
-use Rattle.session_driver.proofs.Derived.{goes_keeps}
+use Rattle.session_driver.proofs.Going.{whole_more, sends_more}
+use Rattle.session_driver.proofs.Ending.{goes_keeps}
 use Rattle.session_prover.specs.declared.note.ProverOutcome.{ProverOutcome}
 use Rattle.session_prover.specs.declared.note.ProverOutcome.TheVariants.{Accepted}
 use Rattle.session_prover.specs.Outcomes.{line_outcome}
-use Rattle.session_prover.specs.Proving.{Claims, Claimed, IsProving, Proved, AnswersClaimed, AnswersBehind, ReadsAcceptance, Stops, claim_of, greeting_frame, outcome_told, proved, proves, proving_expects}
-use Rattle.session_prover.specs.Stages.{Claim, ClaimedFor, Course, GoesWell, IsLogAt, IsLogTaken, IsLineTaken, answers_in, greeted_log}
+use Rattle.session_prover.specs.Proving.{Claims, Claimed, IsProving, Proved, AnswersClaimed, AnswersBehind, ReadsAcceptance, Stops, claim_of, greeting_frame, outcome_told, proved, proves, proving_expects, IsSound, IsToAnswer, Comes, IsGrantTaken, IsNoGrant, SendStops}
+use Rattle.session_prover.specs.Stages.{Claim, ClaimedFor, Course, IsLogAt, IsLogTaken, IsLineTaken, answers_in, greeted_log}
 use Rattle.session_prover.specs.Notes.{IsEnded, granted_of}
-use Rattle.session_prover.specs.Turns.{IsSound, IsToAnswer, Comes, IsGrantTaken, IsNoGrant, SendStops}
-use Rattle.session_prover.proofs.Answering.{answered}
-use Rattle.session_prover.proofs.Counting.{answers_heard, answers_more, answers_first, frame_is_some, frames_some}
-use Rattle.session_prover.proofs.Ending.{mine, well_of, comes, stops_taking}
+use Rattle.std.proofs.lemmas.Option.{same_Some}
+use Rattle.session_prover.proofs.Waiting.{same_stage}
+use Rattle.session_prover.proofs.Answering.{answered, answer_short}
+use Rattle.session_prover.proofs.Sides.{answers_heard, answers_more, answers_first, frame_is_some, frames_some, replied_on}
+use Rattle.session_prover.proofs.Ending.{mine, well_of, comes, stops_taking, ends_accepted, ends_rejected}
 use Rattle.session_prover.proofs.Granting.{granted_is, grant_taken, ends_ungranted, ends_unclaimed, stops_greeting}
-use Rattle.session_prover.proofs.Judging.{ends_accepted, ends_rejected}
-use Rattle.session_prover.proofs.Replies.{replied_on}
-use Rattle.session_prover.proofs.Sending.{stops_sending}
-use Rattle.session_prover.proofs.Short.{answer_short}
-use Rattle.session_prover.proofs.Stopping.{some_for, stops_answering, refuses_nothing}
+use Rattle.session_prover.proofs.Stopping.{stops_sending, some_for, stops_answering, refuses_nothing}
 
 -- ---- a frame is taken
 
 -- replies or a challenge, where they are awaited
-pub log_taken : (job : ProverJob) (claim : Claim) (stage : ProverStage) (frame : Frame) (before : List (Side × ℕ)) (place : Expect) → IsToAnswer stage
-    → IsLogAt job claim stage before → prover_expects job stage ≡ Some place → Allows place frame
+pub log_taken : (job : ProverJob) (claim : Claim) (stage : ProverStage) (frame : Frame) (before : List (Side × ℕ)) → IsToAnswer stage
+    → IsLogAt job claim stage before → IsSomeAnd (prover_expects job stage) (λ place. Allows place frame)
     → IsLogTaken job claim stage frame (before ++ bytes_from Verifier (frame_spelling frame))
-log_taken job claim stage frame before place answers at expected allowed =
-    by_stage stage answers at (subst (λ o. IsSomeAnd o (λ e. Allows e frame)) (sym expected) allowed)
-  where
-    by_stage : (stage : ProverStage) → IsToAnswer stage → IsLogAt job claim stage before → IsSomeAnd (prover_expects job stage) (λ e. Allows e frame)
-        → IsLogTaken job claim stage frame (before ++ bytes_from Verifier (frame_spelling frame))
-    by_stage (awaits_replies given done pairs) answers at (trees, is, are) =
-        (trees, at.0, is, are, at.1, at.2, (λ i. at.3 i ++ bytes_from Verifier (frame_spelling (is i))) ∙ replied_on job given at.0 trees)
-    by_stage (awaits_challenge given pairs wires) answers at (element, is, ranged) =
-        (element, at.0, at.1, is, ranged, at.2, at.3, λ i. at.4 i ++ bytes_from Verifier (frame_spelling (is i)))
-    by_stage other answers at allowed = absurd answers
+log_taken job claim (awaits_replies given done pairs) frame before answers at (trees, is, are) =
+    (trees, at.0, is, are, at.1, at.2, (λ i. at.3 i ++ bytes_from Verifier (frame_spelling (is i))) ∙ replied_on job given at.0 trees)
+log_taken job claim (awaits_challenge given pairs wires) frame before answers at (element, is, ranged) =
+    (element, at.0, at.1, is, ranged, at.2, at.3, λ i. at.4 i ++ bytes_from Verifier (frame_spelling (is i)))
+log_taken job claim other frame before answers at allowed = absurd answers
 
 -- a grant whose units are claimed
 pub grant_log_taken : (job : ProverJob) (claim : Claim) (frame : Frame) (given : Grant) (before : List (Side × ℕ)) → before ≡ greeted_log job
@@ -82,47 +73,6 @@ pub record StepsOn {C : Type 0} (claims : Claims C) (job : ProverJob) (answer : 
   pub short : All IsShort answer
   pub holds : IsProving claims job new
 
-pub steps_claimed : {C : Type 0} (claims : Claims C) (job : ProverJob) (old new : Proved C) (frame : Frame) (answer : List Frame) → IsProving claims job old
-    → old.accepted ≡ false → AnswersClaimed claims old frame answer new → StepsOn claims job answer new
-steps_claimed claims job old new frame answer proving accepted by =
-    let waited : IsLogAt job (claim_of claims old.claimant) awaits_grant proving.log =
-    subst (λ p. IsLogAt job (claim_of claims old.claimant) p proving.log) by.waits (proving.at accepted) in
-    let claim = claim_of claims new.claimant in
-    let taken = grant_log_taken job claim frame by.given proving.log waited.1 by.is
-    (subst (λ (j : ProverJob). Suits j.file.params j.statement.program by.given) proving.job_is by.suits)
-    (subst (λ (j : ProverJob). by.given.start + by.given.count ≤ j.file.params.total) proving.job_is by.within) (claimed_for claims by.given old.claimant new.claimant by.claimed) in
-    let answers = subst (λ (j : ProverJob). ProverAnswers j awaits_grant frame answer new.core.stage) proving.job_is by.answers in
-    record {
-      short = answer_short job claim awaits_grant frame answer new.core.stage _ proving.sound taken answers;
-      holds = record {
-        job_is = by.job ∙ proving.job_is;
-        sound = proving.sound;
-        total = λ none. absurd (none_is_some (sym none ∙ by.claimed.told));
-        log = _;
-        at = λ _. answered job claim awaits_grant frame answer new.core.stage _ proving.sound taken answers;
-      };
-    }
-
-pub steps_behind : {C : Type 0} (claims : Claims C) (job : ProverJob) (old new : Proved C) (frame : Frame) (answer : List Frame) (place : Expect) → IsProving claims job old
-    → old.accepted ≡ false → prover_expects old.core.job old.core.stage ≡ Some place → Allows place frame → AnswersBehind old frame answer new → StepsOn claims job answer new
-steps_behind claims job old new frame answer place proving accepted expected allowed by =
-    let claim = claim_of claims old.claimant in
-    let next = (proving.log ++ bytes_from Verifier (frame_spelling frame)) ++ bytes_from Prover (flat_map frame_spelling answer) in
-    let taken = log_taken job claim old.core.stage frame proving.log place by.behind (proving.at accepted)
-    (ap (λ (j : ProverJob). prover_expects j old.core.stage) (sym proving.job_is) ∙ expected) allowed in
-    let answers = subst (λ (j : ProverJob). ProverAnswers j old.core.stage frame answer new.core.stage) proving.job_is by.answers in
-    record {
-      short = answer_short job claim old.core.stage frame answer new.core.stage _ proving.sound taken answers;
-      holds = record {
-        job_is = by.job ∙ proving.job_is;
-        sound = proving.sound;
-        total = λ none. subst (λ c. claims.total c ≤ job.file.params.total) (sym by.claimant) (proving.total (ap claims.answer (sym by.claimant) ∙ none));
-        log = next;
-        at = λ _. subst (λ c. IsLogAt job (claim_of claims c) new.core.stage next) (sym by.claimant)
-            (answered job claim old.core.stage frame answer new.core.stage _ proving.sound taken answers);
-      };
-    }
-
 -- before the first step
 pub proving_first : {C : Type 0} (claims : Claims C) (job : ProverJob) (claimant : C) → IsSound job → claims.answer claimant ≡ None
     → claims.total claimant ≤ job.file.params.total → IsProving claims job (proved (record { job = job; stage = awaits_grant }) None false claimant)
@@ -141,15 +91,21 @@ pub steps_there : {C : Type 0} (claims : Claims C) (job : ProverJob) (core next 
     → IsToAnswer core.stage → next.job ≡ core.job → ProverAnswers core.job core.stage frame answer next.stage
     → StepsOn claims job answer (proved next granted accepted claimant)
 steps_there claims job core next granted accepted claimant frame answer proving expected behind same answers =
+    let claim = claim_of claims claimant in
     let waits = not_accepted accepted core (λ place. Allows place frame) expected in
-    by_place (prover_expects core.job core.stage) refl waits.1 waits.0
-  where
-    by_place : (place : Option Expect) → prover_expects core.job core.stage ≡ place → IsSomeAnd place (λ p. Allows p frame) → accepted ≡ false
-        → StepsOn claims job answer (proved next granted accepted claimant)
-    by_place None is allowed waits = absurd allowed
-    by_place (Some place) is allowed waits =
-        steps_behind claims job (proved core granted accepted claimant) (proved next granted accepted claimant) frame answer place proving waits is allowed
-        (record { behind = behind; answers = answers; job = same; granted = refl; accepted = waits; claimant = refl })
+    let taken = log_taken job claim core.stage frame proving.log behind (proving.at waits.0)
+    (subst (λ (j : ProverJob). IsSomeAnd (prover_expects j core.stage) (λ place. Allows place frame)) proving.job_is waits.1) in
+    let answers_so = subst (λ (j : ProverJob). ProverAnswers j core.stage frame answer next.stage) proving.job_is answers in
+    record {
+      short = answer_short job claim core.stage frame answer next.stage _ proving.sound taken answers_so;
+      holds = record {
+        job_is = same ∙ proving.job_is;
+        sound = proving.sound;
+        total = proving.total;
+        log = _;
+        at = λ _. answered job claim core.stage frame answer next.stage _ proving.sound taken answers_so;
+      };
+    }
 
 -- at the grant
 pub steps_granted : {C : Type 0} (claims : Claims C) (job : ProverJob) (core next : ProverState) (granted then : Option Span) (accepted : Bool) (claimant now : C) (frame : Frame)
@@ -157,10 +113,25 @@ pub steps_granted : {C : Type 0} (claims : Claims C) (job : ProverJob) (core nex
     → AnswersClaimed claims (proved core granted false claimant) frame answer (proved next then false now)
     → StepsOn claims job answer (proved next then accepted now)
 steps_granted claims job core next granted then accepted claimant now frame answer proving expected by =
-    let waits = (not_accepted accepted core (λ place. Allows place frame) expected).0 in
-    subst (λ (b : Bool). StepsOn claims job answer (proved next then b now)) (sym waits)
-    (steps_claimed claims job (proved core granted false claimant) (proved next then false now) frame answer
-    (subst (λ (b : Bool). IsProving claims job (proved core granted b claimant)) waits proving) refl by)
+    let accepts = (not_accepted accepted core (λ place. Allows place frame) expected).0 in
+    let claim = claim_of claims now in
+    let waited : IsLogAt job (claim_of claims claimant) awaits_grant proving.log =
+    subst (λ p. IsLogAt job (claim_of claims claimant) p proving.log) by.waits (proving.at accepts) in
+    let taken = grant_log_taken job claim frame by.given proving.log waited.1 by.is
+    (subst (λ (j : ProverJob). Suits j.file.params j.statement.program by.given) proving.job_is by.suits)
+    (subst (λ (j : ProverJob). by.given.start + by.given.count ≤ j.file.params.total) proving.job_is by.within)
+    (claimed_for claims by.given claimant now by.claimed) in
+    let answers = subst (λ (j : ProverJob). ProverAnswers j awaits_grant frame answer next.stage) proving.job_is by.answers in
+    record {
+      short = answer_short job claim awaits_grant frame answer next.stage _ proving.sound taken answers;
+      holds = record {
+        job_is = by.job ∙ proving.job_is;
+        sound = proving.sound;
+        total = λ none. absurd (none_is_some (sym none ∙ by.claimed.told));
+        log = _;
+        at = λ _. answered job claim awaits_grant frame answer next.stage _ proving.sound taken answers;
+      };
+    }
 
 -- ---- where it waits after so many turns
 
@@ -254,7 +225,8 @@ module _ {C : Type 0} (claims : Claims C) (old : C) (job : ProverJob) (sound : I
       answer_on by =
           let claim = claim_of claims s.claimant in
           let expects = ap (λ (j : ProverJob). prover_expects j s.core.stage) (sym at.job_is) ∙ expected in
-          let taken = log_taken job claim s.core.stage turn.frame log_to place by.behind (stood_at s.core.stage refl) expects allowed in
+          let taken = log_taken job claim s.core.stage turn.frame log_to by.behind (stood_at s.core.stage refl)
+          (subst (λ o. IsSomeAnd o (λ p. Allows p turn.frame)) (sym expects) allowed) in
           let answers = subst (λ (j : ProverJob). ProverAnswers j s.core.stage turn.frame turn.answer t.core.stage) at.job_is by.answers in
           record {
             job_is = by.job ∙ at.job_is;
@@ -266,7 +238,9 @@ module _ {C : Type 0} (claims : Claims C) (old : C) (job : ProverJob) (sound : I
 
       accept_on : ReadsAcceptance s turn.frame turn.answer t → IsAt claims old job t (before ++ turn ∷ [])
       accept_on by =
-          let verdict_place : place ≡ expect.Verdict = same_place (ap (λ (q : ProverJob × ProverStage). prover_expects q.0 q.1) (λ i. (sym at.job_is i, sym by.waits i)) ∙ expected) in
+          let verdict_place : place ≡ expect.Verdict =
+          same_stage expect.Verdict place
+          (ap (λ (q : ProverJob × ProverStage). prover_expects q.0 q.1) (λ i. (sym at.job_is i, sym by.waits i)) ∙ expected) in
           subst (λ (u : Proved C). IsAt claims old job u (before ++ turn ∷ [])) (sym by.becomes) (record {
             job_is = at.job_is;
             log = record {
@@ -283,13 +257,6 @@ module _ {C : Type 0} (claims : Claims C) (old : C) (job : ProverJob) (sound : I
             counts = counted_on;
             claim = at.claim;
           })
-        where
-          same_place : Some expect.Verdict ≡ Some place → place ≡ expect.Verdict
-          same_place same = ap place_in (sym same)
-            where
-              place_in : Option Expect → Expect
-              place_in None = expect.Verdict
-              place_in (Some p) = p
 
   turn_on : (s : Proved C) (before : List Turn) (turn : Turn) (t : Proved C) → IsAt claims old job s before → IsTurn (proves claims) s turn t
       → IsAt claims old job t (before ++ turn ∷ [])
@@ -297,16 +264,14 @@ module _ {C : Type 0} (claims : Claims C) (old : C) (job : ProverJob) (sound : I
     where
       by_turn : (b : Bool) → s.accepted ≡ b → proving_expects s.accepted s.core ≡ Some is.place → IsAt claims old job t (before ++ turn ∷ [])
       by_turn true accepted expected = absurd (none_is_some (ap (λ (q : Bool). proving_expects q s.core) (sym accepted) ∙ expected))
-      by_turn false accepted expected = either is.answered
+      by_turn false accepted expected = elim is.answered [
+        | inl by ↦ claim_on s t before turn at accepted by
+        | inr (inl by) ↦ answer_on s t before turn at accepted is.place expects is.allowed by
+        | inr (inr by) ↦ accept_on s t before turn at accepted is.place expects is.allowed by
+      ]
         where
           expects : prover_expects s.core.job s.core.stage ≡ Some is.place
           expects = ap (λ (q : Bool). proving_expects q s.core) (sym accepted) ∙ expected
-
-          either : AnswersClaimed claims s turn.frame turn.answer t ⊎ AnswersBehind s turn.frame turn.answer t ⊎ ReadsAcceptance s turn.frame turn.answer t
-              → IsAt claims old job t (before ++ turn ∷ [])
-          either (inl by) = claim_on s t before turn at accepted by
-          either (inr (inl by)) = answer_on s t before turn at accepted is.place expects is.allowed by
-          either (inr (inr by)) = accept_on s t before turn at accepted is.place expects is.allowed by
 
   stands : claims.answer old ≡ None → (mid : Proved C) (turns : List Turn)
       → Goes (proves claims) (proved (record { job = job; stage = awaits_grant }) None false old) turns mid → IsAt claims old job mid turns
@@ -321,144 +286,6 @@ module _ {C : Type 0} (claims : Claims C) (old : C) (job : ProverJob) (sound : I
     where
       greeted : whole_log Prover (greeting_frame job ∷ []) [] ≡ greeted_log job
       greeted = append-nil (said Prover (greeting_frame job ∷ [])) ∙ ap (bytes_from Prover) (append-nil (frame_spelling (greeting_frame job)))
-
--- ---- where it stops
-
-module _ {C : Type 0} (claims : Claims C) (old : C) (job : ProverJob) (sound : IsSound job) (mid new : Proved C) (turns : List Turn) (first now : LineState)
-    (at : IsAt claims old job mid turns) (accepted : mid.accepted ≡ false) where
-  abbrev log_before : List (Side × ℕ)
-  log_before = whole_log Prover (greeting_frame job ∷ []) turns
-
-  -- by the claimant as it is then
-  abbrev ended_at : C → Course
-  ended_at claimant = record { first = mine first; claim = claim_of claims claimant }
-
-  waited : IsLogAt job (claim_of claims mid.claimant) mid.core.stage log_before
-  waited = subst (λ (b : Bool). IsLogOf job (claim_of claims mid.claimant) b mid.core.stage log_before) accepted at.log
-
-  waited_at : (stage : ProverStage) → mid.core.stage ≡ stage → IsLogAt job (claim_of claims mid.claimant) stage log_before
-  waited_at stage is = subst (λ p. IsLogAt job (claim_of claims mid.claimant) p log_before) is waited
-
-  missed : (f : LineFault) → IsMissing (proves claims) log_before (sends_in (greeting_frame job ∷ []) turns) mid new f (mine first) now → now.side ≡ Prover → now.is_open ≡ true
-      → IsEnded job (ended_at new.claimant) (line_outcome f) now
-  missed f missing side is_open =
-      subst (λ (s : Proved C). IsEnded job (ended_at s.claimant) (line_outcome f) now) (sym missing.same)
-      (stops_taking (proves claims) job (claim_of claims mid.claimant) mid.core.stage log_before (sends_in (greeting_frame job ∷ []) turns) mid new f first now sound waited
-      (ap (λ (q : Bool × ProverJob). proving_expects q.0 (record mid.core { job = q.1 })) (λ i. (accepted i, at.job_is i))) (sym at.counts) missing side is_open)
-
-  module _ (place : Expect) (frame : Frame) (heard : LineState) (expected : proving_expects mid.accepted mid.core ≡ Some place) (allowed : Allows place frame)
-      (passed : HasPassed (log_before ++ bytes_from Verifier (frame_spelling frame)) (sends_in (greeting_frame job ∷ []) turns) (mine first) heard) where
-    expects : prover_expects job mid.core.stage ≡ Some place
-    expects = ap (λ (q : Bool × ProverJob). proving_expects q.0 (record mid.core { job = q.1 })) (λ i. (sym accepted i, sym at.job_is i)) ∙ expected
-
-    allowed_at : (stage : ProverStage) (wanted : Expect) → mid.core.stage ≡ stage → prover_expects job stage ≡ Some wanted → Allows wanted frame
-    allowed_at stage wanted is wants = subst (λ p. Allows p frame) (same_place (sym expects ∙ ap (prover_expects job) is ∙ wants)) allowed
-      where
-        place_in : Option Expect → Expect
-        place_in None = place
-        place_in (Some p) = p
-
-        same_place : Some place ≡ Some wanted → place ≡ wanted
-        same_place same = ap place_in same
-
-    came : (claim : Claim) (stage : ProverStage) → IsLogAt job claim stage log_before → Comes job (record { first = mine first; claim = claim }) stage frame heard
-    came claim stage is = comes job claim stage frame log_before (sends_in (greeting_frame job ∷ []) turns) first heard is (sym at.counts) passed
-
-    well : GoesWell (mine first) heard
-    well = (came (claim_of claims mid.claimant) mid.core.stage waited).well
-
-    -- a grant whose units are claimed is to be answered
-    claim_taken : (given : Grant) → mid.core.stage ≡ awaits_grant → frame ≡ grant given → Suits mid.core.job.file.params mid.core.job.statement.program given
-        → given.start + given.count ≤ mid.core.job.file.params.total → Claimed claims given (Ok (span_of given)) mid.claimant new.claimant
-        → IsLineTaken job (ended_at new.claimant) awaits_grant frame heard
-    claim_taken given waits is suits within claimed = record {
-      log = subst (IsLogTaken job (claim_of claims new.claimant) awaits_grant frame) (sym passed.logged)
-          (grant_log_taken job (claim_of claims new.claimant) frame given log_before (waited_at awaits_grant waits).1 is
-          (subst (λ (j : ProverJob). Suits j.file.params j.statement.program given) at.job_is suits)
-          (subst (λ (j : ProverJob). given.start + given.count ≤ j.file.params.total) at.job_is within) (claimed_for claims given mid.claimant new.claimant claimed));
-      well = well;
-    }
-
-    -- so are replies, or the challenge
-    behind_taken : IsToAnswer mid.core.stage → new.claimant ≡ mid.claimant → IsLineTaken job (ended_at new.claimant) mid.core.stage frame heard
-    behind_taken behind same = subst (λ c. IsLineTaken job (ended_at c) mid.core.stage frame heard) (sym same) (record {
-      log = subst (IsLogTaken job (claim_of claims mid.claimant) mid.core.stage frame) (sym passed.logged)
-          (log_taken job (claim_of claims mid.claimant) mid.core.stage frame log_before place behind waited expects allowed);
-      well = well;
-    })
-
-    stopped : (outcome : ProverOutcome) → Stops claims mid frame outcome new → IsEnded job (ended_at new.claimant) outcome heard
-    stopped outcome (inl by) =
-        subst (λ c. IsEnded job (ended_at c) outcome heard) (sym by.claimant)
-        (ends_ungranted job (ended_at mid.claimant) frame outcome heard sound (came (claim_of claims mid.claimant) awaits_grant (waited_at awaits_grant by.waits))
-        (allowed_at awaits_grant expect.Grant by.waits refl) (subst (λ (j : ProverJob). IsNoGrant j frame outcome) at.job_is by.is))
-    stopped outcome (inr (inl by)) =
-        let taken : IsGrantTaken job (mine first) by.given heard =
-        grant_taken job (ended_at mid.claimant) frame by.given heard (came (claim_of claims mid.claimant) awaits_grant (waited_at awaits_grant by.waits))
-        (allowed_at awaits_grant expect.Grant by.waits refl) by.is in
-        subst (λ o. IsEnded job (ended_at new.claimant) o heard) (sym by.outcome_is)
-        (ends_unclaimed job (ended_at new.claimant) by.given by.fault heard sound
-        (subst (λ (j : ProverJob). Suits j.file.params j.statement.program by.given) at.job_is by.suits) taken
-        (record { asked = by.claimed.asked; answer = by.claimed.told }))
-    stopped outcome (inr (inr (inl by))) =
-        subst (λ o. IsEnded job (ended_at new.claimant) o heard) (sym by.outcome_is)
-        (refuses_nothing job (ended_at new.claimant) awaits_grant frame by.fault heard sound (claim_taken by.given by.waits by.is by.suits by.within by.claimed)
-        (subst (λ (j : ProverJob). ProverRefuses j awaits_grant frame by.fault) at.job_is by.refuses))
-    stopped outcome (inr (inr (inr (inl by)))) =
-        subst (λ o. IsEnded job (ended_at new.claimant) o heard) (sym by.outcome_is)
-        (refuses_nothing job (ended_at new.claimant) mid.core.stage frame by.fault heard sound (behind_taken by.behind by.claimant)
-        (subst (λ (j : ProverJob). ProverRefuses j mid.core.stage frame by.fault) at.job_is by.refuses))
-    stopped outcome (inr (inr (inr (inr by)))) =
-        subst (λ c. IsEnded job (ended_at c) outcome heard) (sym by.claimant)
-        (ends_rejected job (ended_at mid.claimant) frame outcome heard sound (came (claim_of claims mid.claimant) awaits_verdict (waited_at awaits_verdict by.waits))
-        (allowed_at awaits_verdict expect.Verdict by.waits refl) by.is)
-
-    unanswered : (answer : List Frame) (f : LineFault) → IsUnsent None answer f heard now
-        → AnswersClaimed claims mid frame answer new ⊎ AnswersBehind mid frame answer new ⊎ ReadsAcceptance mid frame answer new
-        → IsEnded job (ended_at new.claimant) (line_outcome f) now
-    unanswered answer f unsent (inl by) =
-        stops_answering job (ended_at new.claimant) awaits_grant frame answer new.core.stage f heard now sound
-        (claim_taken by.given by.waits by.is by.suits by.within by.claimed)
-        (subst (λ (j : ProverJob). ProverAnswers j awaits_grant frame answer new.core.stage) at.job_is by.answers) (some_for f (length answer) unsent.at_least_one)
-        (stops_sending answer f heard now unsent)
-    unanswered answer f unsent (inr (inl by)) =
-        stops_answering job (ended_at new.claimant) mid.core.stage frame answer new.core.stage f heard now sound (behind_taken by.behind by.claimant)
-        (subst (λ (j : ProverJob). ProverAnswers j mid.core.stage frame answer new.core.stage) at.job_is by.answers) (some_for f (length answer) unsent.at_least_one)
-        (stops_sending answer f heard now unsent)
-    unanswered answer f unsent (inr (inr by)) = let some = unsent.at_least_one in absurd (omega (arith, some, ap length by.none))
-
--- a verdict was read that every check holds, and nothing more is expected
-over : {C : Type 0} (claims : Claims C) (old : C) (job : ProverJob) (sound : IsSound job) (mid : Proved C) (turns : List Turn) (first now : LineState)
-    → IsAt claims old job mid turns → proving_expects mid.accepted mid.core ≡ None
-    → HasPassed (whole_log Prover (greeting_frame job ∷ []) turns) (sends_in (greeting_frame job ∷ []) turns) (mine first) now
-    → IsEnded job (record { first = mine first; claim = claim_of claims mid.claimant }) Accepted now
-over claims old job sound mid turns first now at none passed = by_accepted mid.accepted refl
-  where
-    log : List (Side × ℕ)
-    log = whole_log Prover (greeting_frame job ∷ []) turns
-
-    -- the prover has not ended otherwise
-    some_expected : (stage : ProverStage) → IsLogAt job (claim_of claims mid.claimant) stage log → prover_expects job stage ≡ None → ⊥
-    some_expected awaits_grant waited over = none_is_some (sym over)
-    some_expected (awaits_replies given done pairs) waited over = none_is_some (sym over)
-    some_expected (awaits_challenge given pairs wires) waited over = none_is_some (sym over)
-    some_expected awaits_verdict waited over = none_is_some (sym over)
-    some_expected has_ended waited over = waited
-
-    by_accepted : (b : Bool) → mid.accepted ≡ b → IsEnded job (record { first = mine first; claim = claim_of claims mid.claimant }) Accepted now
-    by_accepted false accepted = absurd (some_expected mid.core.stage
-        (subst (λ (b : Bool). IsLogOf job (claim_of claims mid.claimant) b mid.core.stage log) accepted at.log)
-        (ap (λ (q : Bool × ProverJob). proving_expects q.0 (record mid.core { job = q.1 })) (λ i. (sym accepted i, sym at.job_is i)) ∙ none))
-    by_accepted true accepted =
-        let read : IsRead job (claim_of claims mid.claimant) log = subst (λ (b : Bool). IsLogOf job (claim_of claims mid.claimant) b mid.core.stage log) accepted at.log in
-        ends_accepted job (record { first = mine first; claim = claim_of claims mid.claimant }) read.frame read.number now sound
-        (record {
-          before = read.before;
-          waited = read.waited;
-          logged = passed.logged ∙ read.logged;
-          well = well_of log (sends_in (greeting_frame job ∷ []) turns) first now (sym at.counts) passed;
-        })
-        read.allowed read.is
 
 -- ---- what was claimed
 
@@ -491,82 +318,210 @@ claim_at : {C : Type 0} (claims : Claims C) (old : C) (granted : Option Span) (n
 claim_at claims old granted now (inl none) = inl none
 claim_at claims old granted now (inr some) = inr (some.0, Ok (span_of some.0), some.1, some.2)
 
--- ---- all together
+-- ---- how it ended
 
 module _ {C : Type 0} (claims : Claims C) (old : C) (once : claims.answer old ≡ None) (job : ProverJob) (sound : IsSound job)
     (new : Proved C) (outcome : Outcome ProverOutcome) (first now : LineState) (side : first.side ≡ Prover)
     (run : IsRun (proves claims) (greeting_frame job ∷ []) (proved (record { job = job; stage = awaits_grant }) None false old) new outcome first now) where
-  stood : IsAt claims old job run.mid run.turns
-  stood = stands claims old job sound once run.mid run.turns run.went
+  abbrev mid : Proved C
+  mid = run.mid
 
-  waits : (place : Expect) → proving_expects run.mid.accepted run.mid.core ≡ Some place → run.mid.accepted ≡ false
-  waits place expected = by_accepted run.mid.accepted refl
+  abbrev passed : List (Side × ℕ)
+  passed = whole_log Prover (greeting_frame job ∷ []) run.turns
+
+  abbrev sent : ℕ
+  sent = sends_in (greeting_frame job ∷ []) run.turns
+
+  at : IsAt claims old job mid run.turns
+  at = stands claims old job sound once mid run.turns run.went
+
+  -- by the claimant as it is then
+  abbrev ended_at : C → Course
+  ended_at claimant = record { first = mine first; claim = claim_of claims claimant }
+
+  -- how the session ended on this line, and what was claimed
+  record IsNoted (told : ProverOutcome) (line : LineState) : Type 0 where
+    ended : IsEnded job (ended_at new.claimant) told line
+    claim : IsClaimTold claims old new.granted new.claimant
+
+  -- nothing was claimed since
+  still_noted : (told : ProverOutcome) (line : LineState) → new.claimant ≡ mid.claimant → new.granted ≡ mid.granted
+      → IsEnded job (ended_at mid.claimant) told line
+      → IsNoted told line
+  still_noted told line claimant granted ended = record {
+    ended = subst (λ c. IsEnded job (ended_at c) told line) (sym claimant) ended;
+    claim = subst (λ (q : C × Option Span). IsClaimTold claims old q.1 q.0) (λ i. (sym claimant i, sym granted i))
+        (claim_at claims old mid.granted mid.claimant at.claim);
+  }
+
+  -- where the end is as it was
+  same_noted : (told : ProverOutcome) → new ≡ mid → IsEnded job (ended_at mid.claimant) told now → IsNoted told now
+  same_noted told same ended = still_noted told now (ap (λ (s : Proved C). s.claimant) same) (ap (λ (s : Proved C). s.granted) same) ended
+
+  -- ---- where a frame was expected
+
+  module _ (place : Expect) (expected : proving_expects mid.accepted mid.core ≡ Some place) where
+    accepted : mid.accepted ≡ false
+    accepted = by_accepted mid.accepted refl
+      where
+        by_accepted : (b : Bool) → mid.accepted ≡ b → mid.accepted ≡ false
+        by_accepted false is = is
+        by_accepted true is = absurd (none_is_some (ap (λ (b : Bool). proving_expects b mid.core) (sym is) ∙ expected))
+
+    expects_so : proving_expects mid.accepted mid.core ≡ prover_expects job mid.core.stage
+    expects_so = ap (λ (q : Bool × ProverJob). proving_expects q.0 (record mid.core { job = q.1 })) (λ i. (accepted i, at.job_is i))
+
+    waited_at : (stage : ProverStage) → mid.core.stage ≡ stage → IsLogAt job (claim_of claims mid.claimant) stage passed
+    waited_at stage is = subst (λ (q : Bool × ProverStage). IsLogOf job (claim_of claims mid.claimant) q.0 q.1 passed)
+        (λ i. (accepted i, is i)) at.log
+
+    waited : IsLogAt job (claim_of claims mid.claimant) mid.core.stage passed
+    waited = waited_at mid.core.stage refl
+
+    missed : (f : LineFault) → IsMissing (proves claims) passed sent mid new f (mine first) now → IsNoted (line_outcome f) now
+    missed f missing = same_noted (line_outcome f) missing.same
+        (stops_taking (proves claims) job (claim_of claims mid.claimant) mid.core.stage passed sent mid new f first now sound waited expects_so
+        (sym at.counts) missing)
+
+    module _ (frame : Frame) (heard : LineState) (allowed : Allows place frame)
+        (came : HasPassed (passed ++ bytes_from Verifier (frame_spelling frame)) sent (mine first) heard) where
+      allowed_at : (stage : ProverStage) (wanted : Expect) → mid.core.stage ≡ stage → prover_expects job stage ≡ Some wanted → Allows wanted frame
+      allowed_at stage wanted is wants =
+          subst (λ p. Allows p frame) (same_Some place wanted (sym expected ∙ expects_so ∙ ap (prover_expects job) is ∙ wants)) allowed
+
+      comes_at : (stage : ProverStage) → mid.core.stage ≡ stage → Comes job (ended_at mid.claimant) stage frame heard
+      comes_at stage is = comes job (claim_of claims mid.claimant) stage frame passed sent first heard (waited_at stage is) (sym at.counts) came
+
+      -- a grant whose units are claimed is to be answered
+      claim_taken : (given : Grant) → mid.core.stage ≡ awaits_grant → frame ≡ grant given → Suits mid.core.job.file.params mid.core.job.statement.program given
+          → given.start + given.count ≤ mid.core.job.file.params.total → Claimed claims given (Ok (span_of given)) mid.claimant new.claimant
+          → IsLineTaken job (ended_at new.claimant) awaits_grant frame heard
+      claim_taken given waits is suits within claimed = record {
+        log = subst (IsLogTaken job (claim_of claims new.claimant) awaits_grant frame) (sym came.logged)
+            (grant_log_taken job (claim_of claims new.claimant) frame given passed (waited_at awaits_grant waits).1 is
+            (subst (λ (j : ProverJob). Suits j.file.params j.statement.program given) at.job_is suits)
+            (subst (λ (j : ProverJob). given.start + given.count ≤ j.file.params.total) at.job_is within)
+            (claimed_for claims given mid.claimant new.claimant claimed));
+        well = (comes_at awaits_grant waits).well;
+      }
+
+      -- so are replies, or the challenge
+      behind_taken : IsToAnswer mid.core.stage → IsLineTaken job (ended_at mid.claimant) mid.core.stage frame heard
+      behind_taken behind = record {
+        log = subst (IsLogTaken job (claim_of claims mid.claimant) mid.core.stage frame) (sym came.logged)
+            (log_taken job (claim_of claims mid.claimant) mid.core.stage frame passed behind waited
+            (subst (λ o. IsSomeAnd o (λ p. Allows p frame)) (sym expected ∙ expects_so) allowed));
+        well = (comes_at mid.core.stage refl).well;
+      }
+
+      -- the claimant was asked
+      asked_noted : (told : ProverOutcome) (line : LineState) (given : Grant) (answer : Result Span ClaimFault) → mid.core.stage ≡ awaits_grant
+          → Claimed claims given answer mid.claimant new.claimant → (mid.granted ≡ None → new.granted ≡ granted_of (Some answer))
+          → IsEnded job (ended_at new.claimant) told line → IsNoted told line
+      asked_noted told line given answer waits claimed granted ended =
+          let none = unclaimed claims old mid.claimant mid.granted (waited_at awaits_grant waits).0 at.claim in
+          record {
+            ended = ended;
+            claim = inr (given, answer, subst (λ c. Claimed claims given answer c new.claimant) none.0 claimed, granted none.1);
+          }
+
+      stopped : (told : ProverOutcome) → Stops claims mid frame told new → IsNoted told heard
+      stopped told (inl by) = still_noted told heard by.claimant by.granted
+          (ends_ungranted job (ended_at mid.claimant) frame told heard sound (comes_at awaits_grant by.waits)
+          (allowed_at awaits_grant expect.Grant by.waits refl) (subst (λ (j : ProverJob). IsNoGrant j frame told) at.job_is by.is))
+      stopped told (inr (inl by)) =
+          let taken : IsGrantTaken job (mine first) by.given heard =
+          grant_taken job (ended_at mid.claimant) frame by.given heard (comes_at awaits_grant by.waits)
+          (allowed_at awaits_grant expect.Grant by.waits refl) by.is in
+          asked_noted told heard by.given (Err by.fault) by.waits by.claimed (λ none. by.granted ∙ none)
+          (subst (λ o. IsEnded job (ended_at new.claimant) o heard) (sym by.outcome_is)
+          (ends_unclaimed job (ended_at new.claimant) by.given by.fault heard sound
+          (subst (λ (j : ProverJob). Suits j.file.params j.statement.program by.given) at.job_is by.suits) taken
+          (record { asked = by.claimed.asked; answer = by.claimed.told })))
+      stopped told (inr (inr (inl by))) =
+          asked_noted told heard by.given (Ok (span_of by.given)) by.waits by.claimed (λ _. by.granted)
+          (subst (λ o. IsEnded job (ended_at new.claimant) o heard) (sym by.outcome_is)
+          (refuses_nothing job (ended_at new.claimant) awaits_grant frame by.fault heard sound (claim_taken by.given by.waits by.is by.suits by.within by.claimed)
+          (subst (λ (j : ProverJob). ProverRefuses j awaits_grant frame by.fault) at.job_is by.refuses)))
+      stopped told (inr (inr (inr (inl by)))) = still_noted told heard by.claimant by.granted
+          (subst (λ o. IsEnded job (ended_at mid.claimant) o heard) (sym by.outcome_is)
+          (refuses_nothing job (ended_at mid.claimant) mid.core.stage frame by.fault heard sound (behind_taken by.behind)
+          (subst (λ (j : ProverJob). ProverRefuses j mid.core.stage frame by.fault) at.job_is by.refuses)))
+      stopped told (inr (inr (inr (inr by)))) = still_noted told heard by.claimant by.granted
+          (ends_rejected job (ended_at mid.claimant) frame told heard sound (comes_at awaits_verdict by.waits)
+          (allowed_at awaits_verdict expect.Verdict by.waits refl) by.is)
+
+      unanswered : (answer : List Frame) (f : LineFault) → IsUnsent None answer f heard now
+          → AnswersClaimed claims mid frame answer new ⊎ AnswersBehind mid frame answer new ⊎ ReadsAcceptance mid frame answer new
+          → IsNoted (line_outcome f) now
+      unanswered answer f unsent (inl by) =
+          asked_noted (line_outcome f) now by.given (Ok (span_of by.given)) by.waits by.claimed (λ _. by.granted)
+          (stops_answering job (ended_at new.claimant) awaits_grant frame answer new.core.stage f heard now sound
+          (claim_taken by.given by.waits by.is by.suits by.within by.claimed)
+          (subst (λ (j : ProverJob). ProverAnswers j awaits_grant frame answer new.core.stage) at.job_is by.answers)
+          (some_for f (length answer) unsent.at_least_one) (stops_sending answer f heard now unsent))
+      unanswered answer f unsent (inr (inl by)) = still_noted (line_outcome f) now by.claimant by.granted
+          (stops_answering job (ended_at mid.claimant) mid.core.stage frame answer new.core.stage f heard now sound (behind_taken by.behind)
+          (subst (λ (j : ProverJob). ProverAnswers j mid.core.stage frame answer new.core.stage) at.job_is by.answers)
+          (some_for f (length answer) unsent.at_least_one) (stops_sending answer f heard now unsent))
+      unanswered answer f unsent (inr (inr by)) = absurd (omega (arith, unsent.at_least_one, ap length by.none))
+
+  -- ---- a verdict was read that every check holds, and nothing more is expected
+
+  over : proving_expects mid.accepted mid.core ≡ None → HasPassed passed sent (mine first) now → IsEnded job (ended_at mid.claimant) Accepted now
+  over none came = by_accepted mid.accepted refl
     where
-      by_accepted : (b : Bool) → run.mid.accepted ≡ b → run.mid.accepted ≡ false
-      by_accepted false is = is
-      by_accepted true is = absurd (none_is_some (ap (λ (b : Bool). proving_expects b run.mid.core) (sym is) ∙ expected))
+      -- the prover has not ended otherwise
+      some_expected : (stage : ProverStage) → IsLogAt job (claim_of claims mid.claimant) stage passed → prover_expects job stage ≡ None → ⊥
+      some_expected has_ended waits over = waits
+      some_expected other waits over = none_is_some (sym over)
 
-  ended : (o : Outcome ProverOutcome) → StopsBy (proves claims) (greeting_frame job ∷ []) run.turns run.mid new o (mine first) now
-      → IsEnded job (record { first = mine first; claim = claim_of claims new.claimant }) (outcome_told o) now
-  ended Done stop =
-      subst (λ (s : Proved C). IsEnded job (record { first = mine first; claim = claim_of claims s.claimant }) Accepted now) (sym stop.same)
-      (over claims old job sound run.mid run.turns first now stood (sym (ap (λ (s : Proved C). proving_expects s.accepted s.core) stop.same) ∙ stop.expected) stop.passed)
-  ended (Refused fault) stop =
+      by_accepted : (b : Bool) → mid.accepted ≡ b → IsEnded job (ended_at mid.claimant) Accepted now
+      by_accepted false accepted = absurd (some_expected mid.core.stage
+          (subst (λ (b : Bool). IsLogOf job (claim_of claims mid.claimant) b mid.core.stage passed) accepted at.log)
+          (ap (λ (q : Bool × ProverJob). proving_expects q.0 (record mid.core { job = q.1 })) (λ i. (sym accepted i, sym at.job_is i)) ∙ none))
+      by_accepted true accepted =
+          let read : IsRead job (claim_of claims mid.claimant) passed =
+          subst (λ (b : Bool). IsLogOf job (claim_of claims mid.claimant) b mid.core.stage passed) accepted at.log in
+          ends_accepted job (ended_at mid.claimant) read.frame read.number now sound
+          (record {
+            before = read.before;
+            waited = read.waited;
+            logged = came.logged ∙ read.logged;
+            well = well_of passed sent first now (sym at.counts) came;
+          })
+          read.allowed read.is
+
+  -- ---- all together
+
+  noted : (o : Outcome ProverOutcome) → StopsBy (proves claims) (greeting_frame job ∷ []) run.turns mid new o (mine first) now
+      → IsNoted (outcome_told o) now
+  noted Done stop = same_noted Accepted stop.same
+      (over (sym (ap (λ (s : Proved C). proving_expects s.accepted s.core) stop.same) ∙ stop.expected) stop.passed)
+  noted (Refused fault) stop =
       let still : now ≡ stop.heard = subst (λ c. TriesRefusal c stop.heard now) stop.refused.0 stop.tried in
-      subst (λ l. IsEnded job (record { first = mine first; claim = claim_of claims new.claimant }) fault l) (sym still)
-      (stopped claims old job sound run.mid new run.turns first now stood (waits stop.place stop.expected) stop.place stop.frame stop.heard stop.expected stop.allowed stop.passed
-      fault stop.refused.1)
-  ended (Cut f) (inl missing) =
-      missed claims old job sound run.mid new run.turns first now stood (waits missing.place missing.expected) f missing (run.side ∙ side) run.is_open
-  ended (Cut f) (inr (inl stop)) =
-      unanswered claims old job sound run.mid new run.turns first now stood (waits stop.is.place stop.is.expected) stop.is.place stop.turn.frame stop.heard stop.is.expected stop.is.allowed
-      stop.passed stop.turn.answer f stop.unsent stop.is.answered
-  ended (Cut f) (inr (inr stop)) =
-      let start : run.mid ≡ proved (record { job = job; stage = awaits_grant }) None false old =
-      subst (λ (l : List Turn). Goes (proves claims) (proved (record { job = job; stage = awaits_grant }) None false old) l run.mid) stop.none run.went in
-      let same = ap (λ (s : Proved C). s.claimant) (stop.same ∙ start) in
-      subst (λ c. IsEnded job (record { first = mine first; claim = claim_of claims c }) (line_outcome f) now) (sym same)
+      subst (IsNoted fault) (sym still) (stopped stop.place stop.expected stop.frame stop.heard stop.allowed stop.passed fault stop.refused.1)
+  noted (Cut f) (inl missing) = missed missing.place missing.expected f missing
+  noted (Cut f) (inr (inl stop)) =
+      unanswered stop.is.place stop.is.expected stop.turn.frame stop.heard stop.is.allowed stop.passed stop.turn.answer f stop.unsent stop.is.answered
+  noted (Cut f) (inr (inr stop)) =
+      let start : mid ≡ proved (record { job = job; stage = awaits_grant }) None false old =
+      subst (λ (l : List Turn). Goes (proves claims) (proved (record { job = job; stage = awaits_grant }) None false old) l mid) stop.none run.went in
+      same_noted (line_outcome f) stop.same
+      (subst (λ c. IsEnded job (ended_at c) (line_outcome f) now) (sym (ap (λ (s : Proved C). s.claimant) start))
       (stops_greeting job (claim_of claims old) f first now sound once stop.fresh
       (subst (λ b. SendStops b f (mine first) now) (append-nil (frame_spelling (greeting_frame job)))
-      (stops_sending (greeting_frame job ∷ []) f (mine first) now stop.unsent)))
+      (stops_sending (greeting_frame job ∷ []) f (mine first) now stop.unsent))))
+
+  all_noted : IsNoted (outcome_told outcome) now
+  all_noted = noted outcome
+      (subst (λ (f : LineState). StopsBy (proves claims) (greeting_frame job ∷ []) run.turns mid new outcome f now)
+      (λ i. record first { side = side i }) run.stops)
 
   pub session_ended : IsEnded job (record { first = first; claim = claim_of claims new.claimant }) (outcome_told outcome) now
   session_ended =
-      subst (λ (f : LineState). IsEnded job (record { first = f; claim = claim_of claims new.claimant }) (outcome_told outcome) now) (λ i. record first { side = sym side i })
-      (ended outcome (subst (λ (f : LineState). StopsBy (proves claims) (greeting_frame job ∷ []) run.turns run.mid new outcome f now) (λ i. record first { side = side i }) run.stops))
-
-  claim_same : new.claimant ≡ run.mid.claimant → new.granted ≡ run.mid.granted → IsClaimTold claims old new.granted new.claimant
-  claim_same claimant granted =
-      subst (λ (q : C × Option Span). IsClaimTold claims old q.1 q.0) (λ i. (sym claimant i, sym granted i)) (claim_at claims old run.mid.granted run.mid.claimant stood.claim)
-
-  -- where a grant is awaited
-  claim_first : (place : Expect) → proving_expects run.mid.accepted run.mid.core ≡ Some place → run.mid.core.stage ≡ awaits_grant
-      → (run.mid.claimant ≡ old) × (run.mid.granted ≡ None)
-  claim_first place expected is =
-      unclaimed claims old run.mid.claimant run.mid.granted
-      (subst (λ (q : Bool × ProverStage). IsLogOf job (claim_of claims run.mid.claimant) q.0 q.1 (whole_log Prover (greeting_frame job ∷ []) run.turns))
-      (λ i. (waits place expected i, is i)) stood.log).0 stood.claim
-
-  claim_refused : (fault : ProverOutcome) (place : Expect) (frame : Frame) → proving_expects run.mid.accepted run.mid.core ≡ Some place
-      → Stops claims run.mid frame fault new → IsClaimTold claims old new.granted new.claimant
-  claim_refused fault place frame expected (inl by) = claim_same by.claimant by.granted
-  claim_refused fault place frame expected (inr (inl by)) =
-      let none = claim_first place expected by.waits in
-      inr (by.given, Err by.fault, subst (λ c. Claimed claims by.given (Err by.fault) c new.claimant) none.0 by.claimed, by.granted ∙ none.1)
-  claim_refused fault place frame expected (inr (inr (inl by))) =
-      let none = claim_first place expected by.waits in
-      inr (by.given, Ok (span_of by.given), subst (λ c. Claimed claims by.given (Ok (span_of by.given)) c new.claimant) none.0 by.claimed, by.granted)
-  claim_refused fault place frame expected (inr (inr (inr (inl by)))) = claim_same by.claimant by.granted
-  claim_refused fault place frame expected (inr (inr (inr (inr by)))) = claim_same by.claimant by.granted
-
-  claim_by : (o : Outcome ProverOutcome) → StopsBy (proves claims) (greeting_frame job ∷ []) run.turns run.mid new o first now
-      → IsClaimTold claims old new.granted new.claimant
-  claim_by Done stop = claim_same (ap (λ (s : Proved C). s.claimant) stop.same) (ap (λ (s : Proved C). s.granted) stop.same)
-  claim_by (Refused fault) stop = claim_refused fault stop.place stop.frame stop.expected stop.refused.1
-  claim_by (Cut f) (inl stop) = claim_same (ap (λ (s : Proved C). s.claimant) stop.same) (ap (λ (s : Proved C). s.granted) stop.same)
-  claim_by (Cut f) (inr (inl stop)) =
-      claim_at claims old new.granted new.claimant (turn_on claims old job sound run.mid run.turns stop.turn new stood stop.is).claim
-  claim_by (Cut f) (inr (inr stop)) = claim_same (ap (λ (s : Proved C). s.claimant) stop.same) (ap (λ (s : Proved C). s.granted) stop.same)
+      subst (λ (f : LineState). IsEnded job (record { first = f; claim = claim_of claims new.claimant }) (outcome_told outcome) now)
+      (λ i. record first { side = sym side i }) all_noted.ended
 
   pub claim_ended : ClaimEnds claims old new.granted new.claimant
-  claim_ended = claim_ends claims old new.granted new.claimant once (claim_by outcome run.stops)
+  claim_ended = claim_ends claims old new.granted new.claimant once all_noted.claim

@@ -1,7 +1,6 @@
 pub mod Outcomes
 pub mod Stages
 pub mod Notes
-pub mod Turns
 pub mod Completing
 pub mod Stores
 pub mod Sessions

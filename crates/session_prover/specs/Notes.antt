@@ -273,20 +273,21 @@ IsRelated job log = SendsNoCorrections job log ⊎ SendsCorrections job log
 
 -- ---- all together
 
--- a session over a line that ended so
-pub record IsEnded (job : ProverJob) (course : Course) (outcome : ProverOutcome) (now : LineState) : Type 0 where
-  pub outcome_is : IsOutcome job course.claim now.log
-      (snapshot_of course.first) (snapshot_of now) outcome
-  pub asked : IsAskedRight job course.claim now.log
+-- a session that ended so
+pub record HasEnded (job : ProverJob) (claim : Claim) (outcome : ProverOutcome) (first now : LinkSnapshot) : Type 0 where
+  pub outcome_is : IsOutcome job claim now.log first now outcome
+  pub asked : IsAskedRight job claim now.log
   pub honest : SendsHonestly job now.log outcome
-  pub claimed : SendsOnceClaimed job course.claim now.log
+  pub claimed : SendsOnceClaimed job claim now.log
   pub related : IsRelated job now.log
-  pub answers : AnswersGrantPlace job course.claim outcome now.log
+  pub answers : AnswersGrantPlace job claim outcome now.log
   pub verdict : AnswersVerdict job outcome now.log
-  pub sends : SendsEach outcome now.log course.first.sends now.sends
-  pub logged : IsLogged job course.claim outcome now.log course.first.told now.told
-  pub came : course.first.to_come ≡ put_before (sent_by Verifier now.log) now.to_come
-  pub receives : now.receives ≤ course.first.receives + length (sent_by Verifier now.log) + 1
-  pub count : CountsOutcome outcome course.first.faults now.faults
-  pub side : now.side ≡ Prover
-  pub is_open : now.is_open ≡ true
+  pub sends : SendsEach outcome now.log first.sends now.sends
+  pub logged : IsLogged job claim outcome now.log first.told now.told
+  pub came : first.to_come ≡ put_before (sent_by Verifier now.log) now.to_come
+  pub receives : now.receives ≤ first.receives + length (sent_by Verifier now.log) + 1
+  pub count : CountsOutcome outcome first.faults now.faults
+
+-- over a line
+abbrev pub IsEnded : ProverJob → Course → ProverOutcome → LineState → Type 0
+IsEnded job course outcome now = HasEnded job course.claim outcome (snapshot_of course.first) (snapshot_of now)

@@ -6,14 +6,14 @@ ghost use Rattle.zk_model.specs.declared.Expect.TheVariants as expect;
 ghost use Rattle.zk_model.specs.View.{span_of};
 ghost use Rattle.zk_model.specs.declared.Side.TheVariants.{Prover};
 ghost use Rattle.session_core.specs.declared.fault.ProverFault.{ProverFault};
+ghost use Rattle.frame_link.specs.Lines.{snapshot_of};
 ghost use Rattle.session_driver.specs.Runs.{IsFresh};
-ghost use Rattle.session_prover.specs.Notes.{IsEnded, granted_of};
+ghost use Rattle.session_prover.specs.Notes.{HasEnded, granted_of};
 ghost use Rattle.proof_frames.specs.Frames.{frame_value, IsShort};
 ghost use Rattle.session_core.specs.Cores.{ProverAnswers, ProverRefuses, StaysWithin, awaits_grant, prover_expects};
 ghost use Rattle.session_core.specs.Jobs.{Suits};
 ghost use Rattle.session_prover.specs.Outcomes.{session_outcome};
-ghost use Rattle.session_prover.specs.Proving.{AnswersClaimed, Claimed, IsProving, Stops, claims_of, outcome_told, proved, proves, proving_expects, frames_left};
-ghost use Rattle.session_prover.specs.Turns.{IsNoGrant, IsRejection, IsSound, IsToAnswer};
+ghost use Rattle.session_prover.specs.Proving.{AnswersClaimed, Claimed, IsProving, Stops, claims_of, outcome_told, proved, proves, proving_expects, frames_left, IsNoGrant, IsRejection, IsSound, IsToAnswer};
 
 use crate::claimant::Claimant;
 use crate::note::ProverOutcome;
@@ -265,10 +265,10 @@ pub(crate) fn prove<C: Claimant, L: Link>(
     ensures moved { MatchOption (C.answer claimant.new) (claimant.new ≡ claimant.old)
         (λ answer. IsSomeAnd (C.asked claimant.new)
         (λ units. C.moves claimant.old units.0 units.1 answer claimant.new)) }
-    ensures ends { IsEnded job.now (record {
-      first = line.old;
-      claim = record { asked = C.asked claimant.new; answer = C.answer claimant.new };
-    }) result.outcome line.new }
+    ensures ends { HasEnded job.now
+        (record { asked = C.asked claimant.new; answer = C.answer claimant.new })
+        result.outcome (snapshot_of line.old) (snapshot_of line.new) }
+    ensures side { line.new.side ≡ Prover }
     ensures open_still { IsTrue line.new.is_open }
 {
     let mut proving = Proving {

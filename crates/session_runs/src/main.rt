@@ -9,6 +9,7 @@
 //! | `verifier`, `prover` | sessions of this end, whose peer is honest but for what the words say |
 //! | `both` | the same of the one end, and then of the other |
 //! | `rehearsal` | a rehearsal, over files of its own |
+//! | `audit` | audits of the log of a rehearsal, whose bytes are as the words of the peer's bytes say |
 //! | `service` | runs of `serve`, with peers at the door one after the other |
 //! | `proof` | runs of `prove`, whose door connects to one peer |
 //! | `run` | a run of the program, with nobody at the door |
@@ -49,6 +50,8 @@
 //! | `journal-size=N` | how many bytes the journal has | its own |
 //! | `journal-set=PLACE:BYTE` | one byte of the journal that is another | none |
 //! | `shelf-fails=N`, `sink-fails=N`, `door-fails=N`, `disk-fails=N` | the number of the call that fails, counted from 1 | none |
+//! | `statements=TEXT` | the text of the file `statements`, in which `+` is a space, and `/` the end of a line; a service is then that of `serve-many` | empty |
+//! | `log=HEX` | the bytes of the file `log` | none |
 //! | `show=NAME,NAME..` | the files of which the line says how many bytes stand there, and SHA-256 of them; `disk` for the disk | none |
 //!
 //! What a service is asked for, and who calls. Each peer is honest over the units after those of the peer before, the first from
@@ -65,6 +68,8 @@
 //! A line of a run has its number, where there is a range; the status; what is written; what is handed back, with the outcome, the units
 //! and the log of each session; and the files that are shown.
 //!
+//! A line of a rehearsal has the verdict, the units that it took, and its log; that of an audit what is found, or why nothing is.
+//!
 //! A line of a session has its number, where there is a range; how it ended; where a verifier offers two statements, the number of the
 //! one that was taken, counted from 0; what was asked of who has the units (how many, and
 //! at the prover from which one on); which ones were had; how many bytes each side sent in a row in the log, `p` the prover and
@@ -72,6 +77,7 @@
 //! and how many of its calls failed. Of a whole log that is the digest that `docs/PROTOCOL.md` publishes.
 #![tactic(auto)]
 
+mod audits;
 mod piece_link;
 mod program_ends;
 mod runs;

@@ -42,7 +42,12 @@ fn service_words(alloc: Global, claimed: &Claimed<'_, '_>) -> Result<Vec<String>
         bits: claimed.outputs,
     };
     let (circuit, section) = (scenario.circuit, scenario.section);
-    let line = format!(in alloc; "serve,here,x.verifier,{circuit},{outputs},--section,{section}")?;
+    let is_many = !scenario.outside.statements.is_empty();
+    let line = if is_many {
+        format!(in alloc; "serve-many,here,x.verifier,statements,--section,{section}")?
+    } else {
+        format!(in alloc; "serve,here,x.verifier,{circuit},{outputs},--section,{section}")?
+    };
     let mut words = words_of(alloc, scenario, &line)?;
     let service = &scenario.service;
     for (name, value) in [
@@ -52,7 +57,9 @@ fn service_words(alloc: Global, claimed: &Claimed<'_, '_>) -> Result<Vec<String>
     ] {
         push_option(alloc, &mut words, name, value)?;
     }
-    push_public(alloc, &mut words, claimed.public)?;
+    if !is_many {
+        push_public(alloc, &mut words, claimed.public)?;
+    }
     Ok(words)
 }
 

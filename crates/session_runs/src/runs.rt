@@ -128,7 +128,21 @@ fn put(
     Ok(())
 }
 
-/// The dealt files of both ends, and the circuit under its name.
+/// The text of a file of statements, in which `+` stands for a space, and `/` for the end of a line.
+fn statements_text(alloc: Global, statements: &str) -> Result<Vec<u8>> {
+    let mut text = Vec::new(alloc);
+    for byte in statements.bytes() {
+        let byte = match byte {
+            b'+' => b' ',
+            b'/' => b'\n',
+            _ => byte,
+        };
+        text.push(byte)?;
+    }
+    Ok(text)
+}
+
+/// The dealt files of both ends, the circuit under its name, and the file of statements and the log that are stated.
 fn files_of(
     alloc: Global,
     scenario: &Scenario<'_>,
@@ -144,6 +158,18 @@ fn files_of(
         scenario.circuit,
         circuit_text(alloc, scenario)?,
     )?;
+    let Outside {
+        statements,
+        log,
+        ..
+    } = scenario.outside;
+    put(
+        alloc,
+        &mut files,
+        "statements",
+        statements_text(alloc, statements)?,
+    )?;
+    put(alloc, &mut files, "log", hex::decode(alloc, log)?)?;
     Ok(files)
 }
 

@@ -10,6 +10,8 @@ pub enum End {
     Both,
     /// A rehearsal of both.
     Rehearsal,
+    /// Audits of the log of a rehearsal.
+    Audit,
     /// A run of the program that serves a verifier's session.
     Service,
     /// A run of the program that proves a prover's session.
@@ -83,6 +85,8 @@ pub struct Outside<'a> {
     pub door_fails: u64,
     pub disk_fails: u64,
     pub show: &'a str,
+    pub statements: &'a str,
+    pub log: &'a str,
 }
 
 /// What a service is asked for: the words of its options, which are not among its words where they are empty; how many peers call, and
@@ -157,6 +161,8 @@ fn plain(end: End) -> Scenario<'static> {
             door_fails: 0,
             disk_fails: 0,
             show: "",
+            statements: "",
+            log: "",
         },
         service: Service {
             sessions: "1",
@@ -174,6 +180,7 @@ fn read_end(word: &str) -> Result<End> {
         "prover" => Ok(End::Prover),
         "both" => Ok(End::Both),
         "rehearsal" => Ok(End::Rehearsal),
+        "audit" => Ok(End::Audit),
         "service" => Ok(End::Service),
         "proof" => Ok(End::Proof),
         "run" => Ok(End::Run),
@@ -253,6 +260,8 @@ fn set_outside<'a>(outside: &mut Outside<'a>, name: &str, value: &'a str) -> Res
         "journal-size" => outside.journal.size = Some(value.parse::<usize>()?),
         "journal-set" => outside.journal.set = Some(read_set(value)?),
         "show" => outside.show = value,
+        "statements" => outside.statements = value,
+        "log" => outside.log = value,
         _ => return Err(Error::msg("no such word")),
     }
     Ok(())

@@ -4,6 +4,7 @@ ghost use Rattle.zk_model.specs.Bytes.{AreBytes};
 ghost use Rattle.zk_model.specs.declared.limits.TheConstants.{MAX_SECTION_LENGTH};
 ghost use Rattle.zk_port.specs.Doors.{IsFreshLink};
 
+use crate::audits::audit_lines;
 use crate::piece_link::{PieceLink, plan_of};
 use crate::program_ends::{Claimed, proof_lines, service_lines};
 use crate::runs::words_line;
@@ -19,7 +20,7 @@ use frame_link::Log;
 use lease_store::LeaseFault;
 use session_core::{CircuitClaim, ProverJob, TooLarge, VerifierJob, VerifierJobs, elements_of};
 use session_prover::{ProverNote, prove_session};
-use session_rehearsal::rehearse;
+use session_rehearsal::{Rehearsal, rehearse};
 use session_verifier::{SessionNote, verify_session};
 use sha2::{Digest, Sha256};
 use std::alloc::{AllocError, Global};
@@ -447,13 +448,28 @@ fn unfit_lines<R: Threads + Wait + Sync>(
     }
 }
 
-/// The line of a rehearsal.
-fn rehearsal_line(alloc: Global, scenario: &Scenario<'_>, circuit: Circuit) -> Result<String> {
+/// A rehearsal over files of its own.
+fn rehearsed(
+    alloc: Global,
+    scenario: &Scenario<'_>,
+    public: &[bool],
+    private: &[bool],
+) -> Result<Rehearsal> {
     let section = section_of(scenario)?;
-    let bits = input_bits(alloc, &circuit, scenario)?;
-    let (public, private) = bits.all.split_at(bits.public);
+    let circuit = read(alloc, scenario.text)?;
+    if public.len() > circuit.inputs() {
+        return Err(Error::msg("another circuit"));
+    }
     let kind = params_of(scenario)?.kind;
     let rehearsal = rehearse(alloc, circuit, public, private, kind, section, &SEED)?;
+    Ok(rehearsal)
+}
+
+/// The line of a rehearsal.
+fn rehearsal_line(alloc: Global, scenario: &Scenario<'_>, circuit: &Circuit) -> Result<String> {
+    let bits = input_bits(alloc, circuit, scenario)?;
+    let (public, private) = bits.all.split_at(bits.public);
+    let rehearsal = rehearsed(alloc, scenario, public, private)?;
     let judged = Judged {
         verdict: rehearsal.verdict,
     };
@@ -462,6 +478,24 @@ fn rehearsal_line(alloc: Global, scenario: &Scenario<'_>, circuit: Circuit) -> R
         log: &rehearsal.log,
     };
     Ok(format!(in alloc; "{judged} units={units} {log}\n")?)
+}
+
+/// The lines of audits of a rehearsal's log.
+fn audits_of(alloc: Global, scenario: &Scenario<'_>, circuit: &Circuit) -> Result<String> {
+    let bits = input_bits(alloc, circuit, scenario)?;
+    let outputs = claimed_outputs(alloc, circuit, scenario.outputs, &bits.all)?;
+    let (public, private) = bits.all.split_at(bits.public);
+    let rehearsal = rehearsed(alloc, scenario, public, private)?;
+    let cases = cases_of(alloc, scenario, rehearsal.log.bytes())?;
+    audit_lines(
+        alloc,
+        scenario,
+        circuit,
+        public,
+        &outputs,
+        rehearsal.units,
+        cases,
+    )
 }
 
 /// The digest of a circuit's text.
@@ -481,8 +515,9 @@ pub fn scenario_lines<R: Threads + Wait + Sync>(
         return words_line(rt, alloc, scenario);
     }
     let circuit = read(alloc, scenario.text)?;
-    if scenario.end == End::Rehearsal {
-        return rehearsal_line(alloc, scenario, circuit);
+    match scenario.end {
+        End::Rehearsal => rehearsal_line(alloc, scenario, &circuit),
+        End::Audit => audits_of(alloc, scenario, &circuit),
+        _ => circuit_lines(rt, alloc, scenario, &circuit, digest_of(scenario.text)),
     }
-    circuit_lines(rt, alloc, scenario, &circuit, digest_of(scenario.text))
 }

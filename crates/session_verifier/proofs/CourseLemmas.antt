@@ -1,10 +1,11 @@
 -- What the course of a session says of its note.
-use Rattle.std.proofs.Common.{◌≡◌, ◌⊎◌, inl, inr, ℕ, ◌+◌, ◌^◌, ◌≤◌, ◌<◌, List, [], ◌∷◌, ◌++◌, flat_map, length, Option, Some, None, Result, Ok, Err, Bool, true, false, refl, ap, sym, ◌∙◌, subst, arith, append-nil, append_assoc}
+use Rattle.std.proofs.Common.{◌≡◌, ◌⊎◌, inl, inr, ℕ, ◌+◌, ◌^◌, ◌≤◌, ◌<◌, List, [], ◌∷◌, ◌++◌, flat_map, length, Option, Some, None, Result, Ok, Err, true, refl, ap, sym, ◌∙◌, subst, arith, append-nil, append_assoc, IfSome}
+use Rattle.std.proofs.lemmas.Option.{same_Some}
 use Rattle.zk_model.specs.Field.{IsElement, from_word}
 use Rattle.zk_model.specs.Program.{section_count}
 use Rattle.zk_model.specs.Statement.{IsStatement}
 use Rattle.zk_model.specs.Files.{IsVerifierFile}
-use Rattle.frame_laws.proofs.Hellos.{fitting_is_hello}
+use Rattle.frame_laws.proofs.Hellos.{fitting_is_hello, long_hello, long_fits}
 use Rattle.zk_model.specs.Transcript.{Grant, Transcript, IsGrant, IsHello, BeginsWith, hello_frame, ask_frame, sums_frame, openings_frame, verdict_frame, refuse_frame, bytes_from, turn_bytes, sent_by, spelling}
 use Rattle.zk_model.specs.Frames.{hello}
 use Rattle.zk_model.specs.declared.Expect.{Expect}
@@ -21,20 +22,20 @@ use Rattle.zk_laws.specs.Extraction.{Extraction}
 use Rattle.zk_port.specs.Counts.{Rose, counted}
 use Rattle.lease_store.specs.declared.LeaseFault.{LeaseFault}
 use Rattle.lease_store.specs.declared.LeaseFault.TheVariants as lease
-use Rattle.session_core.specs.Jobs.{VerifierJob, IsVerifierJob, units_of_job, granted_from}
+use Rattle.session_core.specs.Jobs.{VerifierJob, IsVerifierJob, units_of_job, granted_from, VerifierJobs, noted_job}
 use Rattle.session_core.specs.Rounds.{round_turns}
 use Rattle.session_core.specs.Judgements.{IsJudgement, session_transcript, verdict_in}
-use Rattle.session_core.specs.Cores.{VerifierStage, awaits_hello, owes_grant, awaits_asks, awaits_corrections, awaits_sums, awaits_openings, has_judged, has_refused}
+use Rattle.session_core.specs.Cores.{has_judged, VerifierStage, awaits_hello, awaits_asks, awaits_corrections, awaits_sums, awaits_openings}
 use Rattle.session_core.specs.declared.judgement.Judgement.{Judgement}
 use Rattle.session_core.specs.declared.judgement.Judgement.TheVariants as judged
 use Rattle.session_core.proofs.Enough.{parts_within}
 use Rattle.session_core.proofs.Served.{AreRanged, served_is}
 use Rattle.frame_link.specs.Lines.{LinkSnapshot, IsCutShort}
 use Rattle.session_verifier.proofs.StageLemmas.{sent_answered}
-use Rattle.session_verifier.specs.Outcomes.{lease_outcome, lease_code, judgement_outcome}
-use Rattle.session_verifier.specs.Stages.{Greeting, IsGreeted, StopCause, StartsAt, IsStopped, StopsBehind, IsSent, IsFault, SendsUpTo, IsNoLink, CountsOutcome, IsLogAt, IsWholeHello, IsRefusalTried, IsRefusalSent, IsRefusalUnsent, IsRefusedGrant, IsGrantUnsent, LacksTheGrant, RefusesHello, IsWaiting, IsJudgedLog, IsCourse, first_turn, second_turn}
+use Rattle.session_verifier.specs.Outcomes.{Refuses, lease_outcome, lease_code, judgement_outcome, refusal_of, lease_fault}
+use Rattle.session_verifier.specs.Stages.{Greeting, IsGreeted, StopCause, IsBehind, IsStopped, IsSent, IsFault, SendsUpTo, IsNoLink, CountsOutcome, IsLogAt, IsWholeHello, IsRefusalTried, IsRefusalSent, IsRefusalUnsent, IsRefusedGrant, IsGrantUnsent, LacksTheGrant, RefusesHello, IsJudgedLog, IsCourse, first_turn, second_turn}
 use Rattle.session_pool.specs.Notes.{granted_by}
-use Rattle.session_verifier.specs.Notes.{IsJudgedSession, JudgesRightly, IsShown, HasJudged, LacksMemory, RefusesNoLease, EndsBecause, LeasesBehindHello, Refuses, CountsFaults, ReceivesFew}
+use Rattle.session_verifier.specs.Notes.{IsJudgedSession, JudgesRightly, IsShown, HasJudged, LacksMemory, RefusesNoLease, EndsBecause, LeasesBehindHello, CountsFaults, ReceivesFew, HasTaken, Completes, CompletesForEach}
 use Rattle.session_verifier.specs.declared.note.VerifierOutcome.{VerifierOutcome}
 use Rattle.session_verifier.specs.declared.note.VerifierOutcome.TheVariants.{Accepted, RejectedSum, RejectedOpening, PeerEnded, BadFrame, BadHello, Exhausted, Device, Broken, Link, NoMemory}
 
@@ -63,91 +64,45 @@ answers_lease job (Some (Ok span)) granted outcome first now course fault same =
 
 -- ---- which outcomes are judgements
 
-abbrev is_judged : VerifierOutcome → Bool
-is_judged Accepted = true
-is_judged (RejectedSum section left right) = true
-is_judged (RejectedOpening output left right) = true
-is_judged (PeerEnded at) = false
-is_judged (BadFrame at) = false
-is_judged (BadHello differs) = false
-is_judged (Exhausted at count total) = false
-is_judged Device = false
-is_judged (Broken at) = false
-is_judged Link = false
-is_judged NoMemory = false
+abbrev judged_in : VerifierOutcome → Option Judgement
+judged_in Accepted = Some judged.Accepted
+judged_in (RejectedSum section left right) = Some (judged.RejectedSum section left right)
+judged_in (RejectedOpening output left right) = Some (judged.RejectedOpening output left right)
+judged_in other = None
 
-judged_true : (judgement : Judgement) → is_judged (judgement_outcome judgement) ≡ true
-judged_true judged.Accepted = refl
-judged_true (judged.RejectedSum section left right) = refl
-judged_true (judged.RejectedOpening output left right) = refl
-
-lease_false : (fault : LeaseFault) → is_judged (lease_outcome fault) ≡ false
-lease_false (lease.Exhausted at count total) = refl
-lease_false lease.Device = refl
-lease_false (lease.Broken at) = refl
-
-not_both : true ≡ false → ⊥
-not_both same = subst (λ b. if_true b) same tt
-  where
-    if_true : Bool → Type 0
-    if_true true = Unit {0}
-    if_true false = ⊥
-
-stop_false : (job : VerifierJob) (stage : VerifierStage) (rest : List ℕ) (first now : LinkSnapshot) (outcome : VerifierOutcome) → StopCause job stage rest first now outcome
-    → is_judged outcome ≡ false
-stop_false job stage rest first now Accepted cause = absurd cause
-stop_false job stage rest first now (RejectedSum section left right) cause = absurd cause
-stop_false job stage rest first now (RejectedOpening output left right) cause = absurd cause
-stop_false job stage rest first now (PeerEnded at) cause = refl
-stop_false job stage rest first now (BadFrame at) cause = refl
-stop_false job stage rest first now (BadHello differs) cause = refl
-stop_false job stage rest first now (Exhausted at count total) cause = absurd cause
-stop_false job stage rest first now Device cause = absurd cause
-stop_false job stage rest first now (Broken at) cause = absurd cause
-stop_false job stage rest first now Link cause = refl
-stop_false job stage rest first now NoMemory cause = refl
-
-clash : {P : Type 0} (outcome : VerifierOutcome) (judgement : Judgement) → outcome ≡ judgement_outcome judgement → is_judged outcome ≡ false → P
-clash outcome judgement is other = absurd (not_both (sym (judged_true judgement) ∙ ap is_judged (sym is) ∙ other))
-
-abbrev judgement_in : VerifierOutcome → Judgement
-judgement_in Accepted = judged.Accepted
-judgement_in (RejectedSum section left right) = judged.RejectedSum section left right
-judgement_in (RejectedOpening output left right) = judged.RejectedOpening output left right
-judgement_in (PeerEnded at) = judged.Accepted
-judgement_in (BadFrame at) = judged.Accepted
-judgement_in (BadHello differs) = judged.Accepted
-judgement_in (Exhausted at count total) = judged.Accepted
-judgement_in Device = judged.Accepted
-judgement_in (Broken at) = judged.Accepted
-judgement_in Link = judged.Accepted
-judgement_in NoMemory = judged.Accepted
-
-in_outcome : (judgement : Judgement) → judgement_in (judgement_outcome judgement) ≡ judgement
-in_outcome judged.Accepted = refl
-in_outcome (judged.RejectedSum section left right) = refl
-in_outcome (judged.RejectedOpening output left right) = refl
+judged_some : (judgement : Judgement) → judged_in (judgement_outcome judgement) ≡ Some judgement
+judged_some judged.Accepted = refl
+judged_some (judged.RejectedSum section left right) = refl
+judged_some (judged.RejectedOpening output left right) = refl
 
 pub one_judgement : (some other : Judgement) → judgement_outcome some ≡ judgement_outcome other → some ≡ other
-one_judgement some other same = sym (in_outcome some) ∙ ap judgement_in same ∙ in_outcome other
+one_judgement some other same = same_Some some other (sym (judged_some some) ∙ ap judged_in same ∙ judged_some other)
 
-fault_false : (outcome : VerifierOutcome) → IsFault outcome → is_judged outcome ≡ false
-fault_false Link is = refl
-fault_false NoMemory is = refl
-fault_false Accepted is = absurd is
-fault_false (RejectedSum section left right) is = absurd is
-fault_false (RejectedOpening output left right) is = absurd is
-fault_false (PeerEnded at) is = absurd is
-fault_false (BadFrame at) is = absurd is
-fault_false (BadHello differs) is = absurd is
-fault_false (Exhausted at count total) is = absurd is
-fault_false Device is = absurd is
-fault_false (Broken at) is = absurd is
+clash : {P : Type 0} (outcome : VerifierOutcome) (judgement : Judgement) → outcome ≡ judgement_outcome judgement → judged_in outcome ≡ None → P
+clash outcome judgement is none = absurd (none_is_some (sym none ∙ ap judged_in is ∙ judged_some judgement))
 
-lacks_false : (job : VerifierJob) (start : ℕ) (outcome : VerifierOutcome) (first now : LinkSnapshot) → LacksTheGrant job start outcome first now
-    → is_judged outcome ≡ false
-lacks_false job start outcome first now (inl refused) = ap is_judged refused.0
-lacks_false job start outcome first now (inr unsent) = fault_false outcome unsent.fault
+lease_none : (fault : LeaseFault) → judged_in (lease_outcome fault) ≡ None
+lease_none (lease.Exhausted at count total) = refl
+lease_none lease.Device = refl
+lease_none (lease.Broken at) = refl
+
+stop_none : (job : VerifierJob) (stage : VerifierStage) (rest : List ℕ) (first now : LinkSnapshot) (outcome : VerifierOutcome)
+    → StopCause job stage rest first now outcome
+    → judged_in outcome ≡ None
+stop_none job stage rest first now Accepted cause = absurd cause
+stop_none job stage rest first now (RejectedSum section left right) cause = absurd cause
+stop_none job stage rest first now (RejectedOpening output left right) cause = absurd cause
+stop_none job stage rest first now other cause = refl
+
+fault_none : (outcome : VerifierOutcome) → IsFault outcome → judged_in outcome ≡ None
+fault_none Link is = refl
+fault_none NoMemory is = refl
+fault_none other is = absurd is
+
+lacks_none : (job : VerifierJob) (start : ℕ) (outcome : VerifierOutcome) (first now : LinkSnapshot) → LacksTheGrant job start outcome first now
+    → judged_in outcome ≡ None
+lacks_none job start outcome first now (inl refused) = ap judged_in refused.0
+lacks_none job start outcome first now (inr unsent) = fault_none outcome unsent.fault
 
 -- ---- judged sessions
 
@@ -175,7 +130,8 @@ pub judged_session : (job : VerifierJob) (span : Span) (granted : Option Span) (
     → IsJudgedLog job span.start judgement log → IsJudgedSession job granted judgement log
 judged_session job span granted judgement log known leased logged =
     let grant = grant_is job span.start known.is logged.within in
-    let t : Transcript = session_transcript job logged.greeting.hello span.start logged.rounds logged.corrections logged.sums logged.openings (verdict_in judgement) in
+    let t : Transcript =
+    session_transcript job logged.greeting.hello span.start logged.rounds logged.corrections logged.sums logged.openings (verdict_in judgement) in
     let ranged : AreRanged job span.start logged.corrections logged.sums logged.openings (verdict_in judgement) = record {
       corrections = logged.elements;
       challenge = coin_is_element _;
@@ -196,19 +152,16 @@ judged_session job span granted judgement log known leased logged =
 pub judges_rightly : (job : VerifierJob) (answer : Option (Result Span LeaseFault)) (granted : Option Span) (outcome : VerifierOutcome) (first now : LinkSnapshot) → IsKnown job
     → IsCourse job answer granted outcome first now → JudgesRightly job granted outcome now.log
 judges_rightly job None granted outcome first now known course judgement is =
-    clash outcome judgement is (stop_false job awaits_hello course.1.stopped.rest first course.1.mid outcome course.1.stopped.cause)
+    clash outcome judgement is (stop_none job awaits_hello course.1.stopped.rest first course.1.mid outcome course.1.stopped.cause)
 judges_rightly job (Some (Err fault)) granted outcome first now known course judgement is =
-    clash outcome judgement is (ap is_judged course.1.named ∙ lease_false fault)
-judges_rightly job (Some (Ok span)) granted outcome first now known course judgement is = by_course course.1.course
-  where
-    by_course : (LacksTheGrant job span.start outcome first now ⊎ StopsBehind job span.start outcome first now
-        ⊎ ((other : Judgement) × (outcome ≡ judgement_outcome other) × IsWaiting job (has_judged span.start other) first now))
-        → IsJudgedSession job granted judgement now.log
-    by_course (inl lacks) = clash outcome judgement is (lacks_false job span.start outcome first now lacks)
-    by_course (inr (inl stops)) = clash outcome judgement is (stop_false job stops.stage stops.stopped.rest first now outcome stops.stopped.cause)
-    by_course (inr (inr found)) =
-        judged_session job span granted judgement now.log known course.0
-        (subst (λ j. IsJudgedLog job span.start j now.log) (one_judgement found.0 judgement (sym found.1 ∙ is)) found.2.log)
+    clash outcome judgement is (ap judged_in course.1.named ∙ lease_none fault)
+judges_rightly job (Some (Ok span)) granted outcome first now known course judgement is = elim course.1.course [
+  | inl lacks ↦ clash outcome judgement is (lacks_none job span.start outcome first now lacks)
+  | inr (inl stops) ↦ clash outcome judgement is (stop_none job stops.stage stops.stopped.rest first now outcome stops.stopped.cause)
+  | inr (inr found) ↦
+      judged_session job span granted judgement now.log known course.0
+      (subst (λ j. IsJudgedLog job span.start j now.log) (one_judgement found.0 judgement (sym found.1 ∙ is)) found.2.log)
+]
 
 -- ---- receives
 
@@ -226,25 +179,14 @@ same_after old now same = record {
 }
 
 refused_after : (code : ℕ) (old now : LinkSnapshot) → IsRefusalTried code old now → IsAfter old now
-refused_after code old now refused = either refused.sent
-  where
-    either : (IsRefusalSent code old now ⊎ IsRefusalUnsent code old now) → IsAfter old now
-    either (inl sent) = record { answer = refuse_frame code; log = sent.log; receives = refused.receives }
-    either (inr unsent) = record { answer = []; log = unsent.log ∙ sym (append-nil old.log); receives = refused.receives }
+refused_after code old now refused = elim refused.sent [
+  | inl sent ↦ record { answer = refuse_frame code; log = sent.log; receives = refused.receives }
+  | inr unsent ↦ record { answer = []; log = unsent.log ∙ sym (append-nil old.log); receives = refused.receives }
+]
 
 after : (rest : List ℕ) (outcome : VerifierOutcome) (old now : LinkSnapshot) → RefusesHello rest outcome old now → IsAfter old now
-after rest Accepted old now by = same_after old now by
-after rest (RejectedSum section left right) old now by = same_after old now by
-after rest (RejectedOpening output left right) old now by = same_after old now by
-after rest (PeerEnded at) old now by = same_after old now by
-after rest (BadFrame at) old now by = same_after old now by
-after rest (BadHello differs) old now by = refused_after 1 old now by
-after rest (Exhausted at count total) old now by = same_after old now by
-after rest Device old now by = same_after old now by
-after rest (Broken at) old now by = same_after old now by
-after rest Link old now by = same_after old now by
-after rest NoMemory old now (inl refused) = refused_after 4 old now refused.1
-after rest NoMemory old now (inr missing) = same_after old now missing.1
+after rest outcome old now (inl refused) = refused_after refused.0 old now refused.3
+after rest outcome old now (inr none) = same_after old now none.1
 
 few_after : (first old now : LinkSnapshot) → IsAfter old now → ReceivesFew first old → ReceivesFew first now
 few_after first old now is few =
@@ -263,14 +205,11 @@ pub receives_few : (job : VerifierJob) (answer : Option (Result Span LeaseFault)
 receives_few job None granted outcome first now course =
     few_after first course.1.mid now (after course.1.stopped.rest outcome course.1.mid now course.1.refused) course.1.stopped.receives
 receives_few job (Some (Err fault)) granted outcome first now course = few_refused job (lease_code fault) first now course.1.refused
-receives_few job (Some (Ok span)) granted outcome first now course = by_course course.1.course
-  where
-    by_course : (LacksTheGrant job span.start outcome first now ⊎ StopsBehind job span.start outcome first now
-        ⊎ ((other : Judgement) × (outcome ≡ judgement_outcome other) × IsWaiting job (has_judged span.start other) first now))
-        → ReceivesFew first now
-    by_course (inl lacks) = few_lacking job span.start outcome first now lacks
-    by_course (inr (inl stops)) = stops.stopped.receives
-    by_course (inr (inr found)) = omega (arith, found.2.receives)
+receives_few job (Some (Ok span)) granted outcome first now course = elim course.1.course [
+  | inl lacks ↦ few_lacking job span.start outcome first now lacks
+  | inr (inl stops) ↦ stops.stopped.receives
+  | inr (inr found) ↦ omega (arith, found.2.receives)
+]
 
 -- ---- where the hello came
 
@@ -299,7 +238,11 @@ whole_is_not_cut rest whole cut =
 -- ---- failed calls
 
 not_link : (outcome : VerifierOutcome) → Refuses outcome → outcome ≡ Link → ⊥
-not_link outcome refuses is = subst Refuses is refuses
+not_link outcome refuses is = none_is_some (ap refusal_of (sym is) ∙ refuses.1)
+
+no_link : (outcome : VerifierOutcome) → Refuses outcome → IsNoLink outcome
+no_link Link refuses = none_is_some refuses.1
+no_link other refuses = tt
 
 counts_of : (outcome : VerifierOutcome) (first now : LinkSnapshot) → CountsOutcome outcome first now → (outcome ≡ Link → Rose first.faults now.faults)
     → CountsFaults outcome first now
@@ -307,17 +250,8 @@ counts_of outcome first now count rose = record { later = count.later; failed = 
   where
     by : (other : VerifierOutcome) → (IsNoLink other → now.faults ≡ first.faults)
         → (now.faults ≡ first.faults) ⊎ (other ≡ Link) ⊎ (Refuses other × (sent_by Verifier now.log ≡ []) × (now.sends ≡ counted true first.sends))
-    by Accepted same = inl (same tt)
-    by (RejectedSum section left right) same = inl (same tt)
-    by (RejectedOpening output left right) same = inl (same tt)
-    by (PeerEnded at) same = inl (same tt)
-    by (BadFrame at) same = inl (same tt)
-    by (BadHello differs) same = inl (same tt)
-    by (Exhausted at count total) same = inl (same tt)
-    by Device same = inl (same tt)
-    by (Broken at) same = inl (same tt)
     by Link same = inr (inl refl)
-    by NoMemory same = inl (same tt)
+    by other same = inl (same tt)
 
 counts_stop : (job : VerifierJob) (stage : VerifierStage) (outcome : VerifierOutcome) (first now : LinkSnapshot) → IsStopped job stage outcome first now
     → CountsFaults outcome first now
@@ -343,39 +277,26 @@ counts_refused job code outcome first now refuses is =
     counts_refusal code outcome first is.mid now refuses is.waiting.faults is.waiting.sent.sends
     (none_answered is.mid.log (hello_frame is.waiting.log.greeting.hello) is.waiting.log.bytes) is.refused
 
-lease_refuses : (fault : LeaseFault) → Refuses (lease_outcome fault)
-lease_refuses (lease.Exhausted at count total) = tt
-lease_refuses lease.Device = tt
-lease_refuses (lease.Broken at) = tt
+-- the code of a lease that was refused
+pub lease_refusal : (fault : LeaseFault) → refusal_of (lease_outcome fault) ≡ Some (lease_code fault)
+lease_refusal (lease.Exhausted at count total) = refl
+lease_refusal lease.Device = refl
+lease_refusal (lease.Broken at) = refl
 
 counts_unmet : (job : VerifierJob) (outcome : VerifierOutcome) (first mid now : LinkSnapshot) → (stopped : IsStopped job awaits_hello outcome first mid)
     → RefusesHello stopped.rest outcome mid now → CountsFaults outcome first now
-counts_unmet job (BadHello differs) first mid now stopped by =
-    let sent = hello_sent job stopped.expect stopped.rest (BadHello differs) first mid stopped.sends in
-    counts_refusal 1 (BadHello differs) first mid now tt (stopped.count.unfailed tt) sent.sends
-    (none_answered mid.log stopped.rest (hello_bytes job (BadHello differs) first mid stopped)) by
-counts_unmet job NoMemory first mid now stopped (inl refused) =
-    let sent = hello_sent job stopped.expect stopped.rest NoMemory first mid stopped.sends in
-    counts_refusal 4 NoMemory first mid now tt (stopped.count.unfailed tt) sent.sends
-    (none_answered mid.log stopped.rest (hello_bytes job NoMemory first mid stopped)) refused.1
-counts_unmet job NoMemory first mid now stopped (inr missing) =
-    subst (CountsFaults NoMemory first) (sym missing.1) (counts_stop job awaits_hello NoMemory first mid stopped)
-counts_unmet job (PeerEnded at) first mid now stopped by =
-    subst (CountsFaults (PeerEnded at) first) (sym by) (counts_stop job awaits_hello (PeerEnded at) first mid stopped)
-counts_unmet job (BadFrame at) first mid now stopped by =
-    subst (CountsFaults (BadFrame at) first) (sym by) (counts_stop job awaits_hello (BadFrame at) first mid stopped)
-counts_unmet job Link first mid now stopped by = subst (CountsFaults Link first) (sym by) (counts_stop job awaits_hello Link first mid stopped)
-counts_unmet job Accepted first mid now stopped by = absurd stopped.cause
-counts_unmet job (RejectedSum section left right) first mid now stopped by = absurd stopped.cause
-counts_unmet job (RejectedOpening output left right) first mid now stopped by = absurd stopped.cause
-counts_unmet job (Exhausted at count total) first mid now stopped by = absurd stopped.cause
-counts_unmet job Device first mid now stopped by = absurd stopped.cause
-counts_unmet job (Broken at) first mid now stopped by = absurd stopped.cause
+counts_unmet job outcome first mid now stopped (inl refused) =
+    let sent = hello_sent job stopped.expect stopped.rest outcome first mid stopped.sends in
+    let refuses : Refuses outcome = (refused.0, refused.1) in
+    counts_refusal refused.0 outcome first mid now refuses (stopped.count.unfailed (no_link outcome refuses)) sent.sends
+    (none_answered mid.log stopped.rest (hello_bytes job outcome first mid stopped)) refused.3
+counts_unmet job outcome first mid now stopped (inr none) =
+    subst (CountsFaults outcome first) (sym none.1) (counts_stop job awaits_hello outcome first mid stopped)
 
 counts_lacking : (job : VerifierJob) (start : ℕ) (outcome : VerifierOutcome) (first now : LinkSnapshot) → LacksTheGrant job start outcome first now
     → CountsFaults outcome first now
 counts_lacking job start outcome first now (inl refused) =
-    counts_refused job 4 outcome first now (subst Refuses (sym refused.0) tt) refused.1
+    counts_refused job 4 outcome first now (subst Refuses (sym refused.0) (4, refl)) refused.1
 counts_lacking job start outcome first now (inr unsent) = counts_of outcome first now unsent.count unsent.cause
 
 counts_same : (judgement : Judgement) (first now : LinkSnapshot) → now.faults ≡ first.faults → CountsFaults (judgement_outcome judgement) first now
@@ -387,61 +308,66 @@ pub counts_faults : (job : VerifierJob) (answer : Option (Result Span LeaseFault
     → IsCourse job answer granted outcome first now → CountsFaults outcome first now
 counts_faults job None granted outcome first now course = counts_unmet job outcome first course.1.mid now course.1.stopped course.1.refused
 counts_faults job (Some (Err fault)) granted outcome first now course =
-    counts_refused job (lease_code fault) outcome first now (subst Refuses (sym course.1.named) (lease_refuses fault)) course.1.refused
-counts_faults job (Some (Ok span)) granted outcome first now course = by_course course.1.course
-  where
-    by_course : (LacksTheGrant job span.start outcome first now ⊎ StopsBehind job span.start outcome first now
-        ⊎ ((other : Judgement) × (outcome ≡ judgement_outcome other) × IsWaiting job (has_judged span.start other) first now))
-        → CountsFaults outcome first now
-    by_course (inl lacks) = counts_lacking job span.start outcome first now lacks
-    by_course (inr (inl stops)) = counts_stop job stops.stage outcome first now stops.stopped
-    by_course (inr (inr found)) = subst (λ o. CountsFaults o first now) (sym found.1) (counts_same found.0 first now found.2.faults)
+    counts_refused job (lease_code fault) outcome first now (lease_code fault, ap refusal_of course.1.named ∙ lease_refusal fault) course.1.refused
+counts_faults job (Some (Ok span)) granted outcome first now course = elim course.1.course [
+  | inl lacks ↦ counts_lacking job span.start outcome first now lacks
+  | inr (inl stops) ↦ counts_stop job stops.stage outcome first now stops.stopped
+  | inr (inr found) ↦ subst (λ o. CountsFaults o first now) (sym found.1) (counts_same found.0 first now found.2.faults)
+]
 
 -- ---- causes
 
-abbrev is_refused : Option (Result Span LeaseFault) → Type 0
-is_refused None = ⊥
-is_refused (Some (Ok span)) = ⊥
-is_refused (Some (Err fault)) = Unit {0}
-
 -- no lease was asked for
 unasked : RefusesNoLease None
-unasked fault is = subst is_refused (sym is) tt
+unasked fault is = none_is_some is
 
 leased_is_not_refused : (span : Span) → RefusesNoLease (Some (Ok span))
-leased_is_not_refused span fault is = subst is_refused (sym is) tt
+leased_is_not_refused span fault is = cc
+
+-- an outcome that has no refusal
+pub unrefused : (rest : List ℕ) (outcome : VerifierOutcome) (old now : LinkSnapshot) → RefusesHello rest outcome old now
+    → refusal_of outcome ≡ None → now ≡ old
+unrefused rest outcome old now (inl refused) none = absurd (none_is_some (sym none ∙ refused.1))
+unrefused rest outcome old now (inr same) none = same.1
+
+-- one that has it for a whole hello
+refused_as : (rest : List ℕ) (outcome : VerifierOutcome) (code : ℕ) (old now : LinkSnapshot) → refusal_of outcome ≡ Some code → IsWholeHello rest
+    → RefusesHello rest outcome old now → IsRefusalTried code old now
+refused_as rest outcome code old now is whole (inl refused) =
+    subst (λ c. IsRefusalTried c old now) (same_Some refused.0 code (sym refused.1 ∙ is)) refused.3
+refused_as rest outcome code old now is whole (inr none) = absurd (whole_is_not_cut rest whole (none.0 (code, is)))
 
 unmet_cause : (job : VerifierJob) (outcome : VerifierOutcome) (first mid now : LinkSnapshot)
     → (stopped : IsStopped job awaits_hello outcome first mid) → RefusesHello stopped.rest outcome mid now → EndsBecause job None outcome first now
-unmet_cause job (PeerEnded at) first mid now stopped by = (awaits_hello, subst (IsStopped job awaits_hello (PeerEnded at) first) (sym by) stopped)
-unmet_cause job (BadFrame at) first mid now stopped by = (awaits_hello, subst (IsStopped job awaits_hello (BadFrame at) first) (sym by) stopped)
-unmet_cause job (BadHello differs) first mid now stopped by = (mid, stopped, by)
-unmet_cause job Link first mid now stopped by = (unasked, inl (awaits_hello, subst (IsStopped job awaits_hello Link first) (sym by) stopped))
+unmet_cause job (PeerEnded at) first mid now stopped by =
+    (awaits_hello, subst (IsStopped job awaits_hello (PeerEnded at) first) (sym (unrefused stopped.rest (PeerEnded at) mid now by refl)) stopped)
+unmet_cause job (BadFrame at) first mid now stopped by =
+    (awaits_hello, subst (IsStopped job awaits_hello (BadFrame at) first) (sym (unrefused stopped.rest (BadFrame at) mid now by refl)) stopped)
+unmet_cause job (BadHello differs) first mid now stopped by =
+    let met = stopped.cause.1 in
+    (mid, stopped, refused_as stopped.rest (BadHello differs) 1 mid now refl (met.0, met.1, met.2) by)
+unmet_cause job Link first mid now stopped by =
+    (unasked, inl (awaits_hello, subst (IsStopped job awaits_hello Link first) (sym (unrefused stopped.rest Link mid now by refl)) stopped))
 unmet_cause job NoMemory first mid now stopped (inl refused) =
     let sent = hello_sent job stopped.expect stopped.rest NoMemory first mid stopped.sends in (
       unasked,
       inr (inl (record {
-        hello = refused.0.0;
-        is = refused.0.1;
+        hello = refused.2.0;
+        is = refused.2.1;
         fits = tt;
         mid = mid;
-        came = hello_bytes job NoMemory first mid stopped ∙ ap (bytes_from Prover) refused.0.2;
+        came = hello_bytes job NoMemory first mid stopped ∙ ap (bytes_from Prover) refused.2.2;
         told = sent.told;
         unsent = sent.sends;
         unfailed = stopped.count.unfailed tt;
-        refused = refused.1;
+        refused = refused_as stopped.rest NoMemory 4 mid now refl refused.2 (inl refused);
       })),
     )
 unmet_cause job NoMemory first mid now stopped (inr missing) =
     let lacks : LacksMemory job first mid =
-    record { stage = awaits_hello; stopped = stopped; unmet = λ is whole. whole_is_not_cut stopped.rest whole missing.0 } in
+    record { stage = awaits_hello; stopped = stopped; unmet = λ is whole. whole_is_not_cut stopped.rest whole (missing.0 (4, refl)) } in
     (unasked, inl (subst (LacksMemory job first) (sym missing.1) lacks))
-unmet_cause job (RejectedSum section left right) first mid now stopped by = absurd stopped.cause
-unmet_cause job (RejectedOpening output left right) first mid now stopped by = absurd stopped.cause
-unmet_cause job (Exhausted at count total) first mid now stopped by = absurd stopped.cause
-unmet_cause job (Broken at) first mid now stopped by = absurd stopped.cause
-unmet_cause job Accepted first mid now stopped by = absurd stopped.cause
-unmet_cause job Device first mid now stopped by = absurd stopped.cause
+unmet_cause job other first mid now stopped by = absurd stopped.cause
 
 stop_cause : (job : VerifierJob) (answer : Option (Result Span LeaseFault)) (stage : VerifierStage) (outcome : VerifierOutcome) (first now : LinkSnapshot)
     → RefusesNoLease answer → ¬ (stage ≡ awaits_hello) → IsStopped job stage outcome first now → EndsBecause job answer outcome first now
@@ -450,15 +376,10 @@ stop_cause job answer stage (BadFrame at) first now leased met stopped = (stage,
 stop_cause job answer stage (BadHello differs) first now leased met stopped = absurd (met stopped.cause.0)
 stop_cause job answer stage Link first now leased met stopped = (leased, inl (stage, stopped))
 stop_cause job answer stage NoMemory first now leased met stopped = (leased, inl (record { stage = stage; stopped = stopped; unmet = λ is. absurd (met is) }))
-stop_cause job answer stage Accepted first now leased met stopped = absurd stopped.cause
-stop_cause job answer stage (RejectedSum section left right) first now leased met stopped = absurd stopped.cause
-stop_cause job answer stage (RejectedOpening output left right) first now leased met stopped = absurd stopped.cause
-stop_cause job answer stage (Exhausted at count total) first now leased met stopped = absurd stopped.cause
-stop_cause job answer stage Device first now leased met stopped = absurd stopped.cause
-stop_cause job answer stage (Broken at) first now leased met stopped = absurd stopped.cause
+stop_cause job answer stage other first now leased met stopped = absurd stopped.cause
 
-behind_hello : (start : ℕ) (stage : VerifierStage) → StartsAt start stage → ¬ (stage ≡ awaits_hello)
-behind_hello start stage starts same = subst (StartsAt start) same starts
+behind_hello : (start : ℕ) (stage : VerifierStage) → IsBehind start stage → ¬ (stage ≡ awaits_hello)
+behind_hello start stage starts same = subst (IsBehind start) same starts
 
 lease_cause : (job : VerifierJob) (fault : LeaseFault) (first now : LinkSnapshot) → IsRefusedGrant job (lease_code fault) first now
     → EndsBecause job (Some (Err fault)) (lease_outcome fault) first now
@@ -481,15 +402,7 @@ unsent_cause : (job : VerifierJob) (span : Span) (outcome : VerifierOutcome) (fi
     → EndsBecause job (Some (Ok span)) outcome first now
 unsent_cause job span Link first now is unsent = (leased_is_not_refused span, inr (span, refl, unsent))
 unsent_cause job span NoMemory first now is unsent = (leased_is_not_refused span, inr (inr (span, refl, unsent)))
-unsent_cause job span Accepted first now is unsent = absurd is
-unsent_cause job span (RejectedSum section left right) first now is unsent = absurd is
-unsent_cause job span (RejectedOpening output left right) first now is unsent = absurd is
-unsent_cause job span (PeerEnded at) first now is unsent = absurd is
-unsent_cause job span (BadFrame at) first now is unsent = absurd is
-unsent_cause job span (BadHello differs) first now is unsent = absurd is
-unsent_cause job span (Exhausted at count total) first now is unsent = absurd is
-unsent_cause job span Device first now is unsent = absurd is
-unsent_cause job span (Broken at) first now is unsent = absurd is
+unsent_cause job span other first now is unsent = absurd is
 
 lacking_cause : (job : VerifierJob) (span : Span) (outcome : VerifierOutcome) (first now : LinkSnapshot) → IsKnown job → LacksTheGrant job span.start outcome first now
     → EndsBecause job (Some (Ok span)) outcome first now
@@ -516,15 +429,13 @@ pub ends_because : (job : VerifierJob) (answer : Option (Result Span LeaseFault)
 ends_because job None granted outcome first now known course = unmet_cause job outcome first course.1.mid now course.1.stopped course.1.refused
 ends_because job (Some (Err fault)) granted outcome first now known course =
     subst (λ o. EndsBecause job (Some (Err fault)) o first now) (sym course.1.named) (lease_cause job fault first now course.1.refused)
-ends_because job (Some (Ok span)) granted outcome first now known course = by_course course.1.course
-  where
-    by_course : (LacksTheGrant job span.start outcome first now ⊎ StopsBehind job span.start outcome first now
-        ⊎ ((other : Judgement) × (outcome ≡ judgement_outcome other) × IsWaiting job (has_judged span.start other) first now))
-        → EndsBecause job (Some (Ok span)) outcome first now
-    by_course (inl lacks) = lacking_cause job span outcome first now known lacks
-    by_course (inr (inl stops)) = stop_cause job (Some (Ok span)) stops.stage outcome first now (leased_is_not_refused span) (behind_hello span.start stops.stage stops.behind) stops.stopped
-    by_course (inr (inr found)) = subst (λ o. EndsBecause job (Some (Ok span)) o first now) (sym found.1)
-        (judged_cause job (Some (Ok span)) found.0 first now (record { span = span; leased = refl; judged = found.2 }))
+ends_because job (Some (Ok span)) granted outcome first now known course = elim course.1.course [
+  | inl lacks ↦ lacking_cause job span outcome first now known lacks
+  | inr (inl stops) ↦ stop_cause job (Some (Ok span)) stops.stage outcome first now (leased_is_not_refused span)
+      (behind_hello span.start stops.stage stops.behind) stops.stopped
+  | inr (inr found) ↦ subst (λ o. EndsBecause job (Some (Ok span)) o first now) (sym found.1)
+      (judged_cause job (Some (Ok span)) found.0 first now (record { span = span; leased = refl; judged = found.2 }))
+]
 
 -- ---- units are leased after the hello
 
@@ -538,17 +449,15 @@ begins_first turn turns more log is =
     (b ++ (c ++ more), is ∙ append_assoc (a ++ b) c more ∙ append_assoc a b (c ++ more))
 
 -- after other bytes a log begins with what it began with
-begins_before : (log more now front : List (Side × ℕ)) → now ≡ log ++ more → BeginsWith log front → BeginsWith now front
+pub begins_before : (log more now front : List (Side × ℕ)) → now ≡ log ++ more → BeginsWith log front → BeginsWith now front
 begins_before log more now front is begun = (begun.0 ++ more, is ∙ ap (λ l. l ++ more) begun.1 ∙ append_assoc front begun.0 more)
 
 -- a log begins with a hello for the job's file and statement
 abbrev BeginsGreeted : VerifierJob → List (Side × ℕ) → Type 0
 BeginsGreeted job log = (greeting : Greeting job) × BeginsWith log (bytes_from Prover (hello_frame greeting.hello))
 
-begins_at : (job : VerifierJob) (start : ℕ) (stage : VerifierStage) (log : List (Side × ℕ)) → StartsAt start stage → IsLogAt job stage log
+begins_at : (job : VerifierJob) (start : ℕ) (stage : VerifierStage) (log : List (Side × ℕ)) → IsBehind start stage → IsLogAt job stage log
     → BeginsGreeted job log
-begins_at job start awaits_hello log starts at = absurd starts
-begins_at job start owes_grant log starts at = absurd starts
 begins_at job start (awaits_asks begun asked) log starts at =
     (at.greeting, begins_first (first_turn job at.greeting begun) [] (bytes_from Prover (flat_map ask_frame asked)) log at.spelled)
 begins_at job start (awaits_corrections begun) log starts at =
@@ -562,8 +471,14 @@ begins_at job start (awaits_openings begun d both) log starts at = (
   begins_first (first_turn job at.2.greeting begun) (round_turns at.2.rounds)
       (turn_bytes (second_turn job begun d ∷ []) ++ bytes_from Prover (sums_frame both)) log at.2.spelled,
 )
-begins_at job start (has_judged begun judgement) log starts at = absurd starts
-begins_at job start has_refused log starts at = absurd starts
+begins_at job start (has_judged begun judgement) log starts at =
+    let t = session_transcript job at.greeting.hello begun at.rounds at.corrections at.sums at.openings (verdict_in judgement) in
+    let last : List ℕ × List ℕ = (sums_frame t.sums ++ openings_frame t.openings, verdict_frame t.code t.number) in (
+      at.greeting,
+      begins_first (first_turn job at.greeting begun) (round_turns at.rounds ++ second_turn job begun at.corrections ∷ last ∷ []) []
+          log (at.spelled ∙ sym (append-nil (spelling t))),
+    )
+begins_at job start other log starts at = absurd starts
 
 begins_alone : (job : VerifierJob) (mid now : LinkSnapshot) → IsGreeted job mid.log → IsAfter mid now → BeginsGreeted job now.log
 begins_alone job mid now at is =
@@ -583,33 +498,16 @@ leases_behind job None granted outcome first now course = tt
 leases_behind job (Some (Err fault)) granted outcome first now course =
     let is = course.1.refused in
     begins_alone job is.mid now is.waiting.log (refused_after (lease_code fault) is.mid now is.refused)
-leases_behind job (Some (Ok span)) granted outcome first now course = by_course course.1.course
-  where
-    by_course : (LacksTheGrant job span.start outcome first now ⊎ StopsBehind job span.start outcome first now
-        ⊎ ((other : Judgement) × (outcome ≡ judgement_outcome other) × IsWaiting job (has_judged span.start other) first now))
-        → BeginsGreeted job now.log
-    by_course (inl lacks) = begins_lacking job span.start outcome first now lacks
-    by_course (inr (inl stops)) =
-        let stopped = stops.stopped in
-        let begun = begins_at job span.start stops.stage stopped.before stops.behind stopped.waited in
-        (begun.0, begins_before stopped.before (bytes_from Prover stopped.rest) now.log (bytes_from Prover (hello_frame begun.0.hello)) stopped.log begun.1)
-    by_course (inr (inr found)) =
-        let is = found.2.log in
-        let t = session_transcript job is.greeting.hello span.start is.rounds is.corrections is.sums is.openings (verdict_in found.0) in (
-          is.greeting,
-          begins_first (first_turn job is.greeting span.start)
-              (round_turns is.rounds ++ second_turn job span.start is.corrections ∷ (sums_frame t.sums ++ openings_frame t.openings, verdict_frame t.code t.number) ∷ [])
-              [] now.log (is.spelled ∙ sym (append-nil (spelling t))),
-        )
+leases_behind job (Some (Ok span)) granted outcome first now course = elim course.1.course [
+  | inl lacks ↦ begins_lacking job span.start outcome first now lacks
+  | inr (inl stops) ↦
+      let stopped = stops.stopped in
+      let begun = begins_at job span.start stops.stage stopped.before stops.behind stopped.waited in
+      (begun.0, begins_before stopped.before (bytes_from Prover stopped.rest) now.log (bytes_from Prover (hello_frame begun.0.hello)) stopped.log begun.1)
+  | inr (inr found) ↦ begins_at job span.start (has_judged span.start found.0) now.log refl found.2.log
+]
 
 -- ---- what an accepted session shows
-
-leased_one : (granted : Option Span) (some other : Span) → granted ≡ Some some → granted ≡ Some other → some ≡ other
-leased_one granted some other is also = ap (λ (o : Option Span). or_some o) (sym is ∙ also)
-  where
-    or_some : Option Span → Span
-    or_some None = some
-    or_some (Some span) = span
 
 leased_none : {T : Type 0} (granted : Option Span) (span : Span) → granted ≡ Some span → granted ≡ None → T
 leased_none granted span is none = absurd (none_is_some (sym none ∙ is))
@@ -619,7 +517,7 @@ units_leased : (job : VerifierJob) (answer : Option (Result Span LeaseFault)) (g
 units_leased job None granted outcome first now span course leased = leased_none granted span leased course.0
 units_leased job (Some (Err fault)) granted outcome first now span course leased = leased_none granted span leased course.0
 units_leased job (Some (Ok other)) granted outcome first now span course leased =
-    subst (λ (s : Span). s.end ≡ s.start + units_of_job job) (leased_one granted other span course.0 leased) course.1.units
+    subst (λ (s : Span). s.end ≡ s.start + units_of_job job) (same_Some other span (sym course.0 ∙ leased)) course.1.units
 
 pub is_shown : (job : VerifierJob) (answer : Option (Result Span LeaseFault)) (granted : Option Span) (outcome : VerifierOutcome) (first now : LinkSnapshot)
     → IsKnown job → Extraction → IsCourse job answer granted outcome first now → outcome ≡ Accepted → IsShown job granted now.log
@@ -645,3 +543,30 @@ is_shown job answer granted outcome first now known extraction course accepted =
       said = served.judged.said;
       extracted = λ prover is dealt. extraction job.task.file job.task.statement t known.file known.stated served.in_order.transcript served.replies checks prover is dealt;
     }
+
+-- ---- what an outcome says of the lease that was asked for
+
+-- a session that ended by the fault of a lease was answered by it
+pub refused_by : (job : VerifierJob) (answer : Option (Result Span LeaseFault)) (outcome : VerifierOutcome) (first now : LinkSnapshot)
+    → EndsBecause job answer outcome first now → IfSome (lease_fault outcome) (λ fault. answer ≡ Some (Err fault))
+refused_by job answer (Exhausted at count total) first now because = because.0
+refused_by job answer Device first now because = because.0
+refused_by job answer (Broken at) first now because = because.0
+refused_by job answer other first now because = tt
+
+-- a session that is accepted with an honest prover of whichever statement is so with one of the statement that is noted
+pub completes_noted : (jobs : VerifierJobs) (taken : Option ℕ) (answer : Option (Result Span LeaseFault)) (outcome : VerifierOutcome)
+    (first now : LinkSnapshot)
+    → HasTaken jobs taken now.log → CompletesForEach jobs answer outcome first now → Completes (noted_job jobs taken) answer outcome first now
+completes_noted jobs None answer outcome first now has completes prover peer = completes prover (record {
+  number = 0;
+  hello = long_hello jobs.first.task.file.id jobs.first.task.statement;
+  first = record {
+    within = omega arith;
+    fits = long_fits jobs.first.task.file.id jobs.first.task.statement;
+    first = λ k below. absurd (omega (arith, below));
+  };
+  peer = peer;
+})
+completes_noted jobs (Some n) answer outcome first now has completes prover peer =
+    completes prover (record { number = n; hello = has.0; first = has.1; peer = peer })

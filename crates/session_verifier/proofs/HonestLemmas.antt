@@ -3,14 +3,17 @@ use Rattle.std.proofs.Common.{◌≡◌, ◌⊎◌, inl, inr, ℕ, zero, suc, �
 use Rattle.std.specs.Prelude.{All}
 use Rattle.std.proofs.Math.Nat.{mul-le-mul_right}
 use Rattle.std.proofs.lemmas.List.{take-append-le, take-append-drop, drop_at, length-map}
+use Rattle.std.proofs.lemmas.Bool.{cases_order}
 use Rattle.std.proofs.lemmas.List.Elements.{All-take}
 use Rattle.zk_model.specs.Program.{section_count}
-use Rattle.zk_model.specs.Statement.{Statement}
+use Rattle.zk_model.specs.Check.{AllBelow}
+use Rattle.zk_model.specs.Statement.{Statement, IsStatement}
+use Rattle.zk_model.specs.Peers.{IsFromHonestProver}
 use Rattle.zk_model.specs.Files.{rounds_of}
 use Rattle.frame_laws.proofs.Hellos.{wanted_fits, wanted_is_hello}
 use Rattle.proof_frames.proofs.Decoding.{grows}
 use Rattle.proof_frames.proofs.Lengths.{whole_length}
-use Rattle.zk_model.specs.Transcript.{Hello, Grant, TreeAsk, Round, Commitment, Transcript, IsHello, IsHelloFor, IsRound, IsTranscript, BeginsWith, wanted_hello, hello_frame, ask_frame, corrections_frame, challenge_frame, sums_frame, openings_frame, verdict_frame, refuse_frame, bytes_from, sent_by, setup_turns}
+use Rattle.zk_model.specs.Transcript.{Hello, Grant, TreeAsk, Round, Commitment, Transcript, IsHello, IsHelloFor, IsRound, IsTranscript, BeginsWith, wanted_hello, hello_frame, ask_frame, corrections_frame, challenge_frame, sums_frame, openings_frame, verdict_frame, bytes_from, sent_by, session_turns, setup_turns}
 use Rattle.zk_model.specs.Frames.{Frame, hello, asks, corrections, sums, openings, frame_spelling, frame_length, Allows, AreAsks, AreElements, AreSums, CanGoOn}
 use Rattle.zk_model.specs.HonestProver.{ProverTask, SentAfter, AreHonestBytes}
 use Rattle.zk_model.specs.View.{verdict_code}
@@ -22,32 +25,28 @@ use Rattle.zk_model.specs.declared.Side.TheVariants.{Prover, Verifier}
 use Rattle.zk_model.specs.declared.Span.{Span}
 use Rattle.zk_laws.specs.Completeness.{AreCounterparts}
 use Rattle.frame_laws.proofs.Codes.{same_front}
+use Rattle.frame_laws.proofs.FrameCodes.{hello_code}
 use Rattle.frame_laws.proofs.SentBytes.{sent_by-append, own_bytes, none_of_prover, none_of_verifier}
 use Rattle.session_laws.specs.Peers.{IsServedTurns, IsHonestUpTo, HonestTurn, HonestTurnEnds, HonestWholeIsAccepted, said_in}
 use Rattle.session_laws.specs.Rounds.{RepliesAreInRange}
 use Rattle.session_laws.specs.Serving.{ServedSessionExists}
-use Rattle.proof_frames.specs.Laws.{NoneBeginsAnother}
 use Rattle.frame_link.specs.Lines.{longest}
+use Rattle.frame_link.proofs.LineLemmas.{none_is_some}
 use Rattle.zk_port.specs.Counts.{Rose}
 use Rattle.lease_store.specs.declared.LeaseFault.{LeaseFault}
-use Rattle.session_core.specs.Jobs.{VerifierJob, granted_from, units_of_job}
+use Rattle.session_core.specs.Jobs.{VerifierJob, VerifierJobs, IsFirstFor, IsHelloOf, all_jobs, granted_from, job_at, noted_job, units_of_job}
 use Rattle.session_core.specs.Rounds.{round_turns}
 use Rattle.session_core.specs.Judgements.{verdict_in}
-use Rattle.session_core.specs.Cores.{VerifierStage, AreAsksSoFar, awaits_hello, owes_grant, awaits_asks, awaits_corrections, awaits_sums, awaits_openings, has_judged, has_refused, verifier_expects, DiffersFirst}
-use Rattle.session_core.specs.declared.judgement.Judgement.{Judgement}
+use Rattle.session_core.specs.Cores.{has_judged, VerifierStage, AreAsksSoFar, awaits_hello, awaits_asks, awaits_corrections, awaits_sums, awaits_openings, verifier_expects}
 use Rattle.session_core.specs.declared.fault.HelloDiffers.{HelloDiffers}
-use Rattle.session_core.specs.declared.fault.HelloDiffers.TheVariants as differs
-use Rattle.session_verifier.specs.Outcomes.{judgement_outcome}
 use Rattle.frame_link.specs.Lines.{LinkSnapshot}
-use Rattle.session_verifier.specs.Stages.{StopCause, StartsAt, IsStopped, StopsBehind, IsFault, IsRefusalTried, IsRefusalSent, IsRefusalUnsent, LacksTheGrant, RefusesHello, IsWaiting, IsUnmet, IsCourse}
-use Rattle.session_verifier.specs.Notes.{IsPeerEnd, HasHonestPeer, Completes}
-use Rattle.session_verifier.proofs.StageLemmas.{one_expected, few_of}
-use Rattle.session_verifier.proofs.StopLemmas.{hello_in}
-use Rattle.session_verifier.proofs.CourseLemmas.{IsKnown, judged_session}
-use Rattle.session_verifier.proofs.RoundLemmas.{ask_length, asks_length}
+use Rattle.session_verifier.specs.Stages.{StopCause, IsBehind, IsStopped, IsFault, LacksTheGrant, RefusesHello, IsUnmet, IsGranted, IsCourse}
+use Rattle.session_verifier.specs.Notes.{BeginsByHello, IsPeerEnd, HasHonestPeer, TakesStatement, CompletesForEach}
+use Rattle.session_verifier.proofs.StageLemmas.{one_expected, few_of, ask_length, asks_length}
+use Rattle.session_verifier.proofs.CourseLemmas.{IsKnown, judged_session, unrefused}
 use Rattle.session_verifier.proofs.ServedLemmas.{IsCutOf, cut_of_stop, in_next, in_last, cut_asks, cut_corrections, cut_sums, cut_openings, length_corrections, length_sums, length_openings, accepted_judgement}
 use Rattle.session_verifier.specs.declared.note.VerifierOutcome.{VerifierOutcome}
-use Rattle.session_verifier.specs.declared.note.VerifierOutcome.TheVariants.{Accepted, RejectedSum, RejectedOpening, PeerEnded, BadFrame, BadHello, Exhausted, Device, Broken, Link, NoMemory}
+use Rattle.session_verifier.specs.declared.note.VerifierOutcome.TheVariants.{Accepted, PeerEnded, BadFrame, BadHello, Link, NoMemory}
 
 -- ---- bytes of an honest frame
 
@@ -98,12 +97,7 @@ goes_on job stage rest first now (BadFrame at) expect expects is met rose cause 
 goes_on job stage rest first now (BadHello differs) expect expects is met rose cause = absurd (met differs refl cause)
 goes_on job stage rest first now Link expect expects is met rose cause = absurd (rose cause)
 goes_on job stage rest first now NoMemory expect expects is met rose cause = inr refl
-goes_on job stage rest first now Accepted expect expects is met rose cause = absurd cause
-goes_on job stage rest first now (RejectedSum section left right) expect expects is met rose cause = absurd cause
-goes_on job stage rest first now (RejectedOpening output left right) expect expects is met rose cause = absurd cause
-goes_on job stage rest first now (Exhausted at count total) expect expects is met rose cause = absurd cause
-goes_on job stage rest first now Device expect expects is met rose cause = absurd cause
-goes_on job stage rest first now (Broken at) expect expects is met rose cause = absurd cause
+goes_on job stage rest first now other expect expects is met rose cause = absurd cause
 
 -- ---- the hello
 
@@ -112,14 +106,6 @@ hello_alone : (prover : ProverTask) (received sent : List ℕ) (turns : ℕ) →
     → sent ≡ hello_frame (wanted_hello prover.file.id prover.statement)
 hello_alone prover received sent zero other after = after
 hello_alone prover received sent (suc n) other after = absurd (other (ap (λ (l : List ℕ). get_or l 0 0) after.4.1))
-
--- no hello for a statement differs
-never_differs : (id : List ℕ) (statement : Statement) (other : Hello) (differs : HelloDiffers) → IsHelloFor id statement other
-    → DiffersFirst id statement other differs → ⊥
-never_differs id statement other (differs.Id want got) fits first = first.2 (first.0 ∙ sym fits.id ∙ sym first.1)
-never_differs id statement other (differs.Version want got) fits first = first.3 (first.1 ∙ sym fits.version ∙ sym first.2)
-never_differs id statement other (differs.Statement want got) fits first =
-    first.4 (first.2 ∙ (λ i. record { circuit = sym fits.circuit i; outputs = sym fits.outputs i; public = sym fits.public i }) ∙ sym first.3)
 
 -- what a refusal, or nothing, stands after the hello's bytes
 record IsBehindHello (rest : List ℕ) (log : List (Side × ℕ)) : Type 0 where
@@ -145,11 +131,12 @@ sent_hello job prover rest sent log both behind bytes =
     hello_alone prover (sent_by Verifier log) sent bytes.turns (subst (λ (l : List ℕ). ¬ (get_or l 0 0 ≡ 2)) (sym (of_verifier rest log behind)) behind.other) bytes.answer
     ∙ (λ i. hello_frame (wanted_hello (both.dealt.id i) (both.statement i)))
 
-hello_begun : (job : VerifierJob) (prover : ProverTask) (outcome : VerifierOutcome) (rest : List ℕ) (log : List (Side × ℕ)) → IsKnown job
+hello_begun : (job : VerifierJob) (prover : ProverTask) (outcome : VerifierOutcome) (rest : List ℕ) (log : List (Side × ℕ))
+    → IsStatement job.task.statement
     → HasHonestPeer job prover outcome log → IsBehindHello rest log → IsBegun expect.Hello outcome rest
-hello_begun job prover outcome rest log known peer behind =
+hello_begun job prover outcome rest log stated peer behind =
     let wanted = wanted_hello job.task.file.id job.task.statement in
-    let is : IsHello wanted = wanted_is_hello job.task.file.id job.task.statement known.file.id known.stated in
+    let is : IsHello wanted = wanted_is_hello job.task.file.id job.task.statement peer.counterparts.verifier_file.id stated in
     let honest = peer.honest in
     let came = of_prover rest log behind in
     let begun : hello_frame wanted ≡ rest ++ honest.2.0 =
@@ -166,92 +153,87 @@ hello_begun job prover outcome rest log known peer behind =
       sized = omega (arith, whole, ap (frame_length expect.Hello) begun, grows expect.Hello rest honest.2.0);
     }
 
--- ... and a whole one is not refused
-hello_is_met : (job : VerifierJob) (outcome : VerifierOutcome) (rest : List ℕ) (first now : LinkSnapshot) (differs : HelloDiffers) → NoneBeginsAnother
-    → IsKnown job → (is : IsBegun expect.Hello outcome rest) → is.frame ≡ hello (wanted_hello job.task.file.id job.task.statement) → is.more ≡ []
-    → StopCause job awaits_hello rest first now (BadHello differs) → ⊥
-hello_is_met job outcome rest first now differs law known is wanted nothing cause =
-    let other = cause.1.0 in
-    let begun : frame_spelling is.frame ≡ hello_frame other ++ is.begun.0 =
-    sym (append-nil (frame_spelling is.frame)) ∙ ap (λ l. frame_spelling is.frame ++ l) (sym nothing) ∙ is.begun.1 ∙ ap (λ l. l ++ is.begun.0) cause.1.2 in
-    let same : is.frame ≡ hello other = law expect.Hello is.frame (hello other) is.allowed (other, refl, cause.1.1) (is.begun.0, begun) in
-    let fits = subst (IsHelloFor job.task.file.id job.task.statement) (sym (ap (hello_in other) (sym same ∙ wanted)))
-    (wanted_fits job.task.file.id job.task.statement known.stated) in
-    never_differs job.task.file.id job.task.statement other differs fits cause.1.3
-
--- whether an outcome is that the hello differs
-abbrev IsBadHello : VerifierOutcome → Type 0
-IsBadHello Accepted = ⊥
-IsBadHello (RejectedSum section left right) = ⊥
-IsBadHello (RejectedOpening output left right) = ⊥
-IsBadHello (PeerEnded at) = ⊥
-IsBadHello (BadFrame at) = ⊥
-IsBadHello (BadHello differs) = Unit {0}
-IsBadHello (Exhausted at count total) = ⊥
-IsBadHello Device = ⊥
-IsBadHello (Broken at) = ⊥
-IsBadHello Link = ⊥
-IsBadHello NoMemory = ⊥
-
-tells_hello : (outcome : VerifierOutcome) (differs : HelloDiffers) → outcome ≡ BadHello differs → IsBadHello outcome
-tells_hello outcome differs is = subst IsBadHello (sym is) tt
-
-unmet_completes : (job : VerifierJob) (outcome : VerifierOutcome) (prover : ProverTask) (first now : LinkSnapshot) → NoneBeginsAnother → IsKnown job
-    → IsUnmet job outcome first now → HasHonestPeer job prover outcome now.log → ¬ Rose first.faults now.faults → IsComplete outcome
-unfolding hello_begun
-unmet_completes job outcome prover first now law known unmet peer rose = by outcome unmet.stopped unmet.refused peer
+-- a session that asks for no units, and refuses no hello, stops before the whole hello of an honest peer of any job
+unmet_completes : (job mine : VerifierJob) (outcome : VerifierOutcome) (prover : ProverTask) (first now : LinkSnapshot)
+    → IsStatement mine.task.statement
+    → IsUnmet job outcome first now → HasHonestPeer mine prover outcome now.log → ((differs : HelloDiffers) → outcome ≡ BadHello differs → ⊥)
+    → ¬ Rose first.faults now.faults → IsComplete outcome
+unmet_completes job mine outcome prover first now stated unmet peer fits rose = by outcome unmet.stopped unmet.refused peer fits
   where
     mid : LinkSnapshot
     mid = unmet.mid
 
-    bytes : (other : VerifierOutcome) → (stopped : IsStopped job awaits_hello other first mid) → mid.log ≡ bytes_from Prover stopped.rest
-    bytes other stopped = stopped.log ∙ ap (λ l. l ++ bytes_from Prover stopped.rest) stopped.waited
-
     -- nothing was answered
-    alone : (other : VerifierOutcome) → IsStopped job awaits_hello other first mid → now ≡ mid → HasHonestPeer job prover other now.log
+    alone : (other : VerifierOutcome) → IsStopped job awaits_hello other first mid → now ≡ mid → HasHonestPeer mine prover other now.log
         → ((differs : HelloDiffers) → other ≡ BadHello differs → ⊥) → IsComplete other
     alone other stopped same peer unlike =
         let behind : IsBehindHello stopped.rest now.log = record {
           answer = [];
           other = λ is. omega (arith, is);
-          bytes = ap (λ (m : LinkSnapshot). m.log) same ∙ bytes other stopped ∙ sym (append-nil (bytes_from Prover stopped.rest));
+          bytes = ap (λ (m : LinkSnapshot). m.log) same ∙ stopped.log ∙ ap (λ l. l ++ bytes_from Prover stopped.rest) stopped.waited
+              ∙ sym (append-nil (bytes_from Prover stopped.rest));
         } in
         goes_on job awaits_hello stopped.rest first mid other expect.Hello refl
-        (hello_begun job prover other stopped.rest now.log known peer behind)
-        (λ differs is cause. absurd (unlike differs is)) (λ more. rose (subst (λ (m : LinkSnapshot). Rose first.faults m.faults) (sym same) more)) stopped.cause
+        (hello_begun mine prover other stopped.rest now.log stated peer behind)
+        (λ differs is cause. unlike differs is)
+        (λ more. rose (subst (λ (m : LinkSnapshot). Rose first.faults m.faults) (sym same) more)) stopped.cause
 
-    differing : (differs : HelloDiffers) → IsStopped job awaits_hello (BadHello differs) first mid → IsRefusalTried 1 mid now
-        → HasHonestPeer job prover (BadHello differs) now.log → ⊥
-    differing differs stopped refused peer = either refused.sent
-      where
-        met : IsBehindHello stopped.rest now.log → ⊥
-        met behind = hello_is_met job (BadHello differs) stopped.rest first mid differs law known
-            (hello_begun job prover (BadHello differs) stopped.rest now.log known peer behind) refl refl stopped.cause
+    by : (other : VerifierOutcome) → (stopped : IsStopped job awaits_hello other first mid) → RefusesHello stopped.rest other mid now
+        → HasHonestPeer mine prover other now.log → ((differs : HelloDiffers) → other ≡ BadHello differs → ⊥) → IsComplete other
+    by (PeerEnded at) stopped refused peer unlike = alone (PeerEnded at) stopped
+        (unrefused stopped.rest (PeerEnded at) mid now refused refl) peer unlike
+    by (BadFrame at) stopped refused peer unlike = alone (BadFrame at) stopped (unrefused stopped.rest (BadFrame at) mid now refused refl) peer unlike
+    by (BadHello differs) stopped refused peer unlike = absurd (unlike differs refl)
+    by Link stopped refused peer unlike = alone Link stopped (unrefused stopped.rest Link mid now refused refl) peer unlike
+    by NoMemory stopped refused peer unlike = inr refl
+    by other stopped refused peer unlike = absurd stopped.cause
 
-        either : (IsRefusalSent 1 mid now ⊎ IsRefusalUnsent 1 mid now) → ⊥
-        either (inl sent) = met (record {
-          answer = refuse_frame 1;
-          other = λ is. omega (arith, is);
-          bytes = sent.log ∙ ap (λ l. l ++ bytes_from Verifier (refuse_frame 1)) (bytes (BadHello differs) stopped);
-        })
-        either (inr unsent) = met (record {
-          answer = [];
-          other = λ is. omega (arith, is);
-          bytes = unsent.log ∙ bytes (BadHello differs) stopped ∙ sym (append-nil (bytes_from Prover stopped.rest));
-        })
+-- ---- which statement the hello is for
 
-    by : (other : VerifierOutcome) → (stopped : IsStopped job awaits_hello other first mid) → RefusesHello stopped.rest other mid now → HasHonestPeer job prover other now.log → IsComplete other
-    by Accepted stopped refused peer = inl refl
-    by (RejectedSum section left right) stopped refused peer = absurd stopped.cause
-    by (RejectedOpening output left right) stopped refused peer = absurd stopped.cause
-    by (PeerEnded at) stopped refused peer = alone (PeerEnded at) stopped refused peer (λ differs is. tells_hello (PeerEnded at) differs is)
-    by (BadFrame at) stopped refused peer = alone (BadFrame at) stopped refused peer (λ differs is. tells_hello (BadFrame at) differs is)
-    by (BadHello differs) stopped refused peer = absurd (differing differs stopped refused peer)
-    by (Exhausted at count total) stopped refused peer = absurd stopped.cause
-    by Device stopped refused peer = absurd stopped.cause
-    by (Broken at) stopped refused peer = absurd stopped.cause
-    by Link stopped refused peer = alone Link stopped refused peer (λ differs is. tells_hello Link differs is)
-    by NoMemory stopped refused peer = inr refl
+-- whatever came, what an honest prover sends begins with its hello
+hello_first : (prover : ProverTask) (received sent : List ℕ) (turns : ℕ) → SentAfter prover received turns sent
+    → BeginsWith sent (hello_frame (wanted_hello prover.file.id prover.statement))
+hello_first prover received sent zero after = ([], after ∙ sym (append-nil (hello_frame (wanted_hello prover.file.id prover.statement))))
+hello_first prover received sent (suc n) after =
+    let later : List ℕ = flat_map (λ turn. turn.0) (take (suc n) (drop 1 (session_turns after.0))) in
+    (later, after.5 ∙ ap (λ (greeting : Hello). hello_frame greeting ++ later) after.2.hello)
+
+-- so a hello by which the log begins is that of the peer, and is for the statement that it proves
+hello_fits : (job : VerifierJob) (prover : ProverTask) (said : Hello) (log : List (Side × ℕ)) → IsStatement job.task.statement
+    → AreCounterparts prover job.task → IsFromHonestProver prover log → BeginsByHello said log → IsHelloOf job said
+hello_fits job prover said log stated both honest begins =
+    let wanted : Hello = wanted_hello prover.file.id prover.statement in
+    let stated_too : IsStatement prover.statement = subst IsStatement (sym both.statement) stated in
+    let first = hello_first prover (sent_by Verifier log) honest.0 honest.1.turns honest.1.answer in
+    let later : List ℕ = sent_by Prover begins.1.0 in
+    let came : sent_by Prover log ≡ hello_frame said ++ later =
+    ap (sent_by Prover) begins.1.1 ∙ sent_by-append Prover (bytes_from Prover (hello_frame said)) begins.1.0
+    ∙ ap (λ l. l ++ later) (own_bytes Prover (hello_frame said)) in
+    let same : said ≡ wanted = (hello_code said wanted (later ++ honest.2.0) first.0 begins.0
+    (wanted_is_hello prover.file.id prover.statement both.prover_file.id stated_too)
+    (sym (append_assoc (hello_frame said) later honest.2.0) ∙ ap (λ l. l ++ honest.2.0) (sym came) ∙ sym honest.2.1 ∙ first.1)).0 in
+    subst (IsHelloOf job) (sym same)
+    (subst (λ (q : List ℕ × Statement). IsHelloFor q.0 q.1 wanted) (λ i. (both.dealt.id i, both.statement i))
+    (wanted_fits prover.file.id prover.statement stated_too))
+
+-- hellos for one job are for the same others
+fits_alike : (job other : VerifierJob) (one said : Hello) → IsHelloOf job one → IsHelloOf job said → IsHelloOf other one → IsHelloOf other said
+fits_alike job other one said is fits also = record {
+  id = fits.id ∙ sym is.id ∙ also.id;
+  version = fits.version;
+  circuit = fits.circuit ∙ sym is.circuit ∙ also.circuit;
+  outputs = fits.outputs ∙ sym is.outputs ∙ also.outputs;
+  public = fits.public ∙ sym is.public ∙ also.public;
+}
+
+-- so they are taken for one
+one_taken : (jobs : VerifierJobs) (m n : ℕ) (said other : Hello) → IsFirstFor jobs m said → IsFirstFor jobs n other
+    → IsHelloOf (job_at jobs n) said → m ≡ n
+one_taken jobs m n said other taken first fits = elim (cases_order m n) [
+  | inl same ↦ same
+  | inr (inl less) ↦ absurd (first.first m less (fits_alike (job_at jobs n) (job_at jobs m) said other fits first.fits taken.fits))
+  | inr (inr more) ↦ absurd (taken.first n more fits)
+]
 
 -- ---- after the grant
 
@@ -389,58 +371,37 @@ asks_begun : (job : VerifierJob) (start : ℕ) (asked : List (List TreeAsk)) (ou
     → IsSaid job start outcome 1 (flat_map ask_frame asked ++ rest)
     → length rest ≤ longest (expect.Ask job.task.file.params.height job.task.file.params.trees left)
     → IsBegun (expect.Ask job.task.file.params.height job.task.file.params.trees left) outcome rest
-asks_begun job start asked outcome rest left so said few = record {
-  frame = asks trees;
-  allowed = (trees, refl, are);
-  more = flat_map ask_frame (drop (suc n) says.all);
-  begun = (said.begun.0, parted.1);
-  whole = λ ended.
-      let last = said.ended ended in
-      let spoken = asks_said job start last.0 so.extended last.1 in
-      let same : n * per + length rest ≡ units_of_job job * per =
-      ap (λ k. k + length rest) (sym before) ∙ sym (length-append (flat_map ask_frame asked) rest) ∙ ap length last.2 ∙ asks_long job last.0 spoken in
-      subst (λ k. k ≤ length rest) (sym sized) (one_left n (units_of_job job) per (length rest) so.more same);
-  most = subst (λ k. length rest ≤ k) (sym sized) few;
-  sized = omega (arith, sized);
-}
-  where
-    n : ℕ
-    n = length asked
-
-    per : ℕ
-    per = 5 + job.task.file.params.trees * (job.task.file.params.height + 8)
-
-    says : SaysAsks job said.u
-    says = asks_said job start said.u so.extended said.is
-
-    below : length asked < length says.all
-    below = omega (arith, so.more, says.count)
-
-    trees : List TreeAsk
-    trees = slice_index_or says.all (length asked) []
-
-    are : AreAsks job.task.file.params.height job.task.file.params.trees (slice_index_or says.all (length asked) [])
-    are = says.each (length asked) [] below
-
-    sized : length (ask_frame (slice_index_or says.all (length asked) [])) ≡ 5 + job.task.file.params.trees * (job.task.file.params.height + 8)
-    sized = ask_length job.task.file.params.height job.task.file.params.trees (slice_index_or says.all (length asked) []) are
-
-    before : length (flat_map ask_frame asked) ≡ length asked * (5 + job.task.file.params.trees * (job.task.file.params.height + 8))
-    before = asks_length job.task.file.params.height job.task.file.params.trees asked so.each
-
-    as_many : length (take (length asked) says.all) ≡ length asked
-    as_many = length-take-le (length asked) says.all (omega (arith, below))
-
-    front : length (flat_map ask_frame (take (length asked) says.all)) ≡ length (flat_map ask_frame asked)
-    front = asks_length job.task.file.params.height job.task.file.params.trees (take (length asked) says.all)
-        (All-take (AreAsks job.task.file.params.height job.task.file.params.trees) (length asked) says.all says.each)
-        ∙ ap (λ k. k * (5 + job.task.file.params.trees * (job.task.file.params.height + 8))) as_many ∙ sym before
-
-    parted : (flat_map ask_frame (take (length asked) says.all) ≡ flat_map ask_frame asked)
-        × (ask_frame (slice_index_or says.all (length asked) []) ++ flat_map ask_frame (drop (suc (length asked)) says.all) ≡ rest ++ said.begun.0)
-    parted = same_front (flat_map ask_frame (take (length asked) says.all)) (flat_map ask_frame asked)
-        (ask_frame (slice_index_or says.all (length asked) []) ++ flat_map ask_frame (drop (suc (length asked)) says.all)) (rest ++ said.begun.0) front
-        (sym (split_at ask_frame says.all (length asked) [] below) ∙ sym says.spoken ∙ said.begun.1 ∙ append_assoc (flat_map ask_frame asked) rest said.begun.0)
+asks_begun job start asked outcome rest left so said few =
+    let params = job.task.file.params in
+    let n : ℕ = length asked in
+    let per : ℕ = 5 + params.trees * (params.height + 8) in
+    let says : SaysAsks job said.u = asks_said job start said.u so.extended said.is in
+    let below : n < length says.all = omega (arith, so.more, says.count) in
+    let trees : List TreeAsk = slice_index_or says.all n [] in
+    let are : AreAsks params.height params.trees trees = says.each n [] below in
+    let sized : length (ask_frame trees) ≡ per = ask_length params.height params.trees trees are in
+    let before : length (flat_map ask_frame asked) ≡ n * per = asks_length params.height params.trees asked so.each in
+    let as_many : length (take n says.all) ≡ n = length-take-le n says.all (omega (arith, below)) in
+    let front : length (flat_map ask_frame (take n says.all)) ≡ length (flat_map ask_frame asked) =
+    asks_length params.height params.trees (take n says.all) (All-take (AreAsks params.height params.trees) n says.all says.each)
+    ∙ ap (λ k. k * per) as_many ∙ sym before in
+    let parted = same_front (flat_map ask_frame (take n says.all)) (flat_map ask_frame asked)
+    (ask_frame trees ++ flat_map ask_frame (drop (suc n) says.all)) (rest ++ said.begun.0) front
+    (sym (split_at ask_frame says.all n [] below) ∙ sym says.spoken ∙ said.begun.1 ∙ append_assoc (flat_map ask_frame asked) rest said.begun.0) in
+    record {
+      frame = asks trees;
+      allowed = (trees, refl, are);
+      more = flat_map ask_frame (drop (suc n) says.all);
+      begun = (said.begun.0, parted.1);
+      whole = λ ended.
+          let last = said.ended ended in
+          let spoken = asks_said job start last.0 so.extended last.1 in
+          let same : n * per + length rest ≡ units_of_job job * per =
+          ap (λ k. k + length rest) (sym before) ∙ sym (length-append (flat_map ask_frame asked) rest) ∙ ap length last.2 ∙ asks_long job last.0 spoken in
+          subst (λ k. k ≤ length rest) (sym sized) (one_left n (units_of_job job) per (length rest) so.more same);
+      most = subst (λ k. length rest ≤ k) (sym sized) few;
+      sized = omega (arith, sized);
+    }
 
 -- ---- after them
 
@@ -525,13 +486,13 @@ openings_begun job start outcome both rest pairs said few =
     }
 
 -- after the grant no hello is expected
-late : (job : VerifierJob) (start : ℕ) (stage : VerifierStage) (rest : List ℕ) (first now : LinkSnapshot) (differs : HelloDiffers) → StartsAt start stage
-    → StopCause job stage rest first now (BadHello differs) → ⊥
-late job start stage rest first now differs starts cause = subst (StartsAt start) cause.0 starts
+late : (job : VerifierJob) (start : ℕ) (stage : VerifierStage) (rest : List ℕ) (first now : LinkSnapshot) (differs : HelloDiffers)
+    → IsBehind start stage → StopCause job stage rest first now (BadHello differs) → ⊥
+late job start stage rest first now differs starts cause = subst (IsBehind start) cause.0 starts
 
 behind_completes : (job : VerifierJob) (start : ℕ) (stage : VerifierStage) (prover : ProverTask) (outcome : VerifierOutcome) (first now : LinkSnapshot)
-    → RepliesAreInRange → ServedSessionExists → HonestTurn → HonestTurnEnds → IsKnown job → StartsAt start stage → IsStopped job stage outcome first now
-    → HasHonestPeer job prover outcome now.log → ¬ Rose first.faults now.faults → IsComplete outcome
+    → RepliesAreInRange → ServedSessionExists → HonestTurn → HonestTurnEnds → IsKnown job → IsBehind start stage
+    → IsStopped job stage outcome first now → HasHonestPeer job prover outcome now.log → ¬ Rose first.faults now.faults → IsComplete outcome
 behind_completes job start (awaits_asks begun asked) prover outcome first now ranges law turn ends known starts stopped peer rose =
     let stage = expect.Ask job.task.file.params.height job.task.file.params.trees (units_of_job job - length asked) in
     goes_on job (awaits_asks begun asked) stopped.rest first now outcome stage refl
@@ -561,25 +522,16 @@ behind_completes job start (awaits_openings begun d both) prover outcome first n
     (cut_openings job begun d both stopped.rest now.log law known (cut_of_stop job (awaits_openings begun d both) outcome first now stopped)))
     (few_of job (awaits_openings begun d both) outcome first now stopped (expect.Openings (length job.task.statement.program.opened)) refl))
     (λ differs is. late job start (awaits_openings begun d both) stopped.rest first now differs starts) rose stopped.cause
-behind_completes job start awaits_hello prover outcome first now ranges law turn ends known starts stopped peer rose = absurd starts
-behind_completes job start owes_grant prover outcome first now ranges law turn ends known starts stopped peer rose = absurd starts
-behind_completes job start (has_judged begun judgement) prover outcome first now ranges law turn ends known starts stopped peer rose = absurd starts
-behind_completes job start has_refused prover outcome first now ranges law turn ends known starts stopped peer rose = absurd starts
+behind_completes job start (has_judged begun judgement) prover outcome first now ranges law turn ends known starts stopped peer rose =
+    absurd (none_is_some stopped.expected)
+behind_completes job start other prover outcome first now ranges law turn ends known starts stopped peer rose = absurd starts
 
 -- the grant was not sent
 fault_completes : (outcome : VerifierOutcome) (first now : LinkSnapshot) → IsFault outcome → (outcome ≡ Link → Rose first.faults now.faults)
     → ¬ Rose first.faults now.faults → IsComplete outcome
 fault_completes Link first now is cause rose = absurd (rose (cause refl))
 fault_completes NoMemory first now is cause rose = inr refl
-fault_completes Accepted first now is cause rose = absurd is
-fault_completes (RejectedSum section left right) first now is cause rose = absurd is
-fault_completes (RejectedOpening output left right) first now is cause rose = absurd is
-fault_completes (PeerEnded at) first now is cause rose = absurd is
-fault_completes (BadFrame at) first now is cause rose = absurd is
-fault_completes (BadHello differs) first now is cause rose = absurd is
-fault_completes (Exhausted at count total) first now is cause rose = absurd is
-fault_completes Device first now is cause rose = absurd is
-fault_completes (Broken at) first now is cause rose = absurd is
+fault_completes other first now is cause rose = absurd is
 
 lacking_completes : (job : VerifierJob) (start : ℕ) (outcome : VerifierOutcome) (first now : LinkSnapshot) → ¬ Rose first.faults now.faults
     → LacksTheGrant job start outcome first now → IsComplete outcome
@@ -590,27 +542,47 @@ lacking_completes job start outcome first now rose (inr unsent) = fault_complete
 
 -- the laws of honest peers
 pub record AreLaws : Type 0 where
-  pub another : NoneBeginsAnother
   pub ranges : RepliesAreInRange
   pub exists : ServedSessionExists
   pub turn : HonestTurn
   pub ends : HonestTurnEnds
   pub accepted : HonestWholeIsAccepted
 
-pub completes : (job : VerifierJob) (answer : Option (Result Span LeaseFault)) (granted : Option Span) (outcome : VerifierOutcome) (first now : LinkSnapshot) → AreLaws
-    → IsKnown job → IsCourse job answer granted outcome first now → Completes job answer outcome first now
-completes job None granted outcome first now laws known course prover peer leased rose =
-    unmet_completes job outcome prover first now laws.another known course.1 peer rose
-completes job (Some (Err fault)) granted outcome first now laws known course prover peer leased rose = absurd (leased fault refl)
-completes job (Some (Ok span)) granted outcome first now laws known course prover peer leased rose = by_course course.1.course
-  where
-    by_course : (LacksTheGrant job span.start outcome first now ⊎ StopsBehind job span.start outcome first now
-        ⊎ ((other : Judgement) × (outcome ≡ judgement_outcome other) × IsWaiting job (has_judged span.start other) first now))
-        → IsComplete outcome
-    by_course (inl lacks) = lacking_completes job span.start outcome first now rose lacks
-    by_course (inr (inl stops)) =
-        behind_completes job span.start stops.stage prover outcome first now laws.ranges laws.exists laws.turn laws.ends known stops.behind stops.stopped peer rose
-    by_course (inr (inr found)) =
-        let session = judged_session job span (Some span) found.0 now.log known refl found.2.log in
-        let accepted = laws.accepted prover job.task session.t (verdict_in found.0) now.log peer.counterparts peer.witness peer.claims session.served peer.honest in
-        inl (found.1 ∙ accepted_judgement found.0 (ap verdict_code accepted))
+-- units were leased for a job of which the peer is honest
+granted_completes : (job : VerifierJob) (span : Span) (outcome : VerifierOutcome) (prover : ProverTask) (first now : LinkSnapshot) → AreLaws
+    → IsKnown job
+    → IsGranted job span outcome first now → HasHonestPeer job prover outcome now.log → ¬ Rose first.faults now.faults → IsComplete outcome
+granted_completes job span outcome prover first now laws known granted peer rose = elim granted.course [
+  | inl lacks ↦ lacking_completes job span.start outcome first now rose lacks
+  | inr (inl stops) ↦
+      behind_completes job span.start stops.stage prover outcome first now laws.ranges laws.exists laws.turn laws.ends known stops.behind stops.stopped peer rose
+  | inr (inr found) ↦
+      let session = judged_session job span (Some span) found.0 now.log known refl found.2.log in
+      let accepted = laws.accepted prover job.task session.t (verdict_in found.0) now.log peer.counterparts peer.witness peer.claims session.served peer.honest in
+      inl (found.1 ∙ accepted_judgement found.0 (ap verdict_code accepted))
+]
+
+pub completes : (jobs : VerifierJobs) (taken : Option ℕ) (answer : Option (Result Span LeaseFault)) (granted : Option Span)
+    (outcome : VerifierOutcome)
+    (first now : LinkSnapshot) → AreLaws → AllBelow (length (all_jobs jobs)) (λ n. IsStatement (job_at jobs n).task.statement)
+    → IsKnown (noted_job jobs taken) → TakesStatement jobs taken answer outcome now.log
+    → IsCourse (noted_job jobs taken) answer granted outcome first now
+    → CompletesForEach jobs answer outcome first now
+completes jobs taken None granted outcome first now laws stated known takes course prover caller leased rose =
+    let mine = stated caller.number caller.first.within in
+    unmet_completes (noted_job jobs taken) (job_at jobs caller.number) outcome prover first now mine course.1 caller.peer
+    (λ differs is.
+    let met = takes.differs differs is in
+    met.1.1 caller.number caller.first.within
+    (hello_fits (job_at jobs caller.number) prover met.1.0 now.log mine caller.peer.counterparts caller.peer.honest met.1.2)) rose
+completes jobs taken (Some (Err fault)) granted outcome first now laws stated known takes course prover caller leased rose =
+    absurd (leased fault refl)
+completes jobs None (Some (Ok span)) granted outcome first now laws stated known takes course prover caller leased rose =
+    absurd (none_is_some (sym (takes.none refl)))
+completes jobs (Some m) (Some (Ok span)) granted outcome first now laws stated known takes course prover caller leased rose =
+    let mine = stated caller.number caller.first.within in
+    let has = takes.has in
+    let same : m ≡ caller.number = one_taken jobs m caller.number has.0 caller.hello has.1 caller.first
+    (hello_fits (job_at jobs caller.number) prover has.0 now.log mine caller.peer.counterparts caller.peer.honest has.2) in
+    granted_completes (job_at jobs m) span outcome prover first now laws known course.1
+    (subst (λ n. HasHonestPeer (job_at jobs n) prover outcome now.log) (sym same) caller.peer) rose

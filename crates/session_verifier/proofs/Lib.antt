@@ -1,4 +1,3 @@
-pub mod RoundLemmas
 pub mod StageLemmas
 pub mod StopLemmas
 pub mod ServeLemmas
@@ -7,5 +6,5 @@ pub mod ServedLemmas
 pub mod HonestLemmas
 pub mod RelatedLemmas
 pub mod ToldLemmas
-pub mod ShownLemmas
-pub mod LeaseLemmas
+pub mod NoteOrder
+pub mod LogStores

@@ -6,8 +6,8 @@ use Rattle.std.proofs.lemmas.List.{nil_from_length}
 use Rattle.std.proofs.lemmas.List.Elements.{All-nil, All-from_recursion}
 use Rattle.zk_model.specs.Program.{Program}
 use Rattle.zk_model.specs.Files.{AreParams, rounds_of}
-use Rattle.zk_model.specs.Transcript.{Hello, Grant, TreeReply, Round, Setup, Transcript, IsHello, IsGrant, IsRound, IsSetup, IsTranscript, BeginsWith, hello_frame, grant_frame, ask_frame, reply_frame, corrections_frame, challenge_frame, sums_frame, openings_frame, verdict_frame, refuse_frame, bytes_from, turn_bytes, setup_turns, session_turns, sent_by, spelling}
-use Rattle.zk_model.specs.ServedVerifier.{RepliesAre, IsCutInTurn, ServesWith, round_replies}
+use Rattle.zk_model.specs.Transcript.{Hello, Grant, TreeReply, Round, Setup, Transcript, IsHello, IsGrant, IsRound, IsSetup, IsTranscript, BeginsWith, hello_frame, grant_frame, ask_frame, reply_frame, corrections_frame, challenge_frame, sums_frame, openings_frame, verdict_frame, refuse_frame, bytes_from, turn_bytes, setup_turns, session_turns, sent_by}
+use Rattle.zk_model.specs.ServedVerifier.{RepliesAre, ServesWith, round_replies}
 use Rattle.zk_model.specs.declared.Kind.TheVariants.{Direct, Extended}
 use Rattle.zk_model.specs.declared.Params.{Params}
 use Rattle.zk_model.specs.declared.Side.{Side}
@@ -21,8 +21,8 @@ use Rattle.frame_laws.proofs.SentBytes.{sent_by-append, own_bytes, none_of_prove
 use Rattle.session_laws.proofs.Turns.{said, answered, cut_said, cut_answered}
 use Rattle.session_laws.proofs.Followed.{same_asks}
 use Rattle.session_core.specs.Jobs.{VerifierJob, granted_from}
-use Rattle.session_verifier.specs.Notes.{IsUngranted, SendsRightly, KeepsKeys, refusal_of}
-use Rattle.session_verifier.proofs.RoundLemmas.{either_kind}
+use Rattle.session_verifier.specs.Notes.{IsUngranted, SendsRightly, KeepsKeys}
+use Rattle.session_verifier.proofs.StageLemmas.{either_kind}
 use Rattle.session_verifier.proofs.ServedLemmas.{greeting_most}
 use Rattle.session_verifier.proofs.CourseLemmas.{IsKnown}
 use Rattle.session_verifier.specs.declared.note.VerifierOutcome.{VerifierOutcome}
@@ -160,31 +160,24 @@ served_alike : (job : VerifierJob) (grant : Grant) (log more : List (Side × ℕ
     → IsSetup job.task.file.params job.task.statement.program setup → setup.rounds ≡ another ∷ []
     → log ≡ turn_bytes (setup_turns setup) ++ more → (serves : ServesWith job.task grant log) → serves.t.commitment.setup.rounds ≡ round ∷ []
     → BeginAlike (first_of serves.t.commitment.setup.hello serves.t.commitment.setup.grant) (round_of round) (first_of setup.hello setup.grant) (round_of another)
-served_alike job grant log more setup round another is one begins serves only_round = either serves.bytes
-  where
-    t : Transcript
-    t = serves.t
-
-    last : List (List ℕ × List ℕ)
-    last = (corrections_frame serves.t.commitment.corrections, challenge_frame serves.t.challenge)
-        ∷ (sums_frame serves.t.sums ++ openings_frame serves.t.openings, verdict_frame serves.t.code serves.t.number) ∷ []
-
-    logged : log ≡ turn_bytes (first_of setup.hello setup.grant ∷ round_of another ∷ []) ++ more
-    logged = begins ∙ ap (λ l. turn_bytes l ++ more) (setup_turns_of setup another one)
-
-    ranged : IsRound job.task.file.params setup.grant another
-    ranged = subst (All (IsRound job.task.file.params setup.grant)) one is.rounds 0 another (omega arith)
-
-    some : 1 ≤ length (flat_map reply_frame another.replies)
-    some = some_replies another.replies (omega (arith, ranged.replies.0, is.grant.count))
-
-    either : (BeginsWith (spelling serves.t) log ⊎ IsCutInTurn serves.t log)
-        → BeginAlike (first_of serves.t.commitment.setup.hello serves.t.commitment.setup.grant) (round_of round) (first_of setup.hello setup.grant) (round_of another)
-    either (inl begun) = alike_begun (first_of t.commitment.setup.hello t.commitment.setup.grant) (round_of round) (first_of setup.hello setup.grant) (round_of another)
-        last log more begun.0 logged (ap turn_bytes (sym (turns_of t round only_round)) ∙ begun.1)
-    either (inr cut) = alike_in_turn (first_of t.commitment.setup.hello t.commitment.setup.grant) (round_of round) (first_of setup.hello setup.grant) (round_of another)
-        last cut.whole cut.rest log more logged
-        (cut.bytes ∙ ap (λ (l : List (List ℕ × List ℕ)). turn_bytes (take cut.whole l) ++ bytes_from Prover cut.rest) (turns_of t round only_round)) refl some
+served_alike job grant log more setup round another is one begins serves only_round =
+    let t : Transcript = serves.t in
+    let last : List (List ℕ × List ℕ) = (corrections_frame serves.t.commitment.corrections, challenge_frame serves.t.challenge)
+    ∷ (sums_frame serves.t.sums ++ openings_frame serves.t.openings, verdict_frame serves.t.code serves.t.number) ∷ [] in
+    let logged : log ≡ turn_bytes (first_of setup.hello setup.grant ∷ round_of another ∷ []) ++ more =
+    begins ∙ ap (λ l. turn_bytes l ++ more) (setup_turns_of setup another one) in
+    let ranged : IsRound job.task.file.params setup.grant another =
+    subst (All (IsRound job.task.file.params setup.grant)) one is.rounds 0 another (omega arith) in
+    let some : 1 ≤ length (flat_map reply_frame another.replies) = some_replies another.replies (omega (arith, ranged.replies.0, is.grant.count)) in
+    elim serves.bytes [
+      | inl begun ↦ alike_begun (first_of t.commitment.setup.hello t.commitment.setup.grant) (round_of round) (first_of setup.hello setup.grant)
+          (round_of another)
+          last log more begun.0 logged (ap turn_bytes (sym (turns_of t round only_round)) ∙ begun.1)
+      | inr cut ↦ alike_in_turn (first_of t.commitment.setup.hello t.commitment.setup.grant) (round_of round) (first_of setup.hello setup.grant)
+          (round_of another)
+          last cut.whole cut.rest log more logged
+          (cut.bytes ∙ ap (λ (l : List (List ℕ × List ℕ)). turn_bytes (take cut.whole l) ++ bytes_from Prover cut.rest) (turns_of t round only_round)) refl some
+    ]
 
 served_replies : (job : VerifierJob) (grant : Grant) (log : List (Side × ℕ)) (setup : Setup) → IsKnown job → job.task.file.params.kind ≡ Extended
     → IsSetup job.task.file.params job.task.statement.program setup → BeginsWith log (turn_bytes (setup_turns setup)) → ServesWith job.task grant log
@@ -212,21 +205,17 @@ served_replies job grant log setup known extended is begins serves =
 
 -- a log without a grant begins with no setup's turns
 no_setup : (outcome : VerifierOutcome) (log : List (Side × ℕ)) (setup : Setup) → IsUngranted outcome log → BeginsWith log (turn_bytes (setup_turns setup)) → ⊥
-no_setup outcome log setup is begins = either is.refused
-  where
-    answers : is.answer ≡ answered (setup_turns setup) ++ sent_by Verifier begins.0
-    answers =
-        sym (ap (sent_by Verifier) is.bytes ∙ sent_by-append Verifier (bytes_from Prover is.rest) (bytes_from Verifier is.answer)
-        ∙ (λ i. none_of_prover is.rest i ++ own_bytes Verifier is.answer i))
-        ∙ ap (sent_by Verifier) begins.1 ∙ sent_by-append Verifier (turn_bytes (setup_turns setup)) begins.0
-        ∙ ap (λ l. l ++ sent_by Verifier begins.0) (sent_by-verifier (setup_turns setup))
-
-    granted : slice_index_or is.answer 0 0 ≡ 2
-    granted = ap (λ l. slice_index_or l 0 0) answers
-
-    either : ((is.answer ≡ []) ⊎ ((code : ℕ) × (refusal_of outcome ≡ Some code) × (is.answer ≡ refuse_frame code))) → ⊥
-    either (inl none) = let same = ap (λ l. slice_index_or l 0 0) none in absurd (omega (arith, same, granted))
-    either (inr refused) = let same = ap (λ l. slice_index_or l 0 0) refused.2 in absurd (omega (arith, same, granted))
+no_setup outcome log setup is begins =
+    let answers : is.answer ≡ answered (setup_turns setup) ++ sent_by Verifier begins.0 =
+    sym (ap (sent_by Verifier) is.bytes ∙ sent_by-append Verifier (bytes_from Prover is.rest) (bytes_from Verifier is.answer)
+    ∙ (λ i. none_of_prover is.rest i ++ own_bytes Verifier is.answer i))
+    ∙ ap (sent_by Verifier) begins.1 ∙ sent_by-append Verifier (turn_bytes (setup_turns setup)) begins.0
+    ∙ ap (λ l. l ++ sent_by Verifier begins.0) (sent_by-verifier (setup_turns setup)) in
+    let granted : slice_index_or is.answer 0 0 ≡ 2 = ap (λ l. slice_index_or l 0 0) answers in
+    elim is.refused [
+      | inl none ↦ let same = ap (λ l. slice_index_or l 0 0) none in absurd (omega (arith, same, granted))
+      | inr refused ↦ let same = ap (λ l. slice_index_or l 0 0) refused.2 in absurd (omega (arith, same, granted))
+    ]
 
 told_replies : (job : VerifierJob) (granted : Option Span) (outcome : VerifierOutcome) (log : List (Side × ℕ)) (setup : Setup) → IsKnown job
     → SendsRightly job granted outcome log → IsSetup job.task.file.params job.task.statement.program setup → BeginsWith log (turn_bytes (setup_turns setup))

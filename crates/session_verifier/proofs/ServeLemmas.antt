@@ -1,10 +1,10 @@
 -- From a run of a verifier's end to the course of its session.
 use Rattle.std.proofs.Common.{◌≡◌, ◌⊎◌, ℕ, ◌<◌, length, List, [], ◌∷◌, ◌++◌, flat_map, inl, inr, Option, Some, None, IfSome, Result, Ok, Err, MatchOption, refl, ap, sym, ◌∙◌, subst, arith, append-nil, append_assoc}
-use Rattle.std.specs.Prelude.{IsSome, ◌≢◌}
-use Rattle.zk_model.specs.Transcript.{grant_frame, bytes_from, Hello, BeginsWith, hello_frame, refuse_frame}
+use Rattle.std.proofs.lemmas.Option.{same_Some}
+use Rattle.std.specs.Prelude.{IsSome}
+use Rattle.zk_model.specs.Transcript.{grant_frame, bytes_from, Hello, IsHello, hello_frame, refuse_frame}
 use Rattle.zk_model.specs.Frames.{Frame, grant, frame_spelling, Allows, hello}
 use Rattle.zk_model.specs.declared.Expect.{Expect}
-use Rattle.zk_model.specs.declared.Expect.TheVariants as places
 use Rattle.zk_model.specs.declared.Side.{Side}
 use Rattle.zk_model.specs.declared.Side.TheVariants.{Prover, Verifier}
 use Rattle.zk_model.specs.declared.Span.{Span}
@@ -17,26 +17,26 @@ use Rattle.session_core.specs.declared.fault.VerifierFault.{VerifierFault}
 use Rattle.session_core.specs.declared.fault.VerifierFault.TheVariants as session
 use Rattle.session_core.specs.declared.judgement.Judgement.{Judgement}
 use Rattle.session_core.specs.Jobs.{VerifierJob, VerifierJobs, IsForNone, TakesHello, all_jobs, noted_job, units_of_job, granted_from, IsHelloOf}
-use Rattle.session_core.specs.Cores.{VerifierStage, awaits_hello, owes_grant, behind_grant, awaits_asks, awaits_corrections, awaits_sums, awaits_openings, has_judged, has_refused, judgement_at, verifier_expects, VerifierRefuses, DiffersFirst}
+use Rattle.session_core.specs.Cores.{VerifierStage, awaits_hello, owes_grant, behind_grant, has_judged, judgement_at, verifier_expects, VerifierRefuses, DiffersFirst}
 use Rattle.session_core.specs.declared.fault.HelloDiffers.{HelloDiffers}
 use Rattle.session_core.specs.declared.fault.HelloDiffers.TheVariants as hello_differs
 use Rattle.session_core.specs.declared.judgement.Judgement.TheVariants as judged
 use Rattle.lease_store.specs.declared.LeaseFault.TheVariants as no_lease
-use Rattle.session_driver.specs.Sayings.{Turn, said, whole_log, sends_of, answers_sent, sends_in}
-use Rattle.session_driver.specs.Runs.{HasPassed, IsTurn, Goes, IsOver, IsRefusal, IsMissing, IsUnanswered, IsUnsent, StopsBy, TriesRefusal, IsRun}
+use Rattle.session_driver.specs.Runs.{Turn, said, whole_log, sends_of, answers_sent, sends_in, HasPassed, IsTurn, Goes, IsOver, IsRefusal, IsMissing, IsUnanswered, IsUnsent, StopsBy, TriesRefusal, IsRun}
 use Rattle.session_driver.specs.declared.drive.Outcome.{Outcome}
 use Rattle.session_driver.specs.declared.drive.Outcome.TheVariants.{Done, Refused, Cut}
-use Rattle.session_driver.proofs.Bytes.{whole_more, answers_more}
-use Rattle.session_driver.proofs.Derived.{goes_keeps}
+use Rattle.session_driver.proofs.Going.{whole_more, answers_more}
+use Rattle.session_driver.proofs.Ending.{goes_keeps}
 use Rattle.session_laws.specs.Rounds.{RepliesAreInRange}
 use Rattle.session_verifier.specs.Outcomes.{lease_code, line_outcome, hello_code, judgement_outcome, lease_outcome, session_outcome}
-use Rattle.session_verifier.specs.Serving.{Grants, Leases, AreUnits, Served, Met, Greeted, GrantsUnits, AnswersBehind, Answers, Refuses, RefusesHello, RefusesBehind, RefusesLease, LacksGrantFrame, IsBehind, IsToldAs, lack_code_at, served, serves}
-use Rattle.session_verifier.specs.Stages.{Greets, IsLogAt, IsStopped, StopsBehind, IsUnmet, IsUnleased, IsRefusedGrant, LacksTheGrant, IsWaiting, IsCourse, answers_before}
+use Rattle.session_verifier.specs.Serving.{Grants, Leases, AreUnits, Served, Met, Greeted, GrantsUnits, AnswersBehind, Answers, Refuses, RefusesHello, RefusesBehind, RefusesLease, LacksGrantFrame, IsToldAs, lack_code_at, served, serves}
+use Rattle.session_verifier.specs.Stages.{IsBehind, Greets, IsLogAt, IsStopped, StopsBehind, IsUnmet, IsRefusedGrant, LacksTheGrant, IsWaiting, IsCourse, answers_before}
 use Rattle.session_verifier.specs.Notes.{HasTaken, BeginsByHello, TakesStatement}
 use Rattle.session_verifier.specs.declared.note.VerifierOutcome.{VerifierOutcome}
 use Rattle.session_verifier.specs.declared.note.VerifierOutcome.TheVariants.{BadHello, NoMemory}
-use Rattle.session_verifier.proofs.StageLemmas.{one_answer, logs_on, grant_behind, answers_counted, one_answer_behind, grant_begins, stays_behind, starts_of, judged_of, not_expected}
-use Rattle.session_verifier.proofs.StopLemmas.{ours, waiting_of, stops_without, stops_refused, stops_unsent, grant_unsent, refusal_tried, unmet_missing, unmet_refused}
+use Rattle.session_verifier.proofs.CourseLemmas.{begins_before}
+use Rattle.session_verifier.proofs.StageLemmas.{one_answer, logs_on, grant_behind, answers_counted, one_answer_behind, grant_begins, stays_behind, judged_of}
+use Rattle.session_verifier.proofs.StopLemmas.{hello_in, ours, waiting_of, stops_without, stops_refused, stops_unsent, grant_unsent, refusal_tried, unmet_missing, unmet_refused}
 
 -- ---- where it waits after so many turns
 
@@ -46,10 +46,11 @@ pub record IsLeased {R : Type 0} (grants : Grants R) (old : R) (job : VerifierJo
   pub are : AreUnits job span
   pub leased : Leases grants (units_of_job job) (Ok span) old grantor
 
--- none were asked for yet where the hello is awaited
+-- none were asked for yet where the hello is awaited; else they were leased
 abbrev pub IsLeaseAt : {R : Type 0} → Grants R → R → VerifierJob → Option Span → VerifierStage → R → Type 0
-IsLeaseAt grants old job None stage grantor = (stage ≡ awaits_hello) × (grantor ≡ old)
-IsLeaseAt grants old job (Some span) stage grantor = IsLeased grants old job span stage grantor
+IsLeaseAt grants old job granted stage grantor =
+    ((stage ≡ awaits_hello) × (granted ≡ None) × (grantor ≡ old))
+    ⊎ ((span : Span) × (granted ≡ Some span) × IsLeased grants old job span stage grantor)
 
 -- what is logged then, how many answers were sent, and what was leased
 pub record IsAt {R : Type 0} (grants : Grants R) (old : R) (job : VerifierJob) (stage : VerifierStage) (granted : Option Span) (grantor : R) (before : List Turn) : Type 0 where
@@ -75,16 +76,20 @@ taken_by jobs (Some n) said log takes begins = (said, takes, begins)
 taken_on : (jobs : VerifierJobs) (taken : Option ℕ) (log more : List (Side × ℕ)) → HasTaken jobs taken log → HasTaken jobs taken (log ++ more)
 taken_on jobs None log more has = tt
 taken_on jobs (Some n) log more has =
-    (has.0, has.1, (has.2.0 ++ more, ap (λ l. l ++ more) has.2.1 ∙ append_assoc (bytes_from Prover (hello_frame has.0)) has.2.0 more))
+    (has.0, has.1, (has.2.0, begins_before log more (log ++ more) (bytes_from Prover (hello_frame has.0)) refl has.2.1))
 
-begins_on : {A : Type 0} (log more : List A) (front : List A) → BeginsWith log front → BeginsWith (log ++ more) front
-begins_on log more front begins = (begins.0 ++ more, ap (λ l. l ++ more) begins.1 ∙ append_assoc front begins.0 more)
-
--- units are leased where the hello was awaited, for the first time
+-- where the hello is awaited, they were not
 unleased : {R : Type 0} (grants : Grants R) (old : R) (job : VerifierJob) (granted : Option Span) (stage : VerifierStage) (grantor : R) → stage ≡ awaits_hello
-    → IsLeaseAt grants old job granted stage grantor → grantor ≡ old
-unleased grants old job None stage grantor waits lease = lease.1
-unleased grants old job (Some span) stage grantor waits lease = absurd (subst (IsBehind span.start) waits lease.behind)
+    → IsLeaseAt grants old job granted stage grantor → (granted ≡ None) × (grantor ≡ old)
+unleased grants old job granted stage grantor waits (inl none) = (none.1, none.2)
+unleased grants old job granted stage grantor waits (inr some) = absurd (subst (IsBehind some.0.start) waits some.2.behind)
+
+-- where these were granted, they were leased
+leased_as : {R : Type 0} (grants : Grants R) (old : R) (job : VerifierJob) (granted : Option Span) (span : Span) (stage : VerifierStage) (grantor : R)
+    → granted ≡ Some span → IsLeaseAt grants old job granted stage grantor → IsLeased grants old job span stage grantor
+leased_as grants old job granted span stage grantor is (inl none) = absurd (none_is_some (sym none.1 ∙ is))
+leased_as grants old job granted span stage grantor is (inr some) =
+    subst (λ s. IsLeased grants old job s stage grantor) (same_Some some.0 span (sym some.1 ∙ is)) some.2
 
 -- a hello for the statement is logged
 hello_logged : (job : VerifierJob) (log : List (Side × ℕ)) (frame : Frame) → log ≡ [] → Greets job frame
@@ -95,7 +100,7 @@ hello_logged job log frame none greets =
 -- a hello that came is what the log begins by
 begun : {R : Type 0} (jobs : VerifierJobs) (old new : Served R) (frame : Frame) (log more : List (Side × ℕ)) → log ≡ [] → (met : Met jobs old frame new)
     → BeginsByHello met.hello ((log ++ bytes_from Prover (frame_spelling frame)) ++ more)
-begun jobs old new frame log more none met = (more, λ i. (none i ++ bytes_from Prover (frame_spelling (met.is i))) ++ more)
+begun jobs old new frame log more none met = (met.ranged, (more, λ i. (none i ++ bytes_from Prover (frame_spelling (met.is i))) ++ more))
 
 module _ {R : Type 0} (jobs : VerifierJobs) (grants : Grants R) (old : R) (law : RepliesAreInRange) where
   grant_on : (s t : Served R) (before : List Turn) (turn : Turn) → IsAt grants old s.core.job s.core.stage s.granted s.grantor before
@@ -108,10 +113,9 @@ module _ {R : Type 0} (jobs : VerifierJobs) (grants : Grants R) (old : R) (law :
       let front = whole_log Verifier [] before ++ bytes_from Prover (frame_spelling turn.frame) in
       let told : said Verifier turn.answer ≡ bytes_from Verifier (grant_frame (granted_from job start)) =
       ap (said Verifier) grants_units.answer_is ∙ one_answer (grant (granted_from job start)) in
-      let same = unleased grants old s.core.job s.granted s.core.stage s.grantor waits at.lease in
+      let same = (unleased grants old s.core.job s.granted s.core.stage s.grantor waits at.lease).1 in
       let none : whole_log Verifier [] before ≡ [] = subst (λ p. IsLogAt s.core.job p (whole_log Verifier [] before)) waits at.log in
-      subst (λ (q : VerifierStage × Option Span). IsAt grants old job q.0 q.1 t.grantor (before ++ turn ∷ []))
-      (λ i. (sym grants_units.stage i, sym grants_units.granted i)) (record {
+      subst (λ p. IsAt grants old job p t.granted t.grantor (before ++ turn ∷ [])) (sym grants_units.stage) (record {
         log = subst (IsLogAt job (behind_grant job start)) (ap (λ l. front ++ l) (sym told) ∙ whole_more Verifier [] before turn)
             (grant_behind job start front (omega (arith, grants_units.are.units, grants_units.are.within))
             (hello_logged job (whole_log Verifier [] before) turn.frame none grants_units.greeted.greets));
@@ -123,11 +127,15 @@ module _ {R : Type 0} (jobs : VerifierJobs) (grants : Grants R) (old : R) (law :
           ap sends_of grants_units.answer_is,
           one_answer_behind job start,
         );
-        lease = record {
-          behind = grant_begins job start;
-          are = grants_units.are;
-          leased = subst (λ r. Leases grants (units_of_job job) (Ok grants_units.span) r t.grantor) same grants_units.leased;
-        };
+        lease = inr (
+          grants_units.span,
+          grants_units.granted,
+          record {
+            behind = grant_begins job start;
+            are = grants_units.are;
+            leased = subst (λ r. Leases grants (units_of_job job) (Ok grants_units.span) r t.grantor) same grants_units.leased;
+          },
+        );
       })
 
   answer_on : (s t : Served R) (before : List Turn) (turn : Turn) (place : Expect)
@@ -136,14 +144,14 @@ module _ {R : Type 0} (jobs : VerifierJobs) (grants : Grants R) (old : R) (law :
       → IsAt grants old t.core.job t.core.stage t.granted t.grantor (before ++ turn ∷ [])
   answer_on s t before turn place expected allowed at by =
       let job = s.core.job in
-      let leased : IsLeased grants old job by.span s.core.stage s.grantor = subst (λ g. IsLeaseAt grants old job g s.core.stage s.grantor) by.behind at.lease in
+      let leased = leased_as grants old job s.granted by.span s.core.stage s.grantor by.behind at.lease in
       let stays : IsLeased grants old job by.span t.core.stage s.grantor = record {
         behind = stays_behind job by.span.start s.core.stage t.core.stage turn.frame turn.answer leased.behind by.answers;
         are = leased.are;
         leased = leased.leased;
       } in
-      subst (λ (q : VerifierJob × Option Span × R). IsAt grants old q.0 t.core.stage q.1 q.2 (before ++ turn ∷ []))
-      (λ i. (sym by.job i, sym by.granted i, sym by.grantor i)) (record {
+      subst (λ (q : VerifierJob × R). IsAt grants old q.0 t.core.stage t.granted q.1 (before ++ turn ∷ []))
+      (λ i. (sym by.job i, sym by.grantor i)) (record {
         log = subst (IsLogAt job t.core.stage) (whole_more Verifier [] before turn)
             (logs_on job s.core.stage t.core.stage (whole_log Verifier [] before) place turn.frame turn.answer law by.held expected allowed at.log by.answers);
         counts = omega (
@@ -152,289 +160,56 @@ module _ {R : Type 0} (jobs : VerifierJobs) (grants : Grants R) (old : R) (law :
           at.counts,
           answers_counted job s.core.stage t.core.stage (whole_log Verifier [] before) turn.frame turn.answer at.log by.answers,
         );
-        lease = subst (λ g. IsLeaseAt grants old job g t.core.stage s.grantor) (sym by.behind) stays;
+        lease = inr (by.span, by.granted ∙ by.behind, stays);
       })
 
   turn_on : (s : Served R) (before : List Turn) (turn : Turn) (t : Served R) → IsStanding jobs grants old s before
       → IsTurn (serves grants) s turn t → IsStanding jobs grants old t (before ++ turn ∷ [])
-  turn_on s before turn t stands is = either (subst (λ j. Answers j grants s turn.frame turn.answer t) stands.jobs_are is.answered.1)
-    where
-      either : GrantsUnits jobs grants s turn.frame turn.answer t ⊎ AnswersBehind s turn.frame turn.answer t
-          → IsStanding jobs grants old t (before ++ turn ∷ [])
-      either (inl by) =
-          let met = by.greeted.met in
-          let none : whole_log Verifier [] before ≡ [] = subst (λ p. IsLogAt s.core.job p (whole_log Verifier [] before)) met.waits stands.at.log in
-          record {
-            jobs_are = is.answered.0 ∙ stands.jobs_are;
-            job = met.job;
-            taken = subst (HasTaken jobs t.taken) (whole_more Verifier [] before turn)
-                (taken_by jobs t.taken met.hello ((whole_log Verifier [] before ++ bytes_from Prover (frame_spelling turn.frame)) ++ said Verifier turn.answer)
-                met.takes (begun jobs s t turn.frame (whole_log Verifier [] before) (said Verifier turn.answer) none met));
-            untaken = λ none. absurd (none_is_some (sym none ∙ by.greeted.taken));
-            at = grant_on s t before turn stands.at by;
-          }
-      either (inr by) = record {
-        jobs_are = is.answered.0 ∙ stands.jobs_are;
-        job = by.job ∙ stands.job ∙ ap (noted_job jobs) (sym by.taken);
-        taken = subst (λ (q : Option ℕ × List (Side × ℕ)). HasTaken jobs q.0 q.1)
-            (λ i. (
-              sym by.taken i,
-              (sym (append_assoc (whole_log Verifier [] before) (bytes_from Prover (frame_spelling turn.frame)) (said Verifier turn.answer))
-                  ∙ whole_more Verifier [] before turn) i,
-            ))
-            (taken_on jobs s.taken (whole_log Verifier [] before) (bytes_from Prover (frame_spelling turn.frame) ++ said Verifier turn.answer) stands.taken);
-        untaken = λ none. by.granted ∙ stands.untaken (sym by.taken ∙ none);
-        at = answer_on s t before turn is.place is.expected is.allowed stands.at by;
-      }
+  turn_on s before turn t stands is = elim (subst (λ j. Answers j grants s turn.frame turn.answer t) stands.jobs_are is.answered.1) [
+    | inl by ↦
+        let met = by.greeted.met in
+        let none : whole_log Verifier [] before ≡ [] = subst (λ p. IsLogAt s.core.job p (whole_log Verifier [] before)) met.waits stands.at.log in
+        record {
+          jobs_are = is.answered.0 ∙ stands.jobs_are;
+          job = met.job;
+          taken = subst (HasTaken jobs t.taken) (whole_more Verifier [] before turn)
+              (taken_by jobs t.taken met.hello ((whole_log Verifier [] before ++ bytes_from Prover (frame_spelling turn.frame)) ++ said Verifier turn.answer)
+              met.takes (begun jobs s t turn.frame (whole_log Verifier [] before) (said Verifier turn.answer) none met));
+          untaken = λ none. absurd (none_is_some (sym none ∙ by.greeted.taken));
+          at = grant_on s t before turn stands.at by;
+        }
+    | inr by ↦ record {
+      jobs_are = is.answered.0 ∙ stands.jobs_are;
+      job = by.job ∙ stands.job ∙ ap (noted_job jobs) (sym by.taken);
+      taken = subst (λ (q : Option ℕ × List (Side × ℕ)). HasTaken jobs q.0 q.1)
+          (λ i. (
+            sym by.taken i,
+            (sym (append_assoc (whole_log Verifier [] before) (bytes_from Prover (frame_spelling turn.frame)) (said Verifier turn.answer))
+                ∙ whole_more Verifier [] before turn) i,
+          ))
+          (taken_on jobs s.taken (whole_log Verifier [] before) (bytes_from Prover (frame_spelling turn.frame) ++ said Verifier turn.answer) stands.taken);
+      untaken = λ none. by.granted ∙ stands.untaken (sym by.taken ∙ none);
+      at = answer_on s t before turn is.place is.expected is.allowed stands.at by;
+    }
+  ]
 
   stands : (mid : Served R) (turns : List Turn)
       → Goes (serves grants) (served jobs (record { job = jobs.first; stage = awaits_hello }) None None old) turns mid → IsStanding jobs grants old mid turns
   stands mid turns went =
       goes_keeps (serves grants) (IsStanding jobs grants old) turn_on (served jobs (record { job = jobs.first; stage = awaits_hello }) None None old) mid turns
-      (record { jobs_are = refl; job = refl; taken = tt; untaken = λ none. refl; at = record { log = refl; counts = refl; lease = (refl, refl) } }) went
+      (record {
+        jobs_are = refl;
+        job = refl;
+        taken = tt;
+        untaken = λ none. refl;
+        at = record { log = refl; counts = refl; lease = inl (refl, refl, refl) };
+      }) went
 
 -- ---- where it stops
 
 no_lack_behind : (start : ℕ) (stage : VerifierStage) → IsBehind start stage → lack_code_at stage ≡ None
 no_lack_behind start awaits_hello behind = absurd behind
-no_lack_behind start owes_grant behind = refl
-no_lack_behind start (awaits_asks begun asked) behind = refl
-no_lack_behind start (awaits_corrections begun) behind = refl
-no_lack_behind start (awaits_sums begun d) behind = refl
-no_lack_behind start (awaits_openings begun d both) behind = refl
-no_lack_behind start (has_judged begun judgement) behind = refl
-no_lack_behind start has_refused behind = refl
-
--- ---- where the hello is awaited
-
--- no lease was asked for
-unasked : {R : Type 0} (grants : Grants R) (old grantor : R) → grants.answer old ≡ None → grantor ≡ old → grants.answer grantor ≡ None
-unasked grants old grantor once same = ap grants.answer same ∙ once
-
-module _ {R : Type 0} (jobs : VerifierJobs) (grants : Grants R) (old grantor : R) (once : grants.answer old ≡ None) (before : VerifierJob) (taken : Option ℕ)
-    (turns : List Turn) (new : Served R) (told : VerifierOutcome) (first now : LineState) (at : whole_log Verifier [] turns ≡ []) (counts : answers_sent turns ≡ 0)
-    (same : grantor ≡ old) where
-  abbrev at_hello : Served R
-  at_hello = served jobs (record { job = before; stage = awaits_hello }) taken None grantor
-
-  abbrev job : VerifierJob
-  job = new.core.job
-
-  none_sent : sends_in [] turns ≡ 0
-  none_sent = omega (arith, counts)
-
-  -- units were not asked for
-  course_unmet : grants.answer new.grantor ≡ None → new.granted ≡ None → IsUnmet job told (snapshot_of first) (snapshot_of now)
-      → IsCourse job (grants.answer new.grantor) new.granted told (snapshot_of first) (snapshot_of now)
-  course_unmet answer granted unmet =
-      subst (λ (q : Option (Result Span LeaseFault) × Option Span). IsCourse job q.0 q.1 told (snapshot_of first) (snapshot_of now))
-      (λ i. (sym answer i, sym granted i)) (refl, unmet)
-
-  -- they were leased
-  course_granted : (span : Span) → grants.answer new.grantor ≡ Some (Ok span) → new.granted ≡ Some span → AreUnits job span
-      → LacksTheGrant job span.start told (snapshot_of first) (snapshot_of now)
-      → IsCourse job (grants.answer new.grantor) new.granted told (snapshot_of first) (snapshot_of now)
-  course_granted span answer granted are lacks =
-      subst (λ (q : Option (Result Span LeaseFault) × Option Span). IsCourse job q.0 q.1 told (snapshot_of first) (snapshot_of now))
-      (λ i. (sym answer i, sym granted i)) (refl, record { units = are.units; within = are.within; course = inl lacks })
-
-  hello_missed : (broke : LineFault) → told ≡ line_outcome broke
-      → IsMissing (serves grants) (whole_log Verifier [] turns) (sends_in [] turns) at_hello new broke (ours first) now
-      → IsCourse job (grants.answer new.grantor) new.granted told (snapshot_of first) (snapshot_of now)
-  hello_missed broke told_is missing =
-      course_unmet (ap (λ (s : Served R). grants.answer s.grantor) missing.same ∙ unasked grants old grantor once same)
-      (ap (λ (s : Served R). s.granted) missing.same)
-      (subst (λ o. IsUnmet job o (snapshot_of first) (snapshot_of now)) (sym told_is)
-      (unmet_missing (serves grants) job (whole_log Verifier [] turns) (sends_in [] turns) at_hello new broke first now refl at none_sent missing))
-
-  module _ (place : Expect) (frame : Frame) (heard : LineState) (expected : Some places.Hello ≡ Some place) (allowed : Allows place frame)
-      (passed : HasPassed (whole_log Verifier [] turns ++ bytes_from Prover (frame_spelling frame)) (sends_in [] turns) (ours first) heard) where
-    hello_unmet : (code : Option ℕ) → RefusesHello jobs at_hello frame told code new → TriesRefusal code heard now
-        → IsCourse job (grants.answer new.grantor) new.granted told (snapshot_of first) (snapshot_of now)
-    hello_unmet code by tried =
-        course_unmet (ap grants.answer by.grantor ∙ unasked grants old grantor once same) by.granted
-        (subst (λ o. IsUnmet job o (snapshot_of first) (snapshot_of now)) (sym by.outcome_is)
-        (unmet_refused job place frame by.fault (whole_log Verifier [] turns) (sends_in [] turns) first heard now expected allowed at none_sent passed by.refuses
-        (refusal_tried (hello_code by.fault) heard now passed.side (subst (λ c. TriesRefusal c heard now) by.code_is tried))))
-
-    -- a refusal was tried after the hello
-    refused_grant : (code : ℕ) → Greets job frame → TriesRefusal (Some code) heard now
-        → IsRefusedGrant job code (snapshot_of first) (snapshot_of now)
-    refused_grant code greets tried = record {
-      mid = snapshot_of heard;
-      waiting = waiting_of job owes_grant (whole_log Verifier [] turns ++ bytes_from Prover (frame_spelling frame)) (sends_in [] turns) first heard
-          (hello_logged job (whole_log Verifier [] turns) frame at greets) none_sent passed;
-      refused = refusal_tried code heard now passed.side tried;
-    }
-
-    lease_refused : (code : Option ℕ) → RefusesLease jobs grants at_hello frame told code new → TriesRefusal code heard now
-        → IsCourse job (grants.answer new.grantor) new.granted told (snapshot_of first) (snapshot_of now)
-    lease_refused code by tried =
-        let unleased : IsUnleased job by.fault told (snapshot_of first) (snapshot_of now) = record {
-          named = by.outcome_is;
-          refused = refused_grant (lease_code by.fault) by.greeted.greets (subst (λ c. TriesRefusal c heard now) by.code_is tried);
-        } in
-        subst (λ (q : Option (Result Span LeaseFault) × Option Span). IsCourse job q.0 q.1 told (snapshot_of first) (snapshot_of now))
-        (λ i. (sym by.leased.told i, sym by.granted i)) (refl, unleased)
-
-    grant_lacking : (code : Option ℕ) → LacksGrantFrame jobs grants at_hello frame told code new → TriesRefusal code heard now
-        → IsCourse job (grants.answer new.grantor) new.granted told (snapshot_of first) (snapshot_of now)
-    grant_lacking code by tried =
-        course_granted by.span by.leased.told by.granted by.are
-        (inl (by.outcome_is, refused_grant 4 by.greeted.greets (subst (λ c. TriesRefusal c heard now) by.code_is tried)))
-
-    grant_fails : (answer : List Frame) (broke : LineFault) → told ≡ line_outcome broke → GrantsUnits jobs grants at_hello frame answer new
-        → IsUnsent (Some 4) answer broke heard now → IsCourse job (grants.answer new.grantor) new.granted told (snapshot_of first) (snapshot_of now)
-    grant_fails answer broke told_is by fails = course_granted by.span by.leased.told by.granted by.are (either fails.unsent)
-      where
-        spelled : flat_map frame_spelling answer ≡ grant_frame (granted_from job by.span.start)
-        spelled = ap (flat_map frame_spelling) by.answer_is ∙ append-nil (frame_spelling (grant (granted_from job by.span.start)))
-
-        either : ((broke ≡ fault.NoMemory) × TriesRefusal (Some 4) heard now) ⊎ IsSendRefused (flat_map frame_spelling answer) broke heard now
-            → LacksTheGrant job by.span.start told (snapshot_of first) (snapshot_of now)
-        either (inl lacks) = inl (told_is ∙ ap line_outcome lacks.0, refused_grant 4 by.greeted.greets lacks.1)
-        either (inr refused) = subst (λ o. LacksTheGrant job by.span.start o (snapshot_of first) (snapshot_of now)) (sym told_is)
-            (inr (grant_unsent job by.span.start (whole_log Verifier [] turns ++ bytes_from Prover (frame_spelling frame)) broke first heard now
-            (hello_logged job (whole_log Verifier [] turns) frame at by.greeted.greets)
-            (subst (λ n. HasPassed (whole_log Verifier [] turns ++ bytes_from Prover (frame_spelling frame)) n (ours first) heard) none_sent passed)
-            (subst (λ b. IsSendRefused b broke heard now) spelled refused)))
-
-  course_at_hello : (outcome : Outcome VerifierOutcome) → IsToldAs new.core.stage outcome told
-      → StopsBy (serves grants) [] turns at_hello new outcome (ours first) now
-      → IsCourse job (grants.answer new.grantor) new.granted told (snapshot_of first) (snapshot_of now)
-  course_at_hello Done told_is over =
-      not_expected places.Hello (sym (sym (ap (λ (s : Served R). verifier_expects s.core.job s.core.stage) over.same) ∙ over.expected))
-  course_at_hello (Refused fault) told_is stop = either stop.refused.1
-    where
-      either : RefusesHello jobs at_hello stop.frame fault stop.code new ⊎ RefusesLease jobs grants at_hello stop.frame fault stop.code new
-          ⊎ LacksGrantFrame jobs grants at_hello stop.frame fault stop.code new ⊎ RefusesBehind at_hello stop.frame fault stop.code new
-          → IsCourse job (grants.answer new.grantor) new.granted told (snapshot_of first) (snapshot_of now)
-      either (inl by) = hello_unmet stop.place stop.frame stop.heard stop.expected stop.allowed stop.passed stop.code
-          (subst (λ o. RefusesHello jobs at_hello stop.frame o stop.code new) (sym told_is) by) stop.tried
-      either (inr (inl by)) = lease_refused stop.place stop.frame stop.heard stop.expected stop.allowed stop.passed stop.code
-          (subst (λ o. RefusesLease jobs grants at_hello stop.frame o stop.code new) (sym told_is) by) stop.tried
-      either (inr (inr (inl by))) = grant_lacking stop.place stop.frame stop.heard stop.expected stop.allowed stop.passed stop.code
-          (subst (λ o. LacksGrantFrame jobs grants at_hello stop.frame o stop.code new) (sym told_is) by) stop.tried
-      either (inr (inr (inr by))) = absurd (none_is_some by.behind)
-  course_at_hello (Cut broke) told_is (inl missing) = hello_missed broke told_is missing
-  course_at_hello (Cut broke) told_is (inr (inl stop)) = either stop.is.answered.1
-    where
-      either : GrantsUnits jobs grants at_hello stop.turn.frame stop.turn.answer new ⊎ AnswersBehind at_hello stop.turn.frame stop.turn.answer new
-          → IsCourse job (grants.answer new.grantor) new.granted told (snapshot_of first) (snapshot_of now)
-      either (inl by) = grant_fails stop.is.place stop.turn.frame stop.heard stop.is.expected stop.is.allowed stop.passed stop.turn.answer broke told_is by stop.unsent
-      either (inr by) = absurd (none_is_some by.behind)
-  course_at_hello (Cut broke) told_is (inr (inr stop)) = absurd (omega (arith, stop.unsent.at_least_one))
-
--- ---- where a frame after the grant is awaited
-
-module _ {R : Type 0} (jobs : VerifierJobs) (grants : Grants R) (old grantor : R) (job : VerifierJob) (taken : Option ℕ) (stage : VerifierStage) (span : Span)
-    (turns : List Turn) (new : Served R)
-    (told : VerifierOutcome) (first now : LineState) (at : IsLogAt job stage (whole_log Verifier [] turns)) (counts : answers_sent turns ≡ answers_before job stage)
-    (leased : IsLeased grants old job span stage grantor) where
-  abbrev at_stage : Served R
-  at_stage = served jobs (record { job = job; stage = stage }) taken (Some span) grantor
-
-  all_sent : sends_in [] turns ≡ answers_before job stage
-  all_sent = omega (arith, counts)
-
-  course_behind : new.grantor ≡ grantor → new.granted ≡ Some span
-      → StopsBehind job span.start told (snapshot_of first) (snapshot_of now)
-      ⊎ ((judgement : Judgement) × (told ≡ judgement_outcome judgement) × IsWaiting job (has_judged span.start judgement) (snapshot_of first) (snapshot_of now))
-      → IsCourse job (grants.answer new.grantor) new.granted told (snapshot_of first) (snapshot_of now)
-  course_behind same granted course =
-      subst (λ (q : Option (Result Span LeaseFault) × Option Span). IsCourse job q.0 q.1 told (snapshot_of first) (snapshot_of now))
-      (λ i. (sym (ap grants.answer same ∙ leased.leased.told) i, sym granted i))
-      (refl, record { units = leased.are.units; within = leased.are.within; course = inr course })
-
-  -- it stopped there
-  course_stopped : (place : Expect) → verifier_expects job stage ≡ Some place → new.grantor ≡ grantor → new.granted ≡ Some span
-      → IsStopped job stage told (snapshot_of first) (snapshot_of now)
-      → IsCourse job (grants.answer new.grantor) new.granted told (snapshot_of first) (snapshot_of now)
-  course_stopped place expected same granted stopped =
-      course_behind same granted (inl (record { stage = stage; behind = starts_of job span.start stage place leased.behind expected; stopped = stopped }))
-
-  -- it has judged
-  course_judged : IsToldAs new.core.stage Done told → IsOver (serves grants) (whole_log Verifier [] turns) (sends_in [] turns) at_stage new (ours first) now
-      → IsCourse job (grants.answer new.grantor) new.granted told (snapshot_of first) (snapshot_of now)
-  course_judged told_is over =
-      let none : verifier_expects job stage ≡ None = sym (ap (λ (s : Served R). verifier_expects s.core.job s.core.stage) over.same) ∙ over.expected in
-      let judged = judged_of job span.start stage leased.behind none in
-      let found : told_is.0 ≡ judged.0 = one_judged told_is.0 judged.0 (sym told_is.1 ∙ ap (λ (s : Served R). judgement_at s.core.stage) over.same ∙ ap judgement_at judged.1) in
-      course_behind (ap (λ (s : Served R). s.grantor) over.same) (ap (λ (s : Served R). s.granted) over.same)
-      (inr (
-        judged.0,
-        told_is.2 ∙ ap judgement_outcome found,
-        subst (λ p. IsWaiting job p (snapshot_of first) (snapshot_of now)) judged.1
-            (waiting_of job stage (whole_log Verifier [] turns) (sends_in [] turns) first now at all_sent over.passed),
-      ))
-    where
-      judgement_or : Judgement → Option Judgement → Judgement
-      judgement_or other None = other
-      judgement_or other (Some judgement) = judgement
-
-      one_judged : (some other : Judgement) → Some some ≡ Some other → some ≡ other
-      one_judged some other same = ap (judgement_or some) same
-
-  refused_behind : (fault : VerifierOutcome) → told ≡ fault
-      → (stop : IsRefusal (serves grants) (whole_log Verifier [] turns) (sends_in [] turns) at_stage new fault (ours first) now)
-      → RefusesBehind at_stage stop.frame fault stop.code new
-      → IsCourse job (grants.answer new.grantor) new.granted told (snapshot_of first) (snapshot_of now)
-  refused_behind fault told_is stop by =
-      let still : now ≡ stop.heard = subst (λ c. TriesRefusal c stop.heard now) by.code_is stop.tried in
-      course_stopped stop.place stop.expected by.grantor by.granted
-      (subst (λ (q : VerifierOutcome × LineState). IsStopped job stage q.0 (snapshot_of first) (snapshot_of q.1))
-      (λ i. (sym (told_is ∙ by.outcome_is) i, sym still i))
-      (stops_refused job stage stop.place stop.frame by.fault (whole_log Verifier [] turns) (sends_in [] turns) first stop.heard stop.expected stop.allowed at all_sent
-      stop.passed by.refuses))
-
-  unanswered_behind : (broke : LineFault) → told ≡ line_outcome broke
-      → (stop : IsUnanswered (serves grants) (whole_log Verifier [] turns) (sends_in [] turns) at_stage new broke (ours first) now)
-      → AnswersBehind at_stage stop.turn.frame stop.turn.answer new
-      → IsCourse job (grants.answer new.grantor) new.granted told (snapshot_of first) (snapshot_of now)
-  unanswered_behind broke told_is stop by =
-      course_stopped stop.is.place stop.is.expected by.grantor by.granted
-      (subst (λ o. IsStopped job stage o (snapshot_of first) (snapshot_of now)) (sym told_is) (either stop.unsent.unsent))
-    where
-      either : ((broke ≡ fault.NoMemory) × TriesRefusal (lack_code_at stage) stop.heard now) ⊎ IsSendRefused (flat_map frame_spelling stop.turn.answer) broke stop.heard now
-          → IsStopped job stage (line_outcome broke) (snapshot_of first) (snapshot_of now)
-      either (inl lacks) =
-          let still : now ≡ stop.heard = subst (λ c. TriesRefusal c stop.heard now) (no_lack_behind span.start stage leased.behind) lacks.1 in
-          subst (λ (q : VerifierOutcome × LineState). IsStopped job stage q.0 (snapshot_of first) (snapshot_of q.1))
-          (λ i. (ap line_outcome (sym lacks.0) i, sym still i))
-          (stops_refused job stage stop.is.place stop.turn.frame session.NoMemory (whole_log Verifier [] turns) (sends_in [] turns) first stop.heard stop.is.expected
-          stop.is.allowed at all_sent stop.passed tt)
-      either (inr refused) =
-          stops_unsent job stage new.core.stage stop.is.place stop.turn.frame stop.turn.answer broke (whole_log Verifier [] turns) (sends_in [] turns) first stop.heard now
-          stop.is.expected stop.is.allowed at all_sent stop.passed by.answers stop.unsent.at_least_one refused
-
-  -- units are not leased twice
-  not_again : {A : Type 0} → stage ≡ awaits_hello → A
-  not_again waits = absurd (subst (IsBehind span.start) waits leased.behind)
-
-  course_at_stage : (outcome : Outcome VerifierOutcome) → IsToldAs new.core.stage outcome told
-      → StopsBy (serves grants) [] turns at_stage new outcome (ours first) now
-      → IsCourse job (grants.answer new.grantor) new.granted told (snapshot_of first) (snapshot_of now)
-  course_at_stage Done told_is over = course_judged told_is over
-  course_at_stage (Refused fault) told_is stop = either stop.refused.1
-    where
-      either : RefusesHello jobs at_stage stop.frame fault stop.code new ⊎ RefusesLease jobs grants at_stage stop.frame fault stop.code new
-          ⊎ LacksGrantFrame jobs grants at_stage stop.frame fault stop.code new ⊎ RefusesBehind at_stage stop.frame fault stop.code new
-          → IsCourse job (grants.answer new.grantor) new.granted told (snapshot_of first) (snapshot_of now)
-      either (inl by) = not_again by.met.waits
-      either (inr (inl by)) = not_again by.greeted.met.waits
-      either (inr (inr (inl by))) = not_again by.greeted.met.waits
-      either (inr (inr (inr by))) = refused_behind fault told_is stop by
-  course_at_stage (Cut broke) told_is (inl missing) =
-      course_stopped missing.place missing.expected (ap (λ (s : Served R). s.grantor) missing.same) (ap (λ (s : Served R). s.granted) missing.same)
-      (subst (λ o. IsStopped job stage o (snapshot_of first) (snapshot_of now)) (sym told_is)
-      (stops_without (serves grants) job stage (whole_log Verifier [] turns) (sends_in [] turns) at_stage new broke first now refl at all_sent missing))
-  course_at_stage (Cut broke) told_is (inr (inl stop)) = either stop.is.answered.1
-    where
-      either : GrantsUnits jobs grants at_stage stop.turn.frame stop.turn.answer new ⊎ AnswersBehind at_stage stop.turn.frame stop.turn.answer new
-          → IsCourse job (grants.answer new.grantor) new.granted told (snapshot_of first) (snapshot_of now)
-      either (inl by) = not_again by.greeted.met.waits
-      either (inr by) = unanswered_behind broke told_is stop by
-  course_at_stage (Cut broke) told_is (inr (inr stop)) = absurd (omega (arith, stop.unsent.at_least_one))
+no_lack_behind start other behind = refl
 
 -- ---- what was leased
 
@@ -459,16 +234,15 @@ lease_moved grants count old new (inr some) = subst (λ a. MatchOption a (new �
 
 lease_at : {R : Type 0} (grants : Grants R) (old : R) → grants.answer old ≡ None → (job : VerifierJob) (granted : Option Span) (stage : VerifierStage) (grantor : R)
     → IsLeaseAt grants old job granted stage grantor → IsLeaseTold grants (units_of_job job) old grantor
-lease_at grants old once job None stage grantor lease = inl (lease.1, unasked grants old grantor once lease.1)
-lease_at grants old once job (Some span) stage grantor lease = inr (Ok span, lease.leased)
+lease_at grants old once job granted stage grantor (inl none) = inl (none.2, ap grants.answer none.2 ∙ once)
+lease_at grants old once job granted stage grantor (inr some) = inr (Ok some.0, some.2.leased)
 
 -- where nothing is expected it has judged
 judged_at : {R : Type 0} (grants : Grants R) (old : R) (job : VerifierJob) (granted : Option Span) (stage : VerifierStage) (grantor : R)
-    → IsLeaseAt grants old job granted stage grantor → verifier_expects job stage ≡ None → IsSome (judgement_at stage)
-judged_at grants old job None stage grantor lease none = not_expected places.Hello (sym none ∙ ap (verifier_expects job) lease.0)
-judged_at grants old job (Some span) stage grantor lease none =
-    let judged = judged_of job span.start stage lease.behind none in
-    subst (λ p. IsSome (judgement_at p)) (sym judged.1) refl
+    → IsLeaseAt grants old job granted stage grantor → verifier_expects job stage ≡ None
+    → (span : Span) × (granted ≡ Some span) × ((judgement : Judgement) × (stage ≡ has_judged span.start judgement))
+judged_at grants old job granted stage grantor (inl lease) none = absurd (none_is_some (sym none ∙ ap (verifier_expects job) lease.0))
+judged_at grants old job granted stage grantor (inr some) none = (some.0, some.1, judged_of job some.0.start stage some.2.behind none)
 
 -- ---- what is taken
 
@@ -480,23 +254,16 @@ tried_adds (Some code) heard now (inr refused) = ([], refused.1.logged ∙ sym (
 
 unsent_adds : (code : Option ℕ) (answer : List Frame) (broke : LineFault) (heard now : LineState) → IsUnsent code answer broke heard now
     → (more : List (Side × ℕ)) × (now.log ≡ heard.log ++ more)
-unsent_adds code answer broke heard now unsent = either unsent.unsent
-  where
-    either : ((broke ≡ fault.NoMemory) × TriesRefusal code heard now) ⊎ IsSendRefused (flat_map frame_spelling answer) broke heard now
-        → (more : List (Side × ℕ)) × (now.log ≡ heard.log ++ more)
-    either (inl lacks) = tried_adds code heard now lacks.1
-    either (inr refused) = ([], refused.logged ∙ sym (append-nil heard.log))
+unsent_adds code answer broke heard now unsent = elim unsent.unsent [
+  | inl lacks ↦ tried_adds code heard now lacks.1
+  | inr refused ↦ ([], refused.logged ∙ sym (append-nil heard.log))
+]
 
 -- ---- which statement a hello is taken for
-
-hello_in : Hello → Frame → Hello
-hello_in other (hello said) = said
-hello_in other frame = other
 
 -- one that a core meets is taken for some
 pub taken_number : (jobs : VerifierJobs) (taken : Option ℕ) (said : Hello) (frame : Frame) → TakesHello jobs said taken → frame ≡ hello said
     → Greets (noted_job jobs taken) frame → (n : ℕ) × (taken ≡ Some n)
-unfolding hello_in
 taken_number jobs None said frame takes is greets =
     let one : greets.greeting.hello ≡ said = ap (hello_in said) (sym greets.is ∙ is) in
     absurd (takes 0 (omega arith) (subst (IsHelloOf jobs.first) one greets.greeting.fits))
@@ -504,13 +271,14 @@ taken_number jobs (Some n) said frame takes is greets = (n, refl)
 
 -- so it is greeted
 pub greeted_by : {R : Type 0} (jobs : VerifierJobs) (old new : Served R) (frame : Frame) {met : VerifierJob} → old.core.stage ≡ awaits_hello
-    → ((said : Hello) × (frame ≡ hello said) × TakesHello jobs said new.taken) → new.core.job ≡ noted_job jobs new.taken → new.core.job ≡ met
+    → ((said : Hello) × (frame ≡ hello said) × IsHello said × TakesHello jobs said new.taken) → new.core.job ≡ noted_job jobs new.taken
+    → new.core.job ≡ met
     → Greets met frame → Greeted jobs old frame new
 greeted_by jobs old new frame waits takes job same greets =
     let ours : Greets new.core.job frame = subst (λ j. Greets j frame) (sym same) greets in
-    let number = taken_number jobs new.taken takes.0 frame takes.2 takes.1 (subst (λ j. Greets j frame) job ours) in
+    let number = taken_number jobs new.taken takes.0 frame takes.3 takes.1 (subst (λ j. Greets j frame) job ours) in
     record {
-      met = record { waits = waits; hello = takes.0; is = takes.1; takes = takes.2; job = job };
+      met = record { waits = waits; hello = takes.0; is = takes.1; ranged = takes.2; takes = takes.3; job = job };
       greets = ours;
       number = number.0;
       taken = number.1;
@@ -529,32 +297,24 @@ taken_within jobs (Some n) log has = has.1.within
 
 -- ---- a hello that differs
 
-IsHelloOutcome : VerifierOutcome → Type 0
-IsHelloOutcome (BadHello differs) = Unit {0}
-IsHelloOutcome outcome = ⊥
-
 lease_no_hello : (fault : LeaseFault) (differs : HelloDiffers) → ¬ (lease_outcome fault ≡ BadHello differs)
-unfolding IsHelloOutcome
-lease_no_hello (no_lease.Exhausted at count total) differs is = subst IsHelloOutcome (sym is) tt
-lease_no_hello no_lease.Device differs is = subst IsHelloOutcome (sym is) tt
-lease_no_hello (no_lease.Broken first) differs is = subst IsHelloOutcome (sym is) tt
+lease_no_hello (no_lease.Exhausted at count total) differs is = cc
+lease_no_hello no_lease.Device differs is = cc
+lease_no_hello (no_lease.Broken first) differs is = cc
 
 memory_no_hello : (differs : HelloDiffers) → ¬ (NoMemory ≡ BadHello differs)
-unfolding IsHelloOutcome
-memory_no_hello differs is = subst IsHelloOutcome (sym is) tt
+memory_no_hello differs is = cc
 
 judgement_no_hello : (judgement : Judgement) (differs : HelloDiffers) → ¬ (judgement_outcome judgement ≡ BadHello differs)
-unfolding IsHelloOutcome
-judgement_no_hello judged.Accepted differs is = subst IsHelloOutcome (sym is) tt
-judgement_no_hello (judged.RejectedSum section left right) differs is = subst IsHelloOutcome (sym is) tt
-judgement_no_hello (judged.RejectedOpening output left right) differs is = subst IsHelloOutcome (sym is) tt
+judgement_no_hello judged.Accepted differs is = cc
+judgement_no_hello (judged.RejectedSum section left right) differs is = cc
+judgement_no_hello (judged.RejectedOpening output left right) differs is = cc
 
 line_no_hello : (broke : LineFault) (differs : HelloDiffers) → ¬ (line_outcome broke ≡ BadHello differs)
-unfolding IsHelloOutcome
-line_no_hello (fault.PeerEnded at) differs is = subst IsHelloOutcome (sym is) tt
-line_no_hello (fault.BadFrame place) differs is = subst IsHelloOutcome (sym is) tt
-line_no_hello fault.Link differs is = subst IsHelloOutcome (sym is) tt
-line_no_hello fault.NoMemory differs is = subst IsHelloOutcome (sym is) tt
+line_no_hello (fault.PeerEnded at) differs is = cc
+line_no_hello (fault.BadFrame place) differs is = cc
+line_no_hello fault.Link differs is = cc
+line_no_hello fault.NoMemory differs is = cc
 
 -- after the grant no hello is refused
 behind_no_hello : (job : VerifierJob) (stage : VerifierStage) (frame : Frame) (fault : VerifierFault) (differs : HelloDiffers)
@@ -574,7 +334,6 @@ differs_not_fits job said (hello_differs.Statement want got) by fits =
 for_none : (jobs : VerifierJobs) (job : VerifierJob) (taken : Option ℕ) (said : Hello) (frame : Frame) (fault : VerifierFault) (differs : HelloDiffers)
     → TakesHello jobs said taken → job ≡ noted_job jobs taken → frame ≡ hello said → VerifierRefuses job awaits_hello frame fault
     → session_outcome fault ≡ BadHello differs → (taken ≡ None) × IsForNone jobs said
-unfolding hello_in
 for_none jobs job taken said frame session.NoMemory differs takes job_is is refuses named = absurd (memory_no_hello differs named)
 for_none jobs job None said frame (session.BadHello other) differs takes job_is is refuses named = (refl, takes)
 for_none jobs job (Some n) said frame (session.BadHello other) differs takes job_is is refuses named =
@@ -582,208 +341,299 @@ for_none jobs job (Some n) said frame (session.BadHello other) differs takes job
     absurd (differs_not_fits job refuses.0 other refuses.3
     (subst (λ (q : VerifierJob × Hello). IsHelloOf q.0 q.1) (λ i. (sym job_is i, one i)) takes.fits))
 
--- ---- all together
+-- ---- what is noted in the end
 
 module _ {R : Type 0} (jobs : VerifierJobs) (grants : Grants R) (old : R) (once : grants.answer old ≡ None) (law : RepliesAreInRange)
     (new : Served R) (outcome : Outcome VerifierOutcome) (first now : LineState) (side : first.side ≡ Verifier)
     (run : IsRun (serves grants) [] (served jobs (record { job = jobs.first; stage = awaits_hello }) None None old) new outcome first now) where
-  course_from : (mid : VerifierJob) (taken : Option ℕ) (stage : VerifierStage) (granted : Option Span) (grantor : R) (turns : List Turn) (told : VerifierOutcome)
-      → IsAt grants old mid stage granted grantor turns → IsToldAs new.core.stage outcome told
-      → StopsBy (serves grants) [] turns (served run.mid.jobs (record { job = mid; stage = stage }) taken granted grantor) new outcome (ours first) now
-      → (granted ≢ None → new.core.job ≡ mid)
-      → IsCourse new.core.job (grants.answer new.grantor) new.granted told (snapshot_of first) (snapshot_of now)
-  course_from mid taken stage None grantor turns told at told_is stops behind =
-      let waits = at.lease.0 in
-      course_at_hello run.mid.jobs grants old grantor once mid taken turns new told first now (subst (λ p. IsLogAt mid p (whole_log Verifier [] turns)) waits at.log)
-      (at.counts ∙ ap (answers_before mid) waits) at.lease.1 outcome told_is
-      (subst (λ p. StopsBy (serves grants) [] turns (served run.mid.jobs (record { job = mid; stage = p }) taken None grantor) new outcome (ours first) now) waits stops)
-  course_from mid taken stage (Some span) grantor turns told at told_is stops behind =
-      subst (λ (j : VerifierJob). IsCourse j (grants.answer new.grantor) new.granted told (snapshot_of first) (snapshot_of now)) (sym (behind some_is_none))
-      (course_at_stage run.mid.jobs grants old grantor mid taken stage span turns new told first now at.log at.counts at.lease outcome told_is stops)
-    where
-      some_is_none : Some span ≢ None
-      some_is_none is = none_is_some (sym is)
-
-  stood : IsStanding jobs grants old run.mid run.turns
-  stood = stands jobs grants old law run.mid run.turns run.went
+  abbrev mid : Served R
+  mid = run.mid
 
   abbrev passed : List (Side × ℕ)
   passed = whole_log Verifier [] run.turns
 
-  stopped : StopsBy (serves grants) [] run.turns run.mid new outcome (ours first) now
-  stopped = subst (λ (f : LineState). StopsBy (serves grants) [] run.turns run.mid new outcome f now) (λ i. record first { side = side i }) run.stops
+  abbrev sent : ℕ
+  sent = sends_in [] run.turns
 
-  -- nothing is logged where the hello was awaited, and no units were leased
-  none_passed : run.mid.core.stage ≡ awaits_hello → passed ≡ []
-  none_passed waits = subst (λ p. IsLogAt run.mid.core.job p passed) waits stood.at.log
+  stood : IsStanding jobs grants old mid run.turns
+  stood = stands jobs grants old law mid run.turns run.went
 
-  none_leased : run.mid.core.stage ≡ awaits_hello → run.mid.grantor ≡ old
-  none_leased waits = unleased grants old run.mid.core.job run.mid.granted run.mid.core.stage run.mid.grantor waits stood.at.lease
+  stopped : StopsBy (serves grants) [] run.turns mid new outcome (ours first) now
+  stopped = subst (λ (f : LineState). StopsBy (serves grants) [] run.turns mid new outcome f now) (λ i. record first { side = side i }) run.stops
 
-  not_granted : run.mid.core.stage ≡ awaits_hello → run.mid.granted ≡ None
-  not_granted waits = by_lease run.mid.granted stood.at.lease
-    where
-      by_lease : (granted : Option Span) → IsLeaseAt grants old run.mid.core.job granted run.mid.core.stage run.mid.grantor → granted ≡ None
-      by_lease None lease = refl
-      by_lease (Some span) lease = absurd (subst (IsBehind span.start) waits lease.behind)
+  all_sent : sent ≡ answers_before mid.core.job mid.core.stage
+  all_sent = omega (arith, stood.at.counts)
 
-  -- the units that were asked for, at a moment between turns
-  lease_of : (s : Served R) (turns : List Turn) → IsStanding jobs grants old s turns → IsLeaseTold grants (units_of_job s.core.job) old s.grantor
-  lease_of s turns stands = lease_at grants old once s.core.job s.granted s.core.stage s.grantor stands.at.lease
+  abbrev IsCourseOf : VerifierJob → VerifierOutcome → Type 0
+  IsCourseOf job told = IsCourse job (grants.answer new.grantor) new.granted told (snapshot_of first) (snapshot_of now)
 
-  -- ---- what is noted at the end
+  -- by what was answered, and what was granted
+  course_by : (job : VerifierJob) (answer : Option (Result Span LeaseFault)) (granted : Option Span) (told : VerifierOutcome)
+      → grants.answer new.grantor ≡ answer → new.granted ≡ granted → IsCourse job answer granted told (snapshot_of first) (snapshot_of now)
+      → IsCourseOf job told
+  course_by job answer granted told answered is course =
+      subst (λ (q : Option (Result Span LeaseFault) × Option Span). IsCourse job q.0 q.1 told (snapshot_of first) (snapshot_of now))
+      (λ i. (sym answered i, sym is i)) course
 
-  -- Its job is that of the statement that it took, which the log begins by, and is as it was where units were leased before. What was
-  -- leased is for that job; and where no statement was taken, no units were asked for.
-  record IsNoted : Type 0 where
-    pub job : new.core.job ≡ noted_job jobs new.taken
-    pub taken : HasTaken jobs new.taken now.log
-    pub behind : run.mid.granted ≢ None → new.core.job ≡ run.mid.core.job
-    pub lease : IsLeaseTold grants (units_of_job new.core.job) old new.grantor
-    pub none : new.taken ≡ None → grants.answer new.grantor ≡ None
+  -- which statement was taken, which units were asked for, and the course of the session
+  pub record IsNoted (told : VerifierOutcome) : Type 0 where
+    pub statement : TakesStatement jobs new.taken (grants.answer new.grantor) told now.log
+    pub lease : IsLeaseTold grants (units_of_job (noted_job jobs new.taken)) old new.grantor
+    pub course : IsCourseOf (noted_job jobs new.taken) told
 
-  -- where it is as it was
-  same_noted : (more : List (Side × ℕ)) → new ≡ run.mid → now.log ≡ passed ++ more → IsNoted
-  same_noted more same log = record {
-    job = subst (λ (s : Served R). s.core.job ≡ noted_job jobs s.taken) (sym same) stood.job;
-    taken = subst (λ (q : Served R × List (Side × ℕ)). HasTaken jobs q.0.taken q.1) (λ i. (sym same i, sym log i))
-        (taken_on jobs run.mid.taken passed more stood.taken);
-    behind = λ _. ap (λ (s : Served R). s.core.job) same;
-    lease = subst (λ (s : Served R). IsLeaseTold grants (units_of_job s.core.job) old s.grantor) (sym same) (lease_of run.mid run.turns stood);
-    none = λ none. ap (λ (s : Served R). grants.answer s.grantor) same ∙ unasked_at run.mid.granted stood.at.lease (stood.untaken (sym (ap (λ (s : Served R). s.taken) same) ∙ none));
+  -- ---- where no hello was taken
+
+  -- what it took, and whom it asked, is as it was
+  still_noted : (told : VerifierOutcome) (more : List (Side × ℕ)) → new.taken ≡ mid.taken → new.grantor ≡ mid.grantor → now.log ≡ passed ++ more
+      → ((differs : HelloDiffers) → ¬ (told ≡ BadHello differs)) → IsCourseOf mid.core.job told → IsNoted told
+  still_noted told more taken grantor log unlike course = record {
+    statement = record {
+      has = subst (λ (q : Option ℕ × List (Side × ℕ)). HasTaken jobs q.0 q.1) (λ i. (sym taken i, sym log i))
+          (taken_on jobs mid.taken passed more stood.taken);
+      none = λ none. elim stood.at.lease [
+        | inl lease ↦ ap grants.answer (grantor ∙ lease.2) ∙ once
+        | inr some ↦ absurd (none_is_some (sym (stood.untaken (sym taken ∙ none)) ∙ some.1))
+      ];
+      differs = λ differs is. absurd (unlike differs is);
+    };
+    lease = subst (λ (q : VerifierJob × R). IsLeaseTold grants (units_of_job q.0) old q.1) (λ i. (noted i, sym grantor i))
+        (lease_at grants old once mid.core.job mid.granted mid.core.stage mid.grantor stood.at.lease);
+    course = subst (λ j. IsCourseOf j told) noted course;
   }
     where
-      unasked_at : (granted : Option Span) → IsLeaseAt grants old run.mid.core.job granted run.mid.core.stage run.mid.grantor → granted ≡ None
-          → grants.answer run.mid.grantor ≡ None
-      unasked_at None lease none = unasked grants old run.mid.grantor once lease.1
-      unasked_at (Some span) lease none = absurd (none_is_some (sym none))
+      noted : mid.core.job ≡ noted_job jobs new.taken
+      noted = stood.job ∙ ap (noted_job jobs) (sym taken)
 
-  -- where it has the same job and statement after the grant
-  behind_noted : (more : List (Side × ℕ)) (span : Span) → run.mid.granted ≡ Some span → new.core.job ≡ run.mid.core.job → new.taken ≡ run.mid.taken
-      → new.grantor ≡ run.mid.grantor → now.log ≡ passed ++ more → IsNoted
-  behind_noted more span behind job taken grantor log = record {
-    job = job ∙ stood.job ∙ ap (noted_job jobs) (sym taken);
-    taken = subst (λ (q : Option ℕ × List (Side × ℕ)). HasTaken jobs q.0 q.1) (λ i. (sym taken i, sym log i))
-        (taken_on jobs run.mid.taken passed more stood.taken);
-    behind = λ _. job;
-    lease = subst (λ (q : VerifierJob × R). IsLeaseTold grants (units_of_job q.0) old q.1) (λ i. (sym job i, sym grantor i))
-        (lease_of run.mid run.turns stood);
-    none = λ none. absurd (none_is_some (sym (stood.untaken (sym taken ∙ none)) ∙ behind));
-  }
+  -- after the grant
+  module _ (span : Span) (behind : mid.granted ≡ Some span) (grantor : new.grantor ≡ mid.grantor) (granted : new.granted ≡ mid.granted) where
+    leased : IsLeased grants old mid.core.job span mid.core.stage mid.grantor
+    leased = leased_as grants old mid.core.job mid.granted span mid.core.stage mid.grantor behind stood.at.lease
 
-  -- where a hello was met, or not
-  module _ (frame : Frame) (met : Met jobs run.mid frame new) (heard : LineState) (more : List (Side × ℕ))
-      (came : heard.log ≡ passed ++ bytes_from Prover (frame_spelling frame)) (log : now.log ≡ heard.log ++ more) where
-    begins : BeginsByHello met.hello now.log
-    begins = subst (BeginsByHello met.hello) (sym (log ∙ ap (λ l. l ++ more) came)) (begun jobs run.mid new frame passed more (none_passed met.waits) met)
+    course_behind : (told : VerifierOutcome) → StopsBehind mid.core.job span.start told (snapshot_of first) (snapshot_of now)
+        ⊎ ((judgement : Judgement) × (told ≡ judgement_outcome judgement) × IsWaiting mid.core.job (has_judged span.start judgement)
+        (snapshot_of first) (snapshot_of now))
+        → IsCourseOf mid.core.job told
+    course_behind told course =
+        course_by mid.core.job (Some (Ok span)) (Some span) told (ap grants.answer grantor ∙ leased.leased.told) (granted ∙ behind)
+        (refl, record { units = leased.are.units; within = leased.are.within; course = inr course })
 
-    met_noted : IsLeaseTold grants (units_of_job new.core.job) old new.grantor → (new.taken ≡ None → grants.answer new.grantor ≡ None) → IsNoted
-    met_noted lease none = record {
-      job = met.job;
-      taken = taken_by jobs new.taken met.hello now.log met.takes begins;
-      behind = λ some. absurd (some (not_granted met.waits));
-      lease = lease;
-      none = none;
-    }
+    course_stopped : (told : VerifierOutcome) → IsStopped mid.core.job mid.core.stage told (snapshot_of first) (snapshot_of now)
+        → IsCourseOf mid.core.job told
+    course_stopped told stop = course_behind told (inl (record { stage = mid.core.stage; behind = leased.behind; stopped = stop }))
 
-    -- units were asked for
-    asked_noted : (answer : Result Span LeaseFault) (number : ℕ) → Leases grants (units_of_job new.core.job) answer run.mid.grantor new.grantor
-        → new.taken ≡ Some number → IsNoted
-    asked_noted answer number leased taken = met_noted
-        (inr (answer, subst (λ r. Leases grants (units_of_job new.core.job) answer r new.grantor) (none_leased met.waits) leased))
-        (λ none. absurd (none_is_some (sym none ∙ taken)))
+  over : (told : VerifierOutcome) → IsToldAs new.core.stage Done told → IsOver (serves grants) passed sent mid new (ours first) now → IsNoted told
+  over told told_is is =
+      let grantor = ap (λ (s : Served R). s.grantor) is.same in
+      let judged = judged_at grants old mid.core.job mid.granted mid.core.stage mid.grantor stood.at.lease
+      (sym (ap (λ (s : Served R). verifier_expects s.core.job s.core.stage) is.same) ∙ is.expected) in
+      let judgement = judged.2.0 in
+      let found : told_is.0 ≡ judgement = same_Some told_is.0 judgement
+      (sym told_is.1 ∙ ap (λ (s : Served R). judgement_at s.core.stage) is.same ∙ ap judgement_at judged.2.1) in
+      still_noted told [] (ap (λ (s : Served R). s.taken) is.same) grantor (is.passed.logged ∙ sym (append-nil passed))
+      (λ differs named. judgement_no_hello told_is.0 differs (sym told_is.2 ∙ named))
+      (course_behind judged.0 judged.1 grantor (ap (λ (s : Served R). s.granted) is.same) told (inr (
+        judgement,
+        told_is.2 ∙ ap judgement_outcome found,
+        subst (λ p. IsWaiting mid.core.job p (snapshot_of first) (snapshot_of now)) judged.2.1
+            (waiting_of mid.core.job mid.core.stage passed sent first now stood.at.log all_sent is.passed),
+      )))
 
-    -- they were not
-    unmet_noted : new.grantor ≡ run.mid.grantor → IsNoted
-    unmet_noted same =
-        let still = same ∙ none_leased met.waits in
-        met_noted (inl (still, unasked grants old new.grantor once still)) (λ none. unasked grants old new.grantor once still)
+  missed : (broke : LineFault) → IsMissing (serves grants) passed sent mid new broke (ours first) now → IsNoted (line_outcome broke)
+  missed broke missing =
+      let grantor = ap (λ (s : Served R). s.grantor) missing.same in
+      let granted = ap (λ (s : Served R). s.granted) missing.same in
+      still_noted (line_outcome broke) (bytes_from Prover missing.rest) (ap (λ (s : Served R). s.taken) missing.same) grantor missing.logged
+      (line_no_hello broke) (elim stood.at.lease [
+        | inl none ↦ course_by mid.core.job None None (line_outcome broke) (ap grants.answer (grantor ∙ none.2) ∙ once) (granted ∙ none.1) (
+          refl,
+          unmet_missing (serves grants) mid.core.job passed sent mid new broke first now (ap (verifier_expects mid.core.job) none.0)
+              (subst (λ p. IsLogAt mid.core.job p passed) none.0 stood.at.log) (all_sent ∙ ap (answers_before mid.core.job) none.0) missing,
+        )
+        | inr some ↦ course_stopped some.0 some.1 grantor granted (line_outcome broke)
+            (stops_without (serves grants) mid.core.job mid.core.stage passed sent mid new broke first now refl stood.at.log all_sent missing)
+      ])
 
-  noted : IsNoted
-  noted = by_outcome outcome stopped
+  refused_behind : (fault : VerifierOutcome) (stop : IsRefusal (serves grants) passed sent mid new fault (ours first) now)
+      → RefusesBehind mid stop.frame fault stop.code new → IsNoted fault
+  refused_behind fault stop by =
+      let still : now ≡ stop.heard = subst (λ c. TriesRefusal c stop.heard now) by.code_is stop.tried in
+      still_noted fault (bytes_from Prover (frame_spelling stop.frame)) by.taken by.grantor (ap (λ (l : LineState). l.log) still ∙ stop.passed.logged)
+      (λ differs is. behind_no_hello mid.core.job mid.core.stage stop.frame by.fault differs by.refuses (sym by.outcome_is ∙ is)
+      (λ waits. subst (IsBehind by.span.start) waits (leased by.span by.behind by.grantor by.granted).behind))
+      (course_stopped by.span by.behind by.grantor by.granted fault
+      (subst (λ (q : VerifierOutcome × LineState). IsStopped mid.core.job mid.core.stage q.0 (snapshot_of first) (snapshot_of q.1))
+      (λ i. (sym by.outcome_is i, sym still i))
+      (stops_refused mid.core.job mid.core.stage stop.place stop.frame by.fault passed sent first stop.heard stop.expected stop.allowed
+      stood.at.log all_sent stop.passed by.refuses)))
+
+  unanswered_behind : (broke : LineFault) (stop : IsUnanswered (serves grants) passed sent mid new broke (ours first) now)
+      → AnswersBehind mid stop.turn.frame stop.turn.answer new → IsNoted (line_outcome broke)
+  unanswered_behind broke stop by = elim stop.unsent.unsent [
+    | inl lacks ↦
+        let still : now ≡ stop.heard = subst (λ c. TriesRefusal c stop.heard now)
+        (no_lack_behind by.span.start mid.core.stage (leased by.span by.behind by.grantor by.granted).behind) lacks.1 in
+        noted_at (ap (λ (l : LineState). l.log) still)
+        (subst (λ (q : VerifierOutcome × LineState). IsStopped mid.core.job mid.core.stage q.0 (snapshot_of first) (snapshot_of q.1))
+        (λ i. (ap line_outcome (sym lacks.0) i, sym still i))
+        (stops_refused mid.core.job mid.core.stage stop.is.place stop.turn.frame session.NoMemory passed sent first stop.heard stop.is.expected
+        stop.is.allowed stood.at.log all_sent stop.passed tt))
+    | inr refused ↦ noted_at refused.logged
+        (stops_unsent mid.core.job mid.core.stage new.core.stage stop.is.place stop.turn.frame stop.turn.answer broke passed sent first stop.heard now
+        stop.is.expected stop.is.allowed stood.at.log all_sent stop.passed by.answers stop.unsent.at_least_one refused)
+  ]
     where
-      refused : (fault : VerifierOutcome) → IsRefusal (serves grants) passed (sends_in [] run.turns) run.mid new fault (ours first) now → IsNoted
-      refused fault stop = either (subst (λ j. Refuses j grants run.mid stop.frame fault stop.code new) stood.jobs_are stop.refused.1)
-        where
-          adds : (more : List (Side × ℕ)) × (now.log ≡ stop.heard.log ++ more)
-          adds = tried_adds stop.code stop.heard now stop.tried
+      noted_at : now.log ≡ stop.heard.log → IsStopped mid.core.job mid.core.stage (line_outcome broke) (snapshot_of first) (snapshot_of now)
+          → IsNoted (line_outcome broke)
+      noted_at log stopped_so = still_noted (line_outcome broke) (bytes_from Prover (frame_spelling stop.turn.frame)) by.taken by.grantor
+          (log ∙ stop.passed.logged)
+          (line_no_hello broke)
+          (course_stopped by.span by.behind by.grantor by.granted (line_outcome broke) stopped_so)
 
-          either : RefusesHello jobs run.mid stop.frame fault stop.code new ⊎ RefusesLease jobs grants run.mid stop.frame fault stop.code new
-              ⊎ LacksGrantFrame jobs grants run.mid stop.frame fault stop.code new ⊎ RefusesBehind run.mid stop.frame fault stop.code new → IsNoted
-          either (inl by) = unmet_noted stop.frame by.met stop.heard adds.0 stop.passed.logged adds.1 by.grantor
-          either (inr (inl by)) =
-              asked_noted stop.frame by.greeted.met stop.heard adds.0 stop.passed.logged adds.1 (Err by.fault) by.greeted.number by.leased by.greeted.taken
-          either (inr (inr (inl by))) =
-              asked_noted stop.frame by.greeted.met stop.heard adds.0 stop.passed.logged adds.1 (Ok by.span) by.greeted.number by.leased by.greeted.taken
-          either (inr (inr (inr by))) = behind_noted (bytes_from Prover (frame_spelling stop.frame) ++ adds.0) by.span by.behind by.job by.taken by.grantor
-              (adds.1 ∙ ap (λ l. l ++ adds.0) stop.passed.logged ∙ append_assoc passed (bytes_from Prover (frame_spelling stop.frame)) adds.0)
+  -- ---- where a hello was taken
 
-      unanswered : (broke : LineFault) → IsUnanswered (serves grants) passed (sends_in [] run.turns) run.mid new broke (ours first) now → IsNoted
-      unanswered broke stop = either (subst (λ j. Answers j grants run.mid stop.turn.frame stop.turn.answer new) stood.jobs_are stop.is.answered.1)
-        where
-          adds : (more : List (Side × ℕ)) × (now.log ≡ stop.heard.log ++ more)
-          adds = unsent_adds (lack_code_at run.mid.core.stage) stop.turn.answer broke stop.heard now stop.unsent
+  module _ (place : Expect) (frame : Frame) (heard : LineState) (expected : verifier_expects mid.core.job mid.core.stage ≡ Some place)
+      (allowed : Allows place frame)
+      (came : HasPassed (passed ++ bytes_from Prover (frame_spelling frame)) sent (ours first) heard) where
+    module _ (met : Met jobs mid frame new) where
+      none_passed : passed ≡ []
+      none_passed = subst (λ p. IsLogAt mid.core.job p passed) met.waits stood.at.log
 
-          either : GrantsUnits jobs grants run.mid stop.turn.frame stop.turn.answer new ⊎ AnswersBehind run.mid stop.turn.frame stop.turn.answer new → IsNoted
-          either (inl by) =
-              asked_noted stop.turn.frame by.greeted.met stop.heard adds.0 stop.passed.logged adds.1 (Ok by.span) by.greeted.number by.leased by.greeted.taken
-          either (inr by) = behind_noted (bytes_from Prover (frame_spelling stop.turn.frame) ++ adds.0) by.span by.behind by.job by.taken by.grantor
-              (adds.1 ∙ ap (λ l. l ++ adds.0) stop.passed.logged ∙ append_assoc passed (bytes_from Prover (frame_spelling stop.turn.frame)) adds.0)
+      none_sent : sent ≡ 0
+      none_sent = all_sent ∙ ap (answers_before mid.core.job) met.waits
 
-      by_outcome : (o : Outcome VerifierOutcome) → StopsBy (serves grants) [] run.turns run.mid new o (ours first) now → IsNoted
-      by_outcome Done over = same_noted [] over.same (over.passed.logged ∙ sym (append-nil passed))
-      by_outcome (Refused fault) stop = refused fault stop
-      by_outcome (Cut broke) (inl missing) = same_noted (bytes_from Prover missing.rest) missing.same missing.logged
-      by_outcome (Cut broke) (inr (inl stop)) = unanswered broke stop
-      by_outcome (Cut broke) (inr (inr stop)) = absurd (omega (arith, stop.unsent.at_least_one))
+      none_leased : (mid.granted ≡ None) × (mid.grantor ≡ old)
+      none_leased = unleased grants old mid.core.job mid.granted mid.core.stage mid.grantor met.waits stood.at.lease
 
-  pub is_course : (told : VerifierOutcome) → IsToldAs new.core.stage outcome told
-      → IsCourse (noted_job jobs new.taken) (grants.answer new.grantor) new.granted told (snapshot_of first) (snapshot_of now)
-  is_course told told_is =
-      subst (λ j. IsCourse j (grants.answer new.grantor) new.granted told (snapshot_of first) (snapshot_of now)) noted.job
-      (course_from run.mid.core.job run.mid.taken run.mid.core.stage run.mid.granted run.mid.grantor run.turns told stood.at told_is stopped noted.behind)
+      met_noted : (told : VerifierOutcome) → (more : List (Side × ℕ)) × (now.log ≡ heard.log ++ more)
+          → IsLeaseTold grants (units_of_job new.core.job) old new.grantor
+          → (new.taken ≡ None → grants.answer new.grantor ≡ None)
+          → ((differs : HelloDiffers) → told ≡ BadHello differs → (new.taken ≡ None) × IsForNone jobs met.hello) → IsCourseOf new.core.job told
+          → IsNoted told
+      met_noted told adds lease none unlike course =
+          let begins : BeginsByHello met.hello now.log =
+          subst (BeginsByHello met.hello) (sym (adds.1 ∙ ap (λ l. l ++ adds.0) came.logged))
+          (begun jobs mid new frame passed adds.0 none_passed met) in
+          record {
+            statement = record {
+              has = taken_by jobs new.taken met.hello now.log met.takes begins;
+              none = none;
+              differs = λ differs is. let for_none = unlike differs is in (for_none.0, (met.hello, for_none.1, begins));
+            };
+            lease = subst (λ j. IsLeaseTold grants (units_of_job j) old new.grantor) met.job lease;
+            course = subst (λ j. IsCourseOf j told) met.job course;
+          }
 
-  pub lease_told : IsLeaseTold grants (units_of_job (noted_job jobs new.taken)) old new.grantor
-  lease_told = subst (λ j. IsLeaseTold grants (units_of_job j) old new.grantor) noted.job noted.lease
+    module _ (greeted : Greeted jobs mid frame new) where
+      -- units were asked for
+      asked_noted : (told : VerifierOutcome) (answer : Result Span LeaseFault) → (more : List (Side × ℕ)) × (now.log ≡ heard.log ++ more)
+          → Leases grants (units_of_job new.core.job) answer mid.grantor new.grantor → ((differs : HelloDiffers) → ¬ (told ≡ BadHello differs))
+          → IsCourseOf new.core.job told → IsNoted told
+      asked_noted told answer adds leases unlike course =
+          met_noted greeted.met told adds
+          (inr (answer, subst (λ r. Leases grants (units_of_job new.core.job) answer r new.grantor) (none_leased greeted.met).1 leases))
+          (λ none. absurd (none_is_some (sym none ∙ greeted.taken))) (λ differs is. absurd (unlike differs is)) course
+
+      -- a refusal was tried after the hello
+      refused_grant : (code : ℕ) → TriesRefusal (Some code) heard now → IsRefusedGrant new.core.job code (snapshot_of first) (snapshot_of now)
+      refused_grant code tried = record {
+        mid = snapshot_of heard;
+        waiting = waiting_of new.core.job owes_grant (passed ++ bytes_from Prover (frame_spelling frame)) sent first heard
+            (hello_logged new.core.job passed frame (none_passed greeted.met) greeted.greets) (none_sent greeted.met) came;
+        refused = refusal_tried code heard now came.side tried;
+      }
+
+      -- units were leased, but the grant did not go out
+      lacks_noted : (told : VerifierOutcome) (span : Span) → (more : List (Side × ℕ)) × (now.log ≡ heard.log ++ more)
+          → Leases grants (units_of_job new.core.job) (Ok span) mid.grantor new.grantor → new.granted ≡ Some span → AreUnits new.core.job span
+          → ((differs : HelloDiffers) → ¬ (told ≡ BadHello differs))
+          → LacksTheGrant new.core.job span.start told (snapshot_of first) (snapshot_of now) → IsNoted told
+      lacks_noted told span adds leases granted are unlike lacks = asked_noted told (Ok span) adds leases unlike
+          (course_by new.core.job (Some (Ok span)) (Some span) told leases.told granted
+          (refl, record { units = are.units; within = are.within; course = inl lacks }))
+
+    hello_noted : (told : VerifierOutcome) (code : Option ℕ) → RefusesHello jobs mid frame told code new → TriesRefusal code heard now → IsNoted told
+    hello_noted told code by tried =
+        let none = none_leased by.met in
+        let unasked = ap grants.answer (by.grantor ∙ none.1) ∙ once in
+        met_noted by.met told (tried_adds code heard now tried) (inl (by.grantor ∙ none.1, unasked)) (λ _. unasked)
+        (λ differs is. for_none jobs new.core.job new.taken by.met.hello frame by.fault differs by.met.takes by.met.job by.met.is by.refuses
+        (sym by.outcome_is ∙ is))
+        (course_by new.core.job None None told unasked (by.granted ∙ none.0) (
+          refl,
+          subst (λ o. IsUnmet new.core.job o (snapshot_of first) (snapshot_of now)) (sym by.outcome_is)
+              (unmet_refused new.core.job place frame by.fault passed sent first heard now
+              (sym (ap (verifier_expects mid.core.job) by.met.waits) ∙ expected) allowed
+              (none_passed by.met) (none_sent by.met) came by.refuses
+              (refusal_tried (hello_code by.fault) heard now came.side (subst (λ c. TriesRefusal c heard now) by.code_is tried))),
+        ))
+
+    lease_noted : (told : VerifierOutcome) (code : Option ℕ) → RefusesLease jobs grants mid frame told code new → TriesRefusal code heard now
+        → IsNoted told
+    lease_noted told code by tried =
+        asked_noted by.greeted told (Err by.fault) (tried_adds code heard now tried) by.leased
+        (λ differs is. lease_no_hello by.fault differs (sym by.outcome_is ∙ is))
+        (course_by new.core.job (Some (Err by.fault)) None told by.leased.told (by.granted ∙ (none_leased by.greeted.met).0) (
+          refl,
+          record {
+            named = by.outcome_is;
+            refused = refused_grant by.greeted (lease_code by.fault) (subst (λ c. TriesRefusal c heard now) by.code_is tried);
+          },
+        ))
+
+    lacking_noted : (told : VerifierOutcome) (code : Option ℕ) → LacksGrantFrame jobs grants mid frame told code new → TriesRefusal code heard now
+        → IsNoted told
+    lacking_noted told code by tried =
+        lacks_noted by.greeted told by.span (tried_adds code heard now tried) by.leased by.granted by.are
+        (λ differs is. memory_no_hello differs (sym by.outcome_is ∙ is))
+        (inl (by.outcome_is, refused_grant by.greeted 4 (subst (λ c. TriesRefusal c heard now) by.code_is tried)))
+
+    unsent_noted : (answer : List Frame) (broke : LineFault) → GrantsUnits jobs grants mid frame answer new
+        → IsUnsent (Some 4) answer broke heard now → IsNoted (line_outcome broke)
+    unsent_noted answer broke by fails =
+        let job = new.core.job in
+        let grant_spelled = grant_frame (granted_from job by.span.start) in
+        let spelled : flat_map frame_spelling answer ≡ grant_spelled = ap (flat_map frame_spelling) by.answer_is ∙ append-nil grant_spelled in
+        lacks_noted by.greeted (line_outcome broke) by.span (unsent_adds (Some 4) answer broke heard now fails) by.leased by.granted by.are
+        (line_no_hello broke) (elim fails.unsent [
+          | inl lacks ↦ inl (ap line_outcome lacks.0, refused_grant by.greeted 4 lacks.1)
+          | inr refused ↦ inr (grant_unsent job by.span.start (passed ++ bytes_from Prover (frame_spelling frame)) broke first heard now
+              (hello_logged job passed frame (none_passed by.greeted.met) by.greeted.greets)
+              (subst (λ n. HasPassed (passed ++ bytes_from Prover (frame_spelling frame)) n (ours first) heard) (none_sent by.greeted.met) came)
+              (subst (λ b. IsSendRefused b broke heard now) spelled refused))
+        ])
+
+  -- ---- all together
+
+  pub noted : (told : VerifierOutcome) → IsToldAs new.core.stage outcome told → IsNoted told
+  noted told told_is = by_outcome outcome told_is stopped
+    where
+      refused : (fault : VerifierOutcome) → IsRefusal (serves grants) passed sent mid new fault (ours first) now → IsNoted fault
+      refused fault stop = elim (subst (λ j. Refuses j grants mid stop.frame fault stop.code new) stood.jobs_are stop.refused.1) [
+        | inl by ↦ hello_noted stop.place stop.frame stop.heard stop.expected stop.allowed stop.passed fault stop.code by stop.tried
+        | inr (inl by) ↦ lease_noted stop.place stop.frame stop.heard stop.expected stop.allowed stop.passed fault stop.code by stop.tried
+        | inr (inr (inl by)) ↦ lacking_noted stop.place stop.frame stop.heard stop.expected stop.allowed stop.passed fault stop.code by stop.tried
+        | inr (inr (inr by)) ↦ refused_behind fault stop by
+      ]
+
+      unanswered : (broke : LineFault) → IsUnanswered (serves grants) passed sent mid new broke (ours first) now → IsNoted (line_outcome broke)
+      unanswered broke stop = elim (subst (λ j. Answers j grants mid stop.turn.frame stop.turn.answer new) stood.jobs_are stop.is.answered.1) [
+        | inl by ↦ unsent_noted stop.is.place stop.turn.frame stop.heard stop.is.expected stop.is.allowed stop.passed stop.turn.answer broke by
+            (subst (λ p. IsUnsent (lack_code_at p) stop.turn.answer broke stop.heard now) by.greeted.met.waits stop.unsent)
+        | inr by ↦ unanswered_behind broke stop by
+      ]
+
+      by_outcome : (o : Outcome VerifierOutcome) → IsToldAs new.core.stage o told → StopsBy (serves grants) [] run.turns mid new o (ours first) now
+          → IsNoted told
+      by_outcome Done told_is is = over told told_is is
+      by_outcome (Refused fault) told_is stop = subst IsNoted (sym told_is) (refused fault stop)
+      by_outcome (Cut broke) told_is (inl missing) = subst IsNoted (sym told_is) (missed broke missing)
+      by_outcome (Cut broke) told_is (inr (inl stop)) = subst IsNoted (sym told_is) (unanswered broke stop)
+      by_outcome (Cut broke) told_is (inr (inr stop)) = absurd (omega (arith, stop.unsent.at_least_one))
 
   pub done_judged : outcome ≡ Done → IsSome (judgement_at new.core.stage)
   done_judged is =
-      let over : IsOver (serves grants) passed (sends_in [] run.turns) run.mid new (ours first) now =
-      subst (λ o. StopsBy (serves grants) [] run.turns run.mid new o (ours first) now) is stopped in
-      let at : IsStanding jobs grants old new run.turns = subst (λ s. IsStanding jobs grants old s run.turns) (sym over.same) stood in
-      judged_at grants old new.core.job new.granted new.core.stage new.grantor at.at.lease over.expected
-
-  -- a hello that differs is for no statement
-  differs_for_none : (told : VerifierOutcome) → IsToldAs new.core.stage outcome told → (differs : HelloDiffers) → told ≡ BadHello differs
-      → (new.taken ≡ None) × ((said : Hello) × IsForNone jobs said × BeginsByHello said now.log)
-  differs_for_none told told_is differs is = by_outcome outcome told_is stopped
-    where
-      refused : (fault : VerifierOutcome) → fault ≡ BadHello differs
-          → IsRefusal (serves grants) passed (sends_in [] run.turns) run.mid new fault (ours first) now
-          → (new.taken ≡ None) × ((said : Hello) × IsForNone jobs said × BeginsByHello said now.log)
-      refused fault named stop = either (subst (λ j. Refuses j grants run.mid stop.frame fault stop.code new) stood.jobs_are stop.refused.1)
-        where
-          adds : (more : List (Side × ℕ)) × (now.log ≡ stop.heard.log ++ more)
-          adds = tried_adds stop.code stop.heard now stop.tried
-
-          either : RefusesHello jobs run.mid stop.frame fault stop.code new ⊎ RefusesLease jobs grants run.mid stop.frame fault stop.code new
-              ⊎ LacksGrantFrame jobs grants run.mid stop.frame fault stop.code new ⊎ RefusesBehind run.mid stop.frame fault stop.code new
-              → (new.taken ≡ None) × ((said : Hello) × IsForNone jobs said × BeginsByHello said now.log)
-          either (inl by) =
-              let none = for_none jobs new.core.job new.taken by.met.hello stop.frame by.fault differs by.met.takes by.met.job by.met.is by.refuses
-              (sym by.outcome_is ∙ named) in
-              (none.0, (by.met.hello, none.1, begins stop.frame by.met stop.heard adds.0 stop.passed.logged adds.1))
-          either (inr (inl by)) = absurd (lease_no_hello by.fault differs (sym by.outcome_is ∙ named))
-          either (inr (inr (inl by))) = absurd (memory_no_hello differs (sym by.outcome_is ∙ named))
-          either (inr (inr (inr by))) = absurd (behind_no_hello run.mid.core.job run.mid.core.stage stop.frame by.fault differs by.refuses
-              (sym by.outcome_is ∙ named) (λ waits. none_is_some (sym (not_granted waits) ∙ by.behind)))
-
-      by_outcome : (o : Outcome VerifierOutcome) → IsToldAs new.core.stage o told → StopsBy (serves grants) [] run.turns run.mid new o (ours first) now
-          → (new.taken ≡ None) × ((said : Hello) × IsForNone jobs said × BeginsByHello said now.log)
-      by_outcome Done told_is over = absurd (judgement_no_hello told_is.0 differs (sym told_is.2 ∙ is))
-      by_outcome (Refused fault) told_is stop = refused fault (sym told_is ∙ is) stop
-      by_outcome (Cut broke) told_is stop = absurd (line_no_hello broke differs (sym told_is ∙ is))
-
-  pub takes_statement : (told : VerifierOutcome) → IsToldAs new.core.stage outcome told
-      → TakesStatement jobs new.taken (grants.answer new.grantor) told now.log
-  takes_statement told told_is = record { has = noted.taken; none = noted.none; differs = differs_for_none told told_is }
+      let over_so : IsOver (serves grants) passed sent mid new (ours first) now =
+      subst (λ o. StopsBy (serves grants) [] run.turns mid new o (ours first) now) is stopped in
+      let at : IsStanding jobs grants old new run.turns = subst (λ s. IsStanding jobs grants old s run.turns) (sym over_so.same) stood in
+      let judged = judged_at grants old new.core.job new.granted new.core.stage new.grantor at.at.lease over_so.expected in
+      subst (λ p. IsSome (judgement_at p)) (sym judged.2.1) refl

@@ -1,6 +1,7 @@
 -- The log of a session that may have ended early, as one that a verifier serves; and that no cut one is accepted.
 use Rattle.std.proofs.Common.{◌≡◌, ◌⊎◌, inl, inr, ℕ, ◌+◌, ◌-◌, ◌*◌, ◌≤◌, ◌<◌, List, [], ◌∷◌, ◌++◌, flat_map, length, take, replicate, slice_index_or, Option, Some, None, Result, Ok, Err, refl, ap, sym, ◌∙◌, subst, arith, append-nil, append_assoc, length-append}
 use Rattle.std.proofs.Math.Nat.{mul-le-mul_right}
+use Rattle.std.proofs.lemmas.Option.{same_Some}
 use Rattle.std.proofs.lemmas.List.{map-append, get_or-replicate, length-replicate, length-map, take_at, get_or_at}
 use Rattle.zk_model.specs.Field.{IsElement}
 use Rattle.zk_model.specs.Program.{section_count}
@@ -22,23 +23,22 @@ use Rattle.session_laws.proofs.Sizes as sizes
 use Rattle.session_laws.proofs.Cut.{greeted, greeted_is}
 use Rattle.frame_laws.proofs.Hellos.{hello_most, long_hello, long_fits, fitting_is_hello, long_length}
 use Rattle.proof_frames.proofs.FrameLemmas.{length-elements, length-sums}
+use Rattle.frame_link.proofs.LineLemmas.{none_is_some}
 use Rattle.lease_store.specs.declared.LeaseFault.{LeaseFault}
-use Rattle.lease_store.specs.declared.LeaseFault.TheVariants as lease
 use Rattle.session_core.specs.Jobs.{VerifierJob, units_of_job, granted_from}
 use Rattle.session_core.specs.Judgements.{verdict_in}
 use Rattle.session_core.specs.Rounds.{AreServedRounds, round_turns}
-use Rattle.session_core.specs.Cores.{VerifierStage, AreAsksSoFar, awaits_hello, owes_grant, awaits_asks, awaits_corrections, awaits_sums, awaits_openings, has_judged, has_refused, verifier_expects}
+use Rattle.session_core.specs.Cores.{has_judged, VerifierStage, AreAsksSoFar, awaits_hello, awaits_asks, awaits_corrections, awaits_sums, awaits_openings, verifier_expects}
 use Rattle.session_core.specs.declared.judgement.Judgement.{Judgement}
 use Rattle.session_core.specs.declared.judgement.Judgement.TheVariants as judged
-use Rattle.session_verifier.specs.Outcomes.{judgement_outcome, lease_outcome, lease_code}
-use Rattle.session_verifier.proofs.RoundLemmas.{turns_append, some_rounds, asks_length}
+use Rattle.session_verifier.specs.Outcomes.{judgement_outcome, lease_code, refusal_of}
+use Rattle.session_verifier.proofs.StageLemmas.{turns_append, some_rounds, asks_length, few_of}
 use Rattle.frame_link.specs.Lines.{LinkSnapshot, longest}
-use Rattle.session_verifier.specs.Stages.{Greeting, IsGreeted, first_turn, second_turn, StartsAt, IsLogAt, IsStopped, StopsBehind, IsRefusalTried, IsRefusalSent, IsRefusalUnsent, IsRefusedGrant, LacksTheGrant, RefusesHello, IsWaiting, IsCourse}
-use Rattle.session_verifier.specs.Notes.{IsUngranted, SendsRightly, AcceptsExactly, refusal_of, IsJudgedSession}
-use Rattle.session_verifier.proofs.StageLemmas.{few_of}
-use Rattle.session_verifier.proofs.CourseLemmas.{IsKnown, greeting_is_hello, grant_is, judged_session, hello_bytes}
+use Rattle.session_verifier.specs.Stages.{Greeting, IsGreeted, first_turn, second_turn, IsBehind, IsLogAt, IsStopped, IsRefusalTried, IsRefusedGrant, LacksTheGrant, RefusesHello, IsCourse}
+use Rattle.session_verifier.specs.Notes.{IsUngranted, SendsRightly, AcceptsExactly, IsJudgedSession}
+use Rattle.session_verifier.proofs.CourseLemmas.{IsKnown, greeting_is_hello, grant_is, judged_session, hello_bytes, lease_refusal}
 use Rattle.session_verifier.specs.declared.note.VerifierOutcome.{VerifierOutcome}
-use Rattle.session_verifier.specs.declared.note.VerifierOutcome.TheVariants.{Accepted, RejectedSum, RejectedOpening, PeerEnded, BadFrame, BadHello, Exhausted, Device, Broken, Link, NoMemory}
+use Rattle.session_verifier.specs.declared.note.VerifierOutcome.TheVariants.{Accepted, NoMemory}
 
 -- ---- a session that goes on
 
@@ -77,7 +77,8 @@ last_turn t = (sums_frame t.sums ++ openings_frame t.openings, verdict_frame t.c
 pub turns_are : (job : VerifierJob) (greeting : Greeting job) (start : ℕ) (rounds : List Round) (d : List ℕ) (s : HasServedSession job.task (setup_of job greeting start rounds) d)
     → session_turns s.t ≡ front_of job greeting start rounds ++ second_turn job start d ∷ last_turn s.t ∷ []
 turns_are job greeting start rounds d s =
-    let coin : s.t.challenge ≡ challenge_coin job.task.file start = s.served.challenge ∙ ap (λ (c : Commitment). challenge_coin job.task.file c.setup.grant.start) s.commitment in
+    let coin : s.t.challenge ≡ challenge_coin job.task.file start =
+    s.served.challenge ∙ ap (λ (c : Commitment). challenge_coin job.task.file c.setup.grant.start) s.commitment in
     λ i. session_turns (record s.t { commitment = s.commitment i; challenge = coin i })
 
 pub serves_with : (job : VerifierJob) (greeting : Greeting job) (start : ℕ) (rounds : List Round) (d : List ℕ) (log : List (Side × ℕ)) (s : HasServedSession job.task (setup_of job greeting start rounds) d)
@@ -323,19 +324,17 @@ pub record IsSomeCut (job : VerifierJob) (start : ℕ) (log : List (Side × ℕ)
   pub cut : IsCutOf job start whole rest log
 
 pub cut_behind : (job : VerifierJob) (start : ℕ) (stage : VerifierStage) (rest : List ℕ) (log : List (Side × ℕ)) → RepliesAreInRange → ServedSessionExists → IsKnown job
-    → StartsAt start stage → IsCutAt job stage rest log → IsSomeCut job start log
-cut_behind job start awaits_hello rest log ranges law known starts stopped = absurd starts
-cut_behind job start owes_grant rest log ranges law known starts stopped = absurd starts
-cut_behind job start (awaits_asks begun asked) rest log ranges law known starts stopped = subst (λ b. IsSomeCut job b log) starts
+    → IsBehind start stage → ¬ (verifier_expects job stage ≡ None) → IsCutAt job stage rest log → IsSomeCut job start log
+cut_behind job start (awaits_asks begun asked) rest log ranges law known starts waits stopped = subst (λ b. IsSomeCut job b log) starts
     (record { whole = 1; rest = _; cut = cut_asks job begun asked rest log ranges law known stopped })
-cut_behind job start (awaits_corrections begun) rest log ranges law known starts stopped = subst (λ b. IsSomeCut job b log) starts
+cut_behind job start (awaits_corrections begun) rest log ranges law known starts waits stopped = subst (λ b. IsSomeCut job b log) starts
     (record { whole = _; rest = _; cut = cut_corrections job begun rest log law known stopped })
-cut_behind job start (awaits_sums begun d) rest log ranges law known starts stopped = subst (λ b. IsSomeCut job b log) starts
+cut_behind job start (awaits_sums begun d) rest log ranges law known starts waits stopped = subst (λ b. IsSomeCut job b log) starts
     (record { whole = _; rest = _; cut = cut_sums job begun d rest log law known stopped })
-cut_behind job start (awaits_openings begun d both) rest log ranges law known starts stopped = subst (λ b. IsSomeCut job b log) starts
+cut_behind job start (awaits_openings begun d both) rest log ranges law known starts waits stopped = subst (λ b. IsSomeCut job b log) starts
     (record { whole = _; rest = _; cut = cut_openings job begun d both rest log law known stopped })
-cut_behind job start (has_judged begun judgement) rest log ranges law known starts stopped = absurd starts
-cut_behind job start has_refused rest log ranges law known starts stopped = absurd starts
+cut_behind job start (has_judged begun judgement) rest log ranges law known starts waits stopped = absurd (waits refl)
+cut_behind job start other rest log ranges law known starts waits stopped = absurd starts
 
 -- ---- what the verifier sends
 
@@ -350,41 +349,21 @@ ungranted_alone outcome rest log most is =
 
 ungranted_refused : (outcome : VerifierOutcome) (code : ℕ) (rest : List ℕ) (mid now : LinkSnapshot) → length rest ≤ 134 → refusal_of outcome ≡ Some code
     → mid.log ≡ bytes_from Prover rest → IsRefusalTried code mid now → IsUngranted outcome now.log
-ungranted_refused outcome code rest mid now most of log refused = either refused.sent
-  where
-    either : (IsRefusalSent code mid now ⊎ IsRefusalUnsent code mid now) → IsUngranted outcome now.log
-    either (inl sent) = record {
-      rest = rest;
-      most = most;
-      answer = refuse_frame code;
-      refused = inr (code, of, refl);
-      bytes = sent.log ∙ ap (λ l. l ++ bytes_from Verifier (refuse_frame code)) log;
-    }
-    either (inr unsent) = ungranted_alone outcome rest now.log most (unsent.log ∙ log)
+ungranted_refused outcome code rest mid now most of log refused = elim refused.sent [
+  | inl sent ↦ record {
+    rest = rest;
+    most = most;
+    answer = refuse_frame code;
+    refused = inr (code, of, refl);
+    bytes = sent.log ∙ ap (λ l. l ++ bytes_from Verifier (refuse_frame code)) log;
+  }
+  | inr unsent ↦ ungranted_alone outcome rest now.log most (unsent.log ∙ log)
+]
 
 ungranted : (outcome : VerifierOutcome) (rest : List ℕ) (mid now : LinkSnapshot) → length rest ≤ 134 → mid.log ≡ bytes_from Prover rest
     → RefusesHello rest outcome mid now → IsUngranted outcome now.log
-ungranted (BadHello differs) rest mid now most log by = ungranted_refused (BadHello differs) 1 rest mid now most refl log by
-ungranted NoMemory rest mid now most log (inl refused) = ungranted_refused NoMemory 4 rest mid now most refl log refused.1
-ungranted NoMemory rest mid now most log (inr missing) = ungranted_alone NoMemory rest now.log most (ap (λ (m : LinkSnapshot). m.log) missing.1 ∙ log)
-ungranted Accepted rest mid now most log by = ungranted_alone Accepted rest now.log most (ap (λ (m : LinkSnapshot). m.log) by ∙ log)
-ungranted (RejectedSum section left right) rest mid now most log by =
-    ungranted_alone (RejectedSum section left right) rest now.log most (ap (λ (m : LinkSnapshot). m.log) by ∙ log)
-ungranted (RejectedOpening output left right) rest mid now most log by =
-    ungranted_alone (RejectedOpening output left right) rest now.log most (ap (λ (m : LinkSnapshot). m.log) by ∙ log)
-ungranted (PeerEnded at) rest mid now most log by = ungranted_alone (PeerEnded at) rest now.log most (ap (λ (m : LinkSnapshot). m.log) by ∙ log)
-ungranted (BadFrame at) rest mid now most log by = ungranted_alone (BadFrame at) rest now.log most (ap (λ (m : LinkSnapshot). m.log) by ∙ log)
-ungranted (Exhausted at count total) rest mid now most log by =
-    ungranted_alone (Exhausted at count total) rest now.log most (ap (λ (m : LinkSnapshot). m.log) by ∙ log)
-ungranted Device rest mid now most log by = ungranted_alone Device rest now.log most (ap (λ (m : LinkSnapshot). m.log) by ∙ log)
-ungranted (Broken at) rest mid now most log by = ungranted_alone (Broken at) rest now.log most (ap (λ (m : LinkSnapshot). m.log) by ∙ log)
-ungranted Link rest mid now most log by = ungranted_alone Link rest now.log most (ap (λ (m : LinkSnapshot). m.log) by ∙ log)
-
--- the code of a lease that was refused
-pub lease_refusal : (fault : LeaseFault) → refusal_of (lease_outcome fault) ≡ Some (lease_code fault)
-lease_refusal (lease.Exhausted at count total) = refl
-lease_refusal lease.Device = refl
-lease_refusal (lease.Broken at) = refl
+ungranted outcome rest mid now most log (inl refused) = ungranted_refused outcome refused.0 rest mid now most refused.1 log refused.3
+ungranted outcome rest mid now most log (inr none) = ungranted_alone outcome rest now.log most (ap (λ (m : LinkSnapshot). m.log) none.1 ∙ log)
 
 -- before the grant
 pub before_grant : (job : VerifierJob) (start : ℕ) (log : List (Side × ℕ)) → RepliesAreInRange → ServedSessionExists → IsKnown job
@@ -406,7 +385,7 @@ before_grant job start log ranges law known within is =
 pub serves_judged : (job : VerifierJob) (span : Span) (judgement : Judgement) (log : List (Side × ℕ)) → IsJudgedSession job (Some span) judgement log
     → ServesWith job.task (granted_from job span.start) log
 serves_judged job span judgement log session =
-    let same : session.span ≡ span = ap (λ (o : Option Span). or_span o) (sym session.leased) in
+    let same : session.span ≡ span = sym (same_Some span session.span session.leased) in
     record {
       t = session.t;
       verdict = verdict_in judgement;
@@ -414,23 +393,18 @@ serves_judged job span judgement log session =
       granted = session.grant ∙ ap (λ (s : Span). granted_from job s.start) same;
       bytes = inl ([], sym session.served.in_order.bytes ∙ sym (append-nil log));
     }
-  where
-    or_span : Option Span → Span
-    or_span None = span
-    or_span (Some other) = other
 
 -- after the hello, a refusal of the grant is logged, or nothing
 sends_refusal : (job : VerifierJob) (span : Span) (first now : LinkSnapshot) → RepliesAreInRange → ServedSessionExists → IsKnown job
     → span.start + units_of_job job ≤ job.task.file.params.total → IsRefusedGrant job 4 first now → SendsRightly job (Some span) NoMemory now.log
-sends_refusal job span first now ranges law known within is = either is.refused.sent
-  where
-    either : (IsRefusalSent 4 is.mid now ⊎ IsRefusalUnsent 4 is.mid now) → SendsRightly job (Some span) NoMemory now.log
-    either (inl sent) = inr (
-      refl,
-      (is.waiting.log.greeting, sent.log ∙ ap (λ l. l ++ bytes_from Verifier (refuse_frame 4)) is.waiting.log.bytes),
-    )
-    either (inr unsent) = inl (before_grant job span.start now.log ranges law known within
-        (record { greeting = is.waiting.log.greeting; bytes = unsent.log ∙ is.waiting.log.bytes }))
+sends_refusal job span first now ranges law known within is = elim is.refused.sent [
+  | inl sent ↦ inr (
+    refl,
+    (is.waiting.log.greeting, sent.log ∙ ap (λ l. l ++ bytes_from Verifier (refuse_frame 4)) is.waiting.log.bytes),
+  )
+  | inr unsent ↦ inl (before_grant job span.start now.log ranges law known within
+      (record { greeting = is.waiting.log.greeting; bytes = unsent.log ∙ is.waiting.log.bytes }))
+]
 
 sends_lacking : (job : VerifierJob) (span : Span) (outcome : VerifierOutcome) (first now : LinkSnapshot) → RepliesAreInRange → ServedSessionExists → IsKnown job
     → span.start + units_of_job job ≤ job.task.file.params.total → LacksTheGrant job span.start outcome first now → SendsRightly job (Some span) outcome now.log
@@ -451,20 +425,16 @@ sends_rightly job (Some (Err fault)) granted outcome first now ranges law known 
     (ungranted_refused outcome (lease_code fault) (hello_frame is.waiting.log.greeting.hello) is.mid now
     (greeting_most job known is.waiting.log.greeting) (ap refusal_of course.1.named ∙ lease_refusal fault) is.waiting.log.bytes is.refused)
 sends_rightly job (Some (Ok span)) granted outcome first now ranges law known course =
-    subst (λ g. SendsRightly job g outcome now.log) (sym course.0) (by_course course.1.course)
-  where
-    within : span.start + units_of_job job ≤ job.task.file.params.total
-    within = omega (arith, course.1.units, course.1.within)
-
-    by_course : (LacksTheGrant job span.start outcome first now ⊎ StopsBehind job span.start outcome first now
-        ⊎ ((other : Judgement) × (outcome ≡ judgement_outcome other) × IsWaiting job (has_judged span.start other) first now))
-        → SendsRightly job (Some span) outcome now.log
-    by_course (inl lacks) = sends_lacking job span outcome first now ranges law known within lacks
-    by_course (inr (inl stops)) =
-        let some = cut_behind job span.start stops.stage stops.stopped.rest now.log ranges law known stops.behind (cut_of_stop job stops.stage outcome first now stops.stopped) in
-        let cut = some.cut in
-        inl (serves_with job cut.greeting span.start cut.rounds cut.d now.log cut.session (inr (cut_in_turn job span.start some.whole some.rest now.log cut)))
-    by_course (inr (inr found)) = inl (serves_judged job span found.0 now.log (judged_session job span (Some span) found.0 now.log known refl found.2.log))
+    let within : span.start + units_of_job job ≤ job.task.file.params.total = omega (arith, course.1.units, course.1.within) in
+    subst (λ g. SendsRightly job g outcome now.log) (sym course.0) (elim course.1.course [
+      | inl lacks ↦ sends_lacking job span outcome first now ranges law known within lacks
+      | inr (inl stops) ↦
+          let some = cut_behind job span.start stops.stage stops.stopped.rest now.log ranges law known stops.behind
+          (λ none. none_is_some (sym none ∙ stops.stopped.expected)) (cut_of_stop job stops.stage outcome first now stops.stopped) in
+          let cut = some.cut in
+          inl (serves_with job cut.greeting span.start cut.rounds cut.d now.log cut.session (inr (cut_in_turn job span.start some.whole some.rest now.log cut)))
+      | inr (inr found) ↦ inl (serves_judged job span found.0 now.log (judged_session job span (Some span) found.0 now.log known refl found.2.log))
+    ])
 
 -- ---- no cut session is accepted
 
@@ -504,18 +474,17 @@ refusal_is_cut job log rest code is accepted =
 
 ungranted_is_cut : (job : VerifierJob) (outcome : VerifierOutcome) (log : List (Side × ℕ)) → CutIsNotAccepted → IsKnown job → IsUngranted outcome log
     → IsAccepted job.task log → ⊥
-ungranted_is_cut job outcome log law known is accepted = either is.refused
-  where
-    either : ((is.answer ≡ []) ⊎ ((code : ℕ) × (refusal_of outcome ≡ Some code) × (is.answer ≡ refuse_frame code))) → ⊥
-    either (inl none) = first_is_cut job log is.rest law known
-        (is.bytes ∙ ap (λ l. bytes_from Prover is.rest ++ bytes_from Verifier l) none ∙ append-nil (bytes_from Prover is.rest)) is.most accepted
-    either (inr refused) = refusal_is_cut job log is.rest refused.0 (is.bytes ∙ ap (λ l. bytes_from Prover is.rest ++ bytes_from Verifier l) refused.2) accepted
+ungranted_is_cut job outcome log law known is accepted = elim is.refused [
+  | inl none ↦ first_is_cut job log is.rest law known
+      (is.bytes ∙ ap (λ l. bytes_from Prover is.rest ++ bytes_from Verifier l) none ∙ append-nil (bytes_from Prover is.rest)) is.most accepted
+  | inr refused ↦ refusal_is_cut job log is.rest refused.0
+      (is.bytes ∙ ap (λ l. bytes_from Prover is.rest ++ bytes_from Verifier l) refused.2) accepted
+]
 
 -- a judgement whose log is accepted accepts
 pub accepted_judgement : (judgement : Judgement) → verdict_code (verdict_in judgement) ≡ 0 → judgement_outcome judgement ≡ Accepted
 accepted_judgement judged.Accepted code = refl
-accepted_judgement (judged.RejectedSum section left right) code = absurd (omega (arith, code))
-accepted_judgement (judged.RejectedOpening output left right) code = absurd (omega (arith, code))
+accepted_judgement other code = absurd (omega (arith, code))
 
 pub accepts_exactly : (job : VerifierJob) (answer : Option (Result Span LeaseFault)) (granted : Option Span) (outcome : VerifierOutcome) (first now : LinkSnapshot)
     → RepliesAreInRange → ServedSessionExists → CutIsNotAccepted → VerdictIsSaid → IsKnown job → IsCourse job answer granted outcome first now → AcceptsExactly job outcome now.log
@@ -523,7 +492,20 @@ accepts_exactly job None granted outcome first now ranges law cut said known cou
     absurd (ungranted_is_cut job outcome now.log cut known (subst (λ g. SendsRightly job g outcome now.log) course.0 (sends_rightly job None granted outcome first now ranges law known course)) accepted)
 accepts_exactly job (Some (Err fault)) granted outcome first now ranges law cut said known course accepted =
     absurd (ungranted_is_cut job outcome now.log cut known (subst (λ g. SendsRightly job g outcome now.log) course.0 (sends_rightly job (Some (Err fault)) granted outcome first now ranges law known course)) accepted)
-accepts_exactly job (Some (Ok span)) granted outcome first now ranges law cut said known course accepted = by_course course.1.course
+accepts_exactly job (Some (Ok span)) granted outcome first now ranges law cut said known course accepted = elim course.1.course [
+  | inl lacks ↦ absurd (lacking_is_cut lacks accepted)
+  | inr (inl stops) ↦
+      let some = cut_behind job span.start stops.stage stops.stopped.rest now.log ranges law known stops.behind
+      (λ none. none_is_some (sym none ∙ stops.stopped.expected)) (cut_of_stop job stops.stage outcome first now stops.stopped) in
+      let is = some.cut in
+      absurd (cut job.task is.session.t now.log known.file.params is.session.served.in_order.transcript
+      (cut_in_turn job span.start some.whole some.rest now.log is) accepted)
+  | inr (inr found) ↦
+      let session = judged_session job span (Some span) found.0 now.log known refl found.2.log in
+      let codes = said job.task.file.params job.task.statement.program session.t accepted.t now.log known.file.params
+      session.served.in_order.transcript accepted.in_order.transcript session.served.in_order.bytes accepted.in_order.bytes in
+      found.1 ∙ accepted_judgement found.0 (sym session.served.judged.said.code ∙ codes.0 ∙ accepted.said.code)
+]
   where
     refused_is_cut : IsRefusedGrant job 4 first now → IsAccepted job.task now.log → ⊥
     refused_is_cut is accepted = ungranted_is_cut job NoMemory now.log cut known
@@ -534,18 +516,3 @@ accepts_exactly job (Some (Ok span)) granted outcome first now ranges law cut sa
     lacking_is_cut (inl refused) accepted = refused_is_cut refused.1 accepted
     lacking_is_cut (inr unsent) accepted = first_is_cut job now.log (hello_frame unsent.log.greeting.hello) cut known
         unsent.log.bytes (greeting_most job known unsent.log.greeting) accepted
-
-    by_course : (LacksTheGrant job span.start outcome first now ⊎ StopsBehind job span.start outcome first now
-        ⊎ ((other : Judgement) × (outcome ≡ judgement_outcome other) × IsWaiting job (has_judged span.start other) first now))
-        → outcome ≡ Accepted
-    by_course (inl lacks) = absurd (lacking_is_cut lacks accepted)
-    by_course (inr (inl stops)) =
-        let some = cut_behind job span.start stops.stage stops.stopped.rest now.log ranges law known stops.behind (cut_of_stop job stops.stage outcome first now stops.stopped) in
-        let is = some.cut in
-        absurd (cut job.task is.session.t now.log known.file.params is.session.served.in_order.transcript
-        (cut_in_turn job span.start some.whole some.rest now.log is) accepted)
-    by_course (inr (inr found)) =
-        let session = judged_session job span (Some span) found.0 now.log known refl found.2.log in
-        let codes = said job.task.file.params job.task.statement.program session.t accepted.t now.log known.file.params
-        session.served.in_order.transcript accepted.in_order.transcript session.served.in_order.bytes accepted.in_order.bytes in
-        found.1 ∙ accepted_judgement found.0 (sym session.served.judged.said.code ∙ codes.0 ∙ accepted.said.code)

@@ -1,38 +1,183 @@
--- From where a verifier waits to where it waits next: what is logged, how many answers were sent, and how long these are.
-use Rattle.std.proofs.Common.{◌≡◌, ◌⊎◌, ℕ, ◌+◌, ◌-◌, ◌≤◌, ◌<◌, List, [], ◌∷◌, ◌++◌, flat_map, length, inl, inr, Option, Some, None, refl, ap, sym, ◌∙◌, subst, arith, append_assoc, append-nil, length-append}
+-- From where a verifier waits to where it waits next: what is logged, of the asks and the replies of all units too, how many answers
+-- were sent, and how long these are.
+use Rattle.std.proofs.Common.{◌≡◌, ◌⊎◌, inl, inr, ℕ, suc, ◌+◌, ◌*◌, ◌≤◌, Bool, false, List, [], ◌∷◌, ◌++◌, map, flat_map, length, replicate, slice_index_or, refl, ap, sym, ◌∙◌, subst, arith, append_assoc, length-append, ◌-◌, ◌<◌, Option, Some, None, append-nil}
 use Rattle.std.specs.Prelude.{All, IsSomeAnd}
 use Rattle.std.specs.List.{AllByRecursion, enumerate_from}
-use Rattle.std.proofs.lemmas.List.{map-append, length-map}
-use Rattle.std.proofs.lemmas.List.FromFn.{length-enumerate_from}
-use Rattle.std.proofs.lemmas.List.Elements.{All-nil, All-push, All-from_recursion}
-use Rattle.zk_model.specs.Program.{section_count}
-use Rattle.zk_model.specs.Transcript.{TreeAsk, hello_frame, grant_frame, ask_frame, reply_frame, corrections_frame, challenge_frame, sums_frame, openings_frame, verdict_frame, bytes_from, turn_bytes, sent_by}
-use Rattle.zk_model.specs.Frames.{Frame, grant, asks, replies, corrections, challenge, sums, openings, verdict, frame_spelling, Allows, AreAsks, AreElements, AreSums}
-use Rattle.zk_model.specs.Files.{rounds_of}
-use Rattle.zk_model.specs.Replies.{unit_reply}
-use Rattle.zk_model.specs.View.{verdict_code, verdict_number}
-use Rattle.zk_model.specs.ServedVerifier.{challenge_coin, round_replies}
-use Rattle.zk_model.specs.declared.Expect.{Expect}
+use Rattle.std.proofs.Math.Nat.{mul-le-mul}
+use Rattle.std.proofs.lemmas.List.{map-append, flat_map_more, length-replicate, length-map}
+use Rattle.std.proofs.lemmas.List.Elements.{All-nil, All-map, All-replicate, All-from_recursion, All-push}
+use Rattle.std.proofs.lemmas.List.Folds.{flat_map-map}
+use Rattle.std.proofs.lemmas.Grind.{flat_map-append}
+use Rattle.zk_model.specs.Files.{AreWithinLimits, rounds_of}
+use Rattle.zk_model.specs.Transcript.{Grant, TreeAsk, TreeReply, Round, IsRound, IsTreeAsk, ForEachTree, ask_frame, reply_frame, bytes_from, turn_bytes, hello_frame, grant_frame, corrections_frame, challenge_frame, sums_frame, openings_frame, verdict_frame, sent_by}
+use Rattle.zk_model.specs.Frames.{asks, replies, frame_spelling, AreAsks, AreReplies, Frame, corrections, challenge, sums, openings, verdict, Allows, AreElements, AreSums}
+use Rattle.zk_model.specs.ServedVerifier.{round_replies, challenge_coin}
 use Rattle.zk_model.specs.declared.Expect.TheVariants as places
+use Rattle.zk_model.specs.declared.Kind.{Kind}
 use Rattle.zk_model.specs.declared.Kind.TheVariants.{Direct, Extended}
+use Rattle.zk_model.specs.declared.Params.{Params}
 use Rattle.zk_model.specs.declared.Side.{Side}
 use Rattle.zk_model.specs.declared.Side.TheVariants.{Prover, Verifier}
-use Rattle.frame_laws.proofs.SentBytes.{sent_by-append, none_of_verifier}
+use Rattle.session_laws.specs.Rounds.{RepliesAreInRange}
 use Rattle.proof_frames.specs.Frames.{IsShort}
+use Rattle.proof_frames.proofs.Lengths.{whole_length}
+use Rattle.session_core.specs.Rounds.{AreServedRounds, round_turns}
+use Rattle.session_core.specs.Jobs.{VerifierJob, units_of_job, granted_from}
+use Rattle.session_core.specs.Cores.{awaits_asks, awaits_corrections, behind_grant, VerifierStage, AnswersAsks, IsVerifierStage, awaits_hello, owes_grant, awaits_sums, awaits_openings, has_judged, has_refused, verifier_expects, VerifierAnswers}
+use Rattle.session_verifier.specs.Stages.{IsBehind, IsHeldJob, IsLogAt, IsStopped, first_turn, second_turn, answers_before}
+use Rattle.std.proofs.lemmas.Option.{same_Some}
+use Rattle.std.proofs.lemmas.List.FromFn.{length-enumerate_from}
+use Rattle.zk_model.specs.Program.{section_count}
+use Rattle.zk_model.specs.Replies.{unit_reply}
+use Rattle.zk_model.specs.View.{verdict_code, verdict_number}
+use Rattle.zk_model.specs.declared.Expect.{Expect}
+use Rattle.frame_laws.proofs.SentBytes.{sent_by-append, none_of_verifier}
 use Rattle.frame_link.specs.Lines.{LinkSnapshot, longest}
 use Rattle.frame_link.proofs.LineLemmas.{none_is_some}
-use Rattle.session_core.specs.Jobs.{VerifierJob, IsVerifierJob, units_of_job, granted_from}
 use Rattle.session_core.specs.Judgements.{verdict_in}
 use Rattle.session_core.specs.declared.judgement.Judgement.{Judgement}
 use Rattle.session_core.specs.Extending.{asks_in}
-use Rattle.session_core.specs.Rounds.{round_turns}
-use Rattle.session_core.specs.Cores.{VerifierStage, AnswersAsks, IsVerifierStage, awaits_hello, owes_grant, behind_grant, awaits_asks, awaits_corrections, awaits_sums, awaits_openings, has_judged, has_refused, verifier_expects, VerifierAnswers}
-use Rattle.session_driver.specs.Sayings.{sends_of}
-use Rattle.session_laws.specs.Rounds.{RepliesAreInRange}
-use Rattle.session_verifier.proofs.RoundLemmas.{either_kind, behind_direct, behind_extended, turns_append, one_ask_more, replies_spelled, served_round, served_none, short_replies}
-use Rattle.session_verifier.specs.Serving.{IsBehind, frames_left}
-use Rattle.session_verifier.specs.Stages.{IsHeldJob, IsLogAt, IsStopped, StartsAt, first_turn, second_turn, answers_before}
+use Rattle.session_driver.specs.Runs.{sends_of}
+use Rattle.session_verifier.specs.Serving.{frames_left}
 use Rattle.session_verifier.specs.declared.note.VerifierOutcome.{VerifierOutcome}
+
+-- ---- kinds
+
+-- a kind is one of two
+pub either_kind : (kind : Kind) → (kind ≡ Direct) ⊎ (kind ≡ Extended)
+either_kind Direct = inl refl
+either_kind Extended = inr refl
+
+pub behind_direct : (job : VerifierJob) (start : ℕ) → job.task.file.params.kind ≡ Direct → behind_grant job start ≡ awaits_corrections start
+behind_direct job start is =
+    λ i. behind_grant (record job { task = record job.task { file = record job.task.file { params = record job.task.file.params { kind = is i } } } }) start
+
+pub behind_extended : (job : VerifierJob) (start : ℕ) → job.task.file.params.kind ≡ Extended → behind_grant job start ≡ awaits_asks start []
+behind_extended job start is =
+    λ i. behind_grant (record job { task = record job.task { file = record job.task.file { params = record job.task.file.params { kind = is i } } } }) start
+
+-- ---- logs as lists of turns
+
+pub turns_append : (first more : List (List ℕ × List ℕ)) → turn_bytes (first ++ more) ≡ turn_bytes first ++ turn_bytes more
+turns_append first more = flat_map-append (λ turn. bytes_from Prover turn.0 ++ bytes_from Verifier turn.1) first more
+
+-- asks of one unit more are logged
+pub one_ask_more : (front : List (Side × ℕ)) (asked : List (List TreeAsk)) (trees : List TreeAsk)
+    → (front ++ bytes_from Prover (flat_map ask_frame asked)) ++ bytes_from Prover (ask_frame trees)
+    ≡ front ++ bytes_from Prover (flat_map ask_frame (asked ++ trees ∷ []))
+one_ask_more front asked trees =
+    append_assoc front (bytes_from Prover (flat_map ask_frame asked)) (bytes_from Prover (ask_frame trees))
+    ∙ ap (λ l. front ++ l) (sym (map-append (λ (byte : ℕ). (Prover, byte)) (flat_map ask_frame asked) (ask_frame trees))
+    ∙ ap (bytes_from Prover) (flat_map_more ask_frame [] asked trees))
+
+-- the replies of all units in frames
+pub replies_spelled : (all : List (List TreeReply)) → flat_map frame_spelling (map replies all) ≡ flat_map reply_frame all
+replies_spelled all = flat_map-map frame_spelling replies all
+
+-- ---- asks and replies in range
+
+pub asks_for_each : (params : Params) (grant : Grant) (said : List (List TreeAsk)) → length said ≡ grant.count
+    → All (AreAsks params.height params.trees) said → ForEachTree params grant (IsTreeAsk params.height) said
+asks_for_each params grant said counted each = (counted, λ k d below. let are = each k d below in (are.counted, are.each))
+
+-- asks of all units, and the file's replies, are one round of kind extended
+pub served_round : (job : VerifierJob) (start : ℕ) (said : List (List TreeAsk)) → RepliesAreInRange → IsHeldJob job
+    → start + units_of_job job ≤ job.task.file.params.total → job.task.file.params.kind ≡ Extended → length said ≡ units_of_job job
+    → All (AreAsks job.task.file.params.height job.task.file.params.trees) said
+    → AreServedRounds job.task.file (granted_from job start)
+    (record { asks = said; replies = round_replies job.task.file (granted_from job start) said } ∷ [])
+served_round job start said law held within extended counted each =
+    let grant = granted_from job start in
+    let asked = asks_for_each job.task.file.params grant said counted each in
+    let round : Round = record { asks = said; replies = round_replies job.task.file grant said } in
+    let is : IsRound job.task.file.params grant round = record { asks = asked; replies = law job.task.file grant said held.file within asked } in
+    let ranged : AllByRecursion (IsRound job.task.file.params grant) (round ∷ []) = (is, tt) in
+    let replied : AllByRecursion (λ (r : Round). r.replies ≡ round_replies job.task.file grant r.asks) (round ∷ []) = (refl, tt) in
+    record {
+      count = sym (ap rounds_of extended);
+      ranged = All-from_recursion (IsRound job.task.file.params grant) (round ∷ []) ranged;
+      replies = All-from_recursion (λ (r : Round). r.replies ≡ round_replies job.task.file grant r.asks) (round ∷ []) replied;
+    }
+
+-- no round is one of kind direct
+pub served_none : (job : VerifierJob) (start : ℕ) → job.task.file.params.kind ≡ Direct
+    → AreServedRounds job.task.file (granted_from job start) []
+served_none job start direct = record {
+  count = sym (ap rounds_of direct);
+  ranged = All-nil (IsRound job.task.file.params (granted_from job start));
+  replies = All-nil (λ round. round.replies ≡ round_replies job.task.file (granted_from job start) round.asks);
+}
+
+-- ---- some rounds
+
+abbrev zero_ask : ℕ → TreeAsk
+zero_ask height = record { flips = replicate height false; base_correction = 0 }
+
+zero_asks : (height trees : ℕ) → AreAsks height trees (replicate trees (zero_ask height))
+zero_asks height trees = record {
+  counted = length-replicate {A = TreeAsk} trees (zero_ask height);
+  each = All-replicate (IsTreeAsk height) trees (zero_ask height)
+      (record { flips = length-replicate {A = Bool} height false; base_correction = omega arith });
+}
+
+-- whatever the kind, there are rounds that the verifier serves
+pub some_rounds : (job : VerifierJob) (start : ℕ) → RepliesAreInRange → IsHeldJob job → start + units_of_job job ≤ job.task.file.params.total
+    → (rounds : List Round) × AreServedRounds job.task.file (granted_from job start) rounds
+some_rounds job start law held within =
+    let trees : List TreeAsk = replicate job.task.file.params.trees (zero_ask job.task.file.params.height) in
+    let said : List (List TreeAsk) = replicate (units_of_job job) trees in
+    elim (either_kind job.task.file.params.kind) [
+      | inl direct ↦ ([], served_none job start direct)
+      | inr extended ↦ (
+        record { asks = said; replies = round_replies job.task.file (granted_from job start) said } ∷ [],
+        served_round job start said law held within extended (length-replicate {A = List TreeAsk} (units_of_job job) trees)
+            (All-replicate (AreAsks job.task.file.params.height job.task.file.params.trees) (units_of_job job) trees
+            (zero_asks job.task.file.params.height job.task.file.params.trees)),
+      )
+    ]
+
+-- ---- how long frames are
+
+pub ask_length : (height trees : ℕ) (said : List TreeAsk) → AreAsks height trees said → length (ask_frame said) ≡ 5 + trees * (height + 8)
+ask_length height trees said are = whole_length (places.Ask height trees 0) (ask_frame said) (asks said) (record { allowed = (said, refl, are); spelled = refl })
+
+reply_length : (height trees : ℕ) (said : List TreeReply) → AreReplies height trees said → length (reply_frame said) ≡ 5 + trees * (32 * height + 8)
+reply_length height trees said are =
+    whole_length (places.Reply height trees 0) (reply_frame said) (replies said) (record { allowed = (said, refl, are); spelled = refl })
+
+-- items of one length
+pub flat_length : {A : Type 0} (f : A → List ℕ) (per : ℕ) (items : List A) → All (λ item. length (f item) ≡ per) items
+    → length (flat_map f items) ≡ length items * per
+flat_length f per [] each = omega arith
+flat_length f per (item ∷ items) each =
+    let first : length (f item) ≡ per = each 0 item (omega arith) in
+    let rest = flat_length f per items (λ k d below. each (suc k) d (omega (arith, below))) in
+    length-append (f item) (flat_map f items) ∙ omega (arith, first, rest)
+
+pub asks_length : (height trees : ℕ) (said : List (List TreeAsk)) → All (AreAsks height trees) said
+    → length (flat_map ask_frame said) ≡ length said * (5 + trees * (height + 8))
+asks_length height trees said each =
+    flat_length ask_frame (5 + trees * (height + 8)) said (λ k d below. ask_length height trees (slice_index_or said k d) (each k d below))
+
+-- replies for a unit are a short frame
+short_reply : (height trees : ℕ) (said : List TreeReply) → height ≤ 16 → trees ≤ 1024 → AreReplies height trees said → IsShort (replies said)
+short_reply height trees said low few are =
+    let most : trees * (32 * height + 8) ≤ 1024 * 520 =
+    mul-le-mul {n₁ = trees} {m₁ = 32 * height + 8} {n₂ = 1024} {m₂ = 520} few (omega (arith, low)) in
+    omega (arith, reply_length height trees said are, most)
+
+pub short_replies : (job : VerifierJob) (start : ℕ) (said : List (List TreeAsk)) → RepliesAreInRange → IsHeldJob job
+    → start + units_of_job job ≤ job.task.file.params.total → job.task.file.params.kind ≡ Extended → length said ≡ units_of_job job
+    → All (AreAsks job.task.file.params.height job.task.file.params.trees) said
+    → All IsShort (map replies (round_replies job.task.file (granted_from job start) said))
+short_replies job start said law held within extended counted each =
+    let params = job.task.file.params in
+    let grant = granted_from job start in
+    let ranged = law job.task.file grant said held.file within (asks_for_each params grant said counted each) in
+    let limits = subst (λ k. AreWithinLimits k params) extended held.file.params.limits in
+    All-map IsShort replies (round_replies job.task.file grant said)
+    (λ k d below. let is = ranged.1 k d below in
+    short_reply params.height params.trees _ limits.1 limits.3 (record { counted = is.0; each = is.1 }))
 
 -- ---- what a frame holds
 
@@ -45,13 +190,9 @@ abbrev sums_in : Frame → List (ℕ × ℕ)
 sums_in (sums both) = both
 sums_in frame = []
 
-abbrev stage_in : Option Expect → Expect
-stage_in None = places.Verdict
-stage_in (Some stage) = stage
-
 -- what comes at a place that is expected is what the place allows
 pub allowed_at : (wanted expect : Expect) (frame : Frame) → Some wanted ≡ Some expect → Allows expect frame → Allows wanted frame
-allowed_at wanted expect frame same allowed = subst (λ p. Allows p frame) (sym (ap stage_in same)) allowed
+allowed_at wanted expect frame same allowed = subst (λ p. Allows p frame) (sym (same_Some wanted expect same)) allowed
 
 -- ---- logs as lists of turns
 
@@ -119,7 +260,6 @@ logs_on job awaits_hello now log expect frame answer law held expects allowed at
       greeting = record { hello = answers.0; fits = answers.2 };
       bytes = (λ i. log_behind (at i) (answers.1 i) (answers.3 i)) ∙ append-nil (bytes_from Prover (hello_frame answers.0));
     })
-logs_on job owes_grant now log expect frame answer law held expects allowed at answers = absurd answers
 logs_on job (awaits_asks start asked) now log expect frame answer law held expects allowed at answers =
     let given = allowed_at (places.Ask job.task.file.params.height job.task.file.params.trees (units_of_job job - length asked)) expect frame expects allowed in
     let same : given.0 ≡ answers.0 = ap asks_in (sym given.1 ∙ answers.1) in
@@ -191,8 +331,7 @@ logs_on job (awaits_openings start d both) now log expect frame answer law held 
           ∙ sym (turns_append (first_turn job at.2.greeting start ∷ round_turns at.2.rounds)
           (second_turn job start d ∷ (sums_frame both ++ openings_frame macs, verdict_frame code number) ∷ []));
     })
-logs_on job (has_judged start judgement) now log expect frame answer law held expects allowed at answers = absurd answers
-logs_on job has_refused now log expect frame answer law held expects allowed at answers = absurd answers
+logs_on job other now log expect frame answer law held expects allowed at answers = absurd answers
 
 -- ---- how many answers there were
 
@@ -221,21 +360,18 @@ asks_answered job start asked trees answer now extended (inr all) =
 pub answers_counted : (job : VerifierJob) (stage now : VerifierStage) (log : List (Side × ℕ)) (frame : Frame) (answer : List Frame) → IsLogAt job stage log
     → VerifierAnswers job stage frame answer now → answers_before job now ≡ answers_before job stage + sends_of answer
 answers_counted job awaits_hello now log frame answer at answers = ap (answers_before job) answers.4 ∙ omega (arith, ap sends_of answers.3)
-answers_counted job owes_grant now log frame answer at answers = absurd answers
 answers_counted job (awaits_asks start asked) now log frame answer at answers = asks_answered job start asked answers.0 answer now at.so_far.extended answers.2
 answers_counted job (awaits_corrections start) now log frame answer at answers = omega (arith, ap (answers_before job) answers.3, ap sends_of answers.2)
 answers_counted job (awaits_sums start d) now log frame answer at answers = omega (arith, ap (answers_before job) answers.3, ap sends_of answers.2)
 answers_counted job (awaits_openings start d both) now log frame answer at answers = omega (arith, ap (answers_before job) answers.5, ap sends_of answers.4)
-answers_counted job (has_judged start judgement) now log frame answer at answers = absurd answers
-answers_counted job has_refused now log frame answer at answers = absurd answers
+answers_counted job other now log frame answer at answers = absurd answers
 
 -- the grant is the first
 pub one_answer_behind : (job : VerifierJob) (start : ℕ) → answers_before job (behind_grant job start) ≡ 1
-one_answer_behind job start = by_kind (either_kind job.task.file.params.kind)
-  where
-    by_kind : ((job.task.file.params.kind ≡ Direct) ⊎ (job.task.file.params.kind ≡ Extended)) → answers_before job (behind_grant job start) ≡ 1
-    by_kind (inl direct) = ap (answers_before job) (behind_direct job start direct) ∙ omega (arith, ap rounds_of direct)
-    by_kind (inr extended) = ap (answers_before job) (behind_extended job start extended)
+one_answer_behind job start = elim (either_kind job.task.file.params.kind) [
+  | inl direct ↦ ap (answers_before job) (behind_direct job start direct) ∙ omega (arith, ap rounds_of direct)
+  | inr extended ↦ ap (answers_before job) (behind_extended job start extended)
+]
 
 -- ---- how many frames come yet
 
@@ -247,30 +383,19 @@ asks_fewer job start asked trees answer now (inr all) = omega (arith, ap (frames
 pub one_frame_fewer : (job : VerifierJob) (start : ℕ) (stage now : VerifierStage) (frame : Frame) (answer : List Frame) → IsBehind start stage
     → VerifierAnswers job stage frame answer now → frames_left job now < frames_left job stage
 one_frame_fewer job start awaits_hello now frame answer behind answers = absurd behind
-one_frame_fewer job start owes_grant now frame answer behind answers = absurd answers
 one_frame_fewer job start (awaits_asks begun asked) now frame answer behind answers = asks_fewer job begun asked answers.0 answer now answers.2
 one_frame_fewer job start (awaits_corrections begun) now frame answer behind answers = omega (arith, ap (frames_left job) answers.3)
 one_frame_fewer job start (awaits_sums begun d) now frame answer behind answers = omega (arith, ap (frames_left job) answers.3)
 one_frame_fewer job start (awaits_openings begun d both) now frame answer behind answers = omega (arith, ap (frames_left job) answers.5)
-one_frame_fewer job start (has_judged begun judgement) now frame answer behind answers = absurd answers
-one_frame_fewer job start has_refused now frame answer behind answers = absurd answers
-
-pub grant_fewer : (job : VerifierJob) (start : ℕ) → IsVerifierJob job → frames_left job (behind_grant job start) < frames_left job awaits_hello
-grant_fewer job start is = by_kind (either_kind job.task.file.params.kind)
-  where
-    by_kind : ((job.task.file.params.kind ≡ Direct) ⊎ (job.task.file.params.kind ≡ Extended))
-        → frames_left job (behind_grant job start) < frames_left job awaits_hello
-    by_kind (inl direct) = omega (arith, ap (frames_left job) (behind_direct job start direct))
-    by_kind (inr extended) = omega (arith, is.units_most, ap (frames_left job) (behind_extended job start extended))
+one_frame_fewer job start other now frame answer behind answers = absurd answers
 
 -- ---- a session whose grant begins here
 
 pub grant_begins : (job : VerifierJob) (start : ℕ) → IsBehind start (behind_grant job start)
-grant_begins job start = by_kind (either_kind job.task.file.params.kind)
-  where
-    by_kind : ((job.task.file.params.kind ≡ Direct) ⊎ (job.task.file.params.kind ≡ Extended)) → IsBehind start (behind_grant job start)
-    by_kind (inl direct) = subst (IsBehind start) (sym (behind_direct job start direct)) refl
-    by_kind (inr extended) = subst (IsBehind start) (sym (behind_extended job start extended)) refl
+grant_begins job start = elim (either_kind job.task.file.params.kind) [
+  | inl direct ↦ subst (IsBehind start) (sym (behind_direct job start direct)) refl
+  | inr extended ↦ subst (IsBehind start) (sym (behind_extended job start extended)) refl
+]
 
 asks_stay : (job : VerifierJob) (start begun : ℕ) (asked : List (List TreeAsk)) (answer : List Frame) (now : VerifierStage) → begun ≡ start
     → AnswersAsks job begun asked answer now → IsBehind start now
@@ -280,40 +405,20 @@ asks_stay job start begun asked answer now same (inr all) = subst (IsBehind star
 pub stays_behind : (job : VerifierJob) (start : ℕ) (stage now : VerifierStage) (frame : Frame) (answer : List Frame) → IsBehind start stage
     → VerifierAnswers job stage frame answer now → IsBehind start now
 stays_behind job start awaits_hello now frame answer behind answers = absurd behind
-stays_behind job start owes_grant now frame answer behind answers = absurd answers
 stays_behind job start (awaits_asks begun asked) now frame answer behind answers = asks_stay job start begun (asked ++ answers.0 ∷ []) answer now behind answers.2
 stays_behind job start (awaits_corrections begun) now frame answer behind answers = subst (IsBehind start) (sym answers.3) behind
 stays_behind job start (awaits_sums begun d) now frame answer behind answers = subst (IsBehind start) (sym answers.3) behind
 stays_behind job start (awaits_openings begun d both) now frame answer behind answers = subst (IsBehind start) (sym answers.5) behind
-stays_behind job start (has_judged begun judgement) now frame answer behind answers = absurd answers
-stays_behind job start has_refused now frame answer behind answers = absurd answers
-
-pub not_expected : {A : Type 0} (place : Expect) → None ≡ Some place → A
-not_expected place same = absurd (none_is_some same)
-
--- a frame is expected there
-pub starts_of : (job : VerifierJob) (start : ℕ) (stage : VerifierStage) (place : Expect) → IsBehind start stage → verifier_expects job stage ≡ Some place
-    → StartsAt start stage
-starts_of job start awaits_hello place behind expected = absurd behind
-starts_of job start owes_grant place behind expected = absurd behind
-starts_of job start (awaits_asks begun asked) place behind expected = behind
-starts_of job start (awaits_corrections begun) place behind expected = behind
-starts_of job start (awaits_sums begun d) place behind expected = behind
-starts_of job start (awaits_openings begun d both) place behind expected = behind
-starts_of job start (has_judged begun judgement) place behind expected = not_expected place expected
-starts_of job start has_refused place behind expected = absurd behind
+stays_behind job start other now frame answer behind answers = absurd answers
 
 -- where none is expected it has judged
 pub judged_of : (job : VerifierJob) (start : ℕ) (stage : VerifierStage) → IsBehind start stage → verifier_expects job stage ≡ None
     → (judgement : Judgement) × (stage ≡ has_judged start judgement)
 judged_of job start awaits_hello behind none = absurd behind
 judged_of job start owes_grant behind none = absurd behind
-judged_of job start (awaits_asks begun asked) behind none = not_expected (places.Ask job.task.file.params.height job.task.file.params.trees (units_of_job job - length asked)) (sym none)
-judged_of job start (awaits_corrections begun) behind none = not_expected (places.Corrections job.task.statement.program.givens) (sym none)
-judged_of job start (awaits_sums begun d) behind none = not_expected (places.Sums (section_count job.task.statement.program job.section_length)) (sym none)
-judged_of job start (awaits_openings begun d both) behind none = not_expected (places.Openings (length job.task.statement.program.opened)) (sym none)
-judged_of job start (has_judged begun judgement) behind none = (judgement, ap (λ (n : ℕ). has_judged n judgement) behind)
 judged_of job start has_refused behind none = absurd behind
+judged_of job start (has_judged begun judgement) behind none = (judgement, ap (λ (n : ℕ). has_judged n judgement) behind)
+judged_of job start other behind none = absurd (none_is_some (sym none))
 
 -- ---- answers are short
 
@@ -349,8 +454,7 @@ short_answers job (awaits_sums start c) now expect frame answer law held expects
 short_answers job (awaits_openings start c both) now expect frame answer law held expects allowed at answers =
     subst (All IsShort) (sym answers.4)
     (one_short (verdict (verdict_code (verdict_in answers.1)) (verdict_number (verdict_in answers.1))) (omega arith))
-short_answers job (has_judged start judgement) now expect frame answer law held expects allowed at answers = absurd answers
-short_answers job has_refused now expect frame answer law held expects allowed at answers = absurd answers
+short_answers job other now expect frame answer law held expects allowed at answers = absurd answers
 
 -- so it has at whatever place is expected
 pub short_there : (job : VerifierJob) (stage now : VerifierStage) (frame : Frame) (answer : List Frame) → RepliesAreInRange → IsHeldJob job
@@ -361,10 +465,6 @@ short_there job stage now frame answer law held expected at answers = by_place (
     by_place None is allowed = absurd allowed
     by_place (Some place) is allowed = short_answers job stage now place frame answer law held is allowed at answers
 
--- the grant is a short frame
-pub short_grant : (job : VerifierJob) (start : ℕ) → All IsShort (grant (granted_from job start) ∷ [])
-short_grant job start = one_short (grant (granted_from job start)) (omega arith)
-
 -- ---- the grant
 
 -- the grant is after the hello
@@ -373,24 +473,21 @@ behind_hello a = sym (append-nil a) ∙ sym (append-nil (a ++ []))
 
 pub grant_behind : (job : VerifierJob) (start : ℕ) (log : List (Side × ℕ)) → start + units_of_job job ≤ job.task.file.params.total
     → IsLogAt job owes_grant log → IsLogAt job (behind_grant job start) (log ++ bytes_from Verifier (grant_frame (granted_from job start)))
-grant_behind job start log within at = by_kind (either_kind job.task.file.params.kind)
-  where
-    now : List (Side × ℕ)
-    now = log ++ bytes_from Verifier (grant_frame (granted_from job start))
-
-    spelled : log ++ bytes_from Verifier (grant_frame (granted_from job start)) ≡ turn_bytes (first_turn job at.greeting start ∷ []) ++ []
-    spelled = ap (λ l. l ++ bytes_from Verifier (grant_frame (granted_from job start))) at.bytes
-        ∙ behind_hello (bytes_from Prover (first_turn job at.greeting start).0 ++ bytes_from Verifier (first_turn job at.greeting start).1)
-
-    by_kind : ((job.task.file.params.kind ≡ Direct) ⊎ (job.task.file.params.kind ≡ Extended)) → IsLogAt job (behind_grant job start) now
-    by_kind (inl direct) = subst (λ p. IsLogAt job p now) (sym (behind_direct job start direct))
-        (record { within = within; greeting = at.greeting; rounds = []; served = served_none job start direct; spelled = spelled })
-    by_kind (inr extended) = subst (λ p. IsLogAt job p now) (sym (behind_extended job start extended)) (record {
-      within = within;
-      so_far = record { extended = extended; more = omega arith; each = All-nil (AreAsks job.task.file.params.height job.task.file.params.trees) };
-      greeting = at.greeting;
-      spelled = spelled;
-    })
+grant_behind job start log within at =
+    let now : List (Side × ℕ) = log ++ bytes_from Verifier (grant_frame (granted_from job start)) in
+    let spelled : log ++ bytes_from Verifier (grant_frame (granted_from job start)) ≡ turn_bytes (first_turn job at.greeting start ∷ []) ++ [] =
+    ap (λ l. l ++ bytes_from Verifier (grant_frame (granted_from job start))) at.bytes
+    ∙ behind_hello (bytes_from Prover (first_turn job at.greeting start).0 ++ bytes_from Verifier (first_turn job at.greeting start).1) in
+    elim (either_kind job.task.file.params.kind) [
+      | inl direct ↦ subst (λ p. IsLogAt job p now) (sym (behind_direct job start direct))
+          (record { within = within; greeting = at.greeting; rounds = []; served = served_none job start direct; spelled = spelled })
+      | inr extended ↦ subst (λ p. IsLogAt job p now) (sym (behind_extended job start extended)) (record {
+        within = within;
+        so_far = record { extended = extended; more = omega arith; each = All-nil (AreAsks job.task.file.params.height job.task.file.params.trees) };
+        greeting = at.greeting;
+        spelled = spelled;
+      })
+    ]
 
 -- what the verifier sends adds nothing to what the prover sent
 pub sent_answered : (log : List (Side × ℕ)) (answer : List ℕ) → sent_by Prover (log ++ bytes_from Verifier answer) ≡ sent_by Prover log
@@ -401,7 +498,7 @@ sent_answered log answer =
 
 -- what is expected is one place
 pub one_expected : (some other : Expect) (stage : Option Expect) → stage ≡ Some some → stage ≡ Some other → other ≡ some
-one_expected some other stage is also = ap stage_in (sym also ∙ is)
+one_expected some other stage is also = same_Some other some (sym also ∙ is)
 
 -- no more came than a frame of it has
 pub few_of : (job : VerifierJob) (stage : VerifierStage) (outcome : VerifierOutcome) (first now : LinkSnapshot) → (stopped : IsStopped job stage outcome first now)

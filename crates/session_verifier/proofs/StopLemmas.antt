@@ -1,7 +1,7 @@
 -- From how a run of a verifier's end stopped to where its session stopped.
 use Rattle.std.proofs.Common.{◌≡◌, ℕ, ◌+◌, ◌≤◌, List, ◌++◌, flat_map, length, take, true, inl, inr, Some, refl, ap, sym, ◌∙◌, subst, arith}
 use Rattle.std.proofs.lemmas.List.{take-map}
-use Rattle.zk_model.specs.Transcript.{Hello, IsHello, hello_frame, grant_frame, refuse_frame, bytes_from, sent_by}
+use Rattle.zk_model.specs.Transcript.{Hello, IsHello, grant_frame, refuse_frame, bytes_from, sent_by}
 use Rattle.zk_model.specs.Frames.{Frame, hello, frame_spelling, Allows, IsWhole}
 use Rattle.zk_model.specs.declared.Expect.{Expect}
 use Rattle.zk_model.specs.declared.Expect.TheVariants as places
@@ -13,17 +13,15 @@ use Rattle.proof_frames.proofs.Lengths.{whole_length}
 use Rattle.frame_link.specs.declared.fault.LineFault.{LineFault}
 use Rattle.frame_link.specs.declared.fault.LineFault.TheVariants as fault
 use Rattle.frame_link.specs.Lines.{LineState, LinkSnapshot, IsSendRefused, IsSendCause, CountsFault, IsNoBadByte, IsCutShort, counted_times, snapshot_of, longest}
-use Rattle.frame_link.proofs.LineLemmas.{frame_most, appended_more}
-use Rattle.frame_link.proofs.AnswerLemmas.{one_send_more}
+use Rattle.frame_link.proofs.LineLemmas.{frame_most, appended_more, none_is_some, one_send_more}
 use Rattle.session_core.specs.declared.fault.VerifierFault.{VerifierFault}
 use Rattle.session_core.specs.declared.fault.VerifierFault.TheVariants as session
 use Rattle.session_core.specs.Jobs.{VerifierJob, granted_from}
 use Rattle.session_core.specs.Cores.{VerifierStage, VerifierAnswers, VerifierRefuses, awaits_hello, owes_grant, verifier_expects}
 use Rattle.session_driver.specs.Runs.{Moves, HasPassed, IsMissing, Lacks, TriesRefusal}
 use Rattle.session_verifier.specs.Outcomes.{line_outcome, session_outcome, hello_code}
-use Rattle.session_verifier.specs.Stages.{IsLogAt, IsStopped, IsRefusalTried, IsGrantUnsent, IsUnmet, RefusesHello, StopCause, LeavesFrame, IsUnsent, IsFault, CountsOutcome, IsWaiting, answers_before}
-use Rattle.session_verifier.specs.declared.note.VerifierOutcome.{VerifierOutcome}
-use Rattle.session_verifier.specs.declared.note.VerifierOutcome.TheVariants.{Link, NoMemory}
+use Rattle.session_verifier.specs.Stages.{IsLogAt, IsStopped, IsRefusalTried, IsGrantUnsent, IsUnmet, IsWholeHello, RefusesHello, StopCause, LeavesFrame, IsUnsent, IsFault, CountsOutcome, IsWaiting, answers_before}
+use Rattle.session_verifier.specs.declared.note.VerifierOutcome.TheVariants.{Link}
 use Rattle.session_verifier.proofs.StageLemmas.{allowed_at, one_expected}
 
 -- a first moment of a line of the verifier's
@@ -49,10 +47,8 @@ waiting_of job stage log sends first now at counts passed = record {
 -- how often calls failed
 count_of : (broke : LineFault) (first now : LineState) → CountsFault broke (ours first) now
     → CountsOutcome (line_outcome broke) (snapshot_of first) (snapshot_of now)
-count_of (fault.PeerEnded at) first now count = record { later = count.later; unfailed = λ no. count.unfailed no }
-count_of (fault.BadFrame at) first now count = record { later = count.later; unfailed = λ no. count.unfailed no }
 count_of fault.Link first now count = record { later = count.later; unfailed = λ no. absurd no }
-count_of fault.NoMemory first now count = record { later = count.later; unfailed = λ no. count.unfailed no }
+count_of other first now count = record { later = count.later; unfailed = λ no. count.unfailed no }
 
 lacking_cause : (job : VerifierJob) (stage : VerifierStage) (place : Expect) (rest : List ℕ) (broke : LineFault) (first now : LineState)
     → verifier_expects job stage ≡ Some place → (IsNoBadByte broke → IsCutShort place rest) → Lacks place rest broke (ours first) now
@@ -67,10 +63,9 @@ lacking_cause job stage place rest fault.NoMemory first now expects cut lacks = 
 -- what is left of the frame where it did not come
 frame_left : (expect : Expect) (bytes : List ℕ) (broke : LineFault) → (IsNoBadByte broke → IsCutShort expect bytes)
     → LeavesFrame expect bytes (line_outcome broke)
-frame_left expect bytes (fault.PeerEnded at) cut = tt
-frame_left expect bytes (fault.BadFrame at) cut = tt
 frame_left expect bytes fault.Link cut = cut tt
 frame_left expect bytes fault.NoMemory cut = inl (cut tt)
+frame_left expect bytes other cut = tt
 
 pub stops_without : {S F : Type 0} (moves : Moves S F) (job : VerifierJob) (stage : VerifierStage) (log : List (Side × ℕ)) (sends : ℕ) (mid new : S) (broke : LineFault) (first now : LineState)
     → moves.expects mid ≡ verifier_expects job stage → IsLogAt job stage log → sends ≡ answers_before job stage
@@ -132,16 +127,14 @@ receives_few log sends first now passed =
 
 send_cause : (job : VerifierJob) (stage : VerifierStage) (bytes : List ℕ) (broke : LineFault) (first mid now : LineState) → mid.faults ≡ first.faults
     → IsSendCause mid now broke → StopCause job stage bytes (snapshot_of first) (snapshot_of now) (line_outcome broke)
-send_cause job stage bytes (fault.PeerEnded at) first mid now faults cause = absurd cause
-send_cause job stage bytes (fault.BadFrame at) first mid now faults cause = absurd cause
 send_cause job stage bytes fault.Link first mid now faults cause = subst (λ n. Rose n now.faults) faults cause
 send_cause job stage bytes fault.NoMemory first mid now faults cause = tt
+send_cause job stage bytes other first mid now faults cause = absurd cause
 
 unsent_fault : (broke : LineFault) (old new : LineState) → IsSendCause old new broke → IsFault (line_outcome broke)
-unsent_fault (fault.PeerEnded at) old new cause = absurd cause
-unsent_fault (fault.BadFrame at) old new cause = absurd cause
 unsent_fault fault.Link old new cause = tt
 unsent_fault fault.NoMemory old new cause = tt
+unsent_fault other old new cause = absurd cause
 
 -- how often calls failed
 unsent_count : (broke : LineFault) (first heard now : LineState) → heard.faults ≡ first.faults → CountsFault broke heard now
@@ -154,14 +147,7 @@ link_rose : (broke : LineFault) (first old new : LineState) → old.faults ≡ f
 link_rose (fault.PeerEnded at) first old new faults cause is = absurd cause
 link_rose (fault.BadFrame at) first old new faults cause is = absurd cause
 link_rose fault.Link first old new faults cause is = subst (λ n. Rose n new.faults) faults cause
-link_rose fault.NoMemory first old new faults cause is = absurd (not_link is)
-  where
-    if_link : VerifierOutcome → Type 0
-    if_link Link = ⊥
-    if_link outcome = Unit {0}
-
-    not_link : NoMemory ≡ Link → ⊥
-    not_link same = subst if_link same tt
+link_rose fault.NoMemory first old new faults cause is = cc
 
 -- what is told then
 unsent_of : (answers : ℕ) (bytes : List ℕ) (broke : LineFault) (log : List (Side × ℕ)) (first heard now : LineState) → HasPassed log answers (ours first) heard
@@ -210,10 +196,10 @@ pub stops_unsent : (job : VerifierJob) (stage next : VerifierStage) (place : Exp
     → 1 ≤ length answer → IsSendRefused (flat_map frame_spelling answer) broke heard now
     → IsStopped job stage (line_outcome broke) (snapshot_of first) (snapshot_of now)
 stops_unsent job stage next place frame answer broke log sends first heard now expects allowed at counts passed answers some refused = record {
+  expected = expects;
   before = log;
   waited = at;
   expect = place;
-  expected = expects;
   rest = frame_spelling frame;
   few = frame_few place frame allowed;
   log = refused.logged ∙ passed.logged;
@@ -288,16 +274,14 @@ refusal_tried code old new side (inr (broke, fails)) = record {
 -- it did not come
 hello_missing : (broke : LineFault) (bytes : List ℕ) (now : LinkSnapshot) → (IsNoBadByte broke → IsCutShort places.Hello bytes)
     → RefusesHello bytes (line_outcome broke) now now
-hello_missing (fault.PeerEnded at) bytes now cut = refl
-hello_missing (fault.BadFrame at) bytes now cut = refl
-hello_missing fault.Link bytes now cut = refl
-hello_missing fault.NoMemory bytes now cut = inr (cut tt, refl)
+hello_missing fault.NoMemory bytes now cut = inr (λ _. cut tt, refl)
+hello_missing other bytes now cut = inr (λ refuses. absurd (none_is_some refuses.1), refl)
 
 -- it came, and was refused
-hello_refused : (fault : VerifierFault) (bytes : List ℕ) (mid now : LinkSnapshot) → (hello : Hello) × IsHello hello × (bytes ≡ hello_frame hello)
-    → IsRefusalTried (hello_code fault) mid now → RefusesHello bytes (session_outcome fault) mid now
-hello_refused (session.BadHello differs) bytes mid now whole refused = refused
-hello_refused session.NoMemory bytes mid now whole refused = inl (whole, refused)
+hello_refused : (fault : VerifierFault) (bytes : List ℕ) (mid now : LinkSnapshot) → IsWholeHello bytes → IsRefusalTried (hello_code fault) mid now
+    → RefusesHello bytes (session_outcome fault) mid now
+hello_refused (session.BadHello differs) bytes mid now whole refused = inl (1, refl, whole, refused)
+hello_refused session.NoMemory bytes mid now whole refused = inl (4, refl, whole, refused)
 
 -- the hello did not come
 pub unmet_missing : {S F : Type 0} (moves : Moves S F) (job : VerifierJob) (log : List (Side × ℕ)) (sends : ℕ) (mid new : S) (broke : LineFault) (first now : LineState)

@@ -1,11 +1,11 @@
 -- What the link tells after the log: a part of the one answer whose send was refused.
-use Rattle.std.proofs.Common.{◌≡◌, ◌⊎◌, inl, inr, ℕ, ◌+◌, ◌≤◌, List, [], ◌∷◌, ◌++◌, flat_map, take, drop, length, Option, Some, None, Result, Ok, Err, refl, ap, sym, ◌∙◌, subst, arith, append-nil, append_assoc}
+use Rattle.std.proofs.Common.{◌≡◌, inl, inr, ℕ, ◌+◌, ◌≤◌, List, [], ◌++◌, flat_map, take, drop, length, Option, Some, None, Result, Ok, Err, refl, ap, sym, ◌∙◌, subst, arith, append-nil, append_assoc}
+use Rattle.std.proofs.lemmas.Option.{same_Some}
 use Rattle.std.proofs.lemmas.List.{map-append, take-append-drop, take-map}
 use Rattle.zk_model.specs.Files.{rounds_of}
 use Rattle.zk_model.specs.Transcript.{BeginsWith, hello_frame, grant_frame, refuse_frame, bytes_from, turn_bytes, session_turns, spelling}
 use Rattle.zk_model.specs.Frames.{Frame, frame_spelling}
 use Rattle.zk_model.specs.ServedVerifier.{IsServed, ServesWith}
-use Rattle.zk_model.specs.declared.Kind.TheVariants.{Direct, Extended}
 use Rattle.zk_model.specs.declared.Side.{Side}
 use Rattle.zk_model.specs.declared.Side.TheVariants.{Prover, Verifier}
 use Rattle.zk_model.specs.declared.Span.{Span}
@@ -13,22 +13,20 @@ use Rattle.zk_port.specs.Logs.{appended}
 use Rattle.session_laws.specs.Serving.{ServedSessionExists}
 use Rattle.session_laws.specs.Rounds.{RepliesAreInRange}
 use Rattle.frame_link.specs.Lines.{LinkSnapshot}
-use Rattle.frame_link.proofs.LineLemmas.{appended_more}
+use Rattle.frame_link.proofs.LineLemmas.{appended_more, none_is_some}
 use Rattle.lease_store.specs.declared.LeaseFault.{LeaseFault}
-use Rattle.lease_store.specs.declared.LeaseFault.TheVariants as lease
 use Rattle.session_core.specs.Jobs.{VerifierJob, units_of_job, granted_from}
 use Rattle.session_core.specs.Judgements.{verdict_in}
-use Rattle.session_core.specs.Cores.{VerifierStage, VerifierAnswers, AnswersAsks, awaits_hello, owes_grant, behind_grant, awaits_asks, awaits_corrections, awaits_sums, awaits_openings, has_judged, has_refused}
+use Rattle.session_core.specs.Cores.{VerifierStage, VerifierAnswers, awaits_hello, owes_grant, behind_grant, awaits_asks, awaits_corrections, awaits_sums, awaits_openings, has_judged}
 use Rattle.session_core.specs.declared.judgement.Judgement.{Judgement}
-use Rattle.session_verifier.specs.Outcomes.{judgement_outcome, lease_outcome, lease_code}
-use Rattle.session_verifier.specs.Stages.{IsHeldJob, IsLogAt, IsUnsent, IsAnswer, IsFault, SendsUpTo, StartsAt, IsStopped, StopsBehind, IsWholeHello, IsRefusalTried, IsRefusalSent, IsRefusalUnsent, IsRefusedGrant, LacksTheGrant, RefusesHello, IsWaiting, IsCourse}
-use Rattle.session_verifier.specs.Notes.{refusal_of, BeginsRefusal, SendsRightly, TellsRightly, IsAllSent, IsTold}
-use Rattle.session_verifier.proofs.StageLemmas.{logs_on, grant_behind}
-use Rattle.session_verifier.proofs.RoundLemmas.{either_kind, behind_direct, behind_extended, turns_append}
-use Rattle.session_verifier.proofs.CourseLemmas.{IsKnown, judged_session, hello_sent, hello_bytes, greeting_is_hello}
-use Rattle.session_verifier.proofs.ServedLemmas.{IsCutOf, cut_of_log, cut_asks, cut_corrections, cut_sums, serves_with, sends_rightly, lease_refusal}
+use Rattle.session_verifier.specs.Outcomes.{Refuses, lease_code, refusal_of}
+use Rattle.session_verifier.specs.Stages.{IsHeldJob, IsLogAt, IsUnsent, IsAnswer, IsFault, SendsUpTo, IsBehind, IsStopped, IsWholeHello, IsRefusalTried, IsRefusedGrant, LacksTheGrant, RefusesHello, IsCourse}
+use Rattle.session_verifier.specs.Notes.{BeginsRefusal, SendsRightly, TellsRightly, IsAllSent, IsTold}
+use Rattle.session_verifier.proofs.StageLemmas.{logs_on, grant_behind, either_kind, behind_direct, behind_extended, turns_append}
+use Rattle.session_verifier.proofs.CourseLemmas.{IsKnown, judged_session, hello_sent, hello_bytes, greeting_is_hello, lease_refusal}
+use Rattle.session_verifier.proofs.ServedLemmas.{IsCutOf, cut_of_log, cut_asks, cut_corrections, cut_sums, serves_with, sends_rightly}
 use Rattle.session_verifier.specs.declared.note.VerifierOutcome.{VerifierOutcome}
-use Rattle.session_verifier.specs.declared.note.VerifierOutcome.TheVariants.{Accepted, RejectedSum, RejectedOpening, PeerEnded, BadFrame, BadHello, Exhausted, Device, Broken, Link, NoMemory}
+use Rattle.session_verifier.specs.declared.note.VerifierOutcome.TheVariants.{Link, NoMemory}
 
 -- ---- a part of an answer
 
@@ -68,7 +66,7 @@ serves_judged_part job start judgement log answer count known at =
     let span : Span = record { start = start; end = start } in
     let session = judged_session job span (Some span) judgement (log ++ bytes_from Verifier answer) known refl at in
     let all = session.served.in_order.bytes in
-    let same : session.span ≡ span = ap (λ (o : Option Span). or_span span o) (sym session.leased) in
+    let same : session.span ≡ span = sym (same_Some span session.span session.leased) in
     record {
       t = session.t;
       verdict = verdict_in judgement;
@@ -76,28 +74,21 @@ serves_judged_part job start judgement log answer count known at =
       granted = session.grant ∙ ap (λ (s : Span). granted_from job s.start) same;
       bytes = inl (part_begins (spelling session.t) log answer count ([], sym all ∙ sym (append-nil (log ++ bytes_from Verifier answer))));
     }
-  where
-    or_span : Span → Option Span → Span
-    or_span span None = span
-    or_span span (Some other) = other
 
 -- ---- the answer that is due
 
 answered_part : (job : VerifierJob) (start : ℕ) (stage next : VerifierStage) (frame : Frame) (frames : List Frame) (log : List (Side × ℕ)) (answer : List ℕ) (count : ℕ)
-    → RepliesAreInRange → ServedSessionExists → IsKnown job → StartsAt start stage → VerifierAnswers job stage frame frames next → 1 ≤ length frames
+    → RepliesAreInRange → ServedSessionExists → IsKnown job → IsBehind start stage → VerifierAnswers job stage frame frames next → 1 ≤ length frames
     → IsLogAt job next (log ++ bytes_from Verifier answer)
     → ServesWith job.task (granted_from job start) (log ++ bytes_from Verifier (take count answer))
 answered_part job start awaits_hello next frame frames log answer count ranges law known starts answers some at = absurd starts
-answered_part job start owes_grant next frame frames log answer count ranges law known starts answers some at = absurd starts
-answered_part job start (awaits_asks begun asked) next frame frames log answer count ranges law known starts answers some at = either answers.2
-  where
-    either : AnswersAsks job begun (asked ++ answers.0 ∷ []) frames next
-        → ServesWith job.task (granted_from job start) (log ++ bytes_from Verifier (take count answer))
-    either (inl more) = absurd (omega (arith, some, ap length more.1))
-    either (inr all) = subst (λ b. ServesWith job.task (granted_from job b) (log ++ bytes_from Verifier (take count answer))) starts
-        (serves_part job begun (1 + rounds_of job.task.file.params.kind) log answer count
-        (cut_corrections job begun [] (log ++ bytes_from Verifier answer) law known
-        (cut_of_log job (awaits_corrections begun) (log ++ bytes_from Verifier answer) (subst (λ p. IsLogAt job p (log ++ bytes_from Verifier answer)) all.2 at))))
+answered_part job start (awaits_asks begun asked) next frame frames log answer count ranges law known starts answers some at = elim answers.2 [
+  | inl more ↦ absurd (omega (arith, some, ap length more.1))
+  | inr all ↦ subst (λ b. ServesWith job.task (granted_from job b) (log ++ bytes_from Verifier (take count answer))) starts
+      (serves_part job begun (1 + rounds_of job.task.file.params.kind) log answer count
+      (cut_corrections job begun [] (log ++ bytes_from Verifier answer) law known
+      (cut_of_log job (awaits_corrections begun) (log ++ bytes_from Verifier answer) (subst (λ p. IsLogAt job p (log ++ bytes_from Verifier answer)) all.2 at))))
+]
 answered_part job start (awaits_corrections begun) next frame frames log answer count ranges law known starts answers some at =
     subst (λ b. ServesWith job.task (granted_from job b) (log ++ bytes_from Verifier (take count answer))) starts
     (serves_part job begun (2 + rounds_of job.task.file.params.kind) log answer count
@@ -108,35 +99,30 @@ answered_part job start (awaits_sums begun d) next frame frames log answer count
 answered_part job start (awaits_openings begun d both) next frame frames log answer count ranges law known starts answers some at =
     subst (λ b. ServesWith job.task (granted_from job b) (log ++ bytes_from Verifier (take count answer))) starts
     (serves_judged_part job begun answers.1 log answer count known (subst (λ p. IsLogAt job p (log ++ bytes_from Verifier answer)) answers.5 at))
-answered_part job start (has_judged begun judgement) next frame frames log answer count ranges law known starts answers some at = absurd starts
-answered_part job start has_refused next frame frames log answer count ranges law known starts answers some at = absurd starts
+answered_part job start other next frame frames log answer count ranges law known starts answers some at = absurd answers
 
 -- of the grant
 granted_part : (job : VerifierJob) (start : ℕ) (log : List (Side × ℕ)) (count : ℕ) → RepliesAreInRange → ServedSessionExists → IsKnown job
     → start + units_of_job job ≤ job.task.file.params.total → IsLogAt job owes_grant log
     → ServesWith job.task (granted_from job start) (log ++ bytes_from Verifier (take count (grant_frame (granted_from job start))))
-granted_part job start log count ranges law known within at = by_kind (either_kind job.task.file.params.kind)
-  where
-    grant : List ℕ
-    grant = grant_frame (granted_from job start)
-
-    behind : IsLogAt job (behind_grant job start) (log ++ bytes_from Verifier (grant_frame (granted_from job start)))
-    behind = grant_behind job start log within at
-
-    by_kind : ((job.task.file.params.kind ≡ Direct) ⊎ (job.task.file.params.kind ≡ Extended))
-        → ServesWith job.task (granted_from job start) (log ++ bytes_from Verifier (take count (grant_frame (granted_from job start))))
-    by_kind (inl direct) =
-        let all = log ++ bytes_from Verifier (grant_frame (granted_from job start)) in
-        serves_part job start (1 + rounds_of job.task.file.params.kind) log (grant_frame (granted_from job start)) count
-        (cut_corrections job start [] all law known (cut_of_log job (awaits_corrections start) all (subst (λ p. IsLogAt job p all) (behind_direct job start direct) behind)))
-    by_kind (inr extended) =
-        let all = log ++ bytes_from Verifier (grant_frame (granted_from job start)) in
-        serves_part job start 1 log (grant_frame (granted_from job start)) count
-        (cut_asks job start [] [] all ranges law known (cut_of_log job (awaits_asks start []) all (subst (λ p. IsLogAt job p all) (behind_extended job start extended) behind)))
+granted_part job start log count ranges law known within at =
+    let grant : List ℕ = grant_frame (granted_from job start) in
+    let behind : IsLogAt job (behind_grant job start) (log ++ bytes_from Verifier (grant_frame (granted_from job start))) =
+    grant_behind job start log within at in
+    elim (either_kind job.task.file.params.kind) [
+      | inl direct ↦
+          let all = log ++ bytes_from Verifier (grant_frame (granted_from job start)) in
+          serves_part job start (1 + rounds_of job.task.file.params.kind) log (grant_frame (granted_from job start)) count
+          (cut_corrections job start [] all law known (cut_of_log job (awaits_corrections start) all (subst (λ p. IsLogAt job p all) (behind_direct job start direct) behind)))
+      | inr extended ↦
+          let all = log ++ bytes_from Verifier (grant_frame (granted_from job start)) in
+          serves_part job start 1 log (grant_frame (granted_from job start)) count
+          (cut_asks job start [] [] all ranges law known (cut_of_log job (awaits_asks start []) all (subst (λ p. IsLogAt job p all) (behind_extended job start extended) behind)))
+    ]
 
 -- after the log where a session stopped
 due_part : (job : VerifierJob) (start : ℕ) (stage : VerifierStage) (before log : List (Side × ℕ)) (rest answer : List ℕ) (count : ℕ)
-    → RepliesAreInRange → ServedSessionExists → IsKnown job → StartsAt start stage → IsLogAt job stage before → log ≡ before ++ bytes_from Prover rest
+    → RepliesAreInRange → ServedSessionExists → IsKnown job → IsBehind start stage → IsLogAt job stage before → log ≡ before ++ bytes_from Prover rest
     → IsAnswer job stage rest answer
     → ServesWith job.task (granted_from job start) (log ++ bytes_from Verifier (take count answer))
 due_part job start stage before log rest answer count ranges law known starts waited logged is =
@@ -157,47 +143,51 @@ record TellsRefusal (outcome : VerifierOutcome) (first now : LinkSnapshot) : Typ
 
 tells_refusal : (outcome : VerifierOutcome) (code : ℕ) (rest : List ℕ) (first mid now : LinkSnapshot) → IsWholeHello rest → refusal_of outcome ≡ Some code
     → mid.log ≡ bytes_from Prover rest → mid.told ≡ appended mid.log first.told → IsRefusalTried code mid now → TellsRefusal outcome first now
-tells_refusal outcome code rest first mid now whole of log told refused = either refused.sent
+tells_refusal outcome code rest first mid now whole of log told refused = elim refused.sent [
+  | inl sent ↦ record {
+    part = [];
+    told = sent.told ∙ ap (appended (bytes_from Verifier (refuse_frame code))) told
+        ∙ appended_more mid.log (bytes_from Verifier (refuse_frame code)) first.told
+        ∙ ap (λ l. appended l first.told) (sym sent.log ∙ sym (append-nil now.log));
+    begins = record {
+      rest = rest;
+      hello = whole;
+      code = code;
+      code_is = of;
+      answer = refuse_frame code;
+      begun = ([], sym (append-nil (refuse_frame code)));
+      bytes = append-nil now.log ∙ sent.log ∙ ap (λ l. l ++ bytes_from Verifier (refuse_frame code)) log;
+    };
+  }
+  | inr unsent ↦
+      let count = unsent.told.count in
+      let part = take count (refuse_frame code) in
+      record {
+        part = part;
+        told = unsent.told.part
+            ∙ ap (λ l. appended l mid.told) (take-map (λ (byte : ℕ). (Verifier, byte)) count (refuse_frame code))
+            ∙ ap (appended (bytes_from Verifier part)) told
+            ∙ appended_more mid.log (bytes_from Verifier part) first.told
+            ∙ ap (λ l. appended (l ++ bytes_from Verifier part) first.told) (sym unsent.log);
+        begins = record {
+          rest = rest;
+          hello = whole;
+          code = code;
+          code_is = of;
+          answer = part;
+          begun = (drop count (refuse_frame code), sym (take-append-drop count (refuse_frame code)));
+          bytes = ap (λ l. l ++ bytes_from Verifier part) (unsent.log ∙ log);
+        };
+      }
+]
   where
     frame : List ℕ
     frame = refuse_frame code
 
-    either : (IsRefusalSent code mid now ⊎ IsRefusalUnsent code mid now) → TellsRefusal outcome first now
-    either (inl sent) = record {
-      part = [];
-      told = sent.told ∙ ap (appended (bytes_from Verifier (refuse_frame code))) told
-          ∙ appended_more mid.log (bytes_from Verifier (refuse_frame code)) first.told
-          ∙ ap (λ l. appended l first.told) (sym sent.log ∙ sym (append-nil now.log));
-      begins = record {
-        rest = rest;
-        hello = whole;
-        code = code;
-        code_is = of;
-        answer = refuse_frame code;
-        begun = ([], sym (append-nil (refuse_frame code)));
-        bytes = append-nil now.log ∙ sent.log ∙ ap (λ l. l ++ bytes_from Verifier (refuse_frame code)) log;
-      };
-    }
-    either (inr unsent) =
-        let count = unsent.told.count in
-        let part = take count (refuse_frame code) in
-        record {
-          part = part;
-          told = unsent.told.part
-              ∙ ap (λ l. appended l mid.told) (take-map (λ (byte : ℕ). (Verifier, byte)) count (refuse_frame code))
-              ∙ ap (appended (bytes_from Verifier part)) told
-              ∙ appended_more mid.log (bytes_from Verifier part) first.told
-              ∙ ap (λ l. appended (l ++ bytes_from Verifier part) first.told) (sym unsent.log);
-          begins = record {
-            rest = rest;
-            hello = whole;
-            code = code;
-            code_is = of;
-            answer = part;
-            begun = (drop count (refuse_frame code), sym (take-append-drop count (refuse_frame code)));
-            bytes = ap (λ l. l ++ bytes_from Verifier part) (unsent.log ∙ log);
-          };
-        }
+-- where a refusal is due, it may not have been sent
+refuses_never : (outcome : VerifierOutcome) → Refuses outcome → IsAllSent outcome → ⊥
+refuses_never Link refuses all = all
+refuses_never other refuses all = none_is_some (sym all ∙ refuses.1)
 
 told_unleased : (job : VerifierJob) (outcome : VerifierOutcome) (first now : LinkSnapshot) → (IsAllSent outcome → ⊥) → TellsRefusal outcome first now
     → IsTold job None outcome first now
@@ -218,48 +208,17 @@ told_whole job granted outcome first now told rightly = record {
 -- where no units were leased
 told_unmet : (job : VerifierJob) (outcome : VerifierOutcome) (first mid now : LinkSnapshot) → SendsRightly job None outcome now.log
     → (stopped : IsStopped job awaits_hello outcome first mid) → RefusesHello stopped.rest outcome mid now → IsTold job None outcome first now
-told_unmet job outcome first mid now sends stopped by = by_outcome outcome sends stopped by
-  where
-    same : (other : VerifierOutcome) → SendsRightly job None other now.log → IsStopped job awaits_hello other first mid → now ≡ mid → IsTold job None other first now
-    same other sends stopped is = told_whole job None other first now
-        (subst (λ (m : LinkSnapshot). m.told ≡ appended m.log first.told) (sym is) (hello_sent job stopped.expect stopped.rest other first mid stopped.sends).told) (inl sends)
-
-    by_outcome : (other : VerifierOutcome) → SendsRightly job None other now.log → (stopped : IsStopped job awaits_hello other first mid)
-        → RefusesHello stopped.rest other mid now → IsTold job None other first now
-    by_outcome (BadHello differs) sends stopped by = told_unleased job (BadHello differs) first now (λ all. all)
-        (tells_refusal (BadHello differs) 1 stopped.rest first mid now (stopped.cause.1.0, stopped.cause.1.1, stopped.cause.1.2) refl
-        (hello_bytes job (BadHello differs) first mid stopped) (hello_sent job stopped.expect stopped.rest (BadHello differs) first mid stopped.sends).told by)
-    by_outcome NoMemory sends stopped (inl refused) = told_unleased job NoMemory first now (λ all. all)
-        (tells_refusal NoMemory 4 stopped.rest first mid now refused.0 refl
-        (hello_bytes job NoMemory first mid stopped) (hello_sent job stopped.expect stopped.rest NoMemory first mid stopped.sends).told refused.1)
-    by_outcome NoMemory sends stopped (inr missing) = same NoMemory sends stopped missing.1
-    by_outcome Accepted sends stopped by = absurd stopped.cause
-    by_outcome (RejectedSum section left right) sends stopped by = absurd stopped.cause
-    by_outcome (RejectedOpening output left right) sends stopped by = absurd stopped.cause
-    by_outcome (PeerEnded at) sends stopped by = same (PeerEnded at) sends stopped by
-    by_outcome (BadFrame at) sends stopped by = same (BadFrame at) sends stopped by
-    by_outcome (Exhausted at count total) sends stopped by = absurd stopped.cause
-    by_outcome Device sends stopped by = absurd stopped.cause
-    by_outcome (Broken at) sends stopped by = absurd stopped.cause
-    by_outcome Link sends stopped by = same Link sends stopped by
-
-lease_never : (fault : LeaseFault) → IsAllSent (lease_outcome fault) → ⊥
-lease_never (lease.Exhausted at count total) all = all
-lease_never lease.Device all = all
-lease_never (lease.Broken at) all = all
+told_unmet job outcome first mid now sends stopped (inl refused) = told_unleased job outcome first now (refuses_never outcome (refused.0, refused.1))
+    (tells_refusal outcome refused.0 stopped.rest first mid now refused.2 refused.1
+    (hello_bytes job outcome first mid stopped) (hello_sent job stopped.expect stopped.rest outcome first mid stopped.sends).told refused.3)
+told_unmet job outcome first mid now sends stopped (inr none) = told_whole job None outcome first now
+    (subst (λ (m : LinkSnapshot). m.told ≡ appended m.log first.told) (sym none.1)
+    (hello_sent job stopped.expect stopped.rest outcome first mid stopped.sends).told) (inl sends)
 
 fault_never : (outcome : VerifierOutcome) → IsFault outcome → IsAllSent outcome → ⊥
 fault_never Link is all = all
-fault_never NoMemory is all = all
-fault_never Accepted is all = is
-fault_never (RejectedSum section left right) is all = is
-fault_never (RejectedOpening output left right) is all = is
-fault_never (PeerEnded at) is all = is
-fault_never (BadFrame at) is all = is
-fault_never (BadHello differs) is all = is
-fault_never (Exhausted at count total) is all = is
-fault_never Device is all = is
-fault_never (Broken at) is all = is
+fault_never NoMemory is all = none_is_some (sym all)
+fault_never other is all = is
 
 -- after a hello for the statement
 tells_refused_grant : (job : VerifierJob) (outcome : VerifierOutcome) (code : ℕ) (first now : LinkSnapshot) → IsKnown job → refusal_of outcome ≡ Some code
@@ -282,7 +241,7 @@ told_lacking : (job : VerifierJob) (span : Span) (outcome : VerifierOutcome) (fi
 told_lacking job span outcome first now ranges law known within (inl refused) =
     let tells = tells_refused_grant job NoMemory 4 first now known refl refused.1 in
     subst (λ o. IsTold job (Some span) o first now) (sym refused.0)
-    (record { part = tells.part; told = tells.told; none = λ all. absurd all; rightly = inr (refl, tells.begins) })
+    (record { part = tells.part; told = tells.told; none = λ all. absurd (fault_never NoMemory tt all); rightly = inr (refl, tells.begins) })
 told_lacking job span outcome first now ranges law known within (inr unsent) =
     told_part job span outcome 0 (grant_frame (granted_from job span.start)) first now unsent.fault unsent.unsent
     (granted_part job span.start now.log unsent.unsent.count ranges law known within unsent.log)
@@ -310,10 +269,16 @@ is_told job None granted outcome first now ranges law known course =
     let sends = subst (λ g. SendsRightly job g outcome now.log) course.0 (sends_rightly job None granted outcome first now ranges law known course) in
     subst (λ g. IsTold job g outcome first now) (sym course.0) (told_unmet job outcome first course.1.mid now sends course.1.stopped course.1.refused)
 is_told job (Some (Err fault)) granted outcome first now ranges law known course =
-    let tells = tells_refused_grant job outcome (lease_code fault) first now known (ap refusal_of course.1.named ∙ lease_refusal fault) course.1.refused in
+    let refusal = ap refusal_of course.1.named ∙ lease_refusal fault in
     subst (λ g. IsTold job g outcome first now) (sym course.0)
-    (told_unleased job outcome first now (λ all. lease_never fault (subst IsAllSent course.1.named all)) tells)
-is_told job (Some (Ok span)) granted outcome first now ranges law known course = subst (λ g. IsTold job g outcome first now) (sym course.0) (by_course course.1.course)
+    (told_unleased job outcome first now (refuses_never outcome (lease_code fault, refusal))
+    (tells_refused_grant job outcome (lease_code fault) first now known refusal course.1.refused))
+is_told job (Some (Ok span)) granted outcome first now ranges law known course = subst (λ g. IsTold job g outcome first now) (sym course.0)
+    (elim course.1.course [
+      | inl lacks ↦ told_lacking job span outcome first now ranges law known within lacks
+      | inr (inl stops) ↦ stops_told stops.stage stops.behind stops.stopped stops.stopped.sends
+      | inr (inr found) ↦ told_whole job (Some span) outcome first now found.2.sent.told (serves_of job span outcome now.log known sends)
+    ])
   where
     within : span.start + units_of_job job ≤ job.task.file.params.total
     within = omega (arith, course.1.units, course.1.within)
@@ -321,17 +286,10 @@ is_told job (Some (Ok span)) granted outcome first now ranges law known course =
     sends : SendsRightly job (Some span) outcome now.log
     sends = subst (λ g. SendsRightly job g outcome now.log) course.0 (sends_rightly job (Some (Ok span)) granted outcome first now ranges law known course)
 
-    stops_told : (stage : VerifierStage) → StartsAt span.start stage → (stopped : IsStopped job stage outcome first now)
+    stops_told : (stage : VerifierStage) → IsBehind span.start stage → (stopped : IsStopped job stage outcome first now)
         → SendsUpTo job stage stopped.expect stopped.rest outcome first now → IsTold job (Some span) outcome first now
     stops_told stage starts stopped (inl sent) = told_whole job (Some span) outcome first now sent.0.told (serves_of job span outcome now.log known sends)
     stops_told stage starts stopped (inr unsent) =
         let is = unsent.1 in
         told_part job span outcome _ is.0 first now unsent.0 is.2
         (due_part job span.start stage stopped.before now.log stopped.rest is.0 is.2.count ranges law known starts stopped.waited stopped.log is.1)
-
-    by_course : (LacksTheGrant job span.start outcome first now ⊎ StopsBehind job span.start outcome first now
-        ⊎ ((other : Judgement) × (outcome ≡ judgement_outcome other) × IsWaiting job (has_judged span.start other) first now))
-        → IsTold job (Some span) outcome first now
-    by_course (inl lacks) = told_lacking job span outcome first now ranges law known within lacks
-    by_course (inr (inl stops)) = stops_told stops.stage stops.behind stops.stopped stops.stopped.sends
-    by_course (inr (inr found)) = told_whole job (Some span) outcome first now found.2.sent.told (serves_of job span outcome now.log known sends)

@@ -4,3 +4,5 @@ pub mod Notes
 pub mod Sessions
 pub mod Laws
 pub mod Serving
+pub mod NoteLines
+pub mod ServiceLogs

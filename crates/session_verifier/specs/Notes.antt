@@ -20,13 +20,13 @@ use Rattle.zk_port.specs.Logs.{appended}
 use Rattle.frame_link.specs.Lines.{LinkSnapshot}
 use Rattle.lease_store.specs.declared.LeaseFault.{LeaseFault}
 use Rattle.lease_store.specs.declared.LeaseFault.TheVariants as lease
-use Rattle.session_core.specs.Jobs.{VerifierJob, VerifierJobs, IsFirstFor, IsForNone, units_of_job, granted_from}
+use Rattle.session_core.specs.Jobs.{VerifierJob, VerifierJobs, IsFirstFor, IsForNone, job_at, units_of_job, granted_from}
 use Rattle.session_core.specs.declared.fault.HelloDiffers.{HelloDiffers}
 use Rattle.session_core.specs.Judgements.{IsJudgement, verdict_in}
 use Rattle.session_core.specs.Cores.{VerifierStage, awaits_hello, has_judged}
 use Rattle.session_core.specs.declared.judgement.Judgement.{Judgement}
 use Rattle.session_core.specs.declared.judgement.Judgement.TheVariants as judged
-use Rattle.session_verifier.specs.Outcomes.{lease_outcome, judgement_outcome}
+use Rattle.session_verifier.specs.Outcomes.{Refuses, lease_outcome, judgement_outcome, refusal_of}
 use Rattle.session_verifier.specs.Stages.{Greeting, IsStopped, IsRefusalTried, IsRefusedGrant, IsGrantUnsent, IsWaiting, IsWholeHello}
 use Rattle.session_verifier.specs.declared.note.VerifierOutcome.{VerifierOutcome}
 use Rattle.session_verifier.specs.declared.note.VerifierOutcome.TheVariants.{Accepted, RejectedSum, RejectedOpening, PeerEnded, BadFrame, BadHello, Exhausted, Device, Broken, Link, NoMemory}
@@ -67,15 +67,6 @@ pub record IsShown (job : VerifierJob) (granted : Option Span) (log : List (Side
   pub said : SaysVerdict t verdict.Accepted
   pub extracted : (prover : ProverFile) → IsProverFile prover → AreDealt prover job.task.file
       → IsExtracted prover job.task.file job.task.statement t
-
--- the code of the refusal that an outcome has, if it has one
-abbrev pub refusal_of : VerifierOutcome → Option ℕ
-refusal_of (BadHello differs) = Some 1
-refusal_of (Exhausted at count total) = Some 2
-refusal_of Device = Some 3
-refusal_of (Broken at) = Some 3
-refusal_of NoMemory = Some 4
-refusal_of outcome = None
 
 -- The log of a session in which no units were leased: no more of the prover than a hello has; and nothing of the verifier, or the
 -- refusal of its outcome.
@@ -197,9 +188,9 @@ EndsBecause job answer NoMemory first now =
     RefusesNoLease answer
     × (LacksMemory job first now ⊎ LacksGrant job answer first now ⊎ FailsToGrant job answer NoMemory first now)
 
--- these bytes of a log are a hello
+-- a log begins by these bytes, which are a hello
 abbrev pub BeginsByHello : Hello → List (Side × ℕ) → Type 0
-BeginsByHello said log = BeginsWith log (bytes_from Prover (hello_frame said))
+BeginsByHello said log = IsHello said × BeginsWith log (bytes_from Prover (hello_frame said))
 
 -- the statement of this number was taken, if one was: the log begins by a hello for it, and for none before it
 abbrev pub HasTaken : VerifierJobs → Option ℕ → List (Side × ℕ) → Type 0
@@ -218,14 +209,10 @@ abbrev pub LeasesBehindHello : VerifierJob → Option (Result Span LeaseFault) �
 LeasesBehindHello job answer log =
     IfSome answer (λ _. (greeting : Greeting job) × BeginsWith log (bytes_from Prover (hello_frame greeting.hello)))
 
--- no send was refused
+-- no send was refused: the link did not fail, and no refusal was due
 abbrev pub IsAllSent : VerifierOutcome → Type 0
-IsAllSent Accepted = Unit {0}
-IsAllSent (RejectedSum section left right) = Unit {0}
-IsAllSent (RejectedOpening output left right) = Unit {0}
-IsAllSent (PeerEnded at) = Unit {0}
-IsAllSent (BadFrame at) = Unit {0}
-IsAllSent outcome = ⊥
+IsAllSent Link = ⊥
+IsAllSent outcome = refusal_of outcome ≡ None
 
 -- What the link tells is what it told before and the log; where a send was refused, a first part of the one answer that was due
 -- then, and nothing else.
@@ -234,15 +221,6 @@ pub record IsTold (job : VerifierJob) (granted : Option Span) (outcome : Verifie
   pub told : now.told ≡ appended (now.log ++ bytes_from Verifier part) first.told
   pub none : IsAllSent outcome → part ≡ []
   pub rightly : TellsRightly job granted outcome (now.log ++ bytes_from Verifier part)
-
--- the verifier refuses in a grant's place, which it may where memory is missing
-abbrev pub Refuses : VerifierOutcome → Type 0
-Refuses (BadHello differs) = Unit {0}
-Refuses (Exhausted at count total) = Unit {0}
-Refuses Device = Unit {0}
-Refuses (Broken at) = Unit {0}
-Refuses NoMemory = Unit {0}
-Refuses outcome = ⊥
 
 -- The count of failed calls does not fall. It rises where the outcome is `Link`; else only by the one send of a refusal that was
 -- refused, which is then not logged.
@@ -258,17 +236,8 @@ ReceivesFew first now = now.receives ≤ first.receives + length (sent_by Prover
 
 -- the peer ended
 abbrev pub IsPeerEnd : VerifierOutcome → Type 0
-IsPeerEnd Accepted = ⊥
-IsPeerEnd (RejectedSum section left right) = ⊥
-IsPeerEnd (RejectedOpening output left right) = ⊥
 IsPeerEnd (PeerEnded at) = Unit {0}
-IsPeerEnd (BadFrame at) = ⊥
-IsPeerEnd (BadHello differs) = ⊥
-IsPeerEnd (Exhausted at count total) = ⊥
-IsPeerEnd Device = ⊥
-IsPeerEnd (Broken at) = ⊥
-IsPeerEnd Link = ⊥
-IsPeerEnd NoMemory = ⊥
+IsPeerEnd outcome = ⊥
 
 -- The peer is an honest prover with the same statement, a file that is dealt with the verifier's, and values that give the
 -- claims: what came from it is a beginning of what such a prover sends for what the verifier sent, and it ended only after all
@@ -280,11 +249,27 @@ pub record HasHonestPeer (job : VerifierJob) (prover : ProverTask) (outcome : Ve
   pub honest : IsFromHonestProver prover log
   pub ended : IsPeerEnd outcome → HasEndedHonestly prover log
 
--- with an honest peer, where no lease was refused and the link's count did not rise, the session is accepted, unless memory was
--- missing
+-- where no lease was refused and the link's count did not rise, the session is accepted, unless memory was missing
+abbrev pub IsAcceptedInCalm : Option (Result Span LeaseFault) → VerifierOutcome → LinkSnapshot → LinkSnapshot → Type 0
+IsAcceptedInCalm answer outcome first now =
+    RefusesNoLease answer → ¬ Rose first.faults now.faults → (outcome ≡ Accepted) ⊎ (outcome ≡ NoMemory)
+
+-- so it is with an honest peer
 abbrev pub Completes :
     VerifierJob → Option (Result Span LeaseFault) → VerifierOutcome → LinkSnapshot → LinkSnapshot → Type 0
-Completes job answer outcome first now = (prover : ProverTask) → HasHonestPeer job prover outcome now.log
-    → RefusesNoLease answer
-    → ¬ Rose first.faults now.faults
-    → (outcome ≡ Accepted) ⊎ (outcome ≡ NoMemory)
+Completes job answer outcome first now =
+    (prover : ProverTask) → HasHonestPeer job prover outcome now.log → IsAcceptedInCalm answer outcome first now
+
+-- The peer is an honest prover of one of the statements: one that is taken, since a hello is for it and for none before it. All
+-- hellos for one statement are for the same ones, so that of the peer is taken for it too.
+pub record HasHonestCaller (jobs : VerifierJobs) (prover : ProverTask) (outcome : VerifierOutcome) (log : List (Side × ℕ)) : Type 0 where
+  pub number : ℕ
+  pub hello : Hello
+  pub first : IsFirstFor jobs number hello
+  pub peer : HasHonestPeer (job_at jobs number) prover outcome log
+
+-- and with an honest prover of whichever statement
+abbrev pub CompletesForEach :
+    VerifierJobs → Option (Result Span LeaseFault) → VerifierOutcome → LinkSnapshot → LinkSnapshot → Type 0
+CompletesForEach jobs answer outcome first now =
+    (prover : ProverTask) → HasHonestCaller jobs prover outcome now.log → IsAcceptedInCalm answer outcome first now

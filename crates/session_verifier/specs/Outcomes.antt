@@ -1,5 +1,5 @@
 -- How a session ended for the verifier, as faults and judgements say it, and the codes of its refusals.
-use Rattle.std.specs.Prelude.{ℕ, Option, Some, None}
+use Rattle.std.specs.Prelude.{◌≡◌, ℕ, Option, Some, None}
 use Rattle.frame_link.specs.declared.fault.LineFault.{LineFault}
 use Rattle.frame_link.specs.declared.fault.LineFault.TheVariants as line
 use Rattle.lease_store.specs.declared.LeaseFault.{LeaseFault}
@@ -52,3 +52,16 @@ abbrev pub lease_code : LeaseFault → ℕ
 lease_code (lease.Exhausted at count total) = 2
 lease_code lease.Device = 3
 lease_code (lease.Broken first) = 3
+
+-- the code of the refusal that an outcome has, if it has one
+abbrev pub refusal_of : VerifierOutcome → Option ℕ
+refusal_of (BadHello differs) = Some 1
+refusal_of (Exhausted at count total) = Some 2
+refusal_of Device = Some 3
+refusal_of (Broken at) = Some 3
+refusal_of NoMemory = Some 4
+refusal_of outcome = None
+
+-- it has one: the verifier refuses in a grant's place, which it may where memory is missing
+abbrev pub Refuses : VerifierOutcome → Type 0
+Refuses outcome = (code : ℕ) × (refusal_of outcome ≡ Some code)

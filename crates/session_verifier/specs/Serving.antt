@@ -3,7 +3,7 @@
 use Rattle.std.specs.Prelude.{◌≡◌, ◌⊎◌, ℕ, ◌+◌, ◌-◌, ◌<◌, ◌≤◌, List, [], ◌∷◌, length, Option, Some, None, IfSome, Result, Ok, Err}
 use Rattle.zk_model.specs.Frames.{Frame, grant}
 use Rattle.zk_model.specs.Frames.{hello as greeting}
-use Rattle.zk_model.specs.Transcript.{Hello}
+use Rattle.zk_model.specs.Transcript.{Hello, IsHello}
 use Rattle.zk_model.specs.declared.limits.TheConstants.{MAX_UNITS}
 use Rattle.zk_model.specs.declared.Span.{Span}
 use Rattle.lease_store.specs.declared.LeaseFault.{LeaseFault}
@@ -14,7 +14,7 @@ use Rattle.session_core.specs.declared.judgement.Judgement.{Judgement}
 use Rattle.session_driver.specs.Runs.{Moves}
 use Rattle.session_driver.specs.declared.drive.Outcome.{Outcome}
 use Rattle.session_driver.specs.declared.drive.Outcome.TheVariants.{Done, Refused, Cut}
-use Rattle.session_verifier.specs.Stages.{Greets, IsHeldJob}
+use Rattle.session_verifier.specs.Stages.{Greets, IsBehind, IsHeldJob}
 use Rattle.session_verifier.specs.Outcomes.{hello_code, judgement_outcome, lease_code, lease_outcome, line_outcome, session_outcome}
 use Rattle.session_verifier.specs.declared.note.VerifierOutcome.{VerifierOutcome}
 use Rattle.session_verifier.specs.declared.note.VerifierOutcome.TheVariants.{NoMemory}
@@ -65,24 +65,7 @@ served jobs core taken granted grantor =
 -- where it waits for the hello, a refusal may go out in the grant's place
 abbrev pub lack_code_at : VerifierStage → Option ℕ
 lack_code_at awaits_hello = Some 4
-lack_code_at owes_grant = None
-lack_code_at (awaits_asks start asked) = None
-lack_code_at (awaits_corrections start) = None
-lack_code_at (awaits_sums start d) = None
-lack_code_at (awaits_openings start d both) = None
-lack_code_at (has_judged start judgement) = None
-lack_code_at has_refused = None
-
--- it waits for a frame of a session whose grant begins here, or has judged it
-abbrev pub IsBehind : ℕ → VerifierStage → Type 0
-IsBehind start awaits_hello = ⊥
-IsBehind start owes_grant = ⊥
-IsBehind start (awaits_asks begun asked) = begun ≡ start
-IsBehind start (awaits_corrections begun) = begun ≡ start
-IsBehind start (awaits_sums begun d) = begun ≡ start
-IsBehind start (awaits_openings begun d both) = begun ≡ start
-IsBehind start (has_judged begun judgement) = begun ≡ start
-IsBehind start has_refused = ⊥
+lack_code_at stage = None
 
 -- how many frames it takes yet, at most: from the hello on one for each unit, the corrections, the sums and the openings
 abbrev pub frames_left : VerifierJob → VerifierStage → ℕ
@@ -100,6 +83,7 @@ pub record Met {R : Type 0} (jobs : VerifierJobs) (old : Served R) (frame : Fram
   pub waits : old.core.stage ≡ awaits_hello
   pub hello : Hello
   pub is : frame ≡ greeting hello
+  pub ranged : IsHello hello
   pub takes : TakesHello jobs hello new.taken
   pub job : new.core.job ≡ noted_job jobs new.taken
 

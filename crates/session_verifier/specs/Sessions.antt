@@ -9,7 +9,7 @@ use Rattle.frame_link.specs.Lines.{snapshot}
 use Rattle.lease_store.specs.declared.LeaseFault.{LeaseFault}
 use Rattle.session_core.specs.Jobs.{VerifierJob, VerifierJobs, noted_job}
 use Rattle.session_pool.specs.Notes.{granted_by}
-use Rattle.session_verifier.specs.Notes.{AnswersLease, JudgesRightly, AcceptsExactly, IsShown, SendsRightly, KeepsKeys, EndsBecause, LeasesBehindHello, IsTold, CountsFaults, ReceivesFew, TakesStatement, Completes}
+use Rattle.session_verifier.specs.Notes.{AnswersLease, JudgesRightly, AcceptsExactly, IsShown, SendsRightly, KeepsKeys, EndsBecause, LeasesBehindHello, IsTold, CountsFaults, ReceivesFew, TakesStatement, Completes, CompletesForEach}
 use Rattle.session_verifier.specs.declared.note.SessionNote.{SessionNote}
 use Rattle.session_verifier.specs.declared.note.VerifierOutcome.{VerifierOutcome}
 use Rattle.session_verifier.specs.declared.note.VerifierOutcome.TheVariants.{Accepted}
@@ -43,11 +43,14 @@ pub record IsSessionOf
   pub complete : Completes job answer outcome (snapshot Verifier [] first) (snapshot Verifier log link)
   pub ended : link.is_open ≡ false
 
--- A note is one of a session in which that was the answer: about the statement that was taken, as its hello says.
+-- A note is one of a session in which that was the answer: about the statement that was taken, as its hello says; and with an honest
+-- prover of whichever statement it is accepted, unless memory was missing.
 pub record IsAnsweredNote {L : Type 0} (link_tells : L → LinkState) (jobs : VerifierJobs) (answer : Option (Result Span LeaseFault))
     (note : SessionNote L) : Type 0 where
   pub statement : TakesStatement jobs note.statement answer note.outcome note.log
   pub session : IsSessionOf (noted_job jobs note.statement) answer note.granted note.outcome note.log (link_tells note.link)
+  pub complete : CompletesForEach jobs answer note.outcome (snapshot Verifier [] session.first)
+      (snapshot Verifier note.log (link_tells note.link))
 
 -- a note is one of a session, whatever the answer was
 abbrev pub IsNote : {L : Type 0} → (L → LinkState) → VerifierJobs → SessionNote L → Type 0

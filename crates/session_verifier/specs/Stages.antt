@@ -19,7 +19,7 @@ use Rattle.session_core.specs.Cores.{VerifierStage, AreAsksSoFar, VerifierAnswer
 use Rattle.session_core.specs.declared.judgement.Judgement.{Judgement}
 use Rattle.zk_model.specs.declared.Span.{Span}
 use Rattle.lease_store.specs.declared.LeaseFault.{LeaseFault}
-use Rattle.session_verifier.specs.Outcomes.{lease_outcome, lease_code, judgement_outcome}
+use Rattle.session_verifier.specs.Outcomes.{Refuses, lease_outcome, lease_code, judgement_outcome, refusal_of}
 use Rattle.session_verifier.specs.declared.note.VerifierOutcome.{VerifierOutcome}
 use Rattle.session_verifier.specs.declared.note.VerifierOutcome.TheVariants.{Accepted, RejectedSum, RejectedOpening, PeerEnded, BadFrame, BadHello, Exhausted, Device, Broken, Link, NoMemory}
 
@@ -196,16 +196,16 @@ SendsUpTo job stage expect rest outcome first now =
     (IsSent (answers_before job stage) first now × LeavesFrame expect rest outcome)
     ⊎ (IsFault outcome × ((answer : List ℕ) × IsAnswer job stage rest answer × IsUnsent (answers_before job stage) answer first now))
 
--- the verifier waits for a frame of a session whose grant begins here
-abbrev pub StartsAt : ℕ → VerifierStage → Type 0
-StartsAt start awaits_hello = ⊥
-StartsAt start owes_grant = ⊥
-StartsAt start (awaits_asks begun asked) = begun ≡ start
-StartsAt start (awaits_corrections begun) = begun ≡ start
-StartsAt start (awaits_sums begun d) = begun ≡ start
-StartsAt start (awaits_openings begun d both) = begun ≡ start
-StartsAt start (has_judged begun judgement) = ⊥
-StartsAt start has_refused = ⊥
+-- the verifier waits for a frame of a session whose grant begins here, or has judged it
+abbrev pub IsBehind : ℕ → VerifierStage → Type 0
+IsBehind start awaits_hello = ⊥
+IsBehind start owes_grant = ⊥
+IsBehind start (awaits_asks begun asked) = begun ≡ start
+IsBehind start (awaits_corrections begun) = begun ≡ start
+IsBehind start (awaits_sums begun d) = begun ≡ start
+IsBehind start (awaits_openings begun d both) = begun ≡ start
+IsBehind start (has_judged begun judgement) = begun ≡ start
+IsBehind start has_refused = ⊥
 
 -- A session that stopped: what is logged where the verifier waited, and then bytes of the frame that was expected.
 pub record IsStopped (job : VerifierJob) (stage : VerifierStage) (outcome : VerifierOutcome) (first now : LinkSnapshot) : Type 0 where
@@ -224,7 +224,7 @@ pub record IsStopped (job : VerifierJob) (stage : VerifierStage) (outcome : Veri
 -- a session stopped after the grant that begins here
 pub record StopsBehind (job : VerifierJob) (start : ℕ) (outcome : VerifierOutcome) (first now : LinkSnapshot) : Type 0 where
   pub stage : VerifierStage
-  pub behind : StartsAt start stage
+  pub behind : IsBehind start stage
   pub stopped : IsStopped job stage outcome first now
 
 -- ---- refusals
@@ -254,13 +254,12 @@ pub record IsRefusalTried (code : ℕ) (old now : LinkSnapshot) : Type 0 where
 abbrev pub IsWholeHello : List ℕ → Type 0
 IsWholeHello rest = (hello : Hello) × IsHello hello × (rest ≡ hello_frame hello)
 
--- What the verifier sends where a session stopped at the hello, after these bytes of it: refusal 1 where it differs; refusal 4
--- where it came whole and memory was missing then; else nothing.
+-- What the verifier sends where a session stopped at the hello, after these bytes of it: the refusal of its outcome, where they are
+-- whole, since they differ, or memory was missing then; else nothing, and where it has a refusal they are cut short.
 abbrev pub RefusesHello : List ℕ → VerifierOutcome → LinkSnapshot → LinkSnapshot → Type 0
-RefusesHello rest (BadHello differs) old now = IsRefusalTried 1 old now
-RefusesHello rest NoMemory old now =
-    (IsWholeHello rest × IsRefusalTried 4 old now) ⊎ (IsCutShort expect.Hello rest × (now ≡ old))
-RefusesHello rest outcome old now = now ≡ old
+RefusesHello rest outcome old now =
+    ((code : ℕ) × (refusal_of outcome ≡ Some code) × IsWholeHello rest × IsRefusalTried code old now)
+    ⊎ ((Refuses outcome → IsCutShort expect.Hello rest) × (now ≡ old))
 
 -- a session in which the verifier waits, or has judged: all that passed is logged, and nothing failed
 pub record IsWaiting (job : VerifierJob) (stage : VerifierStage) (first now : LinkSnapshot) : Type 0 where

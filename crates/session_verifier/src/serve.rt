@@ -7,15 +7,15 @@ ghost use Rattle.zk_model.specs.declared.Side.TheVariants.{Verifier};
 ghost use Rattle.frame_link.specs.Lines.{snapshot_of};
 ghost use Rattle.proof_frames.specs.Frames.{frame_value, IsShort};
 ghost use Rattle.session_core.specs.Jobs.{TakesHello, all_jobs, granted_from, noted_job, units_of_job};
-ghost use Rattle.zk_model.specs.Transcript.{Hello};
+ghost use Rattle.zk_model.specs.Transcript.{Hello, IsHello};
 ghost use Rattle.zk_model.specs.declared.limits.TheConstants.{MAX_UNITS};
 ghost use Rattle.session_core.specs.Cores.{VerifierAnswers, VerifierRefuses, awaits_hello, owes_grant, behind_grant, judgement_at, verifier_expects};
 ghost use Rattle.session_driver.specs.Runs.{IsFresh};
 ghost use Rattle.session_driver.specs.declared.drive.Outcome.TheVariants.{Done};
 ghost use Rattle.session_verifier.specs.Outcomes.{hello_code, lease_code, session_outcome};
-ghost use Rattle.session_verifier.specs.Serving.{AnswersBehind, AreUnits, GrantsUnits, IsBehind, IsPlace, IsServing, IsToldAs, LacksGrantFrame, Leases, RefusesBehind, RefusesHello, RefusesLease, frames_left, grants_of, lack_code_at, served, serves};
+ghost use Rattle.session_verifier.specs.Serving.{AnswersBehind, AreUnits, GrantsUnits, IsPlace, IsServing, IsToldAs, LacksGrantFrame, Leases, RefusesBehind, RefusesHello, RefusesLease, frames_left, grants_of, lack_code_at, served, serves};
 ghost use Rattle.session_verifier.specs.Notes.{TakesStatement};
-ghost use Rattle.session_verifier.specs.Stages.{Greets, IsCourse, IsHeldJob};
+ghost use Rattle.session_verifier.specs.Stages.{IsBehind, Greets, IsCourse, IsHeldJob};
 ghost use Rattle.session_verifier.specs.declared.note.VerifierOutcome.TheVariants.{NoMemory};
 
 use crate::note::VerifierOutcome;
@@ -67,7 +67,7 @@ fn take_statement<'a>(
     frame: &Frame,
 )
     requires expected { Allows expect.Hello (frame_value frame.now) }
-    ensures takes { (said : Hello) × (frame_value frame.now ≡ model.hello said)
+    ensures takes { (said : Hello) × (frame_value frame.now ≡ model.hello said) × IsHello said
         × TakesHello jobs.now said taken.new }
     ensures core { core.new ≡ record { job = noted_job jobs.now taken.new; stage = awaits_hello } }
     ensures within { IfSome taken.new (λ n. n < length (all_jobs jobs.now)) }
@@ -272,11 +272,13 @@ impl<'a, 'g, R: Grantor, G: Gate> Party<R> for Serving<'a, 'g, G> {
 
     ghost answers = { λ s asked frame answer t then.
         (serves (grants_of R.answer R.asked R.total R.may R.moves)).answers
-        (served s.jobs.now s.core s.taken s.granted asked) frame answer (served t.jobs.now t.core t.taken t.granted then) };
+        (served s.jobs.now s.core s.taken s.granted asked) frame answer
+        (served t.jobs.now t.core t.taken t.granted then) };
 
     ghost refuses = { λ s asked frame fault code t then.
         (serves (grants_of R.answer R.asked R.total R.may R.moves)).refuses
-        (served s.jobs.now s.core s.taken s.granted asked) frame fault code (served t.jobs.now t.core t.taken t.granted then) };
+        (served s.jobs.now s.core s.taken s.granted asked) frame fault code
+        (served t.jobs.now t.core t.taken t.granted then) };
 
     ghost left = { λ s. frames_left s.core.job s.core.stage };
 

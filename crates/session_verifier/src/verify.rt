@@ -1,18 +1,19 @@
 // A verifier's session over a link.
-ghost use Rattle.std.specs.Prelude.{◌≡◌, ◌≤◌, ℕ, None, Some, [], false, IfSome, IsTrue, MatchOption};
+ghost use Rattle.std.specs.Prelude.{◌≡◌, ◌≤◌, ℕ, None, Some, [], length, false, IfSome, IsTrue, MatchOption};
 ghost use Rattle.zk_model.specs.declared.Side.TheVariants.{Verifier};
 ghost use Rattle.frame_link.specs.Lines.{snapshot};
-ghost use Rattle.session_core.specs.Jobs.{noted_job, units_of_job};
+ghost use Rattle.zk_model.specs.Check.{AllBelow};
+ghost use Rattle.zk_model.specs.Statement.{IsStatement};
+ghost use Rattle.session_core.specs.Jobs.{all_jobs, job_at, noted_job, units_of_job};
 ghost use Rattle.zk_model.specs.declared.limits.TheConstants.{MAX_UNITS};
 ghost use Rattle.session_pool.specs.Notes.{granted_by};
-ghost use Rattle.session_verifier.specs.Notes.{AnswersLease, JudgesRightly, AcceptsExactly, IsShown, SendsRightly, KeepsKeys, EndsBecause, LeasesBehindHello, IsTold, CountsFaults, ReceivesFew, TakesStatement, Completes};
+ghost use Rattle.session_verifier.specs.Notes.{AnswersLease, JudgesRightly, AcceptsExactly, IsShown, SendsRightly, KeepsKeys, EndsBecause, LeasesBehindHello, IsTold, CountsFaults, ReceivesFew, TakesStatement, CompletesForEach};
 ghost use Rattle.session_verifier.specs.declared.note.VerifierOutcome.TheVariants.{Accepted};
 
 use crate::note::SessionNote;
 use crate::serve::serve;
 use frame_link::Line;
 use lease_store::Grantor;
-use proof_frames::laws::none_begins_another;
 use session_core::VerifierJobs;
 use session_laws::{
     cut_is_not_accepted, honest_turn, honest_turn_ends, honest_whole_is_accepted,
@@ -22,6 +23,16 @@ use std::alloc::Global;
 use zk_laws::{extraction_holds, keys_fit};
 use zk_model::Side;
 use zk_port::{Gate, Link};
+
+/// Every job is about a statement.
+fn are_stated(jobs: &VerifierJobs<'_>)
+    ensures { AllBelow (length (all_jobs jobs.now))
+        (λ n. IsStatement (job_at jobs.now n).task.statement) }
+{
+    for n in 0..jobs.count() {
+        let _program = jobs.job(n).statement().program();
+    }
+}
 
 /// Leads a session with a peer that may send anything: meets its hello, which may be for any of the verifier's statements, of which the
 /// first is taken that it is for, leases the units that the session takes, grants them,
@@ -69,13 +80,12 @@ pub fn verify_session<L: Link, R: Grantor, G: Gate>(
         (snapshot Verifier [] (L.state link)) (snapshot Verifier result.log (L.state result.link)) }
     ensures receives { ReceivesFew
         (snapshot Verifier [] (L.state link)) (snapshot Verifier result.log (L.state result.link)) }
-    ensures complete { Completes (noted_job jobs.now result.statement) (R.answer grantor.new) result.outcome
+    ensures complete { CompletesForEach jobs.now (R.answer grantor.new) result.outcome
         (snapshot Verifier [] (L.state link)) (snapshot Verifier result.log (L.state result.link)) }
     ensures faults { CountsFaults result.outcome
         (snapshot Verifier [] (L.state link)) (snapshot Verifier result.log (L.state result.link)) }
     ensures ended { (L.state result.link).is_open ≡ false }
 {
-    none_begins_another();
     honest_turn();
     honest_turn_ends();
     honest_whole_is_accepted();
@@ -85,6 +95,7 @@ pub fn verify_session<L: Link, R: Grantor, G: Gate>(
     verdict_is_said();
     extraction_holds();
     keys_fit();
+    are_stated(jobs);
     let mut line = Line::new(alloc, link, Side::Verifier);
     let course = serve(alloc, jobs, grantor, gate, &mut line);
     let job = jobs.noted(course.taken);

@@ -1,19 +1,17 @@
 -- The asks of a unit, and what the prover finds of all its trees.
-use Rattle.std.proofs.Common.{◌≡◌, ◌≢◌, ◌⊎◌, inl, inr, ℕ, ◌+◌, ◌<◌, List, [], ◌∷◌, ◌++◌, map, take, get_or, sym, ◌∙◌, ap, subst, arith, append-nil, length-append}
+use Rattle.std.proofs.Common.{◌≡◌, ℕ, ◌+◌, ◌<◌, List, [], ◌∷◌, ◌++◌, map, take, get_or, sym, ◌∙◌, ap, subst, arith, append-nil, length-append}
 use Rattle.std.specs.List.{range_with_len}
-use Rattle.std.proofs.Math.ListN.{get_or-append}
-use Rattle.std.proofs.Math.Seq.{get_or-append_seam}
 use Rattle.std.proofs.lemmas.List.Concat.{flat_map-append}
 use Rattle.std.proofs.lemmas.List.FromFn.{get_or-map-range_with_len}
-use Rattle.tree_laws.proofs.Ancestors.{same_or_not}
-use Rattle.zk_laws.proofs.WholePairs.{joined_parts}
+use Rattle.zk_laws.proofs.WholePairs.{each_more, joined_parts}
 use Rattle.zk_model.specs.Mac.{Pair, values_of, macs_of}
 use Rattle.zk_model.specs.Extension.{code_outputs}
 use Rattle.zk_model.specs.Files.{IsProverFile, prover_unit}
 use Rattle.zk_model.specs.Transcript.{TreeAsk, TreeReply}
 use Rattle.zk_model.specs.Correlations.{TreeView, IsNoiseOf, IsExtension, level_view, tree_view}
 use Rattle.zk_model.specs.HonestProver.{honest_ask, honest_asks}
-use Rattle.vole_extend.specs.Rounds.{ProverTurn, tree_transfers, tree_base, tree_ask, asked_view, reply_at, asked_round, IsNoiseOfTrees}
+use Rattle.vole_extend.specs.Rounds.{ProverTurn, tree_transfers, tree_base, tree_ask, asked_view, reply_at, asked_round, AreNoises, IsNoiseOfTrees}
+use Rattle.vole_extend.proofs.AskedAny.{asked_extension}
 use Rattle.vole_extend.proofs.Ranges.{numbered}
 
 -- ---- asks
@@ -48,28 +46,14 @@ view_is turn replies tree is within below = λ i. record {
 -- ---- noise
 
 -- one tree more
-pub noise_more : (turn : ProverTurn) (replies : List TreeReply) (count : ℕ) (before now more : List Pair) → now ≡ before ++ more
-    → IsNoiseOf (asked_view turn count (reply_at replies count)) more → IsNoiseOfTrees turn replies count before
-    → IsNoiseOfTrees turn replies (count + 1) now
-noise_more turn replies count before now more added is far = record {
+pub noise_more : (views : ℕ → TreeView) (count : ℕ) (before now more : List Pair) → now ≡ before ++ more → IsNoiseOf (views count) more
+    → AreNoises views count before → AreNoises views (count + 1) now
+noise_more views count before now more added is far = record {
   noise = far.noise ++ more ∷ [];
   one_each = length-append far.noise (more ∷ []) ∙ omega (arith, far.one_each);
-  each = λ tree below. by_place tree below (same_or_not tree count);
+  each = each_more (λ tree entries. IsNoiseOf (views tree) entries) far.noise more count far.one_each far.each is;
   joined = added ∙ (λ i. far.joined i ++ sym (append-nil more) i) ∙ sym (flat_map-append (λ vector. vector) far.noise (more ∷ []));
 }
-  where
-    IsAt : ℕ → List Pair → Type 0
-    IsAt tree entries = IsNoiseOf (asked_view turn tree (reply_at replies tree)) entries
-
-    last : get_or (far.noise ++ more ∷ []) count [] ≡ more
-    last = ap (λ k. get_or (far.noise ++ more ∷ []) k []) (sym far.one_each) ∙ get_or-append_seam far.noise more [] []
-
-    by_place : (tree : ℕ) → tree < count + 1 → (tree ≡ count) ⊎ (tree ≢ count) → IsAt tree (get_or (far.noise ++ more ∷ []) tree [])
-    by_place tree below (inl here) =
-        subst (λ (t : ℕ). IsAt t (get_or (far.noise ++ more ∷ []) t [])) (sym here) (subst (IsAt count) (sym last) is)
-    by_place tree below (inr other) =
-        let earlier : tree < count = omega (arith, below, other) in
-        subst (IsAt tree) (sym (get_or-append far.noise (more ∷ []) [] tree (omega (arith, earlier, far.one_each)))) (far.each tree earlier)
 
 -- ---- pairs
 
@@ -81,16 +65,11 @@ pub extension_is : (turn : ProverTurn) (replies : List TreeReply) (noise pairs :
     → macs_of pairs ≡ code_outputs turn.file.code_seed
     (macs_of (take turn.file.params.base (prover_unit turn.file turn.unit).pairs)) (macs_of noise)
     → IsExtension turn.file.params turn.file.code_seed (prover_unit turn.file turn.unit) (asked_round turn replies) pairs
-extension_is turn replies noise pairs is within noisy values macs = record {
-  noise = noisy.noise;
-  count = noisy.one_each;
-  each = λ tree below. subst (λ (view : TreeView). IsNoiseOf view (get_or noisy.noise tree [])) (view_is turn replies tree is within below)
-      (noisy.each tree below);
-  values = values ∙ ap (code_outputs turn.file.code_seed (values_of base))
-      (ap values_of noisy.joined ∙ sym (joined_parts (λ pair. pair.x) noisy.noise));
-  macs = macs ∙ ap (code_outputs turn.file.code_seed (macs_of base))
-      (ap macs_of noisy.joined ∙ sym (joined_parts (λ pair. pair.m) noisy.noise));
-}
-  where
-    base : List Pair
-    base = take turn.file.params.base (prover_unit turn.file turn.unit).pairs
+extension_is turn replies noise pairs is within noisy values macs =
+    asked_extension turn (honest_asks turn.file turn.unit) replies noise pairs (record {
+      noise = noisy.noise;
+      one_each = noisy.one_each;
+      each = λ tree below. subst (λ (view : TreeView). IsNoiseOf view (get_or noisy.noise tree [])) (view_is turn replies tree is within below)
+          (noisy.each tree below);
+      joined = noisy.joined;
+    }) values macs

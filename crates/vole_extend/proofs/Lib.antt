@@ -1,5 +1,5 @@
 mod Ranges
-mod Pieces
+pub mod Pieces
 mod Sides
 mod Asked
 mod Found

@@ -6,7 +6,7 @@ use Rattle.zk_model.specs.Files.{Transfer, ProverFile, VerifierFile, AreTransfer
 use Rattle.zk_model.specs.declared.Params.{Params}
 
 -- lists of one length, joined: each is the piece of its number
-piece_is : {A : Type 0} (size : ℕ) (lists : List (List A)) (t : ℕ) → ((i : ℕ) → i < length lists → length (get_or lists i []) ≡ size)
+pub piece_is : {A : Type 0} (size : ℕ) (lists : List (List A)) (t : ℕ) → ((i : ℕ) → i < length lists → length (get_or lists i []) ≡ size)
     → t < length lists → take size (drop (t * size) (flat_map (λ levels. levels) lists)) ≡ get_or lists t []
 piece_is size [] t sized below = absurd (omega (arith, below))
 piece_is size (first ∷ lists) zero sized below =

@@ -43,10 +43,3 @@ flip_choice transfers flips level = flip_for (slice_index_or flips level false) 
 abbrev pub flip_place : List Transfer → List Bool → ℕ
 flip_place transfers flips =
     place_of (map (λ level. not (flip_choice transfers flips level)) (range_with_len 0 (length transfers)))
-
--- the sums of these sides, their pads taken off
-abbrev pub flip_sums : List Transfer → List Bool → List LeftRight → List (List ℕ)
-flip_sums transfers flips messages =
-    map (λ level. unmasked_message
-    (transfer_at transfers level).pad (flip_choice transfers flips level) (both_at messages level))
-    (range_with_len 0 (length transfers))

@@ -61,17 +61,16 @@ asked_view turn tree reply = record {
 abbrev pub reply_at : List TreeReply → ℕ → TreeReply
 reply_at replies tree = slice_index_or replies tree (record { messages = []; leaf_offset = 0 })
 
--- entries are the noise of the first trees, one tree after another
-pub record IsNoiseOfTrees
-    (turn : ProverTurn)
-    (replies : List TreeReply)
-    (count : ℕ)
-    (entries : List Pair) : Type 0 where
+-- entries are the noise of the first trees of which this is known, one tree after another
+pub record AreNoises (views : ℕ → TreeView) (count : ℕ) (entries : List Pair) : Type 0 where
   pub noise : List (List Pair)
   pub one_each : length noise ≡ count
-  pub each : (tree : ℕ) → tree < count
-      → IsNoiseOf (asked_view turn tree (reply_at replies tree)) (slice_index_or noise tree [])
+  pub each : (tree : ℕ) → tree < count → IsNoiseOf (views tree) (slice_index_or noise tree [])
   pub joined : entries ≡ flat_map (λ vector. vector) noise
+
+-- after honest asks
+abbrev pub IsNoiseOfTrees : ProverTurn → List TreeReply → ℕ → List Pair → Type 0
+IsNoiseOfTrees turn replies count entries = AreNoises (λ tree. asked_view turn tree (reply_at replies tree)) count entries
 
 -- honest asks of a unit, and replies
 abbrev pub asked_round : ProverTurn → List TreeReply → UnitRound
@@ -90,18 +89,10 @@ view_with turn tree ask reply = record {
 abbrev pub ask_at : List TreeAsk → ℕ → TreeAsk
 ask_at asks tree = slice_index_or asks tree (record { flips = []; base_correction = 0 })
 
--- entries are the noise of the first trees after such asks, one tree after another
-pub record IsNoiseOfAsked
-    (turn : ProverTurn)
-    (asks : List TreeAsk)
-    (replies : List TreeReply)
-    (count : ℕ)
-    (entries : List Pair) : Type 0 where
-  pub noise : List (List Pair)
-  pub one_each : length noise ≡ count
-  pub each : (tree : ℕ) → tree < count
-      → IsNoiseOf (view_with turn tree (ask_at asks tree) (reply_at replies tree)) (slice_index_or noise tree [])
-  pub joined : entries ≡ flat_map (λ vector. vector) noise
+-- after such asks
+abbrev pub IsNoiseOfAsked : ProverTurn → List TreeAsk → List TreeReply → ℕ → List Pair → Type 0
+IsNoiseOfAsked turn asks replies count entries =
+    AreNoises (λ tree. view_with turn tree (ask_at asks tree) (reply_at replies tree)) count entries
 
 -- ---- the verifier
 

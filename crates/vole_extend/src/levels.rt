@@ -1,6 +1,6 @@
 // The levels of one tree, from the root's children down: what is asked, masked and unmasked on each of them.
 ghost use Rattle.std.specs.Prelude.{◌≡◌, ◌^◌, ◌<◌, ◌≤◌, length, IfOk, vec_len};
-ghost use Rattle.vole_extend.specs.Levels.{choice_at, asked_flips, chosen_sums, flip_place, flip_sums, masked_sums};
+ghost use Rattle.vole_extend.specs.Levels.{choice_at, asked_flips, chosen_sums, flip_place, masked_sums};
 ghost use Rattle.zk_model.specs.declared.limits.TheConstants.{MAX_HEIGHT};
 
 use dealer_files::{Pads, Transfer};
@@ -78,7 +78,7 @@ pub(crate) fn masked_sums(
 }
 
 /// The place of a tree that flips hide: its way goes away from each side that they choose.
-pub(crate) fn flip_place(transfers: &[Transfer], flips: &[bool]) -> u32
+pub fn flip_place(transfers: &[Transfer], flips: &[bool]) -> u32
     requires at_most { length transfers.now ≤ MAX_HEIGHT }
     requires count { length flips.now ≡ length transfers.now }
     ensures place { result ≡ flip_place transfers.now flips.now }
@@ -90,24 +90,4 @@ pub(crate) fn flip_place(transfers: &[Transfer], flips: &[bool]) -> u32
         place = 2 * place + u32::from(!choice);
     }
     place
-}
-
-/// The sums of the sides that flips choose, their pads taken off, level by level.
-pub(crate) fn flip_sums(
-    alloc: Global,
-    transfers: &[Transfer],
-    flips: &[bool],
-    messages: &[Masked],
-) -> Result<Vec<[u8; 16]>, AllocError>
-    requires flips { length flips.now ≡ length transfers.now }
-    requires messages { length messages.now ≡ length transfers.now }
-    ensures sums { IfOk result (λ sums. sums.items ≡ flip_sums transfers.now flips.now messages.now) }
-    ensures count { IfOk result (λ sums. vec_len sums ≡ length transfers.now) }
-{
-    let mut sums = Vec::with_capacity(alloc, transfers.len())?;
-    for (level, transfer) in transfers.iter().enumerate() {
-        let choice = ask(flips[level], transfer.bit);
-        sums.push(unmask(&transfer.pad, choice, &messages[level]))?;
-    }
-    Ok(sums)
 }

@@ -18,5 +18,6 @@ mod prover;
 mod verifier;
 
 pub use columns::columns_of;
+pub use levels::flip_place;
 pub use prover::ProverRound;
 pub use verifier::{UnitReply, VerifierRound};

@@ -6,10 +6,10 @@ ghost use Rattle.zk_model.specs.Transcript.{IsTreeAsk, IsTreeReply};
 ghost use Rattle.zk_model.specs.Correlations.{IsNoiseOf, IsExtension};
 ghost use Rattle.zk_model.specs.HonestProver.{place_coin, noise_coin, honest_asks};
 ghost use Rattle.zk_model.specs.declared.Kind.TheVariants.{Extended};
-ghost use Rattle.vole_extend.specs.Rounds.{unit_code, tree_transfers, tree_base, tree_ask, asked_view, asked_round, IsNoiseOfTrees, view_with, IsNoiseOfAsked};
+ghost use Rattle.vole_extend.specs.Rounds.{unit_code, tree_transfers, tree_base, tree_ask, asked_view, asked_round, IsNoiseOfTrees};
 ghost use Rattle.zk_model.specs.declared.limits.TheConstants.{MAX_DEALT_UNITS};
 
-use crate::levels::{asked_flips, chosen_sums, flip_place, flip_sums};
+use crate::levels::{asked_flips, chosen_sums};
 use dealer_files::{ProverFile, Transfer};
 use ggm_tree::puncture;
 use linear_code::Columns;
@@ -211,87 +211,6 @@ impl<'a> ProverRound<'a> {
         let leaves = puncture(alloc, height, place as usize, &sums)?;
         let base_mac = self.base_pair(tree).m;
         let entries = prover_finish(alloc, place, noise, base_mac, reply.leaf_offset, &leaves)?;
-        Ok(entries)
-    }
-
-    /// The pairs of the unit, from whatever was asked for its trees and the replies to that, in order: one for each leaf.
-    ///
-    /// # Errors
-    ///
-    /// Only where memory runs out.
-    pub fn finish_asked(
-        &self,
-        alloc: Global,
-        columns: &Columns,
-        asks: &[TreeAsk],
-        replies: &[TreeReply],
-    ) -> Result<Vec<Pair>, AllocError>
-        requires columns { columns.now ≡ unit_code self.now.file.params self.now.file.code_seed }
-        requires ask_count { length asks.now ≡ self.now.file.params.trees }
-        requires asks { All (IsTreeAsk self.now.file.params.height) asks.now }
-        requires reply_count { length replies.now ≡ self.now.file.params.trees }
-        requires replies { All (IsTreeReply self.now.file.params.height) replies.now }
-        ensures pairs { IfOk result (λ pairs. IsExtension self.now.file.params self.now.file.code_seed
-            (prover_unit self.now.file self.now.unit)
-            (record { asks = asks.now; replies = replies.now }) pairs.items) }
-        ensures count { IfOk result (λ pairs. vec_len pairs
-            ≡ self.now.file.params.trees * 2 ^ self.now.file.params.height) }
-    {
-        let noise = self.asked_noise(alloc, asks, replies)?;
-        let base = self.params().base as usize;
-        let pairs = columns.apply_pairs(alloc, &self.pairs()[..base], &noise)?;
-        Ok(pairs)
-    }
-
-    /// The noise of all trees after these asks, one tree after another.
-    fn asked_noise(
-        &self,
-        alloc: Global,
-        asks: &[TreeAsk],
-        replies: &[TreeReply],
-    ) -> Result<Vec<Pair>, AllocError>
-        requires ask_count { length asks.now ≡ self.now.file.params.trees }
-        requires asks { All (IsTreeAsk self.now.file.params.height) asks.now }
-        requires reply_count { length replies.now ≡ self.now.file.params.trees }
-        requires replies { All (IsTreeReply self.now.file.params.height) replies.now }
-        ensures noise { IfOk result (λ noise. IsNoiseOfAsked self.now asks.now replies.now
-            self.now.file.params.trees noise.items) }
-        ensures count { IfOk result (λ noise. vec_len noise
-            ≡ self.now.file.params.trees * 2 ^ self.now.file.params.height) }
-    {
-        let Params { height, trees, .. } = self.params();
-        let mut noise = Vec::with_capacity(alloc, (trees as usize) << u32::from(height))?;
-        for tree in 0..trees {
-            let at = tree as usize;
-            let entries = self.asked_tree_noise(alloc, tree, &asks[at], &replies[at])?;
-            noise.extend_from_slice(&entries)?;
-        }
-        Ok(noise)
-    }
-
-    /// The noise of a tree after an ask: the prover grows it without the leaf that the ask hides.
-    fn asked_tree_noise(
-        &self,
-        alloc: Global,
-        tree: u32,
-        ask: &TreeAsk,
-        reply: &TreeReply,
-    ) -> Result<Vec<Pair>, AllocError>
-        requires tree { tree < self.now.file.params.trees }
-        requires ask { IsTreeAsk self.now.file.params.height ask.now }
-        requires reply { IsTreeReply self.now.file.params.height reply.now }
-        ensures noise { IfOk result (λ entries.
-            IsNoiseOf (view_with self.now tree ask.now reply.now) entries.items) }
-        ensures count { IfOk result (λ entries. vec_len entries ≡ 2 ^ self.now.file.params.height) }
-    {
-        let height = u32::from(self.params().height);
-        let transfers = self.transfers(tree);
-        let place = flip_place(transfers, &ask.flips);
-        let sums = flip_sums(alloc, transfers, &ask.flips, &reply.messages)?;
-        let leaves = puncture(alloc, height, place as usize, &sums)?;
-        let Pair { x, m } = self.base_pair(tree);
-        let noise = x + ask.base_correction;
-        let entries = prover_finish(alloc, place, noise, m, reply.leaf_offset, &leaves)?;
         Ok(entries)
     }
 }

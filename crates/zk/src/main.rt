@@ -1,6 +1,7 @@
 //! The program: the real objects, and the top call.
 #![tactic(auto)]
 
+use command_words::help_text;
 use port_os::{FileDisk, FileShelf, OutputSink, TcpDoor, found_no_memory};
 use std::alloc::Global;
 use std::io::Read;
@@ -8,7 +9,7 @@ use std::process::ExitCode;
 use std::rt::{Env, Files};
 use std::{env, fs, io};
 use zk_cli::{Finish, run_zk};
-use zk_port::{QuietGate, Sink};
+use zk_port::{PortFault, QuietGate, Sink};
 
 /// The words after the program's name.
 fn words<R: Env + AllocGlobal>(rt: &R) -> io::Result<Vec<String>> {
@@ -32,6 +33,15 @@ fn keep_freed_memory(alloc: Global) {
     let _ = Vec::<u8>::with_capacity(alloc, 31 << 20);
 }
 
+/// Writes a help text. A write that fails is the program's write fault.
+fn say_help<O: Sink>(alloc: Global, out: &mut O, text: &str) -> ExitCode {
+    match out.put(alloc, text.as_bytes()) {
+        Ok(()) => ExitCode::SUCCESS,
+        Err(PortFault::NoMemory) => ExitCode::from(7),
+        Err(PortFault::Failed) => ExitCode::from(4),
+    }
+}
+
 fn main(rt: HostRuntime) -> ExitCode {
     let alloc: Global = rt.alloc();
     keep_freed_memory(alloc);
@@ -47,6 +57,9 @@ fn main(rt: HostRuntime) -> ExitCode {
             Vec::new(alloc)
         }
     };
+    if let Some(text) = help_text(&words) {
+        return say_help(alloc, &mut out, text);
+    }
     let Ok(seed) = read_seed(&rt) else {
         let _ = out.put(alloc, b"failed seed\n");
         return ExitCode::from(4);

@@ -1,10 +1,11 @@
 pub mod Claiming
+pub mod Pairs
 pub mod ProveOutcomes
 pub mod Lacking
+pub mod Loading
 pub mod LeaseCauses
-pub mod LogStores
-pub mod NoteOrder
-pub mod OneStatement
+pub mod Many
+pub mod NoUsage
 pub mod Opening
 pub mod Ordering
 pub mod RehearseOutcomes

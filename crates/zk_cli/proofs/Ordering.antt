@@ -1,24 +1,25 @@
 -- Sessions in another order are the same sessions.
-use Rattle.std.proofs.Common.{◌≡◌, ◌<◌, ◌≤◌, ◌+◌, ◌-◌, ◌*◌, ℕ, List, Bool, length, get_or, refl, sym, ◌∙◌, subst, inl, inr, arith, All, Option, None, Some, IfSome}
+use Rattle.std.proofs.Common.{◌≡◌, ◌<◌, ◌≤◌, ◌+◌, ◌-◌, max, ℕ, List, Bool, length, get_or, refl, sym, ◌∙◌, subst, inl, inr, arith, Option, None, Some, IfSome}
 use Rattle.std.specs.List.{AllPairs, swap}
 use Rattle.std.specs.List.Sorted.{IsPermutation}
 use Rattle.std.proofs.lemmas.List.Edits.{Swapped, swapped_from_swap, length-swap}
-use Rattle.std.proofs.lemmas.List.Sorted.{IsPermutation-keeps, All-permutation, length_permutation}
+use Rattle.std.proofs.lemmas.List.Sorted.{IsPermutation-keeps, All-permutation, Contains-permutation, length_permutation, sum_by-IsPermutation}
 use Rattle.std.proofs.lemmas.Bool.{cases_eq, cases_lt}
 use Rattle.zk_model.specs.declared.Span.{Span}
 use Rattle.zk_port.specs.Doors.{after_listen}
 use Rattle.zk_port.specs.Files.{Files}
 use Rattle.zk_port.specs.Links.{LinkState}
-use Rattle.session_core.specs.Jobs.{VerifierJob, one_job, units_of_job}
+use Rattle.lease_store.specs.declared.LeaseFault.{LeaseFault}
+use Rattle.session_core.specs.Jobs.{VerifierJobs}
 use Rattle.session_pool.specs.Doors.{Takes}
-use Rattle.session_pool.specs.Notes.{AreApart, IsBetween, IsMarked, IsRefusedBy}
+use Rattle.session_pool.specs.Notes.{AreApart, IsBetween, IsMarked, IsRefusedAmong, IsRefusedBy}
 use Rattle.session_verifier.specs.Outcomes.{lease_fault}
 use Rattle.session_verifier.specs.Sessions.{IsNote}
 use Rattle.session_verifier.specs.declared.note.SessionNote.{SessionNote}
-use Rattle.command_words.specs.Words.{ServeAsk}
+use Rattle.statement_file.specs.Services.{Service}
 use Rattle.file_commands.specs.Journals.{DiskChange}
 use Rattle.file_commands.specs.Effects.{DoorChange}
-use Rattle.zk_cli.specs.ServeRuns.{LeadsFiles, LeadsJob}
+use Rattle.zk_cli.specs.ServeRuns.{LeadsFiles, LeadsJobs, units_of_note}
 
 apart_both : (a b : Option Span) → AreApart a b → AreApart b a
 apart_both None None apart = tt
@@ -82,17 +83,32 @@ module _ {X : Type 0} (R : X → X → Type 0) (both : (x y : X) → R x y → R
   pub pairs_permuted : (xs ys : List X) → IsPermutation xs ys → AllPairs R xs → AllPairs R ys
   pairs_permuted xs ys permuted pairs = IsPermutation-keeps xs (AllPairs R) pairs swapped_pairs ys permuted
 
+-- a lease that was refused among sessions was refused among them in another order
+among_permuted : {M : Type 0} (size : M → ℕ) (base total : ℕ) (notes ordered : List M) (note : M) (fault : Option LeaseFault)
+    → IsPermutation notes ordered → IfSome fault (IsRefusedAmong size base total notes note) → IfSome fault (IsRefusedAmong size base total ordered note)
+among_permuted size base total notes ordered note None permuted among = tt
+among_permuted size base total notes ordered note (Some fault) permuted among = record {
+  drawer = among.drawer;
+  among = Contains-permutation notes ordered among.drawer permuted among.among;
+  least = among.least;
+  most = among.most;
+  refused = subst (λ (n : ℕ). IsRefusedBy (size among.drawer) total (base + (n - max (size among.drawer) (size note))) (Some fault))
+      (sym (sum_by-IsPermutation size notes ordered permuted)) among.refused;
+}
+
 -- sessions that were led, in another order
-pub leads_permuted : {L : Type 0} (link_tells : L → LinkState) (ask : ServeAsk) (job : VerifierJob) (notes ordered : List (SessionNote L))
+pub leads_permuted : {L : Type 0} (link_tells : L → LinkState) (service : Service) (jobs : VerifierJobs) (notes ordered : List (SessionNote L))
     (door_failed memory_failed : Bool) (disk : DiskChange) (door : DoorChange) → IsPermutation notes ordered
-    → LeadsJob link_tells ask job notes door_failed memory_failed disk door → LeadsJob link_tells ask job ordered door_failed memory_failed disk door
-leads_permuted {L} link_tells ask job notes ordered door_failed memory_failed disk door permuted leads =
+    → LeadsJobs link_tells service jobs notes door_failed memory_failed disk door
+    → LeadsJobs link_tells service jobs ordered door_failed memory_failed disk door
+leads_permuted {L} link_tells service jobs notes ordered door_failed memory_failed disk door permuted leads =
     let same : length ordered ≡ length notes = length_permutation notes ordered permuted in
+    let total = jobs.first.task.file.params.total in
     record {
       few = leads.few;
-      each = All-permutation (IsNote link_tells (one_job job)) notes ordered permuted leads.each;
-      taken = subst (λ (n : ℕ). Takes ask.options.sessions n door_failed memory_failed (after_listen ask.address ask.options.sessions door.old) door.new)
-          (sym same) leads.taken;
+      each = All-permutation (IsNote link_tells jobs) notes ordered permuted leads.each;
+      taken = subst (λ (n : ℕ). Takes service.options.sessions n door_failed memory_failed
+          (after_listen service.address service.options.sessions door.old) door.new) (sym same) leads.taken;
       base = leads.base;
       recovered = leads.recovered;
       ceiling = leads.ceiling;
@@ -100,23 +116,22 @@ leads_permuted {L} link_tells ask job notes ordered door_failed memory_failed di
       kept = leads.kept;
       apart = pairs_permuted (λ (one other : SessionNote L). AreApart one.granted other.granted)
           (λ one other. apart_both one.granted other.granted) notes ordered permuted leads.apart;
-      spans = All-permutation (λ (note : SessionNote L). IsBetween (units_of_job job) leads.base leads.ceiling note.granted) notes ordered permuted leads.spans;
-      within = All-permutation (λ (note : SessionNote L). IfSome note.granted (λ span. span.end ≤ job.task.file.params.total)) notes ordered permuted leads.within;
+      spans = All-permutation (λ (note : SessionNote L). IsBetween (units_of_note jobs note) leads.base leads.ceiling note.granted) notes ordered permuted leads.spans;
+      within = All-permutation (λ (note : SessionNote L). IfSome note.granted (λ span. span.end ≤ total)) notes ordered permuted leads.within;
       marked = All-permutation (λ (note : SessionNote L). IsMarked leads.mark (lease_fault note.outcome)) notes ordered permuted leads.marked;
-      refused = subst (λ (n : ℕ). All (λ note. IsRefusedBy (units_of_job job) job.task.file.params.total
-          (leads.base + units_of_job job * (n - 1)) (lease_fault note.outcome)) ordered) (sym same)
-          (All-permutation (λ (note : SessionNote L). IsRefusedBy (units_of_job job) job.task.file.params.total
-          (leads.base + units_of_job job * (length notes - 1)) (lease_fault note.outcome)) notes ordered permuted leads.refused);
+      refused = λ k d within.
+          among_permuted (units_of_note jobs) leads.base total notes ordered (get_or ordered k d) (lease_fault (get_or ordered k d).outcome) permuted
+          (All-permutation (λ (note : SessionNote L). IfSome (lease_fault note.outcome) (IsRefusedAmong (units_of_note jobs) leads.base total notes note))
+          notes ordered permuted leads.refused k d within);
     }
 
 -- and what was asked for stands above them still
-pub files_permuted : {L : Type 0} (link_tells : L → LinkState) (ask : ServeAsk) (notes ordered : List (SessionNote L))
+pub files_permuted : {L : Type 0} (link_tells : L → LinkState) (service : Service) (notes ordered : List (SessionNote L))
     (door_failed memory_failed : Bool) (told : Option Files) (disk : DiskChange) (door : DoorChange) → IsPermutation notes ordered
-    → LeadsFiles link_tells ask notes door_failed memory_failed told disk door
-    → LeadsFiles link_tells ask ordered door_failed memory_failed told disk door
-files_permuted link_tells ask notes ordered door_failed memory_failed told disk door permuted files = record {
-  circuit = files.circuit;
-  job = files.job;
+    → LeadsFiles link_tells service notes door_failed memory_failed told disk door
+    → LeadsFiles link_tells service ordered door_failed memory_failed told disk door
+files_permuted link_tells service notes ordered door_failed memory_failed told disk door permuted files = record {
+  jobs = files.jobs;
   served = files.served;
-  leads = leads_permuted link_tells ask files.job notes ordered door_failed memory_failed disk door permuted files.leads;
+  leads = leads_permuted link_tells service files.jobs notes ordered door_failed memory_failed disk door permuted files.leads;
 }

@@ -1,5 +1,5 @@
 -- What is handed back and said of a rehearsal gives what its record promises.
-use Rattle.std.proofs.Common.{◌≡◌, ◌⊎◌, ◌<◌, ◌≤◌, ◌+◌, ◌-◌, ◌++◌, ℕ, List, length, refl, ap, sym, ◌∙◌, subst, inl, inr, arith, []}
+use Rattle.std.proofs.Common.{◌≡◌, ◌⊎◌, ◌<◌, ◌≤◌, ◌-◌, ◌++◌, ℕ, List, length, refl, ap, sym, ◌∙◌, subst, inl, inr, arith, []}
 use Rattle.std.proofs.lemmas.List.{length-append}
 use Rattle.zk_model.specs.Circuit.{Circuit}
 use Rattle.zk_model.specs.declared.limits.TheConstants.{MAX_UNITS}
@@ -15,7 +15,7 @@ use Rattle.file_commands.specs.declared.refusal.Refusal.{Refusal}
 use Rattle.file_commands.specs.declared.refusal.Refusal.TheVariants as stop
 use Rattle.file_commands.proofs.Causes.{told_circuit, circuit_lacks}
 use Rattle.file_commands.proofs.Means.{made_means, stop_means}
-use Rattle.zk_model.specs.Generated.{generated_bits, generated_circuit}
+use Rattle.zk_model.specs.Generated.{generated_circuit}
 use Rattle.zk_model.specs.declared.Verdict.TheVariants.{Accepted}
 use Rattle.session_rehearsal.specs.declared.rehearsal.Rehearsal.{Rehearsal}
 

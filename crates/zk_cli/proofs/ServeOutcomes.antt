@@ -10,13 +10,13 @@ use Rattle.session_verifier.specs.Outcomes.{lease_fault}
 use Rattle.session_verifier.specs.declared.note.SessionNote.{SessionNote}
 use Rattle.session_verifier.specs.declared.note.VerifierOutcome.{VerifierOutcome}
 use Rattle.session_verifier.specs.declared.note.VerifierOutcome.TheVariants.{Accepted, RejectedSum, RejectedOpening, PeerEnded, BadFrame, BadHello, Exhausted, Device, Broken, Link, NoMemory}
-use Rattle.command_words.specs.Words.{ServeAsk}
+use Rattle.statement_file.specs.Services.{Service}
 use Rattle.file_commands.specs.DealRuns.{next_name}
 use Rattle.file_commands.specs.Journals.{DiskChange}
-use Rattle.zk_cli.specs.NoteLines.{IsServedText, has_status, served_status, failures, outcome_status}
+use Rattle.session_verifier.specs.NoteLines.{IsServedText, has_status, served_status, failures, outcome_status}
 use Rattle.file_commands.specs.Effects.{ShelfChange, DoorChange, Effects, SomeFailed}
 use Rattle.zk_cli.specs.ServeRuns.{ServeLines, ServeStop, NotesMean, ServeMeans, SaysNotes}
-use Rattle.zk_cli.specs.ServiceLogs.{IsLogName, KeepsLogs, log_store, log_stores}
+use Rattle.session_verifier.specs.ServiceLogs.{IsLogName, KeepsLogs, log_store, log_stores}
 use Rattle.file_commands.specs.Stops.{Prints, after_sink_fault, is_shelf_failed, is_memory_missing}
 use Rattle.zk_cli.specs.declared.finish.Part.{Part}
 use Rattle.zk_cli.specs.declared.finish.Part.TheVariants.{Plain, Proved, Rehearsed, Served}
@@ -197,8 +197,8 @@ log_failed (Some prefix) notes shelf (Some why) kept failed = (
 
 -- ---- the status
 
-module _ {L : Type 0} (link_tells : L → LinkState) (ask : ServeAsk) (notes : List (SessionNote L)) (disk : DiskChange) (door : DoorChange)
-    (run : Effects) (says : SaysNotes link_tells ask notes disk door run) where
+module _ {L : Type 0} (link_tells : L → LinkState) (service : Service) (notes : List (SessionNote L)) (disk : DiskChange) (door : DoorChange)
+    (run : Effects) (says : SaysNotes link_tells service notes disk door run) where
   abbrev logs : Option Refusal
   logs = says.says.logs
 
@@ -209,18 +209,18 @@ module _ {L : Type 0} (link_tells : L → LinkState) (ask : ServeAsk) (notes : L
   Means = ChainMeans says.door_failed (is_shelf_failed logs) (says.memory_failed || is_memory_missing logs)
       (has_status notes 1) (has_status notes 4) (has_status notes 5) (has_status notes 6) (has_status notes 7)
 
-  failed_so : (says.door_failed ≡ true) ⊎ (is_shelf_failed logs ≡ true) ⊎ (has_status notes 4 ≡ true) → run.status ≡ 4 → NotesMean ask notes disk door run
+  failed_so : (says.door_failed ≡ true) ⊎ (is_shelf_failed logs ≡ true) ⊎ (has_status notes 4 ≡ true) → run.status ≡ 4 → NotesMean service notes disk door run
   failed_so (inl failed) is = inr (inr (inl (is, inl (inr (says.leads.leads.taken.failed failed)))))
-  failed_so (inr (inl failed)) is = inr (inr (inl (is, inr (inl (log_failed ask.options.logs notes run.shelf logs says.says.stored failed)))))
+  failed_so (inr (inl failed)) is = inr (inr (inl (is, inr (inl (log_failed service.options.logs notes run.shelf logs says.says.stored failed)))))
   failed_so (inr (inr link)) is = inr (inr (inl (is, inr (inr (inr link)))))
 
-  five_so : has_status notes 5 ≡ true → run.status ≡ 5 → NotesMean ask notes disk door run
+  five_so : has_status notes 5 ≡ true → run.status ≡ 5 → NotesMean service notes disk door run
   five_so five is =
       let leads = says.leads.leads in
       inr (inr (inr (inl (is, leads.kept.rose (marks leads.mark notes five leads.marked), five))))
 
   mean_written : (text : List ℕ) → IsServedText notes says.door_failed text → Means status → Prints status text run.status run.sink
-      → NotesMean ask notes disk door run
+      → NotesMean service notes disk door run
   mean_written text served means (inr (inr short)) = inr (inr (inr (inr (inr short.0))))
   mean_written text served (inl zero_is) (inl whole) =
       let calm = zero_is.1 in
@@ -229,7 +229,7 @@ module _ {L : Type 0} (link_tells : L → LinkState) (ask : ServeAsk) (notes : L
         record {
           each = all_accepted notes calm.one_is calm.four_is calm.five_is calm.six_is calm.seven_is;
           lines = (text, subst (λ (failed : Bool). IsServedText notes failed text) calm.door_is served, whole.1);
-          logs = all_kept ask.options.logs notes run.shelf logs says.says.stored calm.shelf_is
+          logs = all_kept service.options.logs notes run.shelf logs says.says.stored calm.shelf_is
               (rest_is says.memory_failed (is_memory_missing logs) calm.memory_is);
           listen_quiet = ap (λ (s : DoorState). s.listen_faults) says.leads.leads.taken.rest;
           next_quiet = says.leads.leads.taken.calm calm.door_is;
@@ -250,7 +250,7 @@ module _ {L : Type 0} (link_tells : L → LinkState) (ask : ServeAsk) (notes : L
   mean_written text served (inr (inr (inr (inr (inr seven))))) (inr (inl fault)) =
       inr (inr (inr (inr (inr (fault.0 ∙ ap after_sink_fault seven)))))
 
-  pub notes_mean : NotesMean ask notes disk door run
+  pub notes_mean : NotesMean service notes disk door run
   notes_mean = elim says.says.lines [
     | inl written ↦ mean_written written.0 written.1 (chain_means says.door_failed (is_shelf_failed logs) (says.memory_failed || is_memory_missing logs)
         (has_status notes 1) (has_status notes 4) (has_status notes 5) (has_status notes 6) (has_status notes 7)) written.2
@@ -258,21 +258,21 @@ module _ {L : Type 0} (link_tells : L → LinkState) (ask : ServeAsk) (notes : L
   ]
 
 -- a service does not stop for other outputs
-serve_is_high : (ask : ServeAsk) (shelf : ShelfChange) (disk : DiskChange) (door : DoorChange) (why : Refusal) → ServeStop ask shelf disk door why
+serve_is_high : (service : Service) (shelf : ShelfChange) (disk : DiskChange) (door : DoorChange) (why : Refusal) → ServeStop service shelf disk door why
     → IsHigh why
-serve_is_high ask shelf disk door (stop.Unsatisfied output) (inl (inl cause, unasked, unheard)) = absurd cause
-serve_is_high ask shelf disk door (stop.Unsatisfied output) (inl (inr cause, unasked, unheard)) = absurd cause.3
-serve_is_high ask shelf disk door (stop.Unsatisfied output) (inr cause) =
-    elim cause.3.2 [ inl journal ↦ absurd journal.0 | inr unheard ↦ absurd unheard ]
-serve_is_high ask shelf disk door other cause = tt
+serve_is_high service shelf disk door (stop.Unsatisfied output) (inl (inl lacks, unasked, unheard)) = absurd lacks.cause
+serve_is_high service shelf disk door (stop.Unsatisfied output) (inl (inr lacks, unasked, unheard)) = absurd lacks.1
+serve_is_high service shelf disk door (stop.Unsatisfied output) (inr opening) =
+    elim opening.2.2 [ inl journal ↦ absurd journal.0 | inr unheard ↦ absurd unheard ]
+serve_is_high service shelf disk door other cause = tt
 
-pub serve_means : {L : Type 0} (link_tells : L → LinkState) (ask : ServeAsk) (part : Part L) (disk : DiskChange) (door : DoorChange) (run : Effects)
-    → ServeLines link_tells ask part disk door run → ServeMeans ask part disk door run
-serve_means link_tells ask (Served notes) disk door run says = notes_mean link_tells ask notes.items disk door run says
-serve_means link_tells ask Plain disk door run says =
-    elim (stop_answers says.stop run.status run.sink (serve_is_high ask run.shelf disk door says.stop says.cause) says.prints) [
+pub serve_means : {L : Type 0} (link_tells : L → LinkState) (service : Service) (part : Part L) (disk : DiskChange) (door : DoorChange) (run : Effects)
+    → ServeLines link_tells service part disk door run → ServeMeans service part disk door run
+serve_means link_tells service (Served notes) disk door run says = notes_mean link_tells service notes.items disk door run says
+serve_means link_tells service Plain disk door run says =
+    elim (stop_answers says.stop run.status run.sink (serve_is_high service run.shelf disk door says.stop says.cause) says.prints) [
       | inl e ↦ inl (says.stop, says.cause, e)
       | inr e ↦ inr e
     ]
-serve_means link_tells ask (Rehearsed r) disk door run says = absurd says
-serve_means link_tells ask (Proved note) disk door run says = absurd says
+serve_means link_tells service (Rehearsed r) disk door run says = absurd says
+serve_means link_tells service (Proved note) disk door run says = absurd says

@@ -1,5 +1,7 @@
 -- What a verifier that serves composes: its files, its notes, and what it says.
-use Rattle.std.proofs.Common.{◌≡◌, ◌≤◌, ℕ, Bool, List, All, Option, Some, None, get_or, sym, ap, subst, inl, inr, arith}
+use Rattle.std.proofs.Common.{◌≡◌, ◌≤◌, ◌<◌, ℕ, Bool, List, [], length, All, Contains, Option, Some, None, Result, get_or, refl, sym, ap, ◌∙◌, subst, inl, inr, arith}
+use Rattle.std.specs.Prelude.{slice_get}
+use Rattle.std.proofs.lemmas.Option.{slice_get-get_or}
 use Rattle.std.specs.List.Sorted.{IsNonDecreasingBy}
 use Rattle.zk_model.specs.Circuit.{Circuit}
 use Rattle.sha2.specs.Sha256.{sha256}
@@ -13,22 +15,27 @@ use Rattle.zk_port.specs.Changes.{change}
 use Rattle.zk_port.specs.Counts.{Rose}
 use Rattle.dealer_files.specs.Faults.{IsFirstFault}
 use Rattle.zk_port.specs.Files.{Files, StandsLonger}
-use Rattle.session_core.specs.Jobs.{VerifierJob}
-use Rattle.session_verifier.specs.Notes.{IsShown}
+use Rattle.lease_store.specs.declared.LeaseFault.{LeaseFault}
+use Rattle.session_core.specs.Jobs.{VerifierJob, VerifierJobs, all_jobs, job_at, noted_job}
+use Rattle.session_pool.specs.Notes.{granted_by}
+use Rattle.session_verifier.specs.Notes.{IsShown, TakesStatement}
+use Rattle.session_verifier.specs.Sessions.{IsSessionOf}
 use Rattle.zk_port.specs.Links.{LinkState}
 use Rattle.zk_port.specs.Shelves.{ShelfState}
 use Rattle.session_verifier.specs.declared.note.SessionNote.{SessionNote}
+use Rattle.session_verifier.specs.declared.note.VerifierOutcome.{VerifierOutcome}
 use Rattle.session_verifier.specs.declared.note.VerifierOutcome.TheVariants.{Accepted}
-use Rattle.command_words.specs.Words.{ServeAsk}
+use Rattle.statement_file.specs.Claims.{NamedClaim, named_claim}
+use Rattle.statement_file.specs.Services.{Service}
 use Rattle.zk_model.specs.declared.limits.TheConstants.{FILE_LIMIT}
 use Rattle.file_commands.specs.Effects.{ShelfChange, DoorChange, OnlyLoads, OthersStay, IsName}
 use Rattle.file_commands.specs.Journals.{DiskChange}
-use Rattle.zk_cli.specs.NoteLines.{start_of}
-use Rattle.zk_cli.specs.ServeRuns.{IsServeJob, IsLoadedName, LeadsFiles, ClaimStop}
+use Rattle.session_verifier.specs.NoteLines.{start_of}
+use Rattle.zk_cli.specs.ServeRuns.{AreServeJobs, IsCircuitName, IsServeJob, IsLoadedName, LeadsFiles}
 use Rattle.file_commands.proofs.Asking.{loads_among, loads_both}
-use Rattle.zk_cli.specs.ServedNotes.{GrantsOnce, IsHeadline}
-use Rattle.zk_cli.proofs.OneStatement.{session_about}
-use Rattle.file_commands.specs.Stops.{HasText, LoadStop, CircuitStop, FileStop}
+use Rattle.zk_cli.specs.ServedNotes.{GrantsOnce, IsHeadline, ShowsClaim}
+use Rattle.zk_cli.proofs.Pairs.{zip_at, zip_length}
+use Rattle.file_commands.specs.Stops.{HasText, FileStop}
 use Rattle.file_commands.specs.declared.refusal.Refusal.{Refusal}
 use Rattle.file_commands.specs.declared.refusal.Refusal.TheVariants as stop
 
@@ -48,28 +55,21 @@ file_stop_since side name old mid new same earlier (stop.TooLong limit) cause =
 file_stop_since side name old mid new same earlier stop.NoMemory cause = tt
 file_stop_since side name old mid new same earlier other cause = absurd cause
 
--- ---- causes of a stop
-
-pub claim_of_circuit : (ask : ServeAsk) (shelf : ShelfChange) (why : Refusal) → CircuitStop ask.circuit shelf why → ClaimStop ask shelf why
-claim_of_circuit ask shelf (stop.ManyPublic inputs got) cause = absurd cause
-claim_of_circuit ask shelf (stop.WrongOutputs need got) cause = absurd cause
-claim_of_circuit ask shelf other cause = cause
-
-pub file_of_load : (side : Side) (name : List ℕ) (shelf : ShelfChange) (why : Refusal) → LoadStop name shelf why → FileStop side name shelf why
-file_of_load side name shelf (stop.BadFile fault) cause = absurd cause
-file_of_load side name shelf other cause = cause
-
 -- ---- which files are asked for
 
-pub loads_claim : (ask : ServeAsk) (a b : ShelfState) → OnlyLoads (IsName ask.circuit) (change a b)
-    → OnlyLoads (IsLoadedName ask) (change a b)
-loads_claim ask a b loads = loads_among (IsName ask.circuit) (IsLoadedName ask) (change a b) (λ name is. inl is) loads
+pub loads_claim : (claims : List NamedClaim) (claim : NamedClaim) (shelf : ShelfChange) → Contains claims claim → OnlyLoads (IsName claim.circuit) shelf
+    → OnlyLoads (IsCircuitName claims) shelf
+loads_claim claims claim shelf among loads =
+    loads_among (IsName claim.circuit) (IsCircuitName claims) shelf (λ name is. (claim, among, is)) loads
 
-pub loads_files : (ask : ServeAsk) (a b c : ShelfState) → OnlyLoads (IsName ask.circuit) (change a b)
-    → OnlyLoads (IsName ask.file) (change b c) → OnlyLoads (IsLoadedName ask) (change a c)
-loads_files ask a b c claim file =
-    loads_both (IsLoadedName ask) a b c (loads_claim ask a b claim)
-    (loads_among (IsName ask.file) (IsLoadedName ask) (change b c) (λ name is. inr is) file)
+pub loads_claims : (service : Service) (shelf : ShelfChange) → OnlyLoads (IsCircuitName service.claims) shelf → OnlyLoads (IsLoadedName service) shelf
+loads_claims service shelf loads = loads_among (IsCircuitName service.claims) (IsLoadedName service) shelf (λ name is. inl is) loads
+
+pub loads_files : (service : Service) (a b c : ShelfState) → OnlyLoads (IsCircuitName service.claims) (change a b)
+    → OnlyLoads (IsName service.file) (change b c) → OnlyLoads (IsLoadedName service) (change a c)
+loads_files service a b c claims file =
+    loads_both (IsLoadedName service) a b c (loads_claims service (change a b) claims)
+    (loads_among (IsName service.file) (IsLoadedName service) (change b c) (λ name is. inr is) file)
 
 -- where all files are as they were, so are those of other names
 pub others_same : (IsNamed : List ℕ → Type 0) (old new : Option Files) → new ≡ old → OthersStay IsNamed old new
@@ -83,12 +83,12 @@ others_same IsNamed (Some files) (Some others) same = λ other not. ap (λ (foun
 
 -- ---- sessions
 
--- what an accepted session about what was asked shows
-headline : ExtractedShowsOutputs → (told : Option Files) (ask : ServeAsk) (circuit : Circuit) (job : VerifierJob)
-    → IsServeJob told ask circuit job → (granted : Option Span) (log : List (Side × ℕ)) → IsShown job granted log
-    → IsHeadline told ask granted log
-headline law told ask circuit job served granted log shown =
-    let claim = served.claim in
+-- what an accepted session about a claim shows
+headline : ExtractedShowsOutputs → (told : Option Files) (service : Service) (claim : NamedClaim) (circuit : Circuit) (job : VerifierJob)
+    → IsServeJob told service claim circuit job → (granted : Option Span) (log : List (Side × ℕ)) → IsShown job granted log
+    → IsHeadline told service claim granted log
+headline law told service claim circuit job served granted log shown =
+    let is = served.claim in
     record {
       circuit = circuit;
       job = job;
@@ -103,29 +103,60 @@ headline law told ask circuit job served granted log shown =
       checks = shown.checks;
       said = shown.said;
       shows = λ prover valid dealt.
-          subst (λ (s : Statement). ShowsOutputs circuit ask.public ask.outputs prover job.task.file.key s shown.t) (sym claim.statement_is)
-          (law circuit (sha256 claim.text) ask.public ask.outputs prover job.task.file shown.t claim.says.well_formed claim.few
-          (subst (λ (s : Statement). IsExtracted prover job.task.file s shown.t) claim.statement_is (shown.extracted prover valid dealt)));
+          subst (λ (s : Statement). ShowsOutputs circuit claim.public claim.outputs prover job.task.file.key s shown.t) (sym is.statement_is)
+          (law circuit (sha256 is.text) claim.public claim.outputs prover job.task.file shown.t is.says.well_formed is.few
+          (subst (λ (s : Statement). IsExtracted prover job.task.file s shown.t) is.statement_is (shown.extracted prover valid dealt)));
     }
 
+-- a note with granted units is about a statement that was taken
+ungranted : (granted : Option Span) (span : Span) (answer : Option (Result Span LeaseFault)) → granted ≡ granted_by answer → granted ≡ Some span
+    → answer ≡ None → ⊥
+ungranted granted span answer by leased none =
+    let impossible : None ≡ Some span = sym (by ∙ ap granted_by none) ∙ leased in cc
+
+-- the claim of a number, with its job
+claim_job : (told : Option Files) (service : Service) (jobs : VerifierJobs) → AreServeJobs told service jobs → (n : ℕ) → n < length (all_jobs jobs)
+    → (claim : NamedClaim) × (slice_get service.claims n ≡ Some claim) × ((circuit : Circuit) × IsServeJob told service claim circuit (job_at jobs n))
+claim_job told service jobs served n within =
+    let IsPair : NamedClaim → VerifierJob → Type 0 = λ claim job. (circuit : Circuit) × IsServeJob told service claim circuit job in
+    let none : NamedClaim = named_claim [] [] [] in
+    let same : length service.claims ≡ length (all_jobs jobs) = zip_length IsPair service.claims (all_jobs jobs) served.each in
+    let inside : n < length service.claims = omega (arith, same, within) in (
+      get_or service.claims n none,
+      slice_get-get_or service.claims n none inside,
+      zip_at IsPair service.claims (all_jobs jobs) served.each n none jobs.first inside,
+    )
+
+shows_claim : ExtractedShowsOutputs → (told : Option Files) (service : Service) (jobs : VerifierJobs) → AreServeJobs told service jobs
+    → (answer : Option (Result Span LeaseFault)) (taken : Option ℕ) (granted : Option Span) (outcome : VerifierOutcome) (log : List (Side × ℕ)) (link : LinkState)
+    → TakesStatement jobs taken answer outcome log → IsSessionOf (noted_job jobs taken) answer granted outcome log link → outcome ≡ Accepted
+    → (n : ℕ) × (taken ≡ Some n) × (claim : NamedClaim) × (slice_get service.claims n ≡ Some claim) × IsHeadline told service claim granted log
+shows_claim law told service jobs served answer None granted outcome log link takes session accepted =
+    let shown = session.shown accepted in
+    absurd (ungranted granted shown.span answer session.granted_is shown.leased (takes.none refl))
+shows_claim law told service jobs served answer (Some n) granted outcome log link takes session accepted =
+    let found = claim_job told service jobs served n takes.has.1.within in
+    (n, refl, found.0, found.1, headline law told service found.0 found.2.0 (job_at jobs n) found.2.1 granted log (session.shown accepted))
+
 -- of each note that is handed back
-pub headlines : {L : Type 0} (link_tells : L → LinkState) → ExtractedShowsOutputs → (told : Option Files) (ask : ServeAsk)
+pub headlines : {L : Type 0} (link_tells : L → LinkState) → ExtractedShowsOutputs → (told : Option Files) (service : Service)
     (notes : List (SessionNote L)) (disk : DiskChange) (door : DoorChange) (door_failed memory_failed : Bool)
-    → LeadsFiles link_tells ask notes door_failed memory_failed told disk door
-    → All (λ note. note.outcome ≡ Accepted → IsHeadline told ask note.granted note.log) notes
-headlines link_tells law told ask notes disk door door_failed memory_failed files = λ k default within accepted.
+    → LeadsFiles link_tells service notes door_failed memory_failed told disk door
+    → All (λ note. note.outcome ≡ Accepted → ShowsClaim told service note) notes
+headlines link_tells law told service notes disk door door_failed memory_failed files = λ k default within accepted.
     let note = get_or notes k default in
     let is = files.leads.each k default within in
-    headline law told ask files.circuit files.job files.served note.granted note.log ((session_about link_tells files.job is.0 note is.1).shown accepted)
+    let shows = shows_claim law told service files.jobs files.served is.0 note.statement note.granted note.outcome note.log (link_tells note.link)
+    is.1.statement is.1.session accepted in
+    record { number = shows.0; taken = shows.1; claim = shows.2; named = shows.3; shows = shows.4 }
 
 -- and of all of them
-pub grants_once : {L : Type 0} (link_tells : L → LinkState) (told : Option Files) (ask : ServeAsk) (notes : List (SessionNote L))
+pub grants_once : {L : Type 0} (link_tells : L → LinkState) (told : Option Files) (service : Service) (notes : List (SessionNote L))
     (disk : DiskChange) (door : DoorChange) (door_failed memory_failed : Bool)
-    → LeadsFiles link_tells ask notes door_failed memory_failed told disk door
-    → IsNonDecreasingBy (λ note. start_of note.granted) notes → GrantsOnce told ask notes disk
-grants_once link_tells told ask notes disk door door_failed memory_failed files ordered = record {
-  circuit = files.circuit;
-  job = files.job;
+    → LeadsFiles link_tells service notes door_failed memory_failed told disk door
+    → IsNonDecreasingBy (λ note. start_of note.granted) notes → GrantsOnce told service notes disk
+grants_once link_tells told service notes disk door door_failed memory_failed files ordered = record {
+  jobs = files.jobs;
   served = files.served;
   base = files.leads.base;
   recovered = files.leads.recovered;

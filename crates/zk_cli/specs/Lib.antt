@@ -1,8 +1,7 @@
+pub mod ManyRuns
 pub mod Meets
-pub mod NoteLines
 pub mod RehearseRuns
 pub mod Runs
 pub mod ServeRuns
 pub mod ServedNotes
 pub mod ProveRuns
-pub mod ServiceLogs

@@ -1,5 +1,5 @@
 -- A run of the program: what it does, and what it hands back.
-use Rattle.std.specs.Prelude.{ℕ, All}
+use Rattle.std.specs.Prelude.{ℕ, List, All}
 use Rattle.zk_port.specs.Changes.{Change, change}
 use Rattle.zk_port.specs.Doors.{DoorState}
 use Rattle.zk_port.specs.Links.{LinkState}
@@ -9,10 +9,13 @@ use Rattle.file_commands.specs.Effects.{DoorChange, Effects, SinkChange, effects
 use Rattle.zk_cli.specs.declared.finish.Part.{Part}
 use Rattle.zk_cli.specs.declared.finish.Part.TheVariants.{Served}
 
--- this holds of each session that was served, if any are handed back
+-- this holds of the sessions that were served, if any are handed back; and of each of them
+abbrev pub OfNotes : {L : Type 0} → Part L → (List (SessionNote L) → Type 0) → Type 0
+OfNotes (Served notes) Holds = Holds notes.items
+OfNotes part Holds = Unit {0}
+
 abbrev pub EachNote : {L : Type 0} → Part L → (SessionNote L → Type 0) → Type 0
-EachNote (Served notes) Holds = All Holds notes.items
-EachNote part Holds = Unit {0}
+EachNote part Holds = OfNotes part (λ notes. All Holds notes)
 
 -- A run of the program: what it does, what it hands back, what the door tells before and after it, and what a link
 -- tells; and the files, the disk and the door themselves.

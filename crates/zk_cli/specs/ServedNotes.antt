@@ -1,5 +1,5 @@
 -- What an accepted session that was served shows.
-use Rattle.std.specs.Prelude.{◌≡◌, ◌⊎◌, ℕ, ◌+◌, ◌≤◌, List, All, AllPairs, Option, Some, IsSomeAnd}
+use Rattle.std.specs.Prelude.{◌≡◌, ◌⊎◌, ℕ, ◌+◌, ◌≤◌, List, All, AllPairs, Option, Some, IsSomeAnd, slice_get}
 use Rattle.std.specs.List.Sorted.{IsNonDecreasingBy}
 use Rattle.zk_model.specs.Circuit.{Circuit}
 use Rattle.zk_model.specs.Files.{ProverFile, IsProverFile, AreDealt}
@@ -10,31 +10,34 @@ use Rattle.zk_model.specs.View.{ChecksHold, SaysVerdict}
 use Rattle.zk_model.specs.declared.Side.{Side}
 use Rattle.zk_model.specs.declared.Span.{Span}
 use Rattle.zk_model.specs.declared.Verdict.TheVariants.{Accepted}
-use Rattle.zk_model.specs.declared.limits.TheConstants.{MAX_UNITS}
 use Rattle.zk_port.specs.Disks.{LeavesOnly}
 use Rattle.zk_port.specs.Files.{Files}
-use Rattle.session_core.specs.Jobs.{VerifierJob, granted_from, units_of_job}
+use Rattle.session_core.specs.Jobs.{VerifierJob, VerifierJobs, granted_from, units_of_job}
 use Rattle.lease_store.specs.Ceilings.{FindsCeiling, SaysCeiling}
 use Rattle.session_pool.specs.Notes.{AreApart, IsBetween}
 use Rattle.session_verifier.specs.declared.note.SessionNote.{SessionNote}
-use Rattle.command_words.specs.Words.{ServeAsk}
+use Rattle.session_verifier.specs.declared.note.VerifierOutcome.TheVariants as ended
+use Rattle.command_words.specs.Words.{Ask, serve, serve_many}
+use Rattle.statement_file.specs.Claims.{NamedClaim}
+use Rattle.statement_file.specs.Services.{Service, service_asked}
 use Rattle.file_commands.specs.Journals.{DiskChange}
-use Rattle.zk_cli.specs.NoteLines.{start_of}
-use Rattle.zk_cli.specs.ServeRuns.{IsServeJob}
+use Rattle.session_verifier.specs.NoteLines.{start_of}
+use Rattle.zk_cli.specs.ManyRuns.{IsServiceOfMany}
+use Rattle.zk_cli.specs.ServeRuns.{AreFew, AreServeJobs, IsServeJob, units_of_note}
+use Rattle.zk_cli.specs.Runs.{OfNotes}
 use Rattle.zk_cli.specs.declared.finish.Part.{Part}
-use Rattle.zk_cli.specs.declared.finish.Part.TheVariants.{Served}
 
--- The headline, of the circuit and the file that a shelf tells under the names in the words (of one that tells nothing, of
--- some circuit and some file). The log of an accepted session is that of a transcript in order for the job, with a grant of the
+-- The headline, of a claim, the circuit and the file that a shelf tells under the names of it and of the service (of one that tells
+-- nothing, of some circuit and some file). The log of an accepted session is that of a transcript in order for the job, with a grant of the
 -- units that were leased; the challenge is the verifier's coin of the first of them; all checks hold, and the verdict says so.
 -- For every prover's file that is dealt with the verifier's, the private input bits that this file and its frames fix, beside
 -- the public ones, make the circuit give the claimed outputs, or the challenge is a root of a named polynomial that is not zero,
 -- of at most the number of products in degree, or the key is one of a named polynomial that is not zero, of degree two at most.
-pub record IsHeadline (told : Option Files) (ask : ServeAsk) (granted : Option Span) (log : List (Side × ℕ))
+pub record IsHeadline (told : Option Files) (service : Service) (claim : NamedClaim) (granted : Option Span) (log : List (Side × ℕ))
     : Type 0 where
   pub circuit : Circuit
   pub job : VerifierJob
-  pub served : IsServeJob told ask circuit job
+  pub served : IsServeJob told service claim circuit job
   pub span : Span
   pub leased : granted ≡ Some span
   pub units : span.end ≡ span.start + units_of_job job
@@ -45,35 +48,53 @@ pub record IsHeadline (told : Option Files) (ask : ServeAsk) (granted : Option S
   pub checks : ChecksHold job.task.file job.task.statement t
   pub said : SaysVerdict t Accepted
   pub shows : (prover : ProverFile) → IsProverFile prover → AreDealt prover job.task.file
-      → ShowsOutputs circuit ask.public ask.outputs prover job.task.file.key job.task.statement t
+      → ShowsOutputs circuit claim.public claim.outputs prover job.task.file.key job.task.statement t
 
--- The headline's second part, of the circuit and the file that a shelf tells under the names in the words, and the journal with which the
--- disk was handed in: the granted spans of this run, in the order of their first units, have no unit in common; each begins at or above the ceiling that the journal said, and
--- ends at or below a ceiling that the content and each image of the disk that comes back say, or a higher one. At any moment of the run a
--- crash leaves what one might have left before it, or says the ceiling that the journal said, or a higher one. So no unit is granted that
+-- an accepted session has the headline of the claim of its note's number
+pub record ShowsClaim {L : Type 0} (told : Option Files) (service : Service) (note : SessionNote L) : Type 0 where
+  pub number : ℕ
+  pub taken : note.statement ≡ Some number
+  pub claim : NamedClaim
+  pub named : slice_get service.claims number ≡ Some claim
+  pub shows : IsHeadline told service claim note.granted note.log
+
+-- The headline's second part, of the claims and the file that a shelf tells, and the journal with which the disk was handed in: the granted
+-- spans of this run, in the order of their first units, have no unit in common; each begins at or above the ceiling that the journal said,
+-- and ends at or below a ceiling that the content and each image of the disk that comes back say, or a higher one. At any moment of the run
+-- a crash leaves what one might have left before it, or says the ceiling that the journal said, or a higher one. So no unit is granted that
 -- an earlier run was granted, or a later one will be.
-pub record GrantsOnce {L : Type 0} (told : Option Files) (ask : ServeAsk) (notes : List (SessionNote L)) (disk : DiskChange)
+pub record GrantsOnce {L : Type 0} (told : Option Files) (service : Service) (notes : List (SessionNote L)) (disk : DiskChange)
     : Type 0 where
-  pub circuit : Circuit
-  pub job : VerifierJob
-  pub served : IsServeJob told ask circuit job
+  pub jobs : VerifierJobs
+  pub served : AreServeJobs told service jobs
   pub base : ℕ
   pub recovered : (bytes : List ℕ) → disk.old.content ≡ Some bytes
-      → SaysCeiling job.task.file.id job.task.file.params.total base bytes
-  pub few : units_of_job job ≤ MAX_UNITS
+      → SaysCeiling jobs.first.task.file.id jobs.first.task.file.params.total base bytes
+  pub few : AreFew jobs
   pub ordered : IsNonDecreasingBy (λ note. start_of note.granted) notes
   pub apart : AllPairs (λ one other. AreApart one.granted other.granted) notes
   pub ceiling : ℕ
   pub grows : base ≤ ceiling
-  pub spans : All (λ note. IsBetween (units_of_job job) base ceiling note.granted) notes
+  pub spans : All (λ note. IsBetween (units_of_note jobs note) base ceiling note.granted) notes
   pub read : (bytes : List ℕ) → disk.old.content ≡ Some bytes
-      → IsSomeAnd disk.new.content (FindsCeiling job.task.file.id job.task.file.params.total ceiling bytes)
+      → IsSomeAnd disk.new.content (FindsCeiling jobs.first.task.file.id jobs.first.task.file.params.total ceiling bytes)
   pub durable : (bytes : List ℕ) → disk.old.content ≡ Some bytes → (image : List ℕ) → disk.new.images image
-      → FindsCeiling job.task.file.id job.task.file.params.total ceiling bytes image
+      → FindsCeiling jobs.first.task.file.id jobs.first.task.file.params.total ceiling bytes image
   pub any_moment : (bytes : List ℕ) → disk.old.content ≡ Some bytes → LeavesOnly disk.old disk.new
-      (λ image. disk.old.images image ⊎ FindsCeiling job.task.file.id job.task.file.params.total base bytes image)
+      (λ image. disk.old.images image ⊎ FindsCeiling jobs.first.task.file.id jobs.first.task.file.params.total base bytes image)
 
--- of a run that hands sessions back; another grants nothing
-abbrev pub GrantsOnceIn : {L : Type 0} → Option Files → ServeAsk → Part L → DiskChange → Type 0
-GrantsOnceIn told ask (Served notes) disk = GrantsOnce told ask notes.items disk
-GrantsOnceIn told ask part disk = Unit {0}
+-- this holds of the sessions that a run hands back, with the service that was asked for: of the one claim that words name, or of those that a
+-- file of statements does
+abbrev pub OfServed : {L : Type 0} → Option Files → Ask → Part L → (Service → List (SessionNote L) → Type 0) → Type 0
+OfServed told (serve ask) part Holds = OfNotes part (Holds (service_asked ask))
+OfServed told (serve_many ask) part Holds =
+    OfNotes part (λ notes. (service : Service) × IsServiceOfMany told ask service × Holds service notes)
+OfServed told ask part Holds = Unit {0}
+
+-- each accepted session shows its claim; and no unit was granted twice
+abbrev pub ShowsClaims : {L : Type 0} → Option Files → Ask → Part L → Type 0
+ShowsClaims told ask part =
+    OfServed told ask part (λ service notes. All (λ note. note.outcome ≡ ended.Accepted → ShowsClaim told service note) notes)
+
+abbrev pub GrantsOnceIn : {L : Type 0} → Option Files → Ask → Part L → DiskChange → Type 0
+GrantsOnceIn told ask part disk = OfServed told ask part (λ service notes. GrantsOnce told service notes disk)

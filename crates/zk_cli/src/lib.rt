@@ -1,17 +1,20 @@
 //! The commands of the program, over whatever files, disk, door and output they are given: the top call, and those that hold
 //! sessions. The others, and what all share, are in `file_commands`.
+//!
+//! `run` has the top call. A service (`serve_command`) loads its claims (`claim_files`), makes a job of each (`serve_jobs`) and leads
+//! sessions about them; `many_command` serves those of a file of statements. What is kept and said of sessions is in `service_notes`.
 #![tactic(auto)]
 
+mod claim_files;
 mod finish;
 mod generate_command;
-mod note_lines;
+mod many_command;
 mod prove_command;
 mod proved_line;
 mod rehearse_command;
 mod run;
 mod serve_command;
-mod service_logs;
-mod service_said;
+mod serve_jobs;
 
 pub use file_commands::Refusal;
 pub use finish::{Finish, Part};

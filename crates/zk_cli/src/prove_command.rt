@@ -15,8 +15,10 @@ use bool_eval::{EvalFault, eval_wires, output_bits};
 use bristol_reader::{Circuit, one_circuit};
 use circuit_laws::{bits_solve, one_outcome};
 use claim_store::claims_start_again;
-use dealer_files::{ProverFile, decode_prover};
-use file_commands::{Refusal, check_public, load_file, open_claims, read_circuit, say_stop};
+use dealer_files::ProverFile;
+use file_commands::{
+    Refusal, check_public, load_file, load_prover, open_claims, read_circuit, say_stop,
+};
 use mersenne_field::Fe;
 use session_core::{CircuitClaim, ProverJob, elements_of, input_bits_prove};
 use session_prover::{ProverNote, StoreClaimant, prove_session};
@@ -146,19 +148,6 @@ fn load_witness<F: Shelf>(
     let claim = CircuitClaim::new(alloc, &circuit, digest, words.public, words.outputs)?;
     let inputs = elements_of(alloc, words.bits)?;
     Ok(Witness { claim, inputs })
-}
-
-/// The prover's file of this name.
-fn load_prover<F: Shelf>(alloc: Global, shelf: &mut F, name: &str) -> Result<ProverFile, Refusal>
-    ensures file { IfOk result (IsProverFileAt (F.state shelf.old).told name.now) }
-    ensures stop { IfErr result
-        (FileStop Prover name.now (change (F.state shelf.old) (F.state shelf.new))) }
-    ensures kept { OnlyLoads (IsName name.now) (change (F.state shelf.old) (F.state shelf.new)) }
-    ensures quiet { OnOk result (F.state shelf.new ≡ F.state shelf.old) }
-{
-    let bytes = load_file(alloc, shelf, name)?;
-    let file = decode_prover(alloc, &bytes)?;
-    Ok(file)
 }
 
 /// Why there is no link.

@@ -1,48 +1,38 @@
 // The top call.
-ghost use Rattle.std.specs.Prelude.{◌≡◌, None, Some};
+ghost use Rattle.std.specs.Prelude.{◌≡◌, ◌≢◌, ◌⊎◌, None, Some};
 ghost use Rattle.zk_port.specs.Changes.{change};
-ghost use Rattle.session_verifier.specs.declared.note.VerifierOutcome.TheVariants.{Accepted};
-ghost use Rattle.command_words.specs.Words.{Ask, ServeAsk, serve, texts, asked};
-ghost use Rattle.zk_cli.specs.Meets.{Meets, SaysUsage};
-ghost use Rattle.zk_cli.specs.Runs.{EachNote, run_of};
+ghost use Rattle.command_words.specs.Commands.{IsWithinLimits, ask_of};
+ghost use Rattle.command_words.specs.Forms.{IsReadAs};
+ghost use Rattle.command_words.specs.Words.{Ask, texts, asked};
+ghost use Rattle.zk_cli.specs.Meets.{Meets, Promises, SaysUsage};
+ghost use Rattle.zk_cli.specs.Runs.{run_of};
 ghost use Rattle.file_commands.specs.Journals.{IsJournalDisk, disk_change};
-ghost use Rattle.zk_cli.specs.ServedNotes.{GrantsOnceIn, IsHeadline};
+ghost use Rattle.zk_cli.specs.ServedNotes.{GrantsOnceIn, ShowsClaims};
 
 use crate::finish::{Ending, Finish, Part};
 use crate::generate_command::{GenerateWords, run_generate};
+use crate::many_command::{ManyWords, run_serve_many};
 use crate::prove_command::{ProveWords, run_prove};
 use crate::rehearse_command::{RehearseWords, run_rehearse};
-use crate::serve_command::{ServeWords, run_serve};
+use crate::serve_command::{ServiceWords, run_service};
 use bristol_reader::one_circuit;
 use claim_store::claims_start_again;
 use command_words::{Command, read_words};
 use file_commands::{Refusal, run_deal, run_eval, say_memory, say_stop};
 use lease_journal::starts_again;
+use proof_audit::{AuditWords, run_audit};
+use statement_file::NamedClaim;
 use std::alloc::Global;
+use std::slice::from_ref;
 use std::sync::Wait;
 use std::thread::Threads;
 use zk_port::{Disk, Door, Gate, Shelf, Sink};
 
-/// Does what the words after the program's name ask for, over these files, this disk, this door and this
-/// output, and hands back the status, the disk, the door and what was made. `deal` and `rehearse` use the seed.
-///
-/// Words of no command end with 2, or with 7 where memory is missing. `rehearse CIRCUIT BITS [--section G]
-/// [--extended] [--public BITS]` ends with 0 where it is accepted; 3 where the file, or the bits for it, are refused; 4
-/// where a load of the file failed, or the output before a 0; 7 where memory is missing; 9 where the session would take
-/// more than 4,096 units; and `rehearse --gates N --number S [--section G] [--extended]` with 0, 4, 7 and 9 in the same
-/// cases. `eval CIRCUIT BITS` ends with 0 where it wrote the outputs, and with 3, 4 and 7 in the same cases.
-/// `deal NAME --units N [--trees T --height H --base K]` ends with 0 where all is stored and said, 4 where a store or
-/// the output failed, and 7. `serve ADDRESS FILE CIRCUIT OUTPUTS --sessions N [--workers W] [--section G] [--logs PREFIX]
-/// [--public BITS]` ends with 0 where each session is accepted, or no peer called; 1 where one is not; 3 where a file or
-/// the journal is refused, or the outputs for it; 4 where a load, the door, a link, a log or the output failed; 5 where
-/// the journal failed; 6 where units are missing; and with 7 and 9. `prove ADDRESS FILE CIRCUIT BITS OUTPUTS
-/// [--public BITS]` ends with 0 where it is accepted; 1 where it is rejected, or the circuit gives other outputs; 3 where
-/// a file or the journal is refused, or the bits or outputs for it; 4 where a load, the door, the link or the output
-/// failed; 5 where the journal failed or is full; 8 where the peer broke the protocol; and with 7.
-pub fn run_zk<R, F, D, B, O, G>(
+/// Does what a command asks for.
+fn run_command<R, F, D, B, O, G>(
     rt: &R,
     alloc: Global,
-    words: &[String],
+    command: Command,
     shelf: &mut F,
     journal: B,
     door: D,
@@ -57,66 +47,23 @@ where
     D::Link: Drop + Send,
     B: Disk + Drop + Send,
     O: Sink,
-    G: Gate + Sync + Drop,
-
-    // The disk is one on which a journal may be opened.
+    G: Gate + Sync,
     requires disk { IsJournalDisk (B.state journal) }
-
-    // Words of no command.
-    ensures usage { asked (texts words.now) ≡ None → SaysUsage (run_of F.state D.state D.Link.state
-        result.status result.part (change shelf.old shelf.new) (change (O.state out.old) (O.state out.new))
-        (change journal result.journal) (change door result.door)) }
-    ensures usage_2 { result.status ≡ 2 → asked (texts words.now) ≡ None }
-
-    // Words of a command: its record holds of this run.
-    ensures meets { (ask : Ask) → asked (texts words.now) ≡ Some ask → Meets ask seed.now
+    requires limits { IsWithinLimits command }
+    ensures promises { Promises (ask_of command) seed.now
         (disk_change (B.state journal) (B.state result.journal)) (run_of F.state D.state D.Link.state
         result.status result.part (change shelf.old shelf.new) (change (O.state out.old) (O.state out.new))
         (change journal result.journal) (change door result.door)) }
-
-    // The headline: what an accepted session shows. For every prover's file that is dealt with the verifier's, the
-    // private input bits that this file and its frames fix, beside the public ones, make the circuit give the claimed
-    // outputs, or the challenge is a root of a named nonzero polynomial of at most the number of products in degree, or the
-    // key is one of a named nonzero polynomial of degree two at most.
-    ensures headline { (ask : ServeAsk) → asked (texts words.now) ≡ Some (serve ask) → EachNote result.part
-        (λ note. note.outcome ≡ Accepted → IsHeadline (F.state shelf.old).told ask note.granted note.log) }
-
-    // Its second part: over this run, with the journal that the disk had, no unit is granted that an earlier run or
-    // another session was granted, whatever crashes leave.
-    ensures once { (ask : ServeAsk) → asked (texts words.now) ≡ Some (serve ask) → GrantsOnceIn
-        (F.state shelf.old).told ask result.part (disk_change (B.state journal) (B.state result.journal)) }
 {
-    one_circuit();
-    starts_again();
-    claims_start_again();
-    let found = match read_words(alloc, words) {
-        Ok(found) => found,
-        Err(_) => {
-            return Finish {
-                status: say_memory(alloc, out),
-                journal,
-                door,
-                part: Part::Plain,
-            };
-        }
-    };
-    let Some(command) = found else {
-        return Finish {
-            status: say_stop(alloc, out, Refusal::Usage),
-            journal,
-            door,
-            part: Part::Plain,
-        };
-    };
     match command {
         Command::Deal { name, params } => Finish {
-            status: run_deal(alloc, shelf, out, name, &params, seed),
+            status: run_deal(alloc, shelf, out, &name, &params, seed),
             journal,
             door,
             part: Part::Plain,
         },
         Command::Eval { circuit, bits } => Finish {
-            status: run_eval(alloc, shelf, out, circuit, bits.as_slice()),
+            status: run_eval(alloc, shelf, out, &circuit, &bits),
             journal,
             door,
             part: Part::Plain,
@@ -129,9 +76,9 @@ where
             section,
         } => {
             let named = RehearseWords {
-                circuit,
-                public: public.as_slice(),
-                bits: bits.as_slice(),
+                circuit: &circuit,
+                public: &public,
+                bits: &bits,
                 kind,
                 section,
             };
@@ -171,15 +118,28 @@ where
             outputs,
             options,
         } => {
-            let named = ServeWords {
-                address,
-                file,
-                circuit,
-                public: public.as_slice(),
-                outputs: outputs.as_slice(),
-                options,
+            let claim = NamedClaim::new(circuit, public, outputs);
+            let named = ServiceWords {
+                address: &address,
+                file: &file,
+                claims: from_ref(&claim),
+                options: &options,
             };
-            run_serve(rt, alloc, shelf, journal, door, gate, out, &named)
+            run_service(rt, alloc, shelf, journal, door, gate, out, &named)
+        }
+        Command::ServeMany {
+            address,
+            file,
+            statements,
+            options,
+        } => {
+            let named = ManyWords {
+                address: &address,
+                file: &file,
+                statements: &statements,
+                options: &options,
+            };
+            run_serve_many(rt, alloc, shelf, journal, door, gate, out, &named)
         }
         Command::Prove {
             address,
@@ -190,14 +150,128 @@ where
             outputs,
         } => {
             let named = ProveWords {
-                address,
-                file,
-                circuit,
-                public: public.as_slice(),
-                bits: bits.as_slice(),
-                outputs: outputs.as_slice(),
+                address: &address,
+                file: &file,
+                circuit: &circuit,
+                public: &public,
+                bits: &bits,
+                outputs: &outputs,
             };
             run_prove(alloc, shelf, journal, door, out, &named)
         }
+        Command::Audit {
+            circuit,
+            public,
+            outputs,
+            prover,
+            verifier,
+            log,
+        } => {
+            let named = AuditWords {
+                circuit: &circuit,
+                public: &public,
+                outputs: &outputs,
+                prover: &prover,
+                verifier: &verifier,
+                log: &log,
+            };
+            Finish {
+                status: run_audit(alloc, shelf, out, &named),
+                journal,
+                door,
+                part: Part::Plain,
+            }
+        }
+    }
+}
+
+/// Does what the words after the program's name ask for, over these files, this disk, this door and this
+/// output, and hands back the status, the disk, the door and what was made. `deal` and `rehearse` use the seed.
+///
+/// Words of no command end with 2, or with 7 where memory is missing. `rehearse CIRCUIT BITS [--section G]
+/// [--extended] [--public BITS]` ends with 0 where it is accepted; 3 where the file, or the bits for it, are refused; 4
+/// where a load of the file failed, or the output before a 0; 7 where memory is missing; 9 where the session would take
+/// more than 4,096 units; and `rehearse --gates N --number S [--section G] [--extended]` with 0, 4, 7 and 9 in the same
+/// cases. `eval CIRCUIT BITS` ends with 0 where it wrote the outputs, and with 3, 4 and 7 in the same cases.
+/// `deal NAME --units N [--trees T --height H --base K]` ends with 0 where all is stored and said, 4 where a store or
+/// the output failed, and 7. `serve ADDRESS FILE CIRCUIT OUTPUTS --sessions N [--workers W] [--section G] [--logs PREFIX]
+/// [--public BITS]` ends with 0 where each session is accepted, or no peer called; 1 where one is not; 3 where a file or
+/// the journal is refused, or the outputs for it; 4 where a load, the door, a link, a log or the output failed; 5 where
+/// the journal failed; 6 where units are missing; and with 7 and 9; and so does `serve-many ADDRESS FILE STATEMENTS --sessions N
+/// [--workers W] [--section G] [--logs PREFIX]`, also with 3 where the file of statements is refused. `prove ADDRESS FILE CIRCUIT BITS OUTPUTS
+/// [--public BITS]` ends with 0 where it is accepted; 1 where it is rejected, or the circuit gives other outputs; 3 where
+/// a file or the journal is refused, or the bits or outputs for it; 4 where a load, the door, the link or the output
+/// failed; 5 where the journal failed or is full; 8 where the peer broke the protocol; and with 7.
+/// `audit CIRCUIT OUTPUTS PROVERFILE VERIFIERFILE LOG [--public BITS]` ends with 0 where inputs are found; 1 where something else
+/// is; 3 where a file is refused, the outputs for it, both files or the log; 4 where a load or the output failed; and with 7.
+pub fn run_zk<R, F, D, B, O, G>(
+    rt: &R,
+    alloc: Global,
+    words: &[String],
+    shelf: &mut F,
+    journal: B,
+    door: D,
+    gate: &G,
+    seed: &[u8; 32],
+    out: &mut O,
+) -> Finish<B, D>
+where
+    R: Threads + Wait + Sync,
+    F: Shelf,
+    D: Door + Drop + Send,
+    D::Link: Drop + Send,
+    B: Disk + Drop + Send,
+    O: Sink,
+    G: Gate + Sync + Drop,
+
+    // The disk is one on which a journal may be opened.
+    requires disk { IsJournalDisk (B.state journal) }
+
+    // Words of no command; some may be read as what valid words ask for.
+    ensures usage { asked (texts words.now) ≡ None → SaysUsage (run_of F.state D.state D.Link.state
+        result.status result.part (change shelf.old shelf.new) (change (O.state out.old) (O.state out.new))
+        (change journal result.journal) (change door result.door))
+        ⊎ ((ask : Ask) × IsReadAs (texts words.now) ask × Promises ask seed.now
+        (disk_change (B.state journal) (B.state result.journal)) (run_of F.state D.state D.Link.state
+        result.status result.part (change shelf.old shelf.new) (change (O.state out.old) (O.state out.new))
+        (change journal result.journal) (change door result.door))) }
+    ensures usage_2 { result.status ≡ 2 → asked (texts words.now) ≡ None }
+
+    // Words of a command: its record holds of this run.
+    ensures meets { (ask : Ask) → asked (texts words.now) ≡ Some ask → Meets ask seed.now
+        (disk_change (B.state journal) (B.state result.journal)) (run_of F.state D.state D.Link.state
+        result.status result.part (change shelf.old shelf.new) (change (O.state out.old) (O.state out.new))
+        (change journal result.journal) (change door result.door)) }
+
+    // The headline: what an accepted session shows of the claim that it is about, which words or a file of statements name. For
+    // every prover's file that is dealt with the verifier's, the private input bits that this file and its frames fix, beside
+    // the public ones, make the circuit give the claimed outputs, or the challenge is a root of a named nonzero polynomial of at
+    // most the number of products in degree, or the key is one of a named nonzero polynomial of degree two at most.
+    ensures headline { (ask : Ask) → asked (texts words.now) ≡ Some ask
+        → ShowsClaims (F.state shelf.old).told ask result.part }
+
+    // Its second part: over this run, with the journal that the disk had, no unit is granted that an earlier run or
+    // another session was granted, whatever crashes leave.
+    ensures once { (ask : Ask) → asked (texts words.now) ≡ Some ask
+        → GrantsOnceIn (F.state shelf.old).told ask result.part
+        (disk_change (B.state journal) (B.state result.journal)) }
+{
+    one_circuit();
+    starts_again();
+    claims_start_again();
+    match read_words(alloc, words) {
+        Ok(Some(command)) => run_command(rt, alloc, command, shelf, journal, door, gate, seed, out),
+        Ok(None) => Finish {
+            status: say_stop(alloc, out, Refusal::Usage),
+            journal,
+            door,
+            part: Part::Plain,
+        },
+        Err(_) => Finish {
+            status: say_memory(alloc, out),
+            journal,
+            door,
+            part: Part::Plain,
+        },
     }
 }

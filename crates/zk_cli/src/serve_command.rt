@@ -1,91 +1,40 @@
-// `serve ADDRESS FILE CIRCUIT OUTPUTS --sessions N [--workers W] [--section G] [--logs PREFIX] [--public BITS]`
-ghost use Rattle.std.specs.Prelude.{◌≡◌, ◌≤◌, IfOk, IfErr, OnOk};
-ghost use Rattle.zk_model.specs.Circuit.{Circuit};
+// `serve` and `serve-many`: sessions about claims over a verifier's file.
+ghost use Rattle.std.specs.Prelude.{◌≡◌, ◌≤◌, IfOk, IfErr, OnOk, length};
 ghost use Rattle.zk_port.specs.Changes.{change};
-ghost use Rattle.zk_model.specs.declared.Side.TheVariants.{Verifier};
-ghost use Rattle.zk_model.specs.declared.limits.TheConstants.{MAX_UNITS};
-ghost use Rattle.session_core.specs.Jobs.{units_of_job};
+ghost use Rattle.zk_model.specs.declared.limits.TheConstants.{MAX_STATEMENTS};
 ghost use Rattle.session_verifier.specs.declared.note.VerifierOutcome.TheVariants.{Accepted};
 ghost use Rattle.command_words.specs.Commands.{AreServeLimits, named_options};
 ghost use Rattle.file_commands.specs.Journals.{IsJournalDisk, disk_change};
-ghost use Rattle.file_commands.specs.Effects.{OnlyLoads, IsName, effects};
-ghost use Rattle.zk_cli.specs.Runs.{EachNote};
-ghost use Rattle.zk_cli.specs.ServeRuns.{IsLoadedName, LeadsFiles, LeadsJob, Serves, serve_words};
-ghost use Rattle.zk_cli.specs.ServeRuns.{ClaimStop, LacksFiles, OpeningStop, ServeStop};
-ghost use Rattle.file_commands.specs.Stops.{FileStop, IsClaim, IsVerifierFileAt};
-ghost use Rattle.zk_cli.specs.ServedNotes.{GrantsOnceIn, IsHeadline};
+ghost use Rattle.file_commands.specs.Effects.{OnlyLoads, effects};
+ghost use Rattle.zk_cli.specs.Runs.{EachNote, OfNotes};
+ghost use Rattle.zk_cli.specs.ServeRuns.{AreFew, IsLoadedName, LeadsFiles, LeadsJobs};
+ghost use Rattle.zk_cli.specs.ServeRuns.{OpeningStop, Serves, ServeStop, service_words};
+ghost use Rattle.zk_cli.specs.ServedNotes.{GrantsOnce, ShowsClaim};
 
+use crate::claim_files::load_files;
 use crate::finish::{Finish, Part};
-use crate::note_lines::order_notes;
-use crate::service_said::say_service;
+use crate::serve_jobs::{fit_jobs, statements_of};
 use bristol_reader::one_circuit;
 use command_words::ServedOptions;
-use dealer_files::{VerifierFile, decode_verifier};
-use file_commands::{Refusal, check_public, load_file, open_ceilings, read_circuit, say_stop};
+use file_commands::{Refusal, open_ceilings, say_stop};
 use lease_journal::starts_again;
-use session_core::{CircuitClaim, TooLarge, VerifierJob, VerifierJobs};
+use session_core::VerifierJobs;
 use session_laws::extracted_shows_outputs;
 use session_pool::{Served, serve_all};
-use session_verifier::{SessionNote, Verification};
-use sha2::{Digest, Sha256};
+use session_verifier::{SessionNote, Verification, order_notes, say_service};
+use statement_file::NamedClaim;
 use std::alloc::Global;
 use std::sync::Wait;
 use std::thread::Threads;
 use zk_port::{Disk, Door, Gate, PortFault, Shelf, Sink};
 
-/// What the words of the command name.
+/// What is served: where, over which file, about which claims, and how.
 #[derive(Clone, Copy, Debug)]
-pub struct ServeWords<'a> {
+pub struct ServiceWords<'a> {
     pub address: &'a str,
     pub file: &'a str,
-    pub circuit: &'a str,
-    pub public: &'a [bool],
-    pub outputs: &'a [bool],
-    pub options: ServedOptions<'a>,
-}
-
-/// The claim that the circuit under its name gives the outputs with these public bits.
-fn load_claim<F: Shelf>(
-    alloc: Global,
-    shelf: &mut F,
-    words: &ServeWords<'_>,
-) -> Result<CircuitClaim, Refusal>
-    ensures claim { IfOk result (λ claim. (circuit : Circuit)
-        × IsClaim (F.state shelf.old).told words.now.circuit.now words.now.public.now words.now.outputs.now
-        circuit claim) }
-    ensures stop { IfErr result (ClaimStop (serve_words words.now)
-        (change (F.state shelf.old) (F.state shelf.new))) }
-    ensures kept { OnlyLoads (IsName words.now.circuit.now) (change (F.state shelf.old) (F.state shelf.new)) }
-    ensures quiet { OnOk result (F.state shelf.new ≡ F.state shelf.old) }
-{
-    let text = load_file(alloc, shelf, words.circuit)?;
-    let circuit = read_circuit(alloc, &text)?;
-    check_public(&circuit, words.public)?;
-    if words.outputs.len() != circuit.outputs() {
-        return Err(Refusal::WrongOutputs {
-            need: circuit.outputs() as u64,
-            got: words.outputs.len() as u64,
-        });
-    }
-    let digest = Sha256::digest(&text);
-    Ok(CircuitClaim::new(alloc, &circuit, digest, words.public, words.outputs)?)
-}
-
-/// The verifier's file of this name.
-fn load_verifier<F: Shelf>(
-    alloc: Global,
-    shelf: &mut F,
-    name: &str,
-) -> Result<VerifierFile, Refusal>
-    ensures file { IfOk result (IsVerifierFileAt (F.state shelf.old).told name.now) }
-    ensures stop { IfErr result
-        (FileStop Verifier name.now (change (F.state shelf.old) (F.state shelf.new))) }
-    ensures kept { OnlyLoads (IsName name.now) (change (F.state shelf.old) (F.state shelf.new)) }
-    ensures quiet { OnOk result (F.state shelf.new ≡ F.state shelf.old) }
-{
-    let bytes = load_file(alloc, shelf, name)?;
-    let file = decode_verifier(alloc, &bytes)?;
-    Ok(file)
+    pub claims: &'a [NamedClaim],
+    pub options: &'a ServedOptions,
 }
 
 /// Why nothing is served, with the disk and the door as they are then.
@@ -96,34 +45,12 @@ struct Stopped<B, D> {
     door: D,
 }
 
-/// The claim and the file that the words name.
-fn load_files<F: Shelf>(
-    alloc: Global,
-    shelf: &mut F,
-    words: &ServeWords<'_>,
-) -> Result<(CircuitClaim, VerifierFile), Refusal>
-    ensures claim { IfOk result (λ r. (circuit : Circuit)
-        × IsClaim (F.state shelf.old).told words.now.circuit.now words.now.public.now words.now.outputs.now
-        circuit r.0) }
-    ensures file { IfOk result (λ r. IsVerifierFileAt (F.state shelf.old).told words.now.file.now r.1) }
-    ensures stop { IfErr result (LacksFiles (serve_words words.now)
-        (change (F.state shelf.old) (F.state shelf.new))) }
-    ensures kept { OnlyLoads (IsLoadedName (serve_words words.now))
-        (change (F.state shelf.old) (F.state shelf.new)) }
-    ensures quiet { OnOk result (F.state shelf.new ≡ F.state shelf.old) }
-{
-    let claim = load_claim(alloc, shelf, words)?;
-    let file = load_verifier(alloc, shelf, words.file)?;
-    Ok((claim, file))
-}
-
-/// Opens the file's journal, listens, and leads the sessions about a job with the peers that call.
-fn serve_job<R, D, B, G>(
+/// Opens the file's journal, listens, and leads the sessions about these jobs with the peers that call.
+fn serve_jobs<R, D, B, G>(
     rt: &R,
     alloc: Global,
-    job: &VerifierJob<'_>,
-    file: &VerifierFile,
-    words: &ServeWords<'_>,
+    jobs: &VerifierJobs<'_>,
+    words: &ServiceWords<'_>,
     journal: B,
     mut door: D,
     gate: &G,
@@ -135,18 +62,18 @@ where
     B: Disk + Drop + Send,
     G: Gate + Sync,
     requires disk { IsJournalDisk (B.state journal) }
-    requires limits { AreServeLimits (named_options words.now.options) }
-    requires file { job.now.task.file ≡ file.now }
-    requires few { units_of_job job.now ≤ MAX_UNITS }
-    ensures leads { IfOk result (λ served. LeadsJob D.Link.state (serve_words words.now) job.now
+    requires limits { AreServeLimits (named_options words.now.options.now) }
+    requires few { AreFew jobs.now }
+    ensures leads { IfOk result (λ served. LeadsJobs D.Link.state (service_words words.now) jobs.now
         served.notes.items served.door_failed served.memory_failed
         (disk_change (B.state journal) (B.state served.disk))
         (change (D.state door) (D.state served.door))) }
-    ensures stop { IfErr result (λ stopped. OpeningStop (serve_words words.now) job.now
+    ensures stop { IfErr result (λ stopped. OpeningStop (service_words words.now) jobs.now
         (disk_change (B.state journal) (B.state stopped.journal))
         (change (D.state door) (D.state stopped.door)) stopped.refusal) }
 {
     let options = words.options;
+    let file = jobs.job(0).file();
     let opened = open_ceilings(alloc, journal, words.file, file, options.workers);
     let (parts, passes) = match opened {
         Ok(opened) => opened,
@@ -160,8 +87,7 @@ where
     };
     let refusal = match door.listen(alloc, words.address, options.sessions) {
         Ok(()) => {
-            let jobs = VerifierJobs::new(job, &[]);
-            let session = Verification::new(&jobs);
+            let session = Verification::new(jobs);
             return Ok(serve_all(
                 rt,
                 alloc,
@@ -183,12 +109,12 @@ where
     })
 }
 
-/// Serves what the words name, or says why not.
+/// Loads what is named, makes the jobs of its claims, and serves them; or says why not.
 fn serve_files<R, F, D, B, G>(
     rt: &R,
     alloc: Global,
     shelf: &mut F,
-    words: &ServeWords<'_>,
+    words: &ServiceWords<'_>,
     journal: B,
     door: D,
     gate: &G,
@@ -201,19 +127,21 @@ where
     B: Disk + Drop + Send,
     G: Gate + Sync,
     requires disk { IsJournalDisk (B.state journal) }
-    requires limits { AreServeLimits (named_options words.now.options) }
-    ensures leads { IfOk result (λ served. LeadsFiles D.Link.state (serve_words words.now) served.notes.items
-        served.door_failed served.memory_failed (F.state shelf.old).told
+    requires limits { AreServeLimits (named_options words.now.options.now) }
+    requires some { 1 ≤ length words.now.claims.now }
+    requires most { length words.now.claims.now ≤ MAX_STATEMENTS }
+    ensures leads { IfOk result (λ served. LeadsFiles D.Link.state (service_words words.now)
+        served.notes.items served.door_failed served.memory_failed (F.state shelf.old).told
         (disk_change (B.state journal) (B.state served.disk)) (change (D.state door) (D.state served.door))) }
-    ensures stop { IfErr result (λ stopped. ServeStop (serve_words words.now)
+    ensures stop { IfErr result (λ stopped. ServeStop (service_words words.now)
         (change (F.state shelf.old) (F.state shelf.new))
         (disk_change (B.state journal) (B.state stopped.journal))
         (change (D.state door) (D.state stopped.door)) stopped.refusal) }
-    ensures kept { OnlyLoads (IsLoadedName (serve_words words.now))
+    ensures kept { OnlyLoads (IsLoadedName (service_words words.now))
         (change (F.state shelf.old) (F.state shelf.new)) }
     ensures quiet { OnOk result (F.state shelf.new ≡ F.state shelf.old) }
 {
-    let (claim, file) = match load_files(alloc, shelf, words) {
+    let files = match load_files(alloc, shelf, words) {
         Ok(files) => files,
         Err(refusal) => {
             return Err(Stopped {
@@ -223,21 +151,33 @@ where
             });
         }
     };
-    let statement = claim.statement();
-    match VerifierJob::fit(&statement, &file, words.options.section) {
-        Ok(job) => serve_job(rt, alloc, &job, &file, words, journal, door, gate),
-        Err(TooLarge { need, units }) => Err(Stopped {
-            refusal: Refusal::TooLarge { need, units },
+    let Ok(statements) = statements_of(alloc, &files.claims) else {
+        return Err(Stopped {
+            refusal: Refusal::NoMemory,
             journal,
             door,
-        }),
-    }
+        });
+    };
+    let jobs = match fit_jobs(alloc, &statements, &files.file, words.options.section) {
+        Ok(jobs) => jobs,
+        Err(refusal) => {
+            return Err(Stopped {
+                refusal,
+                journal,
+                door,
+            });
+        }
+    };
+    let [first, others @ ..] = jobs.as_slice() else {
+        unreachable!();
+    };
+    let jobs = VerifierJobs::new(first, others);
+    serve_jobs(rt, alloc, &jobs, words, journal, door, gate)
 }
 
-/// `serve ADDRESS FILE CIRCUIT OUTPUTS --sessions N [--workers W] [--section G] [--logs PREFIX] [--public BITS]`: serves
-/// sessions about what the words name over the file's journal, keeps their logs, says what came of them and hands them back, in
+/// Serves sessions about the claims over the file's journal, keeps their logs, says what came of them and hands them back, in
 /// the order of their first units, or says why none is served; with the status.
-pub fn run_serve<R, F, D, B, O, G>(
+pub fn run_service<R, F, D, B, O, G>(
     rt: &R,
     alloc: Global,
     shelf: &mut F,
@@ -245,7 +185,7 @@ pub fn run_serve<R, F, D, B, O, G>(
     door: D,
     gate: &G,
     out: &mut O,
-    words: &ServeWords<'_>,
+    words: &ServiceWords<'_>,
 ) -> Finish<B, D>
 where
     R: Threads + Wait + Sync,
@@ -256,15 +196,17 @@ where
     O: Sink,
     G: Gate + Sync,
     requires disk { IsJournalDisk (B.state journal) }
-    requires limits { AreServeLimits (named_options words.now.options) }
-    ensures serves { Serves D.Link.state (serve_words words.now) result.part
+    requires limits { AreServeLimits (named_options words.now.options.now) }
+    requires some { 1 ≤ length words.now.claims.now }
+    requires most { length words.now.claims.now ≤ MAX_STATEMENTS }
+    ensures serves { Serves D.Link.state (service_words words.now) result.part
         (disk_change (B.state journal) (B.state result.journal)) (change (D.state door) (D.state result.door))
         (effects result.status
         (change (F.state shelf.old) (F.state shelf.new)) (change (O.state out.old) (O.state out.new))) }
     ensures headline { EachNote result.part (λ note. note.outcome ≡ Accepted →
-        IsHeadline (F.state shelf.old).told (serve_words words.now) note.granted note.log) }
-    ensures once { GrantsOnceIn (F.state shelf.old).told (serve_words words.now) result.part
-        (disk_change (B.state journal) (B.state result.journal)) }
+        ShowsClaim (F.state shelf.old).told (service_words words.now) note) }
+    ensures once { OfNotes result.part (λ notes. GrantsOnce (F.state shelf.old).told (service_words words.now)
+        notes (disk_change (B.state journal) (B.state result.journal))) }
 {
     one_circuit();
     starts_again();
@@ -280,7 +222,7 @@ where
             },
         ) => {
             order_notes(&mut notes);
-            let logs = words.options.logs;
+            let logs = words.options.logs.as_deref();
             let status = say_service(alloc, shelf, out, &notes, logs, door_failed, memory_failed);
             Finish {
                 status,

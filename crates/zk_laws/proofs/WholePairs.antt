@@ -1,9 +1,9 @@
 -- A prover sees as many pairs as the units of its grant give, all of elements.
-use Rattle.std.proofs.Common.{◌≡◌, ℕ, suc, ◌+◌, ◌*◌, ◌^◌, ◌<◌, List, [], ◌∷◌, ◌++◌, map, take, length, slice_index_or, refl, sym, ◌∙◌, ap, subst, arith}
+use Rattle.std.proofs.Common.{◌≡◌, ◌⊎◌, inl, inr, ℕ, zero, suc, ◌+◌, ◌*◌, ◌^◌, ◌<◌, ◌≤◌, List, [], ◌∷◌, ◌++◌, map, take, get_or, length, slice_index_or, refl, sym, ◌∙◌, ap, subst, arith}
 use Rattle.std.proofs.Math.ListN.{length-append}
 use Rattle.std.specs.Prelude.{All, flat_map}
 use Rattle.std.specs.List.{enumerate_from}
-use Rattle.std.proofs.lemmas.List.{length-map, get_or-map, map-append}
+use Rattle.std.proofs.lemmas.List.{length-map, get_or-map, map-append, get_or_append_left, get_or-append-add}
 use Rattle.std.proofs.lemmas.List.Elements.{All-nil, All-append}
 use Rattle.std.proofs.lemmas.List.FromFn.{length-enumerate_from, length-map-range_with_len}
 use Rattle.mersenne_field.proofs.FieldLaws.{reduced}
@@ -17,6 +17,32 @@ use Rattle.zk_model.specs.Correlations.{TreeView, UnitRound, IsNoiseOf, IsExtens
 use Rattle.zk_model.specs.declared.Kind.{Kind}
 use Rattle.zk_model.specs.declared.Kind.TheVariants.{Direct, Extended}
 use Rattle.zk_model.specs.declared.Params.{Params}
+
+-- ---- one list more
+
+le_or : (a b : ℕ) → (a ≤ b) ⊎ (b < a)
+le_or zero b = inl (omega arith)
+le_or (suc a) zero = inr (omega arith)
+le_or (suc a) (suc b) = either (le_or a b)
+  where
+    either : (a ≤ b) ⊎ (b < a) → (suc a ≤ suc b) ⊎ (suc b < suc a)
+    either (inl most) = inl (omega (arith, most))
+    either (inr less) = inr (omega (arith, less))
+
+-- what holds of each part by its number holds of one part more
+pub each_more : {B : Type 0} (P : ℕ → List B → Type 0) (parts : List (List B)) (part : List B) (n : ℕ) → length parts ≡ n
+    → ((k : ℕ) → k < n → P k (get_or parts k [])) → P n part
+    → (k : ℕ) → k < n + 1 → P k (get_or (parts ++ part ∷ []) k [])
+each_more P parts part n sized far now k below = by_stage (le_or n k)
+  where
+    last : get_or (parts ++ part ∷ []) n [] ≡ part
+    last = ap (λ m. get_or (parts ++ part ∷ []) m []) (omega (arith, sized)) ∙ get_or-append-add parts (part ∷ []) 0 []
+
+    by_stage : (n ≤ k) ⊎ (k < n) → P k (get_or (parts ++ part ∷ []) k [])
+    by_stage (inl end) =
+        let at : n ≡ k = omega (arith, end, below) in
+        subst (λ m. P m (get_or (parts ++ part ∷ []) m [])) at (subst (P n) (sym last) now)
+    by_stage (inr before) = subst (P k) (sym (get_or_append_left parts (part ∷ []) [] k (omega (arith, sized, before)))) (far k before)
 
 -- ---- lists joined
 

@@ -65,43 +65,41 @@ extended unit by noise pairs noisy values macs = record {
   macs = macs;
 }
 
--- ---- the first unit: place 1 is hidden
+-- ---- the first unit, whose place 1 is hidden, and the second, whose place 0 is
 
 abbrev first_unit_round : UnitRound
 first_unit_round = record { asks = first_ask ∷ []; replies = first_reply ∷ [] }
 
-abbrev first_node : List ℕ
-first_node = 136 ∷ 229 ∷ 200 ∷ 1 ∷ 112 ∷ 61 ∷ 144 ∷ 224 ∷ 66 ∷ 57 ∷ 164 ∷ 36 ∷ 239 ∷ 119 ∷ 57 ∷ 72 ∷ []
-
-abbrev first_noise : List Pair
-first_noise = record { x = 0; m = 40599947921909128 } ∷ record { x = 39456919262213790; m = 1425776292189220982 } ∷ []
-
-abbrev pub first_pairs : List Pair
-first_pairs = record { x = 68; m = 40599947921909244 } ∷ record { x = 39456919262213850; m = 1425776292189221082 } ∷ []
-
-first_noisy : IsNoiseOf (tree_view params (prover_unit_of true 21) first_unit_round 0) first_noise
-first_noisy = (40599947921909128 ∷ 0 ∷ [], without_right first_node 40599947921909128 (bytes_by_test 16 first_node refl refl) refl refl, refl)
-
-first_extended : IsExtension params (prover.code_seed) (prover_unit_of true 21) first_unit_round first_pairs
-unfolding coin_word block_word double_rounds column_round diagonal_round quarter_round u32_at
-first_extended = extended (prover_unit_of true 21) first_unit_round first_noise first_pairs first_noisy refl refl
-
--- ---- the second unit: place 0 is hidden
-
 abbrev second_unit_round : UnitRound
 second_unit_round = record { asks = second_ask ∷ []; replies = second_reply ∷ [] }
+
+abbrev first_node : List ℕ
+first_node = 136 ∷ 229 ∷ 200 ∷ 1 ∷ 112 ∷ 61 ∷ 144 ∷ 224 ∷ 66 ∷ 57 ∷ 164 ∷ 36 ∷ 239 ∷ 119 ∷ 57 ∷ 72 ∷ []
 
 abbrev second_node : List ℕ
 second_node = 167 ∷ 153 ∷ 159 ∷ 172 ∷ 197 ∷ 222 ∷ 156 ∷ 94 ∷ 90 ∷ 52 ∷ 94 ∷ 182 ∷ 112 ∷ 47 ∷ 92 ∷ 52 ∷ []
 
+abbrev first_noise : List Pair
+first_noise = record { x = 0; m = 40599947921909128 } ∷ record { x = 39456919262213790; m = 1425776292189220982 } ∷ []
+
 abbrev second_noise : List Pair
 second_noise = record { x = 802922946620084860; m = 674248719802933398 } ∷ record { x = 0; m = 2205882858090764711 } ∷ []
+
+abbrev pub first_pairs : List Pair
+first_pairs = record { x = 68; m = 40599947921909244 } ∷ record { x = 39456919262213850; m = 1425776292189221082 } ∷ []
 
 abbrev pub second_pairs : List Pair
 second_pairs = record { x = 802922946620084928; m = 674248719802933514 } ∷ record { x = 60; m = 2205882858090764811 } ∷ []
 
+first_noisy : IsNoiseOf (tree_view params (prover_unit_of true 21) first_unit_round 0) first_noise
+first_noisy = (40599947921909128 ∷ 0 ∷ [], without_right first_node 40599947921909128 (bytes_by_test 16 first_node refl refl) refl refl, refl)
+
 second_noisy : IsNoiseOf (tree_view params (prover_unit_of false 31) second_unit_round 0) second_noise
 second_noisy = (0 ∷ 2205882858090764711 ∷ [], without_left second_node 2205882858090764711 (bytes_by_test 16 second_node refl refl) refl refl, refl)
+
+first_extended : IsExtension params (prover.code_seed) (prover_unit_of true 21) first_unit_round first_pairs
+unfolding coin_word block_word double_rounds column_round diagonal_round quarter_round u32_at
+first_extended = extended (prover_unit_of true 21) first_unit_round first_noise first_pairs first_noisy refl refl
 
 second_extended : IsExtension params (prover.code_seed) (prover_unit_of false 31) second_unit_round second_pairs
 unfolding coin_word block_word double_rounds column_round diagonal_round quarter_round u32_at

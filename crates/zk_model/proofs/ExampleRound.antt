@@ -113,14 +113,14 @@ first_messages = record {
   right = 147 ∷ 222 ∷ 252 ∷ 68 ∷ 88 ∷ 90 ∷ 153 ∷ 41 ∷ 180 ∷ 30 ∷ 97 ∷ 99 ∷ 23 ∷ 170 ∷ 67 ∷ 243 ∷ [];
 }
 
-abbrev pub first_reply : TreeReply
-first_reply = record { messages = first_messages ∷ []; leaf_offset = 839466769102563861 }
-
 abbrev pub second_messages : LeftRight
 second_messages = record {
   left = 17 ∷ 168 ∷ 136 ∷ 171 ∷ 98 ∷ 37 ∷ 7 ∷ 148 ∷ 151 ∷ 235 ∷ 227 ∷ 41 ∷ 180 ∷ 98 ∷ 110 ∷ 148 ∷ [];
   right = 184 ∷ 134 ∷ 128 ∷ 179 ∷ 218 ∷ 193 ∷ 131 ∷ 65 ∷ 69 ∷ 43 ∷ 65 ∷ 169 ∷ 111 ∷ 48 ∷ 67 ∷ 43 ∷ [];
 }
+
+abbrev pub first_reply : TreeReply
+first_reply = record { messages = first_messages ∷ []; leaf_offset = 839466769102563861 }
 
 abbrev pub second_reply : TreeReply
 second_reply = record { messages = second_messages ∷ []; leaf_offset = 1731554440533689813 }

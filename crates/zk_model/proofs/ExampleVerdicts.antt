@@ -40,9 +40,17 @@ honest_accepted = accepted 1 to_one 409 7 12 (keys_of_one 1) refl refl
 abbrev false_product : Transcript
 false_product = session 0 to_zero 409 7 1
 
-section_sides : left_of_section (session_products verifier (claiming 0) false_product (keys 7)) 0
-    ∷ right_of_section (session_products verifier (claiming 0) false_product (keys 7)) 0 ∷ [] ≡ 709 ∷ 659 ∷ []
-section_sides = refl
+-- ---- a MAC of 8 for the claim 1: the key of the wire is 12, and the right side 13
+
+abbrev false_opening : Transcript
+false_opening = session 1 to_one 409 8 2
+
+-- ---- their sides, by which both are rejected
+false_sides : left_of_section (session_products verifier (claiming 0) false_product (keys 7)) 0
+    ∷ right_of_section (session_products verifier (claiming 0) false_product (keys 7)) 0
+    ∷ left_of_opening (session_openings verifier (claiming 1) false_opening (keys 12)) 0
+    ∷ right_of_opening (session_openings verifier (claiming 1) false_opening (keys 12)) 0 ∷ [] ≡ 709 ∷ 659 ∷ 12 ∷ 13 ∷ []
+false_sides = refl
 
 section_rejected : IsVerdict verifier (claiming 0) false_product (RejectedSum 0)
 section_rejected = record {
@@ -51,15 +59,6 @@ section_rejected = record {
   judged = record { below = lit< tt; fails = λ e. let sides : 709 ≡ 659 = e in absurd (omega (arith, sides)); before = λ i below. absurd (omega (arith, below)) };
   said = record { code = refl; number = refl };
 }
-
--- ---- a MAC of 8 for the claim 1: the key of the wire is 12, and the right side 13
-
-abbrev false_opening : Transcript
-false_opening = session 1 to_one 409 8 2
-
-opening_sides : left_of_opening (session_openings verifier (claiming 1) false_opening (keys 12)) 0
-    ∷ right_of_opening (session_openings verifier (claiming 1) false_opening (keys 12)) 0 ∷ [] ≡ 12 ∷ 13 ∷ []
-opening_sides = refl
 
 opening_rejected : IsVerdict verifier (claiming 1) false_opening (RejectedOpening 0)
 opening_rejected = record {

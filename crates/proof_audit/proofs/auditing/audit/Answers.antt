@@ -34,6 +34,7 @@ returns c = record {
       dealt = c.in_ok-dealt.ensures.dealt.0 refl;
       greeting = read.greeting;
       served = read.served;
+      kept = read.kept;
     }
 
     about : IsAbout c.args.circuit.now c.args.digest c.args.public.now c.args.outputs.now c.args.prover.now c.args.verifier.now c.args.log.now c.in-Some.session

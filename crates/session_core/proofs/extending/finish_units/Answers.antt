@@ -1,4 +1,4 @@
-use Rattle.std.proofs.Common.{◌≡◌, ◌+◌, ◌++◌, [], ℕ, List, ap, subst, length, arith, rules}
+use Rattle.std.proofs.Common.{◌≡◌, ◌+◌, ◌++◌, [], ℕ, List, ap, subst, length, arith, rules, sym, ◌∙◌}
 use Rattle.std.proofs.lemmas.List.{length-map}
 use Rattle.proof_frames.specs.Frames.{frame_value}
 use Rattle.proof_frames.specs.declared.frame.Frame.{Frame}
@@ -7,7 +7,7 @@ use Rattle.zk_model.specs.Files.{correlations_per_unit}
 use Rattle.zk_model.specs.Frames.{AreReplies}
 use Rattle.session_core.specs.Cores.{AreRoundPairs}
 use Rattle.session_core.specs.Extending.{replies_in, replies_of}
-use Rattle.session_core.proofs.Rounds.{replies_at, units_more}
+use Rattle.session_core.proofs.Rounds.{replies_at, units_more, units_all}
 use Rattle.session_core.proofs.extending.finish_units.Goals as goal
 
 pub finish_unit-requires-clause-replies : goal.finish_unit-requires-clause-replies
@@ -27,17 +27,10 @@ loop-i-preserved c =
     (correlations_per_unit file.params) c.loop-i.pairs.items c.extend_from_slice.new.self.items more
     far.1 far.2 far.3 far.4
     (subst (λ (q : ℕ × List TreeReply). AreRoundPairs file q.0 q.1 more) (λ i. (start i + c.loop-i.i, there i)) c.in_ok-more.ensures.pairs)
-    pushed
-    c.in_ok-more.ensures.count
+    pushed c.in_ok-more.ensures.count
 
 pub returns-clause-pairs : goal.returns-clause-pairs
 returns-clause-pairs c =
     let far = c.loop-i.invariant in
     let end : length c.args.replies.now ≡ c.loop-i.i = omega (arith, c.loop-i-test.false, c.loop-i.auto.i-end) in
-    let counted = length-map c.args.replies.now (λ (f : Frame). replies_in (frame_value f)) in
-    record {
-      units = far.0;
-      one_each = omega (arith, far.1, end, counted);
-      each = λ i below. far.2 i (omega (arith, below, end, counted));
-      joined = far.3;
-    }
+    units_all far.0 c.loop-i.i _ _ far.1 (sym end ∙ sym (length-map c.args.replies.now (λ (f : Frame). replies_in (frame_value f)))) far.2 far.3

@@ -1,6 +1,6 @@
 use Rattle.frame_link.specs.declared.fault.LineFault.TheVariants.{NoMemory}
 use Rattle.frame_link.proofs.LineLemmas.{fails_at}
-use Rattle.session_driver.proofs.Turning.{lacks_room}
+use Rattle.session_driver.proofs.Going.{lacks_room}
 use Rattle.session_driver.proofs.drive.take.Goals as goal
 
 pub returns-in_err-keep_room-clause-fails : goal.returns-in_err-keep_room-clause-fails

@@ -3,7 +3,7 @@ use Rattle.proof_frames.specs.Frames.{frame_value}
 use Rattle.frame_link.proofs.LineLemmas.{fails_at}
 use Rattle.session_driver.specs.Runs.{moves_of}
 use Rattle.session_driver.specs.declared.drive.Outcome.TheVariants.{Cut}
-use Rattle.session_driver.proofs.Turning.{turn_goes, turn_unsent}
+use Rattle.session_driver.proofs.Going.{turn_goes, turn_unsent}
 use Rattle.session_driver.proofs.drive.turn.Goals as goal
 
 pub returns-in_err-send_all-in-Ok-clause-stops : goal.returns-in_err-send_all-in-Ok-clause-stops

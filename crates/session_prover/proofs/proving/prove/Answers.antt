@@ -1,16 +1,15 @@
-use Rattle.std.proofs.Common.{◌≡◌, [], ◌∷◌, None, false, refl, sym, subst}
+use Rattle.std.proofs.Common.{◌≡◌, ◌∙◌, [], ◌∷◌, None, false, refl, sym, subst}
 use Rattle.zk_model.specs.declared.Side.TheVariants.{Prover}
 use Rattle.frame_link.specs.Lines.{LineState}
 use Rattle.session_core.specs.Jobs.{ProverJob}
 use Rattle.session_core.specs.Cores.{ProverState, awaits_grant}
 use Rattle.session_driver.specs.Runs.{IsRun, seen_as}
 use Rattle.session_driver.specs.declared.drive.Outcome.{Outcome}
-use Rattle.session_driver.proofs.Derived.{run_seen}
+use Rattle.session_driver.proofs.Ending.{run_seen}
 use Rattle.session_prover.specs.declared.note.ProverOutcome.{ProverOutcome}
 use Rattle.session_prover.specs.declared.proving.Proving.{Proving}
 use Rattle.session_prover.specs.Notes.{IsEnded}
-use Rattle.session_prover.specs.Proving.{Claims, IsProving, Proved, claim_of, claims_of, greeting_frame, outcome_told, proved, proves}
-use Rattle.session_prover.specs.Turns.{IsSound}
+use Rattle.session_prover.specs.Proving.{Claims, IsProving, Proved, claim_of, claims_of, greeting_frame, outcome_told, proved, proves, IsSound}
 use Rattle.session_prover.proofs.Leading.{ClaimEnds, proving_first, session_ended, claim_ended}
 use Rattle.session_prover.proofs.proving.prove.Given.{Over}
 use Rattle.session_prover.proofs.proving.prove.Goals as goal
@@ -43,15 +42,18 @@ run-outcome-requires-clause-holds g c =
     subst (λ (s : ProverState). IsProving (claims g) c.args.job.now (proved s None false c.args.claimant.now)) (sym c.core_of.ensures)
     (proving_first (claims g) c.args.job.now c.args.claimant.now c.requires.sound c.requires.unasked c.requires.total)
 
-pub returns-clause-granted : goal.returns-clause-granted
-returns-clause-granted g c =
-    (claim_from g c.args.job.now _ _ _ _ _ c.core_of.ensures refl refl c.run-outcome.ensures.run c.requires.sound c.requires.unasked c.requires.side).told
-
-pub returns-clause-moved : goal.returns-clause-moved
-returns-clause-moved g c =
-    (claim_from g c.args.job.now _ _ _ _ _ c.core_of.ensures refl refl c.run-outcome.ensures.run c.requires.sound c.requires.unasked c.requires.side).moved
-
-pub returns-clause-ends : goal.returns-clause-ends
-returns-clause-ends g c =
-    subst (λ o. IsEnded c.args.job.now (record { first = c.args.line.now; claim = claim_of (claims g) c.run-outcome.new.asked }) o c.run-outcome.new.line) (sym c.outcome_of.ensures)
-    (ended_from g c.args.job.now _ _ _ _ _ c.core_of.ensures refl refl c.run-outcome.ensures.run c.requires.sound c.requires.unasked c.requires.side)
+pub returns : goal.returns
+returns g c =
+    let run = c.run-outcome.ensures.run in
+    let requires = c.requires in
+    let claim = claim_from g c.args.job.now _ _ _ _ _ c.core_of.ensures refl refl run requires.sound requires.unasked requires.side in
+    record {
+      granted = claim.told;
+      moved = claim.moved;
+      ends = subst (λ o. IsEnded c.args.job.now
+          (record { first = c.args.line.now; claim = claim_of (claims g) c.run-outcome.new.asked }) o c.run-outcome.new.line)
+          (sym c.outcome_of.ensures)
+          (ended_from g c.args.job.now _ _ _ _ _ c.core_of.ensures refl refl run requires.sound requires.unasked requires.side);
+      side = c.run-outcome.ensures.side ∙ c.requires.side;
+      open_still = c.run-outcome.ensures.open_still;
+    }

@@ -4,11 +4,11 @@ use Rattle.session_core.specs.Cores.{VerifierState, awaits_hello}
 use Rattle.session_core.specs.Jobs.{VerifierJob, VerifierJobs, noted_job, units_of_job}
 use Rattle.session_driver.specs.Runs.{IsRun}
 use Rattle.session_driver.specs.declared.drive.Outcome.{Outcome}
-use Rattle.session_driver.proofs.Derived.{run_seen}
+use Rattle.session_driver.proofs.Ending.{run_seen}
 use Rattle.session_verifier.specs.Serving.{Grants, Served, grants_of, served, serves}
 use Rattle.session_verifier.specs.declared.note.VerifierOutcome.{VerifierOutcome}
 use Rattle.session_verifier.specs.declared.serve.Serving.{Serving}
-use Rattle.session_verifier.proofs.ServeLemmas.{is_course, takes_statement, taken_within, lease_told, lease_total, lease_asked, lease_moved, done_judged}
+use Rattle.session_verifier.proofs.ServeLemmas.{noted, taken_within, lease_total, lease_asked, lease_moved, done_judged}
 use Rattle.session_verifier.proofs.serve.serve.Given.{Over}
 use Rattle.session_verifier.proofs.serve.serve.Goals as goal
 
@@ -40,43 +40,24 @@ outcome_of-requires g c =
     (run_seen (view g) (serves (grants g)) [] _ _ c.run-outcome.result _ _ c.run-outcome.ensures.run) in
     record { judged = done_judged c.args.jobs.now (grants g) c.args.grantor.now c.requires.once c.replies_are_in_range.ensures _ c.run-outcome.result _ _ c.requires.side run }
 
-pub returns-clause-course : goal.returns-clause-course
-returns-clause-course g c =
-    let run = run_at g c.args.jobs.now c.noted.result.now c.new.result c.args.grantor.now _ c.run-outcome.result _ _ c.new.ensures c.noted.ensures.noted
+pub returns : goal.returns
+returns g c =
+    let jobs = c.args.jobs.now in
+    let old = c.args.grantor.now in
+    let led = c.run-outcome.new in
+    let run = run_at g jobs c.noted.result.now c.new.result old _ c.run-outcome.result _ _ c.new.ensures c.noted.ensures.noted
     (run_seen (view g) (serves (grants g)) [] _ _ c.run-outcome.result _ _ c.run-outcome.ensures.run) in
-    is_course c.args.jobs.now (grants g) c.args.grantor.now c.requires.once c.replies_are_in_range.ensures _ c.run-outcome.result _ _ c.requires.side run c.outcome_of.result c.outcome_of.ensures
-
-pub returns-clause-statement : goal.returns-clause-statement
-returns-clause-statement g c =
-    let run = run_at g c.args.jobs.now c.noted.result.now c.new.result c.args.grantor.now _ c.run-outcome.result _ _ c.new.ensures c.noted.ensures.noted
-    (run_seen (view g) (serves (grants g)) [] _ _ c.run-outcome.result _ _ c.run-outcome.ensures.run) in
-    takes_statement c.args.jobs.now (grants g) c.args.grantor.now c.requires.once c.replies_are_in_range.ensures _ c.run-outcome.result _ _ c.requires.side run c.outcome_of.result c.outcome_of.ensures
-
-pub returns-clause-total_kept : goal.returns-clause-total_kept
-returns-clause-total_kept g c =
-    let run = run_at g c.args.jobs.now c.noted.result.now c.new.result c.args.grantor.now _ c.run-outcome.result _ _ c.new.ensures c.noted.ensures.noted
-    (run_seen (view g) (serves (grants g)) [] _ _ c.run-outcome.result _ _ c.run-outcome.ensures.run) in
-    lease_total (grants g) (units_of_job (noted_job c.args.jobs.now c.run-outcome.new.party.taken)) c.args.grantor.now c.run-outcome.new.asked
-    (lease_told c.args.jobs.now (grants g) c.args.grantor.now c.requires.once c.replies_are_in_range.ensures _ c.run-outcome.result _ _ c.requires.side run)
-
-pub returns-clause-asked : goal.returns-clause-asked
-returns-clause-asked g c =
-    let run = run_at g c.args.jobs.now c.noted.result.now c.new.result c.args.grantor.now _ c.run-outcome.result _ _ c.new.ensures c.noted.ensures.noted
-    (run_seen (view g) (serves (grants g)) [] _ _ c.run-outcome.result _ _ c.run-outcome.ensures.run) in
-    lease_asked (grants g) (units_of_job (noted_job c.args.jobs.now c.run-outcome.new.party.taken)) c.args.grantor.now c.run-outcome.new.asked
-    (lease_told c.args.jobs.now (grants g) c.args.grantor.now c.requires.once c.replies_are_in_range.ensures _ c.run-outcome.result _ _ c.requires.side run)
-
-pub returns-clause-moved : goal.returns-clause-moved
-returns-clause-moved g c =
-    let run = run_at g c.args.jobs.now c.noted.result.now c.new.result c.args.grantor.now _ c.run-outcome.result _ _ c.new.ensures c.noted.ensures.noted
-    (run_seen (view g) (serves (grants g)) [] _ _ c.run-outcome.result _ _ c.run-outcome.ensures.run) in
-    lease_moved (grants g) (units_of_job (noted_job c.args.jobs.now c.run-outcome.new.party.taken)) c.args.grantor.now c.run-outcome.new.asked
-    (lease_told c.args.jobs.now (grants g) c.args.grantor.now c.requires.once c.replies_are_in_range.ensures _ c.run-outcome.result _ _ c.requires.side run)
-
-pub returns-clause-within : goal.returns-clause-within
-returns-clause-within g c =
-    let run = run_at g c.args.jobs.now c.noted.result.now c.new.result c.args.grantor.now _ c.run-outcome.result _ _ c.new.ensures c.noted.ensures.noted
-    (run_seen (view g) (serves (grants g)) [] _ _ c.run-outcome.result _ _ c.run-outcome.ensures.run) in
-    let statement = takes_statement c.args.jobs.now (grants g) c.args.grantor.now c.requires.once c.replies_are_in_range.ensures _ c.run-outcome.result _ _ c.requires.side run
+    let ranges = c.replies_are_in_range.ensures in
+    let noted = noted jobs (grants g) old c.requires.once ranges _ c.run-outcome.result _ _ c.requires.side run
     c.outcome_of.result c.outcome_of.ensures in
-    taken_within c.args.jobs.now c.run-outcome.new.party.taken _ statement.has
+    let units = units_of_job (noted_job jobs led.party.taken) in
+    record {
+      total_kept = lease_total (grants g) units old led.asked noted.lease;
+      asked = lease_asked (grants g) units old led.asked noted.lease;
+      moved = lease_moved (grants g) units old led.asked noted.lease;
+      statement = noted.statement;
+      course = noted.course;
+      within = taken_within jobs led.party.taken _ noted.statement.has;
+      side = c.run-outcome.ensures.side ∙ c.requires.side;
+      open_still = c.run-outcome.ensures.open_still;
+    }

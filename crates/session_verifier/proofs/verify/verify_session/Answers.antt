@@ -1,4 +1,4 @@
-use Rattle.std.proofs.Common.{◌^◌, ◌≤◌, [], ap, sym, ◌∙◌, subst, length, arith}
+use Rattle.std.proofs.Common.{rules, ◌^◌, ◌≤◌, [], ap, sym, ◌∙◌, subst, length, arith}
 use Rattle.zk_model.specs.Statement.{Statement, IsStatement}
 use Rattle.zk_model.specs.Files.{IsVerifierFile}
 use Rattle.zk_model.specs.Program.{Program}
@@ -43,6 +43,14 @@ course_of g c =
     subst (λ (q : LinkSnapshot × LinkSnapshot). IsCourse (noted_of g c) (g.R.Grantor.answer c.serve-course.new.grantor) c.serve-course.result.granted c.serve-course.result.outcome q.0 q.1)
     (λ i. (ap snapshot_of c.new-line.ensures i, sym ended i)) c.serve-course.ensures.course
 
+-- which statement was taken
+statement_of : (g : Over) (c : goal.After-end-link g)
+    → TakesStatement c.args.jobs.now c.serve-course.result.taken
+    (g.R.Grantor.answer c.serve-course.new.grantor) c.serve-course.result.outcome c.end-link.result.1
+statement_of g c =
+    subst (TakesStatement c.args.jobs.now c.serve-course.result.taken (g.R.Grantor.answer c.serve-course.new.grantor) c.serve-course.result.outcome)
+    (sym (ap (λ (s : LinkSnapshot). s.log) c.end-link.ensures.passed)) c.serve-course.ensures.statement
+
 pub serve-course-requires-clause-fresh : goal.serve-course-requires-clause-fresh
 serve-course-requires-clause-fresh g c = record {
   log = ap (λ (l : LineState). l.log) c.new-line.ensures;
@@ -50,64 +58,47 @@ serve-course-requires-clause-fresh g c = record {
   is_open = ap (λ (l : LineState). l.is_open) c.new-line.ensures ∙ c.requires.open;
 }
 
-pub returns-clause-granted : goal.returns-clause-granted
-returns-clause-granted g c = granted_is (noted_of g c) (g.R.Grantor.answer c.serve-course.new.grantor) c.serve-course.result.granted c.serve-course.result.outcome (first_of g c) (now_of g c) (course_of g c)
-
-pub returns-clause-refused : goal.returns-clause-refused
-returns-clause-refused g c = answers_lease (noted_of g c) (g.R.Grantor.answer c.serve-course.new.grantor) c.serve-course.result.granted c.serve-course.result.outcome (first_of g c) (now_of g c) (course_of g c)
-
-pub returns-clause-verdict : goal.returns-clause-verdict
-returns-clause-verdict g c = judges_rightly (noted_of g c) (g.R.Grantor.answer c.serve-course.new.grantor) c.serve-course.result.granted c.serve-course.result.outcome (first_of g c) (now_of g c) (known_of g c) (course_of g c)
-
-pub returns-clause-accepted : goal.returns-clause-accepted
-returns-clause-accepted g c = accepts_exactly (noted_of g c) (g.R.Grantor.answer c.serve-course.new.grantor) c.serve-course.result.granted c.serve-course.result.outcome (first_of g c) (now_of g c)
-    c.replies_are_in_range.ensures c.served_session_exists.ensures c.cut_is_not_accepted.ensures c.verdict_is_said.ensures (known_of g c) (course_of g c)
-
-pub returns-clause-shown : goal.returns-clause-shown
-returns-clause-shown g c = is_shown (noted_of g c) (g.R.Grantor.answer c.serve-course.new.grantor) c.serve-course.result.granted c.serve-course.result.outcome (first_of g c) (now_of g c)
-    (known_of g c) c.extraction_holds.ensures (course_of g c)
-
-pub returns-clause-sends : goal.returns-clause-sends
-returns-clause-sends g c = sends_rightly (noted_of g c) (g.R.Grantor.answer c.serve-course.new.grantor) c.serve-course.result.granted c.serve-course.result.outcome (first_of g c) (now_of g c)
-    c.replies_are_in_range.ensures c.served_session_exists.ensures (known_of g c) (course_of g c)
-
-pub returns-clause-related : goal.returns-clause-related
-returns-clause-related g c = keeps_keys (noted_of g c) c.serve-course.result.granted c.serve-course.result.outcome c.end-link.result.1 c.keys_fit.ensures (known_of g c)
-    (sends_rightly (noted_of g c) (g.R.Grantor.answer c.serve-course.new.grantor) c.serve-course.result.granted c.serve-course.result.outcome (first_of g c) (now_of g c)
-    c.replies_are_in_range.ensures c.served_session_exists.ensures (known_of g c) (course_of g c))
-
-pub returns-clause-cause : goal.returns-clause-cause
-returns-clause-cause g c = ends_because (noted_of g c) (g.R.Grantor.answer c.serve-course.new.grantor) c.serve-course.result.granted c.serve-course.result.outcome (first_of g c) (now_of g c) (known_of g c) (course_of g c)
-
-pub returns-clause-leased : goal.returns-clause-leased
-returns-clause-leased g c = leases_behind (noted_of g c) (g.R.Grantor.answer c.serve-course.new.grantor) c.serve-course.result.granted c.serve-course.result.outcome (first_of g c) (now_of g c) (course_of g c)
-
-pub returns-clause-told : goal.returns-clause-told
-returns-clause-told g c = is_told (noted_of g c) (g.R.Grantor.answer c.serve-course.new.grantor) c.serve-course.result.granted c.serve-course.result.outcome (first_of g c) (now_of g c)
-    c.replies_are_in_range.ensures c.served_session_exists.ensures (known_of g c) (course_of g c)
-
-pub returns-clause-receives : goal.returns-clause-receives
-returns-clause-receives g c = receives_few (noted_of g c) (g.R.Grantor.answer c.serve-course.new.grantor) c.serve-course.result.granted c.serve-course.result.outcome (first_of g c) (now_of g c) (course_of g c)
-
-pub returns-clause-faults : goal.returns-clause-faults
-returns-clause-faults g c = counts_faults (noted_of g c) (g.R.Grantor.answer c.serve-course.new.grantor) c.serve-course.result.granted c.serve-course.result.outcome (first_of g c) (now_of g c) (course_of g c)
-
-pub returns-clause-complete : goal.returns-clause-complete
-returns-clause-complete g c =
+pub returns : goal.returns
+returns g c =
+    let serve = c.serve-course in
+    let taken = serve.result.taken in
+    let job = noted_of g c in
+    let answer = g.R.Grantor.answer serve.new.grantor in
+    let granted = serve.result.granted in
+    let outcome = serve.result.outcome in
+    let first = first_of g c in
+    let now = now_of g c in
+    let known = known_of g c in
+    let course = course_of g c in
+    let ranges = c.replies_are_in_range.ensures in
+    let exists = c.served_session_exists.ensures in
+    let sends = sends_rightly job answer granted outcome first now ranges exists known course in
     let laws : AreLaws = record {
-      another = c.none_begins_another.ensures;
-      ranges = c.replies_are_in_range.ensures;
-      exists = c.served_session_exists.ensures;
+      ranges = ranges;
+      exists = exists;
       turn = c.honest_turn.ensures;
       ends = c.honest_turn_ends.ensures;
       accepted = c.honest_whole_is_accepted.ensures;
     } in
-    completes (noted_of g c) (g.R.Grantor.answer c.serve-course.new.grantor) c.serve-course.result.granted c.serve-course.result.outcome (first_of g c) (now_of g c) laws (known_of g c) (course_of g c)
-
-pub returns-clause-statement : goal.returns-clause-statement
-returns-clause-statement g c =
-    subst (TakesStatement c.args.jobs.now c.serve-course.result.taken (g.R.Grantor.answer c.serve-course.new.grantor) c.serve-course.result.outcome)
-    (sym (ap (λ (s : LinkSnapshot). s.log) c.end-link.ensures.passed)) c.serve-course.ensures.statement
-
-pub returns-clause-sized : goal.returns-clause-sized
-returns-clause-sized g c = (omega arith, (known_of g c).is.units_most)
+    record {
+      total_kept = serve.ensures.total_kept;
+      statement = statement_of g c;
+      sized = (omega arith, known.is.units_most);
+      asked = serve.ensures.asked;
+      moved = serve.ensures.moved;
+      granted = granted_is job answer granted outcome first now course;
+      refused = answers_lease job answer granted outcome first now course;
+      verdict = judges_rightly job answer granted outcome first now known course;
+      accepted = accepts_exactly job answer granted outcome first now ranges exists c.cut_is_not_accepted.ensures c.verdict_is_said.ensures
+          known course;
+      shown = is_shown job answer granted outcome first now known c.extraction_holds.ensures course;
+      sends = sends;
+      related = keeps_keys job granted outcome c.end-link.result.1 c.keys_fit.ensures known sends;
+      cause = ends_because job answer granted outcome first now known course;
+      leased = leases_behind job answer granted outcome first now course;
+      told = is_told job answer granted outcome first now ranges exists known course;
+      receives = receives_few job answer granted outcome first now course;
+      complete = completes c.args.jobs.now taken answer granted outcome first now laws c.are_stated.ensures known (statement_of g c) course;
+      faults = counts_faults job answer granted outcome first now course;
+      ended = search rules;
+    }

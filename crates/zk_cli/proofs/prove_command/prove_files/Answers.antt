@@ -30,9 +30,4 @@ returns-clause-holds g c =
     IfOk-weaker c.prove_job.result _ _ (λ r held. record { circuit = has.circuit; job = c.new-job.result; proved = asked; holds = held }) c.prove_job.ensures.holds
 
 pub returns-clause-stop : goal.returns-clause-stop
-returns-clause-stop g c =
-    let has = c.in-Ok.ensures.witness in
-    let job = c.new-job.ensures.job ∙ (λ i. prover_from (c.statement-statement.ensures i) (c.deref.ensures.value i) c.in-Ok.loaded.1) in
-    let asked = is_prove_job (g.F.Shelf.state c.args.shelf.now).told (prove_words c.args.words.now) c.in-Ok.loaded.0.claim c.in-Ok.loaded.0.inputs.items
-    c.in-Ok.loaded.1 c.new-job.result has c.in-Ok.ensures.file job in
-    IfErr-weaker c.prove_job.result _ _ (λ r stopped. inr (has.circuit, c.new-job.result, asked, stopped)) c.prove_job.ensures.stop
+returns-clause-stop g c = let has = c.in-Ok.ensures.witness in let job = c.new-job.ensures.job ∙ (λ i. prover_from (c.statement-statement.ensures i) (c.deref.ensures.value i) c.in-Ok.loaded.1) in let asked = is_prove_job (g.F.Shelf.state c.args.shelf.now).told (prove_words c.args.words.now) c.in-Ok.loaded.0.claim c.in-Ok.loaded.0.inputs.items c.in-Ok.loaded.1 c.new-job.result has c.in-Ok.ensures.file job in IfErr-weaker c.prove_job.result _ _ (λ r stopped. inr (has.circuit, c.new-job.result, asked, stopped)) c.prove_job.ensures.stop

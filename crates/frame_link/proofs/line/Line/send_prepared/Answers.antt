@@ -2,8 +2,7 @@ use Rattle.std.proofs.Common.{◌++◌, Err, sym, subst, ap}
 use Rattle.zk_model.specs.Transcript.{bytes_from}
 use Rattle.frame_link.specs.Runs.{WrittenLog}
 use Rattle.frame_link.specs.Lines.{LineState, line_state, Sends, IsSendRefused, port_fault}
-use Rattle.frame_link.proofs.LineLemmas.{fails_at}
-use Rattle.frame_link.proofs.SideLemmas.{sends_by, unsent_by}
+use Rattle.frame_link.proofs.LineLemmas.{fails_at, sends_by, unsent_by}
 use Rattle.frame_link.proofs.line.Line.send_prepared.Goals as goal
 
 pub returns-in_err-send-clause-fails : goal.returns-in_err-send-clause-fails

@@ -8,8 +8,7 @@ use Rattle.zk_model.specs.Frames.{bytes_wanted}
 use Rattle.proof_frames.specs.Readings.{wanted}
 use Rattle.frame_link.specs.Lines.{LineState, line_state, Came, PieceComes, PieceFails, port_fault}
 use Rattle.frame_link.specs.declared.fault.LineFault.TheVariants as fault
-use Rattle.frame_link.proofs.LineLemmas.{comes_by, done_as, done_not, unreceived, fails_at, fails_as, fails_not, wanted_is, fed_badly, frame_most}
-use Rattle.frame_link.proofs.SideLemmas.{came_by, untaken_by, counted_receive}
+use Rattle.frame_link.proofs.LineLemmas.{comes_by, done_as, done_not, unreceived, fails_at, fails_as, fails_not, wanted_is, fed_badly, frame_most, came_by, untaken_by, counted_receive}
 use Rattle.frame_link.proofs.line.Line.take_piece.Given.{Over}
 use Rattle.frame_link.proofs.line.Line.take_piece.Goals.{in-Ok, in-Err}
 use Rattle.frame_link.proofs.line.Line.take_piece.Goals as goal

@@ -1,6 +1,6 @@
 use Rattle.std.proofs.Common.{◌≡◌, ◌<◌, ◌∙◌, ◌*◌, length, arith, ap}
 use Rattle.zk_model.specs.Program.{Program}
-use Rattle.proof_audit.proofs.Wires.{product_more}
+use Rattle.proof_audit.proofs.Wires.{product_more, products_of}
 use Rattle.proof_audit.specs.SeenWires.{SeenSide}
 use Rattle.proof_audit.proofs.seen.SeenWires.section.Goals as goal
 
@@ -10,8 +10,7 @@ loop-i-preserved c =
     c.loop-i.auto.i below c.loop-i.invariant c.triple.ensures c.in_ok-push.ensures.items
   where
     count : c.products-products.result ≡ length c.args.self.now.program.products
-    count = c.products-products.ensures.count
-        ∙ ap (λ (p : Program). length p.products) (c.program.ensures ∙ ap (λ (w : SeenSide). w.program) c.self.view_is)
+    count = products_of c.products-products.ensures.count c.program.ensures c.self.view_is
 
     below : c.loop-i.i < length c.args.self.now.program.products
     below = let m = c.min-count.ensures in let t = c.loop-i-test.true in omega (arith, t, m, count)

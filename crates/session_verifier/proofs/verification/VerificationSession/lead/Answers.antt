@@ -1,5 +1,8 @@
+use Rattle.std.proofs.Common.{[]}
+use Rattle.zk_model.specs.declared.Side.TheVariants.{Verifier}
+use Rattle.frame_link.specs.Lines.{snapshot}
 use Rattle.session_core.specs.Jobs.{noted_job}
-use Rattle.session_verifier.proofs.LeaseLemmas.{refused_by}
+use Rattle.session_verifier.proofs.CourseLemmas.{refused_by, completes_noted}
 use Rattle.session_verifier.proofs.verification.VerificationSession.lead.Goals as goal
 
 pub returns-clause-note : goal.returns-clause-note
@@ -20,9 +23,13 @@ returns-clause-note g c = record {
     told = c.verify_session.ensures.told;
     faults = c.verify_session.ensures.faults;
     receives = c.verify_session.ensures.receives;
-    complete = c.verify_session.ensures.complete;
+    complete = completes_noted c.args.self.now.jobs.now c.verify_session.result.statement (g.T.Grantor.answer c.verify_session.new.grantor)
+        c.verify_session.result.outcome (snapshot Verifier [] (g.L.Link.state c.args.link))
+        (snapshot Verifier c.verify_session.result.log (g.L.Link.state c.verify_session.result.link)) c.verify_session.ensures.statement.has
+        c.verify_session.ensures.complete;
     ended = c.verify_session.ensures.ended;
   };
+  complete = c.verify_session.ensures.complete;
 }
 
 pub returns-clause-refused : goal.returns-clause-refused

@@ -9,7 +9,7 @@ use Rattle.vole_extend.proofs.prover.ProverRound.noise.Goals as goal
 
 pub loop-tree-preserved : goal.loop-tree-preserved
 loop-tree-preserved c = record {
-  noises = noise_more c.args.self.now c.args.replies.now c.loop-tree.tree c.loop-tree.noise.items c.extend_from_slice.new.self.items
+  noises = noise_more (λ tree. asked_view c.args.self.now tree (reply_at c.args.replies.now tree)) c.loop-tree.tree c.loop-tree.noise.items c.extend_from_slice.new.self.items
       c.in_ok-entries.entries.items
       (c.in_ok-extend_from_slice.ensures.items ∙ ap (λ entries. c.loop-tree.noise.items ++ entries) c.deref.ensures.value)
       (subst (λ (reply : TreeReply). IsNoiseOf (asked_view c.args.self.now c.loop-tree.tree reply) c.in_ok-entries.entries.items) reply

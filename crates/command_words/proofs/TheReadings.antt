@@ -1,0 +1,212 @@
+-- What each command's words ask for, from what clap finds in them.
+use Rattle.std.proofs.Common.{◌≡◌, ◌∙◌, ◌≤◌, ℕ, List, [], ◌∷◌, true, length, Some, None, Option, refl, ap, sym, codes, arith, if◌then◌else◌, true≢false}
+use Rattle.std.specs.Option.{option_map}
+use Rattle.command_words.specs.Arguments.{Word, option_named}
+use Rattle.command_words.specs.Given.{Given, audit_given, deal_given, eval_given, params_given, prove_given, serve_given, serve_many_given, service_given}
+use Rattle.command_words.specs.Words.{Ask, audit_of, deal_of, deal_options, eval_of, generate_of, generate_options, length_of, params_of, prove_of, public_option, rehearse_of, rehearse_options, section_of, serve_many_of, serve_many_options, serve_of, serve_options_of, served_options, service_of, stand_once_among}
+use Rattle.command_words.proofs.Walks.{IsSaid}
+use Rattle.command_words.proofs.Inversions.{if_gives, if_some, none_gives, step_gives}
+use Rattle.command_words.proofs.ReadBy.{Reads}
+use Rattle.command_words.proofs.TheForms.{audit_names, audit_places, deal_names, deal_places, eval_names, eval_places, prove_names, prove_places, serve_many_names, serve_many_places, serve_names, serve_places}
+
+-- the same value where options that stand once are chosen
+if_once : {X : Type 0} (names : List (List ℕ)) (options : List Word) (o : Option X) → stand_once_among names options ≡ true → o ≡ (if stand_once_among names options then o else None)
+if_once names options o once = ap (λ b. if b then o else None) (sym once)
+
+-- ---- `eval`
+
+no_options : (options : List Word) → stand_once_among [] options ≡ true → options ≡ []
+no_options [] once = refl
+no_options (option ∷ options) once = absurd (true≢false (sym once))
+
+eval_same : (positional : List (List ℕ)) → eval_given positional ≡ eval_of positional []
+eval_same [] = refl
+eval_same (circuit ∷ []) = refl
+eval_same (circuit ∷ bits ∷ []) = refl
+eval_same (circuit ∷ bits ∷ word ∷ positional) = refl
+
+eval_few : (positional : List (List ℕ)) (options : List Word) (ask : Ask) → eval_of positional options ≡ Some ask → length positional ≤ 2
+eval_few [] options ask e = omega arith
+eval_few (circuit ∷ []) options ask e = omega arith
+eval_few (circuit ∷ bits ∷ []) options ask e = omega arith
+eval_few (circuit ∷ bits ∷ word ∷ positional) options ask e = none_gives e
+
+eval_once : (positional : List (List ℕ)) (options : List Word) (ask : Ask) → eval_of positional options ≡ Some ask → stand_once_among [] options ≡ true
+eval_once positional [] ask e = refl
+eval_once [] (option ∷ options) ask e = none_gives e
+eval_once (circuit ∷ []) (option ∷ options) ask e = none_gives e
+eval_once (circuit ∷ bits ∷ []) (option ∷ options) ask e = none_gives e
+eval_once (circuit ∷ bits ∷ word ∷ positional) (option ∷ options) ask e = none_gives e
+
+pub eval_reads : Reads eval_places eval_names (λ given. eval_given) eval_of
+eval_reads = record {
+  same = λ given positional options said. eval_same positional ∙ ap (eval_of positional) (sym (no_options options said.once));
+  few = eval_few;
+  once = eval_once;
+}
+
+-- ---- `deal`
+
+params_same : (given : Given) (options : List Word) → IsSaid given deal_names options → params_given given ≡ params_of options
+params_same given options said =
+    let units : option_named (codes "--units") options ≡ given (codes "units") = said.named (codes "--units") refl in
+    let trees : option_named (codes "--trees") options ≡ given (codes "trees") = said.named (codes "--trees") refl in
+    let height : option_named (codes "--height") options ≡ given (codes "height") = said.named (codes "--height") refl in
+    let base : option_named (codes "--base") options ≡ given (codes "base") = said.named (codes "--base") refl in
+    rw (units, trees, height, base) refl
+
+deal_same : (given : Given) (positional : List (List ℕ)) (options : List Word) → IsSaid given deal_names options → deal_given given positional ≡ deal_of positional options
+deal_same given [] options said = refl
+deal_same given (name ∷ []) options said =
+    ap (option_map (λ params. Rattle.command_words.specs.Words.deal (Rattle.command_words.specs.Words.deal_ask name params))) (params_same given options said)
+    ∙ if_once deal_options options _ said.once
+deal_same given (name ∷ word ∷ positional) options said = refl
+
+deal_few : (positional : List (List ℕ)) (options : List Word) (ask : Ask) → deal_of positional options ≡ Some ask → length positional ≤ 1
+deal_few [] options ask e = omega arith
+deal_few (name ∷ []) options ask e = omega arith
+deal_few (name ∷ word ∷ positional) options ask e = none_gives e
+
+deal_once : (positional : List (List ℕ)) (options : List Word) (ask : Ask) → deal_of positional options ≡ Some ask → stand_once_among deal_names options ≡ true
+deal_once [] options ask e = none_gives e
+deal_once (name ∷ []) options ask e = if_gives (stand_once_among deal_options options) _ ask e
+deal_once (name ∷ word ∷ positional) options ask e = none_gives e
+
+pub deal_reads : Reads deal_places deal_names deal_given deal_of
+deal_reads = record { same = deal_same; few = deal_few; once = deal_once }
+
+-- ---- `serve` and `serve-many`
+
+service_same : (given : Given) (options : List Word) → option_named (codes "--sessions") options ≡ given (codes "sessions") → option_named (codes "--workers") options ≡ given (codes "workers")
+    → option_named (codes "--section") options ≡ given (codes "section") → option_named (codes "--logs") options ≡ given (codes "logs") → service_given given ≡ service_of options
+service_same given options sessions workers section logs = rw (sessions, workers, section, logs) refl
+
+serve_same : (given : Given) (positional : List (List ℕ)) (options : List Word) → IsSaid given serve_names options → serve_given given positional ≡ serve_of positional options
+serve_same given [] options said = refl
+serve_same given (address ∷ []) options said = refl
+serve_same given (address ∷ file ∷ []) options said = refl
+serve_same given (address ∷ file ∷ circuit ∷ []) options said = refl
+serve_same given (address ∷ file ∷ circuit ∷ outputs ∷ []) options said =
+    let public : option_named (codes "--public") options ≡ given (codes "public") = said.named (codes "--public") refl in
+    let service : service_given given ≡ serve_options_of options =
+    service_same given options (said.named (codes "--sessions") refl) (said.named (codes "--workers") refl) (said.named (codes "--section") refl) (said.named (codes "--logs") refl)
+    ∙ if_once served_options options (service_of options) said.once in
+    rw (public, ← service) refl
+serve_same given (address ∷ file ∷ circuit ∷ outputs ∷ word ∷ positional) options said = refl
+
+serve_few : (positional : List (List ℕ)) (options : List Word) (ask : Ask) → serve_of positional options ≡ Some ask → length positional ≤ 4
+serve_few [] options ask e = omega arith
+serve_few (address ∷ []) options ask e = omega arith
+serve_few (address ∷ file ∷ []) options ask e = omega arith
+serve_few (address ∷ file ∷ circuit ∷ []) options ask e = omega arith
+serve_few (address ∷ file ∷ circuit ∷ outputs ∷ []) options ask e = omega arith
+serve_few (address ∷ file ∷ circuit ∷ outputs ∷ word ∷ positional) options ask e = none_gives e
+
+serve_once : (positional : List (List ℕ)) (options : List Word) (ask : Ask) → serve_of positional options ≡ Some ask → stand_once_among serve_names options ≡ true
+serve_once [] options ask e = none_gives e
+serve_once (address ∷ []) options ask e = none_gives e
+serve_once (address ∷ file ∷ []) options ask e = none_gives e
+serve_once (address ∷ file ∷ circuit ∷ []) options ask e = none_gives e
+serve_once (address ∷ file ∷ circuit ∷ outputs ∷ []) options ask e =
+    if_some (stand_once_among served_options options) (service_of options) (step_gives _ (serve_options_of options) ask e)
+serve_once (address ∷ file ∷ circuit ∷ outputs ∷ word ∷ positional) options ask e = none_gives e
+
+pub serve_reads : Reads serve_places serve_names serve_given serve_of
+serve_reads = record { same = serve_same; few = serve_few; once = serve_once }
+
+serve_many_same : (given : Given) (positional : List (List ℕ)) (options : List Word) → IsSaid given serve_many_names options → serve_many_given given positional ≡ serve_many_of positional options
+serve_many_same given [] options said = refl
+serve_many_same given (address ∷ []) options said = refl
+serve_many_same given (address ∷ file ∷ []) options said = refl
+serve_many_same given (address ∷ file ∷ statements ∷ []) options said =
+    ap (option_map (λ found. Rattle.command_words.specs.Words.serve_many (Rattle.command_words.specs.Words.serve_many_ask address file statements found)))
+    (service_same given options (said.named (codes "--sessions") refl) (said.named (codes "--workers") refl) (said.named (codes "--section") refl) (said.named (codes "--logs") refl))
+    ∙ if_once serve_many_options options _ said.once
+serve_many_same given (address ∷ file ∷ statements ∷ word ∷ positional) options said = refl
+
+serve_many_few : (positional : List (List ℕ)) (options : List Word) (ask : Ask) → serve_many_of positional options ≡ Some ask → length positional ≤ 3
+serve_many_few [] options ask e = omega arith
+serve_many_few (address ∷ []) options ask e = omega arith
+serve_many_few (address ∷ file ∷ []) options ask e = omega arith
+serve_many_few (address ∷ file ∷ statements ∷ []) options ask e = omega arith
+serve_many_few (address ∷ file ∷ statements ∷ word ∷ positional) options ask e = none_gives e
+
+serve_many_once : (positional : List (List ℕ)) (options : List Word) (ask : Ask) → serve_many_of positional options ≡ Some ask → stand_once_among serve_many_names options ≡ true
+serve_many_once [] options ask e = none_gives e
+serve_many_once (address ∷ []) options ask e = none_gives e
+serve_many_once (address ∷ file ∷ []) options ask e = none_gives e
+serve_many_once (address ∷ file ∷ statements ∷ []) options ask e = if_gives (stand_once_among serve_many_options options) _ ask e
+serve_many_once (address ∷ file ∷ statements ∷ word ∷ positional) options ask e = none_gives e
+
+pub serve_many_reads : Reads serve_many_places serve_many_names serve_many_given serve_many_of
+serve_many_reads = record { same = serve_many_same; few = serve_many_few; once = serve_many_once }
+
+-- ---- `prove`
+
+prove_same : (given : Given) (positional : List (List ℕ)) (options : List Word) → IsSaid given prove_names options → prove_given given positional ≡ prove_of positional options
+prove_same given [] options said = refl
+prove_same given (address ∷ []) options said = refl
+prove_same given (address ∷ file ∷ []) options said = refl
+prove_same given (address ∷ file ∷ circuit ∷ []) options said = refl
+prove_same given (address ∷ file ∷ circuit ∷ bits ∷ []) options said = refl
+prove_same given (address ∷ file ∷ circuit ∷ bits ∷ outputs ∷ []) options said =
+    let public : option_named (codes "--public") options ≡ given (codes "public") = said.named (codes "--public") refl in
+    let once : stand_once_among public_option options ≡ true = said.once in
+    rw (public, once) refl
+prove_same given (address ∷ file ∷ circuit ∷ bits ∷ outputs ∷ word ∷ positional) options said = refl
+
+prove_few : (positional : List (List ℕ)) (options : List Word) (ask : Ask) → prove_of positional options ≡ Some ask → length positional ≤ 5
+prove_few [] options ask e = omega arith
+prove_few (address ∷ []) options ask e = omega arith
+prove_few (address ∷ file ∷ []) options ask e = omega arith
+prove_few (address ∷ file ∷ circuit ∷ []) options ask e = omega arith
+prove_few (address ∷ file ∷ circuit ∷ bits ∷ []) options ask e = omega arith
+prove_few (address ∷ file ∷ circuit ∷ bits ∷ outputs ∷ []) options ask e = omega arith
+prove_few (address ∷ file ∷ circuit ∷ bits ∷ outputs ∷ word ∷ positional) options ask e = none_gives e
+
+prove_once : (positional : List (List ℕ)) (options : List Word) (ask : Ask) → prove_of positional options ≡ Some ask → stand_once_among prove_names options ≡ true
+prove_once [] options ask e = none_gives e
+prove_once (address ∷ []) options ask e = none_gives e
+prove_once (address ∷ file ∷ []) options ask e = none_gives e
+prove_once (address ∷ file ∷ circuit ∷ []) options ask e = none_gives e
+prove_once (address ∷ file ∷ circuit ∷ bits ∷ []) options ask e = none_gives e
+prove_once (address ∷ file ∷ circuit ∷ bits ∷ outputs ∷ []) options ask e = if_gives (stand_once_among public_option options) _ ask e
+prove_once (address ∷ file ∷ circuit ∷ bits ∷ outputs ∷ word ∷ positional) options ask e = none_gives e
+
+pub prove_reads : Reads prove_places prove_names prove_given prove_of
+prove_reads = record { same = prove_same; few = prove_few; once = prove_once }
+
+-- ---- `audit`
+
+audit_same : (given : Given) (positional : List (List ℕ)) (options : List Word) → IsSaid given audit_names options → audit_given given positional ≡ audit_of positional options
+audit_same given [] options said = refl
+audit_same given (circuit ∷ []) options said = refl
+audit_same given (circuit ∷ outputs ∷ []) options said = refl
+audit_same given (circuit ∷ outputs ∷ prover ∷ []) options said = refl
+audit_same given (circuit ∷ outputs ∷ prover ∷ verifier ∷ []) options said = refl
+audit_same given (circuit ∷ outputs ∷ prover ∷ verifier ∷ log ∷ []) options said =
+    let public : option_named (codes "--public") options ≡ given (codes "public") = said.named (codes "--public") refl in
+    let once : stand_once_among public_option options ≡ true = said.once in
+    rw (public, once) refl
+audit_same given (circuit ∷ outputs ∷ prover ∷ verifier ∷ log ∷ word ∷ positional) options said = refl
+
+audit_few : (positional : List (List ℕ)) (options : List Word) (ask : Ask) → audit_of positional options ≡ Some ask → length positional ≤ 5
+audit_few [] options ask e = omega arith
+audit_few (circuit ∷ []) options ask e = omega arith
+audit_few (circuit ∷ outputs ∷ []) options ask e = omega arith
+audit_few (circuit ∷ outputs ∷ prover ∷ []) options ask e = omega arith
+audit_few (circuit ∷ outputs ∷ prover ∷ verifier ∷ []) options ask e = omega arith
+audit_few (circuit ∷ outputs ∷ prover ∷ verifier ∷ log ∷ []) options ask e = omega arith
+audit_few (circuit ∷ outputs ∷ prover ∷ verifier ∷ log ∷ word ∷ positional) options ask e = none_gives e
+
+audit_once : (positional : List (List ℕ)) (options : List Word) (ask : Ask) → audit_of positional options ≡ Some ask → stand_once_among audit_names options ≡ true
+audit_once [] options ask e = none_gives e
+audit_once (circuit ∷ []) options ask e = none_gives e
+audit_once (circuit ∷ outputs ∷ []) options ask e = none_gives e
+audit_once (circuit ∷ outputs ∷ prover ∷ []) options ask e = none_gives e
+audit_once (circuit ∷ outputs ∷ prover ∷ verifier ∷ []) options ask e = none_gives e
+audit_once (circuit ∷ outputs ∷ prover ∷ verifier ∷ log ∷ []) options ask e = if_gives (stand_once_among public_option options) _ ask e
+audit_once (circuit ∷ outputs ∷ prover ∷ verifier ∷ log ∷ word ∷ positional) options ask e = none_gives e
+
+pub audit_reads : Reads audit_places audit_names audit_given audit_of
+audit_reads = record { same = audit_same; few = audit_few; once = audit_once }

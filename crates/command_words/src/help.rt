@@ -1,0 +1,188 @@
+// The help of the program, and of each command.
+ghost use Rattle.std.specs.Prelude.{◌≡◌, ◌∷◌, [], is_some, IsNone, IsSome};
+ghost use Rattle.command_words.specs.Help.{asks_for_help, is_help_word, is_command_name};
+ghost use Rattle.command_words.specs.Words.{asked, texts};
+
+const PROGRAM: &str = "\
+zk: prove that secret input bits give the outputs of a Boolean circuit, and verify it
+
+usage:
+  zk deal NAME --units N [--trees T --height H --base K]
+      deals a prover's file and a verifier's file, each with its journal
+  zk eval CIRCUIT BITS
+      prints the outputs of a circuit
+  zk rehearse CIRCUIT BITS [--section G] [--extended] [--public BITS]
+  zk rehearse --gates N --number S [--section G] [--extended]
+      runs a session of both ends in one process
+  zk serve ADDRESS FILE CIRCUIT OUTPUTS --sessions N [--workers W] [--section G] [--logs PREFIX] [--public BITS]
+      verifies N provers that call over TCP
+  zk serve-many ADDRESS FILE STATEMENTS --sessions N [--workers W] [--section G] [--logs PREFIX]
+      the same, each prover about one of several statements
+  zk prove ADDRESS FILE CIRCUIT BITS OUTPUTS [--public BITS]
+      proves to a verifier over TCP
+  zk audit CIRCUIT OUTPUTS PROVERFILE VERIFIERFILE LOG [--public BITS]
+      finds the inputs that an accepted session fixes, or why it fixes none
+  zk COMMAND --help
+      says more about a command
+  zk --version
+
+BITS and OUTPUTS are words of 0 and 1, in order of wires, or `none`. Options stand anywhere after the command.
+
+statuses:
+  0  done, and accepted
+  1  not accepted, unsatisfied, or no inputs found
+  2  the words are those of no command
+  3  a file, or a number of bits, is refused
+  4  a file, the network or the output failed
+  5  a journal failed, or is full
+  6  the dealt units are used up
+  7  memory was missing
+  8  the verifier broke the protocol
+  9  more units are needed than a session may have
+";
+
+const DEAL: &str = "\
+usage: zk deal NAME --units N [--trees T --height H --base K]
+
+Deals NAME.prover and NAME.verifier, with the journals NAME.prover.journal and NAME.verifier.journal. Files of these
+names are replaced. A session uses units; a direct unit has 64 correlations. With the three options the files are
+extended: a unit has T times 2^H correlations, and T trees of height H over K dealt correlations more.
+
+  --units N    1 to 2^32; no file may have more than 64 MiB
+  --trees T    1 to 1024
+  --height H   1 to 16
+  --base K     10 to 65536
+
+example: zk deal /tmp/demo --units 16
+
+statuses: 0 done, 4 a file or the output failed, 7 memory was missing
+";
+
+const EVAL: &str = "\
+usage: zk eval CIRCUIT BITS
+
+Prints the outputs of the circuit in the file CIRCUIT at the input bits.
+
+example: zk eval examples/and.txt 11
+
+statuses: 0 done, 3 the circuit or the number of bits is refused, 4 a file or the output failed, 7 memory was missing
+";
+
+const REHEARSE: &str = "\
+usage: zk rehearse CIRCUIT BITS [--section G] [--extended] [--public BITS]
+       zk rehearse --gates N --number S [--section G] [--extended]
+
+Runs an honest session of both ends in one process, over files that are dealt for it and never stored: over the circuit
+in the file CIRCUIT, or over one of N gates that is drawn from the number S.
+
+  --section G      products that are checked at once, 1 to 1048576, which is the default
+  --extended       deals extended files: 8 trees of height 10 and a base of 64
+  --public BITS    the first input bits, which both ends know; BITS are then the others
+  --gates N        1 to 1048512
+  --number S       below 2^64
+
+example: zk rehearse examples/and.txt 11 --section 1
+
+statuses: 0 accepted, 3 the circuit or a number of bits is refused, 4 a file or the output failed, 7 memory was missing,
+  9 more units are needed than a session may have
+";
+
+const SERVE: &str = "\
+usage: zk serve ADDRESS FILE CIRCUIT OUTPUTS --sessions N [--workers W] [--section G] [--logs PREFIX] [--public BITS]
+
+Listens at ADDRESS and verifies a session with each of N provers: that the prover knows input bits for which the
+circuit gives OUTPUTS. FILE is the dealt verifier's file; its units are leased in FILE.journal, each once.
+
+  --sessions N     1 to 65536
+  --workers W      sessions at once, 1 to 1024; the default is 4
+  --section G      products that are checked at once, 1 to 1048576, which is the default
+  --logs PREFIX    stores each session's log as PREFIX.UNIT, by its first unit
+  --public BITS    the first input bits, which both ends know
+
+example: zk serve 127.0.0.1:4000 /tmp/demo.verifier examples/and.txt 1 --sessions 1
+
+statuses: 0 all accepted, 1 some session was not, 3 a file or a number of bits is refused, 4 a file, the network or the
+  output failed, 5 the journal failed, 6 the units are used up, 7 memory was missing, 9 more units are needed than a
+  session may have
+";
+
+const SERVE_MANY: &str = "\
+usage: zk serve-many ADDRESS FILE STATEMENTS --sessions N [--workers W] [--section G] [--logs PREFIX]
+
+As `zk serve`, where each prover may prove any one of several statements. The file STATEMENTS has 1 to 256 lines
+`CIRCUIT PUBLIC OUTPUTS`: the file of a circuit, its public input bits or `none`, and the claimed outputs.
+
+example: zk serve-many 127.0.0.1:4000 /tmp/demo.verifier statements.txt --sessions 2
+
+options and statuses: those of `zk serve`, but for --public
+";
+
+const PROVE: &str = "\
+usage: zk prove ADDRESS FILE CIRCUIT BITS OUTPUTS [--public BITS]
+
+Proves to the verifier at ADDRESS that there are input bits for which the circuit gives OUTPUTS, and shows no more about
+BITS than that. FILE is the dealt prover's file; the units that are used are claimed in FILE.journal, each once.
+
+  --public BITS    the first input bits, which both ends know; BITS are then the others
+
+example: zk prove 127.0.0.1:4000 /tmp/demo.prover examples/and.txt 11 1
+
+statuses: 0 accepted, 1 rejected, or the bits do not give the outputs, 3 a file or a number of bits is refused, 4 a file,
+  the network or the output failed, 5 the journal failed or is full, 7 memory was missing, 8 the verifier broke the
+  protocol
+";
+
+const AUDIT: &str = "\
+usage: zk audit CIRCUIT OUTPUTS PROVERFILE VERIFIERFILE LOG [--public BITS]
+
+Finds, from both dealt files and a session's log, the input bits that an accepted session fixes, or why it fixes none.
+
+  --public BITS    the first input bits, which both ends knew
+
+example: zk audit examples/and.txt 1 /tmp/demo.prover /tmp/demo.verifier /tmp/demo.0
+
+statuses: 0 the inputs are found, 1 they are not, 3 a file, the log or a number of bits is refused, 4 a file or the output
+  failed, 7 memory was missing
+";
+
+const VERSION: &str = "zk 1.0\n";
+
+/// The help that the words ask for: `--help`, `-h`, `--version` or `-V` alone, or `--help` after a command's name. No valid words do.
+pub fn help_text(words: &[String]) -> Option<&'static str>
+    ensures some { is_some result ≡ asks_for_help (texts words.now) }
+    ensures valid { IsSome (asked (texts words.now)) → IsNone result }
+{
+    match words {
+        [word] => program_help(word),
+        [name, word] if word.as_str() == "--help" => command_help(name),
+        _ => None,
+    }
+}
+
+/// The help that a lone word asks for.
+fn program_help(word: &str) -> Option<&'static str>
+    ensures some { is_some result ≡ is_help_word word.now }
+    ensures valid { IsSome (asked (word.now ∷ [])) → IsNone result }
+{
+    match word {
+        "--help" | "-h" => Some(PROGRAM),
+        "--version" | "-V" => Some(VERSION),
+        _ => None,
+    }
+}
+
+/// The help of a command.
+fn command_help(name: &str) -> Option<&'static str>
+    ensures { is_some result ≡ is_command_name name.now }
+{
+    match name {
+        "deal" => Some(DEAL),
+        "eval" => Some(EVAL),
+        "rehearse" => Some(REHEARSE),
+        "serve" => Some(SERVE),
+        "serve-many" => Some(SERVE_MANY),
+        "prove" => Some(PROVE),
+        "audit" => Some(AUDIT),
+        _ => None,
+    }
+}

@@ -1,0 +1,30 @@
+use Rattle.std.proofs.Common.{sym, subst}
+use Rattle.sha2.proofs.Facts256.{length-sha256}
+use Rattle.frame_laws.proofs.Octets.{sha256_octets}
+use Rattle.frame_link.proofs.LineLemmas.{fails_at}
+use Rattle.zk_model.specs.Bytes.{AreBytes}
+use Rattle.zk_port.specs.Changes.{change}
+use Rattle.file_commands.specs.Stops.{IsLoaded}
+use Rattle.file_commands.proofs.Causes.{circuit_of_load, circuit_of_text, claim_of_circuit}
+use Rattle.file_commands.proofs.circuit_file.load_claimed.Goals as goal
+
+pub returns-clause-digest : goal.returns-clause-digest
+returns-clause-digest g c = subst (AreBytes 32) (sym c.digest-digest.ensures) (length-sha256 _, sha256_octets _)
+
+pub returns-in_err-text-clause-stop : goal.returns-in_err-text-clause-stop
+returns-in_err-text-clause-stop g c =
+    let shelf = change (g.F.Shelf.state c.args.shelf.now) (g.F.Shelf.state c.load_file.new.shelf) in
+    let why = c.in_err-text.field-0.0 in
+    fails_at _ c.from_residual.result why c.from_residual.ensures.1
+    (claim_of_circuit c.args.name.now c.args.public.now c.args.outputs.now shelf why
+    (circuit_of_load c.args.name.now shelf why c.in_err-text.ensures.stop))
+
+pub returns-in_err-circuit-clause-stop : goal.returns-in_err-circuit-clause-stop
+returns-in_err-circuit-clause-stop g c =
+    let shelf = change (g.F.Shelf.state c.args.shelf.now) (g.F.Shelf.state c.load_file.new.shelf) in
+    let why = c.in_err-circuit.field-0.0 in
+    fails_at _ c.from_residual-in_err-circuit.result why c.from_residual-in_err-circuit.ensures.1
+    (claim_of_circuit c.args.name.now c.args.public.now c.args.outputs.now shelf why
+    (circuit_of_text c.args.name.now shelf c.deref.result.now why
+    (subst (IsLoaded shelf.old.told c.args.name.now) (sym c.deref.ensures.value) c.in_ok-text.ensures.loaded)
+    c.in_err-circuit.ensures.stop))

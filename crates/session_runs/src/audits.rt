@@ -1,0 +1,117 @@
+// What audits say of the log of a rehearsal.
+ghost use Rattle.std.specs.Prelude.{◌≡◌, ◌≤◌, length};
+
+use crate::say::Bits;
+use crate::scenario::Scenario;
+use crate::scene::params_of;
+use crate::sessions::{Case, SEED};
+use anyhow::Result;
+use bristol_reader::Circuit;
+use dealer_files::{ProverFile, VerifierFile, deal};
+use mersenne_field::Fe;
+use proof_audit::{AuditFault, Finding, audit};
+use std::alloc::Global;
+use std::fmt;
+
+/// Both files, and what a session over them is about.
+#[derive(Clone, Copy)]
+struct Audited<'a> {
+    circuit: &'a Circuit,
+    public: &'a [bool],
+    outputs: &'a [bool],
+    prover: &'a ProverFile,
+    verifier: &'a VerifierFile,
+}
+
+/// What an audit found, or why it found nothing.
+#[derive(Drop)]
+struct Answered {
+    answer: Result<Finding, AuditFault>,
+}
+
+/// The coefficients of a polynomial, each behind a colon.
+fn write_coefficients<W: fmt::Write>(f: &mut fmt::Formatter<W>, polynomial: &[Fe]) -> fmt::Result {
+    for coefficient in polynomial {
+        let value = coefficient.value();
+        write!(f, ":{value}")?;
+    }
+    Ok(())
+}
+
+impl fmt::Display for Answered {
+    fn fmt<W: fmt::Write>(&self, f: &mut fmt::Formatter<W>) -> fmt::Result {
+        match &self.answer {
+            Ok(Finding::Inputs(bits)) => {
+                let bits = Bits {
+                    bits: bits.as_slice(),
+                };
+                write!(f, "inputs:{bits}")
+            }
+            Ok(
+                Finding::ChallengeRoot {
+                    section,
+                    polynomial,
+                },
+            ) => {
+                write!(f, "challenge-root:{section}")?;
+                write_coefficients(f, polynomial)
+            }
+            Ok(Finding::KeyRoot { polynomial }) => {
+                write!(f, "key-root")?;
+                write_coefficients(f, polynomial)
+            }
+            Ok(Finding::NotAccepted) => write!(f, "not-accepted"),
+            Err(AuditFault::NotDealt { unit }) => write!(f, "not-dealt:{unit}"),
+            Err(AuditFault::LogFault { place }) => write!(f, "fault:{place}"),
+            Err(AuditFault::NoMemory) => write!(f, "no-memory"),
+        }
+    }
+}
+
+/// The answer about a log.
+fn answer_about(alloc: Global, audited: &Audited<'_>, log: &[u8]) -> Answered
+    requires public { length audited.now.public.now ≤ audited.now.circuit.now.inputs }
+    requires outputs { length audited.now.outputs.now ≡ audited.now.circuit.now.outputs }
+{
+    let Audited {
+        circuit,
+        public,
+        outputs,
+        prover,
+        verifier,
+    } = *audited;
+    let answer = audit(
+        alloc, circuit, [0; 32], public, outputs, prover, verifier, log,
+    );
+    Answered { answer }
+}
+
+/// The lines of audits of these logs, over the files of a rehearsal that took so many units.
+pub fn audit_lines(
+    alloc: Global,
+    scenario: &Scenario<'_>,
+    circuit: &Circuit,
+    public: &[bool],
+    outputs: &[bool],
+    units: u64,
+    cases: Vec<Case>,
+) -> Result<String>
+    requires public { length public.now ≤ circuit.now.inputs }
+    requires outputs { length outputs.now ≡ circuit.now.outputs }
+{
+    let params = params_of(&Scenario { units, ..*scenario })?;
+    let (prover, verifier) = deal(alloc, &params, &SEED)?;
+    let audited = Audited {
+        circuit,
+        public,
+        outputs,
+        prover: &prover,
+        verifier: &verifier,
+    };
+    let mut lines = String::new(alloc);
+    for Case { name, script, .. } in cases {
+        let answer = answer_about(alloc, &audited, &script);
+        lines.push_str(&format!(in alloc; "{name}{answer}\n")?)?;
+    }
+    Ok(lines)
+}

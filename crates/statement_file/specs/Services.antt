@@ -1,0 +1,25 @@
+-- What is served: where, over which file, and about which claims.
+use Rattle.std.specs.Prelude.{ℕ, List, [], ◌∷◌}
+use Rattle.command_words.specs.Words.{ServeAsk, ServeManyAsk, ServeOptions}
+use Rattle.statement_file.specs.Claims.{NamedClaim, named_claim}
+
+-- where provers connect, the verifier's file, the claims, each known by its number, and the options
+pub record Service : Type 0 where
+  pub address : List ℕ
+  pub file : List ℕ
+  pub claims : List NamedClaim
+  pub options : ServeOptions
+
+abbrev pub service : List ℕ → List ℕ → List NamedClaim → ServeOptions → Service
+service address file claims options = record { address = address; file = file; claims = claims; options = options }
+
+-- of the one claim that words name
+abbrev pub claim_asked : ServeAsk → NamedClaim
+claim_asked ask = named_claim ask.circuit ask.public ask.outputs
+
+abbrev pub service_asked : ServeAsk → Service
+service_asked ask = service ask.address ask.file (claim_asked ask ∷ []) ask.options
+
+-- and of these claims, which a file of statements names
+abbrev pub service_of_many : ServeManyAsk → List NamedClaim → Service
+service_of_many ask claims = service ask.address ask.file claims ask.options

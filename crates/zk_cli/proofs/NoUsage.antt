@@ -1,0 +1,147 @@
+-- No command ends with the status of words that ask for nothing.
+use Rattle.std.proofs.Common.{◌≡◌, ℕ, List, refl, sym, ◌∙◌, subst, inl, inr, arith}
+use Rattle.zk_port.specs.Links.{LinkState}
+use Rattle.dealer_files.specs.declared.fault.FileFault.TheVariants as file
+use Rattle.session_prover.specs.declared.note.ProverOutcome.{ProverOutcome}
+use Rattle.session_prover.specs.declared.note.ProverOutcome.TheVariants as ended
+use Rattle.command_words.specs.Words.{Ask, ProveAsk, ServeManyAsk, rehearse, generate, eval, deal, serve, serve_many, prove, audit}
+use Rattle.statement_file.specs.Services.{Service, service_asked}
+use Rattle.file_commands.specs.Effects.{DoorChange, Effects, ShelfChange}
+use Rattle.file_commands.specs.Journals.{DiskChange}
+use Rattle.file_commands.specs.Stops.{IsOfStop, StatusMeans, stop_status}
+use Rattle.file_commands.specs.declared.refusal.Refusal.{Refusal}
+use Rattle.file_commands.specs.declared.refusal.Refusal.TheVariants as stop
+use Rattle.zk_cli.specs.ManyRuns.{ServesMany, StatementsStop}
+use Rattle.zk_cli.specs.Meets.{Meets}
+use Rattle.zk_cli.specs.ProveRuns.{ProveMeans, ProveStop, proved_status}
+use Rattle.zk_cli.specs.Runs.{Run}
+use Rattle.zk_cli.specs.ServeRuns.{ServeMeans, ServeStop}
+use Rattle.zk_cli.specs.declared.finish.Part.{Part}
+use Rattle.zk_cli.specs.declared.finish.Part.TheVariants.{Plain, Proved, Rehearsed, Served}
+
+two_is_usage : (why : Refusal) → 2 ≡ stop_status why → why ≡ stop.Usage
+two_is_usage stop.Usage two = refl
+two_is_usage (stop.BadText fault) two = absurd (omega (arith, two))
+two_is_usage (stop.BadFile file.BadMagic) two = absurd (omega (arith, two))
+two_is_usage (stop.BadFile file.BadKind) two = absurd (omega (arith, two))
+two_is_usage (stop.BadFile file.BadParam) two = absurd (omega (arith, two))
+two_is_usage (stop.BadFile (file.Length need got)) two = absurd (omega (arith, two))
+two_is_usage (stop.BadFile (file.BadElement place)) two = absurd (omega (arith, two))
+two_is_usage (stop.BadFile file.ZeroKey) two = absurd (omega (arith, two))
+two_is_usage (stop.BadFile file.BadDigest) two = absurd (omega (arith, two))
+two_is_usage (stop.BadFile file.NoMemory) two = absurd (omega (arith, two))
+two_is_usage (stop.TooLong limit) two = absurd (omega (arith, two))
+two_is_usage (stop.ManyPublic inputs got) two = absurd (omega (arith, two))
+two_is_usage (stop.WrongBits need got) two = absurd (omega (arith, two))
+two_is_usage (stop.WrongOutputs need got) two = absurd (omega (arith, two))
+two_is_usage (stop.NotDealt unit) two = absurd (omega (arith, two))
+two_is_usage (stop.BadLog place) two = absurd (omega (arith, two))
+two_is_usage (stop.StatementLine line) two = absurd (omega (arith, two))
+two_is_usage (stop.StatementCount lines) two = absurd (omega (arith, two))
+two_is_usage (stop.Unsatisfied output) two = absurd (omega (arith, two))
+two_is_usage stop.DoorFailed two = absurd (omega (arith, two))
+two_is_usage stop.ShelfFailed two = absurd (omega (arith, two))
+two_is_usage stop.NoMemory two = absurd (omega (arith, two))
+two_is_usage (stop.TooLarge need units) two = absurd (omega (arith, two))
+two_is_usage (stop.JournalShort need got) two = absurd (omega (arith, two))
+two_is_usage (stop.JournalHeader place) two = absurd (omega (arith, two))
+two_is_usage (stop.JournalBody slot) two = absurd (omega (arith, two))
+two_is_usage (stop.JournalFailed count) two = absurd (omega (arith, two))
+
+-- a stop for another cause, or want of memory
+stop_two : (Cause : Refusal → Type 0) (status : ℕ) → ¬ Cause stop.Usage → IsOfStop Cause status → status ≡ 2 → ⊥
+stop_two Cause status unused found two = unused (subst Cause (two_is_usage found.0 (sym two ∙ found.2)) found.1)
+
+means_two : (Does : Type 0) (Cause : Refusal → Type 0) (IsNamed : List ℕ → Type 0) (run : Effects) → StatusMeans Does Cause IsNamed run
+    → run.status ≡ 2 → ⊥
+means_two Does Cause IsNamed run (inl (zero_is, done)) two = omega (arith, zero_is, two)
+means_two Does Cause IsNamed run (inr (inl (three, cause))) two = omega (arith, three, two)
+means_two Does Cause IsNamed run (inr (inr (inl (four, failed)))) two = omega (arith, four, two)
+means_two Does Cause IsNamed run (inr (inr (inr (inl seven)))) two = omega (arith, seven, two)
+means_two Does Cause IsNamed run (inr (inr (inr (inr (nine, cause))))) two = omega (arith, nine, two)
+
+-- ---- services
+
+serve_unused : (service : Service) (shelf : ShelfChange) (disk : DiskChange) (door : DoorChange) → ServeStop service shelf disk door stop.Usage → ⊥
+serve_unused service shelf disk door (inl (inl lacks, unasked, unheard)) = absurd lacks.cause
+serve_unused service shelf disk door (inl (inr lacks, unasked, unheard)) = absurd lacks.1
+serve_unused service shelf disk door (inr opening) = elim opening.2.2 [ inl journal ↦ absurd journal.0 | inr unheard ↦ absurd unheard ]
+
+serve_two : {L : Type 0} (service : Service) (part : Part L) (disk : DiskChange) (door : DoorChange) (run : Effects)
+    → ServeMeans service part disk door run → run.status ≡ 2 → ⊥
+serve_two service (Served notes) disk door run (inl (zero_is, all)) two = omega (arith, zero_is, two)
+serve_two service (Served notes) disk door run (inr (inl (one, some))) two = omega (arith, one, two)
+serve_two service (Served notes) disk door run (inr (inr (inl (four, some)))) two = omega (arith, four, two)
+serve_two service (Served notes) disk door run (inr (inr (inr (inl five)))) two = let at = five.0 in omega (arith, at, two)
+serve_two service (Served notes) disk door run (inr (inr (inr (inr (inl (six, some)))))) two = omega (arith, six, two)
+serve_two service (Served notes) disk door run (inr (inr (inr (inr (inr seven))))) two = omega (arith, seven, two)
+serve_two service Plain disk door run (inl stopped) two =
+    stop_two (ServeStop service run.shelf disk door) run.status (serve_unused service run.shelf disk door) stopped two
+serve_two service Plain disk door run (inr seven) two = omega (arith, seven, two)
+serve_two service (Rehearsed r) disk door run means two = means
+serve_two service (Proved note) disk door run means two = means
+
+many_two : {L : Type 0} (link_tells : L → LinkState) (ask : ServeManyAsk) (part : Part L) (disk : DiskChange) (door : DoorChange) (run : Effects)
+    → ServesMany link_tells ask part disk door run → run.status ≡ 2 → ⊥
+many_two link_tells ask part disk door run many two = elim many.runs [
+  | inl served ↦ serve_two served.0 part disk door run served.2.means two
+  | inr lacks ↦ (elim lacks.means [
+    | inl stopped ↦ stop_two (StatementsStop ask run.shelf) run.status (λ cause. cause) stopped two
+    | inr seven ↦ omega (arith, seven, two)
+  ])
+]
+
+-- ---- proofs
+
+prove_unused : (ask : ProveAsk) (shelf : ShelfChange) (disk : DiskChange) (door : DoorChange) → ProveStop ask shelf disk door stop.Usage → ⊥
+prove_unused ask shelf disk door (inl (inl (inl cause), unasked, unheard)) = absurd cause
+prove_unused ask shelf disk door (inl (inl (inr cause), unasked, unheard)) = absurd cause.is
+prove_unused ask shelf disk door (inl (inr cause, unasked, unheard)) = absurd cause.4
+prove_unused ask shelf disk door (inr cause) = elim cause.3.cause [ inl journal ↦ absurd journal.0 | inr unheard ↦ absurd unheard ]
+
+proved_two : (outcome : ProverOutcome) → 2 ≡ proved_status outcome → ⊥
+proved_two ended.Accepted two = omega (arith, two)
+proved_two (ended.Rejected code number) two = omega (arith, two)
+proved_two (ended.PeerEnded at) two = omega (arith, two)
+proved_two (ended.BadFrame place) two = omega (arith, two)
+proved_two ended.BadGrant two = omega (arith, two)
+proved_two (ended.PeerRefused code) two = omega (arith, two)
+proved_two (ended.Overlap earlier) two = omega (arith, two)
+proved_two (ended.OutOfRange total) two = omega (arith, two)
+proved_two (ended.Full slots) two = omega (arith, two)
+proved_two (ended.Broken first) two = omega (arith, two)
+proved_two ended.Device two = omega (arith, two)
+proved_two ended.Link two = omega (arith, two)
+proved_two ended.NoMemory two = omega (arith, two)
+
+prove_two : {L : Type 0} (ask : ProveAsk) (part : Part L) (disk : DiskChange) (door : DoorChange) (run : Effects)
+    → ProveMeans ask part disk door run → run.status ≡ 2 → ⊥
+prove_two ask (Proved note) disk door run (inl accepted) two = let zero_is = accepted.0 in omega (arith, zero_is, two)
+prove_two ask (Proved note) disk door run (inr (inl other)) two = proved_two note.outcome (sym two ∙ other.0)
+prove_two ask (Proved note) disk door run (inr (inr (inl (four, failed)))) two = omega (arith, four, two)
+prove_two ask (Proved note) disk door run (inr (inr (inr seven))) two = omega (arith, seven, two)
+prove_two ask Plain disk door run (inl stopped) two =
+    stop_two (ProveStop ask run.shelf disk door) run.status (prove_unused ask run.shelf disk door) stopped two
+prove_two ask Plain disk door run (inr (inl (four, failed))) two = omega (arith, four, two)
+prove_two ask Plain disk door run (inr (inr seven)) two = omega (arith, seven, two)
+prove_two ask (Rehearsed r) disk door run means two = means
+prove_two ask (Served notes) disk door run means two = means
+
+-- ---- any command
+
+pub command_two : {F L B D : Type 0} (ask : Ask) (seed : List ℕ) (disk : DiskChange) (run : Run F L B D) → Meets ask seed disk run
+    → run.effects.status ≡ 2 → ⊥
+command_two (rehearse ask) seed disk run meets two = means_two _ _ _ run.effects meets.0.means two
+command_two (generate ask) seed disk run meets two = means_two _ _ _ run.effects meets.0.means two
+command_two (eval ask) seed disk run meets two = means_two _ _ _ run.effects meets.0.means two
+command_two (deal ask) seed disk run meets two = means_two _ _ _ run.effects meets.0.means two
+command_two (audit ask) seed disk run meets two = elim meets.0.means [
+  | inl zero_is ↦ (let at = zero_is.0 in omega (arith, at, two))
+  | inr (inl one) ↦ (let at = one.0 in omega (arith, at, two))
+  | inr (inr (inl three)) ↦ (let at = three.0 in omega (arith, at, two))
+  | inr (inr (inr (inl four))) ↦ (let at = four.0 in omega (arith, at, two))
+  | inr (inr (inr (inr seven))) ↦ omega (arith, seven, two)
+]
+command_two (serve ask) seed disk run meets two = serve_two (service_asked ask) run.part disk run.door run.effects meets.means two
+command_two (serve_many ask) seed disk run meets two = many_two run.link_tells ask run.part disk run.door run.effects meets two
+command_two (prove ask) seed disk run meets two = prove_two ask run.part disk run.door run.effects meets.means two

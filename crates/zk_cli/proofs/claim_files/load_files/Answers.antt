@@ -1,0 +1,17 @@
+use Rattle.std.proofs.Common.{inr, subst}
+use Rattle.frame_link.proofs.LineLemmas.{fails_at}
+use Rattle.zk_model.specs.declared.Side.TheVariants.{Verifier}
+use Rattle.zk_port.specs.Changes.{change}
+use Rattle.zk_port.specs.Shelves.{ShelfState}
+use Rattle.file_commands.specs.Stops.{FileStop}
+use Rattle.zk_cli.proofs.Loading.{had_each}
+use Rattle.zk_cli.proofs.claim_files.load_files.Goals as goal
+
+pub returns-in_err-file-clause-stop : goal.returns-in_err-file-clause-stop
+returns-in_err-file-clause-stop g c =
+    let why = c.in_err-file.field-0.0 in
+    let new = g.F.Shelf.state c.load_verifier.new.shelf in
+    fails_at _ c.from_residual-in_err-file.result why c.from_residual-in_err-file.ensures.1 (inr (
+      had_each (g.F.Shelf.state c.args.shelf.now).told c.args.words.now.claims.now c.in_ok-claims.claims.items c.in_ok-claims.ensures.claims,
+      subst (λ (s : ShelfState). FileStop Verifier c.args.words.now.file.now (change s new) why) c.in_ok-claims.ensures.quiet c.in_err-file.ensures.stop,
+    ))

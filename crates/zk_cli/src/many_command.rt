@@ -1,0 +1,107 @@
+// `serve-many ADDRESS FILE STATEMENTS --sessions N [--workers W] [--section G] [--logs PREFIX]`
+ghost use Rattle.std.specs.Prelude.{◌≡◌, IfOk, IfErr, OnOk};
+ghost use Rattle.zk_port.specs.Changes.{change};
+ghost use Rattle.command_words.specs.Commands.{AreServeLimits, named_options};
+ghost use Rattle.command_words.specs.Words.{serve_many};
+ghost use Rattle.statement_file.specs.Claims.{SaysClaims};
+ghost use Rattle.file_commands.specs.Journals.{IsJournalDisk, disk_change};
+ghost use Rattle.file_commands.specs.Effects.{OnlyLoads, IsName, effects};
+ghost use Rattle.file_commands.specs.Stops.{HasText};
+ghost use Rattle.zk_cli.specs.ManyRuns.{ServesMany, StatementsStop, many_words};
+ghost use Rattle.zk_cli.specs.ServedNotes.{GrantsOnceIn, ShowsClaims};
+
+use crate::finish::{Finish, Part};
+use crate::serve_command::{ServiceWords, run_service};
+use command_words::ServedOptions;
+use file_commands::{Refusal, load_file, say_stop};
+use statement_file::{NamedClaim, StatementError, StatementFault, read_statements};
+use std::alloc::Global;
+use std::sync::Wait;
+use std::thread::Threads;
+use zk_port::{Disk, Door, Gate, Shelf, Sink};
+
+/// What the words of the command name.
+#[derive(Clone, Copy, Debug)]
+pub struct ManyWords<'a> {
+    pub address: &'a str,
+    pub file: &'a str,
+    pub statements: &'a str,
+    pub options: &'a ServedOptions,
+}
+
+/// The claims that the file of statements names.
+fn load_statements<F: Shelf>(
+    alloc: Global,
+    shelf: &mut F,
+    words: &ManyWords<'_>,
+) -> Result<Vec<NamedClaim>, Refusal>
+    ensures claims { IfOk result (λ claims. HasText (F.state shelf.old).told words.now.statements.now
+        (λ text. SaysClaims text claims.items)) }
+    ensures stop { IfErr result (StatementsStop (many_words words.now)
+        (change (F.state shelf.old) (F.state shelf.new))) }
+    ensures kept { OnlyLoads (IsName words.now.statements.now)
+        (change (F.state shelf.old) (F.state shelf.new)) }
+    ensures quiet { OnOk result (F.state shelf.new ≡ F.state shelf.old) }
+{
+    let text = load_file(alloc, shelf, words.statements)?;
+    match read_statements(alloc, &text) {
+        Ok(claims) => Ok(claims),
+        Err(StatementError::Fault(StatementFault::BadLine { line })) => {
+            Err(Refusal::StatementLine { line })
+        }
+        Err(StatementError::Fault(StatementFault::Count { lines })) => {
+            Err(Refusal::StatementCount { lines })
+        }
+        Err(StatementError::NoMemory) => Err(Refusal::NoMemory),
+    }
+}
+
+/// `serve-many ADDRESS FILE STATEMENTS --sessions N [--workers W] [--section G] [--logs PREFIX]`: serves sessions about the
+/// claims that the file of statements names, or says why none is served; with the status.
+pub fn run_serve_many<R, F, D, B, O, G>(
+    rt: &R,
+    alloc: Global,
+    shelf: &mut F,
+    journal: B,
+    door: D,
+    gate: &G,
+    out: &mut O,
+    words: &ManyWords<'_>,
+) -> Finish<B, D>
+where
+    R: Threads + Wait + Sync,
+    F: Shelf,
+    D: Door + Drop + Send,
+    D::Link: Drop + Send,
+    B: Disk + Drop + Send,
+    O: Sink,
+    G: Gate + Sync,
+    requires disk { IsJournalDisk (B.state journal) }
+    requires limits { AreServeLimits (named_options words.now.options.now) }
+    ensures serves { ServesMany D.Link.state (many_words words.now) result.part
+        (disk_change (B.state journal) (B.state result.journal)) (change (D.state door) (D.state result.door))
+        (effects result.status
+        (change (F.state shelf.old) (F.state shelf.new)) (change (O.state out.old) (O.state out.new))) }
+    ensures headline { ShowsClaims (F.state shelf.old).told (serve_many (many_words words.now)) result.part }
+    ensures once { GrantsOnceIn (F.state shelf.old).told (serve_many (many_words words.now)) result.part
+        (disk_change (B.state journal) (B.state result.journal)) }
+{
+    let claims = match load_statements(alloc, shelf, words) {
+        Ok(claims) => claims,
+        Err(stop) => {
+            return Finish {
+                status: say_stop(alloc, out, stop),
+                journal,
+                door,
+                part: Part::Plain,
+            };
+        }
+    };
+    let named = ServiceWords {
+        address: words.address,
+        file: words.file,
+        claims: &claims,
+        options: words.options,
+    };
+    run_service(rt, alloc, shelf, journal, door, gate, out, &named)
+}
