@@ -14,11 +14,10 @@ from typing import Dict, List, NamedTuple, Set, Tuple
 CRATES = pathlib.Path(__file__).resolve().parent.parent / "crates"
 
 HEADLINE = [
-    "zk_cli.specs.ServedNotes.IsHeadline",
+    "zk_cli.specs.ServedNotes.ShowsClaims",
     "zk_cli.specs.ServedNotes.GrantsOnceIn",
     "file_commands.specs.Journals.disk_change",
     "file_commands.specs.Journals.IsJournalDisk",
-    "zk_cli.specs.Runs.EachNote",
     "command_words.specs.Words.asked",
     "command_words.specs.Words.texts",
 ]
