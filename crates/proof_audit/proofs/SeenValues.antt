@@ -1,23 +1,21 @@
 -- The values of the pairs that a round makes, read of the prover's file and its asks.
-use Rattle.std.proofs.Common.{◌≡◌, ℕ, suc, ◌+◌, ◌-◌, ◌*◌, ◌%◌, ◌^◌, ◌<◌, Bool, true, false, not, List, [], ◌∷◌, ◌++◌, length, flat_map, map, take, drop, get_or, nat_eq, refl, sym, ◌∙◌, ap, subst, arith, mod-eq_of_lt}
+use Rattle.std.proofs.Common.{◌≡◌, ℕ, suc, ◌+◌, ◌-◌, ◌*◌, ◌%◌, ◌^◌, ◌<◌, Bool, true, false, List, [], ◌∷◌, ◌++◌, length, flat_map, map, take, drop, get_or, nat_eq, refl, sym, ◌∙◌, ap, subst, arith, mod-eq_of_lt}
 use Rattle.std.specs.Prelude.{if◌then◌else◌}
 use Rattle.std.specs.List.{range_with_len, enumerate_from}
 use Rattle.std.proofs.Math.Pow.{pow-lt}
 use Rattle.std.proofs.lemmas.List.FromFn.{length-map-range_with_len}
-use Rattle.std.proofs.lemmas.Simd.{map-map}
 use Rattle.zk_model.specs.Field.{◌+ₚ◌}
 use Rattle.zk_model.specs.Bytes.{AreBytes}
 use Rattle.zk_model.specs.Mac.{Pair, values_of}
-use Rattle.zk_model.specs.Extension.{place_of, code_outputs}
+use Rattle.zk_model.specs.Extension.{code_outputs}
 use Rattle.zk_model.specs.Files.{Transfer, ProverUnit, ProverFile, AreParams, AreTransfers, AreWithinLimits, IsProverFile, IsProverUnit, prover_unit, unit_transfers}
-use Rattle.zk_model.specs.Transcript.{TreeAsk, TreeReply}
-use Rattle.zk_model.specs.Correlations.{LevelView, TreeView, UnitRound, chosen_side, hidden_place, level_view, tree_view, IsNoiseOf, IsExtension}
+use Rattle.zk_model.specs.Correlations.{LevelView, TreeView, UnitRound, hidden_place, tree_view, IsNoiseOf, IsExtension}
 use Rattle.zk_model.specs.declared.Kind.{Kind}
 use Rattle.zk_model.specs.declared.Kind.TheVariants.{Extended}
 use Rattle.zk_model.specs.declared.Params.{Params}
-use Rattle.vole_extend.specs.Levels.{flip_choice, flip_place}
 use Rattle.vole_extend.specs.Rounds.{ask_at, reply_at}
 use Rattle.proof_audit.specs.SeenValues.{only_at, tree_values, noise_values, unit_values}
+use Rattle.vole_extend.proofs.AskedAny.{place_hidden}
 use Rattle.vole_extend.proofs.Pieces.{piece_is}
 
 -- ---- the transfers of a tree
@@ -69,13 +67,6 @@ noise_from place k hidden [] = refl
 noise_from place k hidden (leaf ∷ found) = λ i.
     choice_value (nat_eq k place) hidden (record { x = 0; m = leaf }) i ∷ noise_from place (k + 1) hidden found i
 
--- the place that a tree's view hides follows from what was dealt and asked
-hidden_is : (h : ℕ) (transfers : List Transfer) (ask : TreeAsk) (reply : TreeReply) → length transfers ≡ h
-    → hidden_place (map (level_view transfers ask reply) (range_with_len 0 h)) ≡ flip_place transfers ask.flips
-hidden_is h transfers ask reply count =
-    ap place_of (map-map (λ (level : LevelView). not (chosen_side level)) (level_view transfers ask reply) (range_with_len 0 h))
-    ∙ ap (λ n. place_of (map (λ level. not (flip_choice transfers ask.flips level)) (range_with_len 0 n))) (sym count)
-
 -- of the noise of a tree
 tree_noise_values : (params : Params) (unit : ProverUnit) (round : UnitRound) (tree : ℕ) (entries : List Pair)
     → length (get_or unit.trees tree []) ≡ params.height → IsNoiseOf (tree_view params unit round tree) entries
@@ -84,7 +75,7 @@ tree_noise_values params unit round tree entries count is =
     ap values_of is.2
     ∙ noise_from (hidden_place levels) 0 (record { x = view.base.x +ₚ view.base_correction; m = _ }) is.0
     ∙ (λ i. only_at ((is.1.whole ∙ ap (λ n. 2 ^ n) (length-map-range_with_len _ 0 params.height)) i)
-    (hidden_is params.height (get_or unit.trees tree []) (ask_at round.asks tree) (reply_at round.replies tree) count i)
+    (sym (place_hidden params.height (get_or unit.trees tree []) (ask_at round.asks tree) (reply_at round.replies tree) count) i)
     (view.base.x +ₚ view.base_correction))
   where
     view : TreeView

@@ -49,6 +49,10 @@ ShowsSectionAt i side pairs s (KeyRoot polynomial) =
     (pair_at (drop side.program.givens pairs) i) (slice_index_or s.sums.items i (0, 0)) polynomial.items
 ShowsSectionAt i side pairs s NotAccepted = ⊥
 
+-- what section i shows, which has an error
+abbrev pub ShowsWrongSection : ℕ → SeenSide → List Pair → Session → Finding → Type 0
+ShowsWrongSection i side pairs s finding = ¬ IsZero (errors_at side s i) × ShowsSectionAt i side pairs s finding
+
 -- what the first section with an error shows
 abbrev pub ShowsFirstSection : SeenSide → List Pair → Session → Finding → Type 0
 ShowsFirstSection side pairs s (Inputs bits) = ⊥

@@ -3,10 +3,11 @@ ghost use Rattle.std.specs.Prelude.{◌≡◌, ◌+◌, ◌<◌, ◌≤◌, ◌^
 ghost use Rattle.zk_model.specs.Bits.{from_bit};
 ghost use Rattle.zk_model.specs.Check.{opened_pairs, section_triples, IsFirstFailure};
 ghost use Rattle.zk_model.specs.Mac.{Pair as model, pair_at};
+ghost use Rattle.zk_model.specs.Polynomial.{IsZero};
 ghost use Rattle.zk_model.specs.Program.{section_count};
 ghost use Rattle.proof_audit.specs.Findings.{ShowsSection, ShowsOpening};
 ghost use Rattle.proof_audit.specs.SeenWires.{SeenSide};
-ghost use Rattle.proof_audit.specs.Searches.{SectionsMeet, OpeningsMeet, NoErrorsBefore, AreAsClaimedBefore, ShowsSectionAt, ShowsFirstSection, ShowsFirstOpening};
+ghost use Rattle.proof_audit.specs.Searches.{SectionsMeet, OpeningsMeet, NoErrorsBefore, AreAsClaimedBefore, ShowsSectionAt, ShowsWrongSection, ShowsFirstSection, ShowsFirstOpening, errors_at};
 
 use crate::finding::{Finding, opening_finding, section_finding};
 use crate::seen::SeenWires;
@@ -28,6 +29,41 @@ fn numbered(shown: Finding, section: u32) -> Finding
         },
         other => other,
     }
+}
+
+/// What section s shows, if it has an error.
+///
+/// # Errors
+///
+/// Only where memory runs out.
+fn wrong_section(
+    alloc: Global,
+    wires: &SeenWires<'_>,
+    pairs: &[Pair],
+    session: &Session,
+    s: usize,
+) -> Result<Option<Finding>, AllocError>
+    requires some { 1 ≤ session.now.grant.section_length }
+    requires there { s < section_count wires.now.program session.now.grant.section_length }
+    requires pairs { wires.now.program.givens
+        + section_count wires.now.program session.now.grant.section_length ≤ length pairs.now }
+    requires sums { length session.now.sums.items
+        ≡ section_count wires.now.program session.now.grant.section_length }
+    requires few { section_count wires.now.program session.now.grant.section_length < 2 ^ 32 }
+    requires met { SectionsMeet wires.now pairs.now session.now }
+    ensures none { IfOk result (λ shown. IfNone shown (IsZero (errors_at wires.now session.now s))) }
+    ensures some { IfOk result (λ shown. IfSome shown (ShowsWrongSection s wires.now pairs.now session.now)) }
+{
+    let g = u64::from(session.grant.section);
+    if wires.is_right(g, s) {
+        return Ok(None);
+    }
+    let givens = wires.program().givens();
+    let triples = wires.section(alloc, g, s)?;
+    let (u, v) = session.sums[s];
+    let mask = pairs[givens + s];
+    let shown = section_finding(alloc, &triples, mask, session.challenge, u, v)?;
+    Ok(shown.map(|finding| numbered(finding, s as u32)))
 }
 
 /// What the first section with an error shows, if one has any.
@@ -52,21 +88,10 @@ pub(crate) fn first_wrong_section(
         (section_count wires.now.program session.now.grant.section_length))) }
     ensures some { IfOk result (λ shown. IfSome shown (ShowsFirstSection wires.now pairs.now session.now)) }
 {
-    let program = wires.program();
-    let _products = program.products();
-    let givens = program.givens();
-    let g = u64::from(session.grant.section);
-    let sections = program.sections(g) as usize;
-    for s in 0..sections {
-        if wires.is_right(g, s) {
-            continue;
-        }
-        let triples = wires.section(alloc, g, s)?;
-        let (u, v) = session.sums[s];
-        let mask = pairs[givens + s];
-        let shown = section_finding(alloc, &triples, mask, session.challenge, u, v)?;
-        if let Some(finding) = shown {
-            return Ok(Some(numbered(finding, s as u32)));
+    let sections = wires.program().sections(u64::from(session.grant.section));
+    for s in 0..sections as usize {
+        if let Some(finding) = wrong_section(alloc, wires, pairs, session, s)? {
+            return Ok(Some(finding));
         }
     }
     Ok(None)

@@ -40,7 +40,7 @@ place_more f n place bit far is =
     appended (first ∷ sides) side from = appended sides side (2 * from + from_bit first)
 
 -- the place is the one that the view hides
-place_hidden : (h : ℕ) (transfers : List Transfer) (ask : TreeAsk) (reply : TreeReply) → length transfers ≡ h
+pub place_hidden : (h : ℕ) (transfers : List Transfer) (ask : TreeAsk) (reply : TreeReply) → length transfers ≡ h
     → flip_place transfers ask.flips ≡ hidden_place (levels_of h transfers ask reply)
 place_hidden h transfers ask reply count =
     ap (λ n. place_of (map (λ level. not (flip_choice transfers ask.flips level)) (range_with_len 0 n))) count

@@ -1,11 +1,9 @@
-use Rattle.std.proofs.Common.{◌≡◌, ℕ, List, ◌<◌, ◌≤◌, ◌∙◌, ◌+◌, ◌-◌, ◌*◌, min, length, arith, ap, subst, sym, refl, eqb, not}
+use Rattle.std.proofs.Common.{◌≡◌, List, ◌<◌, ◌∙◌, ◌+◌, ◌-◌, ◌*◌, min, length, arith, ap, subst, sym, refl, eqb, not}
 use Rattle.std.proofs.lemmas.Bool.{eq-eqb, eqb-true, false≢true, not-false}
 use Rattle.zk_model.specs.Check.{Triple, error_polynomial}
 use Rattle.zk_model.specs.Polynomial.{IsZero}
-use Rattle.zk_model.specs.Program.{Program}
 use Rattle.proof_audit.proofs.Errors.{errors_more, errors_fail, errors_whole}
 use Rattle.proof_audit.proofs.Wires.{products_of}
-use Rattle.proof_audit.specs.SeenWires.{SeenSide}
 use Rattle.proof_audit.proofs.seen.SeenWires.is_right.Goals as goal
 
 pub returns-then-ne : goal.returns-then-ne

@@ -1,7 +1,5 @@
-use Rattle.std.proofs.Common.{◌≡◌, ◌<◌, ◌∙◌, ◌*◌, length, arith, ap}
-use Rattle.zk_model.specs.Program.{Program}
+use Rattle.std.proofs.Common.{◌≡◌, ◌<◌, ◌*◌, length, arith}
 use Rattle.proof_audit.proofs.Wires.{product_more, products_of}
-use Rattle.proof_audit.specs.SeenWires.{SeenSide}
 use Rattle.proof_audit.proofs.seen.SeenWires.section.Goals as goal
 
 pub loop-i-preserved : goal.loop-i-preserved
