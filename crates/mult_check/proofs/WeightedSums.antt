@@ -1,5 +1,5 @@
 -- Sums under powers of a challenge, term by term.
-use Rattle.std.proofs.Common.{◌≡◌, ℕ, ◌+◌, ◌*◌, ◌%◌, ◌^◌, suc, List, [], ◌∷◌, ◌++◌, length, map, refl, ap, sym, ◌∙◌, arith, length-append}
+use Rattle.std.proofs.Common.{◌≡◌, ℕ, ◌+◌, ◌*◌, ◌%◌, ◌^◌, suc, List, [], ◌∷◌, ◌++◌, length, map, pow-add, refl, ap, sym, ◌∙◌, arith, length-append}
 use Rattle.std.proofs.Math.Nat.{pow-zero, pow-suc, add-mod-mod, mod-mod}
 use Rattle.std.proofs.lemmas.List.{length-map, map-append}
 use Rattle.mersenne_field.proofs.Congruence.{same-+, same-*}
@@ -59,3 +59,62 @@ sum_push part challenge items item sum power next is weight far =
     (ap (λ n. n % prime) far ∙ mod-mod before prime)
     (same-* prime term term power (challenge ^ length (items ++ item ∷ [])) refl (ap (λ n. n % prime) weight ∙ mod-mod (challenge ^ length (items ++ item ∷ [])) prime))
     ∙ ap (λ n. n % prime) (sym whole)
+
+-- ---- two lists, one after the other
+
+power_sum-shift : (v i n : ℕ) (terms : List ℕ) → power_sum v (i + n) terms ≡ power_sum v i terms * v ^ n
+power_sum-shift v i n [] = none (v ^ n)
+  where
+    none : (m : ℕ) → 0 ≡ 0 * m
+    none m = omega arith
+power_sum-shift v i n (term ∷ terms) =
+    let next : i + n + 1 ≡ i + 1 + n = omega arith in
+    (λ j. term * pow-add v i n j + (ap (λ k. power_sum v k terms) next ∙ power_sum-shift v (i + 1) n terms) j)
+    ∙ regroup term (v ^ i) (v ^ n) (power_sum v (i + 1) terms)
+  where
+    regroup : (t a b s : ℕ) → t * (a * b) + s * b ≡ (t * a + s) * b
+    regroup t a b s = omega arith
+
+power_sum-append : (v i : ℕ) (first rest : List ℕ) → power_sum v i (first ++ rest) ≡ power_sum v i first + power_sum v (i + length first) rest
+power_sum-append v i [] rest = let at : i ≡ i + 0 = omega arith in ap (λ k. power_sum v k rest) at ∙ none (power_sum v (i + 0) rest)
+  where
+    none : (m : ℕ) → m ≡ 0 + m
+    none m = omega arith
+power_sum-append v i (term ∷ first) rest =
+    let at : i + 1 + length first ≡ i + length (term ∷ first) = omega arith in
+    ap (λ n. term * v ^ i + n) (power_sum-append v (i + 1) first rest ∙ ap (λ k. power_sum v (i + 1) first + power_sum v k rest) at)
+    ∙ regroup (term * v ^ i) (power_sum v (i + 1) first) (power_sum v (i + length (term ∷ first)) rest)
+  where
+    regroup : (a b c : ℕ) → a + (b + c) ≡ a + b + c
+    regroup a b c = omega arith
+
+-- the power of both
+pub power_joined : {T : Type 0} (challenge : ℕ) (first rest : List T) (power later joined : ℕ) → joined ≡ power *ₚ later
+    → power ≡ challenge ^ length first % prime → later ≡ challenge ^ length rest % prime → joined ≡ challenge ^ length (first ++ rest) % prime
+power_joined challenge first rest power later joined is far behind =
+    is ∙ same-* prime power (challenge ^ length first) later (challenge ^ length rest)
+    (ap (λ n. n % prime) far ∙ mod-mod (challenge ^ length first) prime) (ap (λ n. n % prime) behind ∙ mod-mod (challenge ^ length rest) prime)
+    ∙ ap (λ n. n % prime) (sym (pow-add challenge (length first) (length rest)) ∙ ap (λ k. challenge ^ k) (sym (length-append first rest)))
+
+-- the sum of both: the later one times the power that the first list ends at
+pub sum_joined : {T : Type 0} (part : T → ℕ) (challenge : ℕ) (first rest : List T) (sum later power joined : ℕ)
+    → joined ≡ sum +ₚ (later *ₚ power) → power ≡ challenge ^ length first % prime
+    → sum ≡ weighted_sum challenge (map part first) → later ≡ weighted_sum challenge (map part rest)
+    → joined ≡ weighted_sum challenge (map part (first ++ rest))
+sum_joined part challenge first rest sum later power joined is weight far behind =
+    let before = power_sum challenge 1 (map part first) in
+    let after = power_sum challenge 1 (map part rest) in
+    is ∙ add-mod-mod sum (later * power) prime
+    ∙ same-+ prime sum before (later * power) (after * challenge ^ length first)
+    (ap (λ n. n % prime) far ∙ mod-mod before prime)
+    (same-* prime later after power (challenge ^ length first) (ap (λ n. n % prime) behind ∙ mod-mod after prime)
+    (ap (λ n. n % prime) weight ∙ mod-mod (challenge ^ length first) prime))
+    ∙ ap (λ n. n % prime) (sym whole)
+  where
+    place : 1 + length (map part first) ≡ 1 + length first
+    place = ap (λ n. 1 + n) (length-map first part)
+
+    whole : power_sum challenge 1 (map part (first ++ rest)) ≡ power_sum challenge 1 (map part first) + power_sum challenge 1 (map part rest) * challenge ^ length first
+    whole = ap (power_sum challenge 1) (map-append part first rest)
+        ∙ power_sum-append challenge 1 (map part first) (map part rest)
+        ∙ ap (λ n. power_sum challenge 1 (map part first) + n) (ap (λ k. power_sum challenge k (map part rest)) place ∙ power_sum-shift challenge 1 (length first) (map part rest))

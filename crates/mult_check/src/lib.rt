@@ -1,7 +1,7 @@
 //! The batched check of products and the openings of wires: what a prover sends, and what a verifier tests (Yang, Sarkar,
 //! Weng and Wang, QuickSilver, ACM CCS 2021).
 //!
-//! `sums` has the sums of one section, on either side; `sections` has `prover_sums` and `check`, over all sections, block by
+//! `parts` has the sums of parts of a list of products, on either side, and of one section; `sections` has `prover_sums` and `check`, over all sections, block by
 //! block; `openings` has `check_openings`.
 //!
 //!     let sums = prover_sums(alloc, &wires, g, challenge, masks)?;  // at the prover
@@ -10,9 +10,9 @@
 #![tactic(auto)]
 
 mod openings;
+mod parts;
 mod sections;
-mod sums;
 
 pub use openings::{OpeningDiffers, check_openings};
+pub use parts::{ProverPart, VerifierPart, section_left, section_sums};
 pub use sections::{Differs, check, prover_sums};
-pub use sums::{section_left, section_sums};

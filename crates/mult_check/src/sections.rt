@@ -4,7 +4,7 @@ ghost use Rattle.zk_model.specs.Program.{part_count, section_count};
 ghost use Rattle.zk_model.specs.Check.{honest_sums, section_left, section_triples, section_keys, all_sums, AllSectionsHold};
 ghost use Rattle.mult_check.specs.Checks.{product_check, DiffersFirst, products_between, keys_between};
 
-use crate::sums::{ProverSums, VerifierSum};
+use crate::parts::{ProverPart, VerifierPart};
 use mersenne_field::{Fe, Pair};
 use std::alloc::{AllocError, Global};
 use thiserror::Error;
@@ -73,16 +73,16 @@ fn sums_between(
         b: BLANK,
         c: BLANK,
     }; BLOCK];
-    let mut sums = ProverSums::new();
+    let mut part = ProverPart::new(challenge);
     let mut at = first;
     while at < end {
         let count = BLOCK.min(end - at);
         let triples = &mut block[..count];
         read_triples(wires, at, triples);
-        sums = sums.over(triples, challenge);
+        part.extend(triples);
         at += count;
     }
-    sums.masked(mask)
+    part.masked(mask)
 }
 
 /// The left side over the products from `first` up to `end`.
@@ -104,16 +104,16 @@ fn left_between(
         b: Fe::ZERO,
         c: Fe::ZERO,
     }; BLOCK];
-    let mut left = VerifierSum::new();
+    let mut part = VerifierPart::new(challenge, key);
     let mut at = first;
     while at < end {
         let count = BLOCK.min(end - at);
         let triples = &mut block[..count];
         read_keys(wires, at, triples);
-        left = left.over(triples, challenge, key);
+        part.extend(triples);
         at += count;
     }
-    left.sum + mask
+    part.masked(mask)
 }
 
 /// Where section s begins and ends, for sections of this many of all products.

@@ -1,7 +1,7 @@
 use Rattle.std.proofs.Common.{◌≤◌, rules, arith}
 use Rattle.zk_model.specs.Check.{product_triple}
 use Rattle.mult_check.specs.Checks.{products_between}
-use Rattle.mult_check.specs.Sums.{AreSumsOver}
+use Rattle.mult_check.specs.Parts.{AreSumsOf}
 use Rattle.mult_check.proofs.Products.{holds_of_none, holds_of_more}
 use Rattle.mult_check.proofs.sections.sums_between.Goals as goal
 
@@ -9,8 +9,8 @@ pub loop-at-init : goal.loop-at-init
 loop-at-init c = (
   omega arith,
   c.requires.order,
-  holds_of_none (λ l. AreSumsOver c.args.challenge l c.new-sums.result) (product_triple c.args.wires.now.pairs) c.args.wires.now.program.products c.args.first
-      (c.new-sums.ensures c.args.challenge),
+  holds_of_none (λ l. AreSumsOf c.args.challenge l c.new-part.result) (product_triple c.args.wires.now.pairs) c.args.wires.now.program.products c.args.first
+      (c.new-part.ensures),
 )
 
 pub loop-at-preserved : goal.loop-at-preserved
@@ -18,6 +18,6 @@ loop-at-preserved c =
     let room : c.min-count.result ≤ c.args.end = search rules in (
       search rules,
       search rules,
-      holds_of_more (λ l. AreSumsOver c.args.challenge l c.over-sums.result) (product_triple c.args.wires.now.pairs) c.args.wires.now.program.products c.args.first c.loop-at.at c.min-count.result
-          c.read_triples.new.triples c.loop-at.invariant.0 (search rules) (c.over-sums.ensures (products_between c.args.wires.now.program c.args.wires.now.pairs c.args.first c.loop-at.at) c.loop-at.invariant.2),
+      holds_of_more (λ l. AreSumsOf c.args.challenge l c.extend.new.self) (product_triple c.args.wires.now.pairs) c.args.wires.now.program.products c.args.first c.loop-at.at c.min-count.result
+          c.read_triples.new.triples c.loop-at.invariant.0 (search rules) (c.extend.ensures c.args.challenge (products_between c.args.wires.now.program c.args.wires.now.pairs c.args.first c.loop-at.at) c.loop-at.invariant.2),
     )
