@@ -1,6 +1,9 @@
 mod Sums
-mod Children
-mod Grown
-mod Apart
-mod Repaired
+mod Law
+mod Below
+mod Trees
+mod LeafSums
+mod Ranges
 mod Found
+mod Filled
+mod Pending

@@ -1,20 +1,38 @@
 //! Binary trees of nodes of 16 bytes that grow from a seed by SHA-256 (Goldreich, Goldwasser and Micali, How to
-//! Construct Random Functions, 1986; FIPS 180-4), and such trees without the path to one leaf. The children of a node
-//! are the two halves of its digest, and a leaf stands for the element of its first 8 bytes, the low one first. A tree
-//! grows row by row, in place, in one buffer of as many nodes as it has leaves.
+//! Construct Random Functions, 1986; FIPS 180-4), and such trees without the path to one leaf (Boyle and others, 2019).
+//! The children of a node are the two halves of its digest, and a leaf stands for the element of its first 8 bytes, the
+//! low one first. A tree is walked in depth, so that no list of a level's nodes is held: from the third level on four
+//! neighbours go side by side, and their children are hashed at once.
 //!
-//! `growing` has `expand`, `level_sums` and `grow`, `puncturing` has `puncture`; `row` is the nodes of one level, with `double`,
-//! which hashes them. `laws` says that both ways give the same leaves.
+//! `doubling` has `double` and `double_four`, which alone hash, and `steps` counts what they do. `walking` has
+//! `walk_sums` and `walker` has `Walker`, which take no memory, `growing` has `expand`, `level_sums` and `grow`,
+//! `puncturing` has `puncture`. Below them `writing` and `summing` walk over nodes of a level, for their leaves and for
+//! the sum of these; `levels` goes one level down, and `nodes` has the XOR and the leaf's element. `laws` says that both
+//! ways to grow a tree give the same leaves.
 //!
-//!     let grown = grow(alloc, &root, height)?;      // all leaves, and the sums of each level's sides
+//!     let sums = walk_sums(&root, height, &mut steps);    // all sums, in 2^height - 1 steps
+//!     let grown = grow(alloc, &root, height)?;            // all leaves, and the sums of each level's sides
 //!     let found = puncture(alloc, height, place, &sums)?; // all leaves but that at `place`, which is 0
+//!     let leaf = walker.next_leaf();                      // one leaf after another
 #![tactic(auto)]
 
+mod doubling;
 mod growing;
 mod laws;
+mod levels;
+mod nodes;
 mod puncturing;
-mod row;
+mod steps;
+mod summing;
+mod walker;
+mod walking;
+mod writing;
 
-pub use growing::{GrownTree, LevelSums, expand, grow, level_sums};
+pub use doubling::{double, double_four};
+pub use growing::{GrownTree, expand, grow, level_sums};
 pub use laws::punctured_is_grown;
+pub use levels::LevelSums;
 pub use puncturing::puncture;
+pub use steps::Steps;
+pub use walker::Walker;
+pub use walking::{WalkSums, walk_sums};

@@ -1,11 +1,13 @@
 // Trees without the path to one leaf.
-ghost use Rattle.std.specs.Prelude.{◌≡◌, ◌*◌, ◌^◌, ◌<◌, ◌≤◌, length, IfOk, vec_len};
+ghost use Rattle.std.specs.Prelude.{◌≡◌, ◌+◌, ◌*◌, ◌^◌, ◌<◌, ◌≤◌, length, IfOk, vec_len};
 ghost use Rattle.zk_model.specs.Bytes.{AreBytes};
 ghost use Rattle.zk_model.specs.Tree.{IsPunctured};
-ghost use Rattle.ggm_tree.specs.Rows.{AreChildrenBut, IsRepaired};
+ghost use Rattle.ggm_tree.specs.Found.{IsFilled, sibling_of};
 ghost use Rattle.zk_model.specs.declared.limits.TheConstants.{MAX_HEIGHT};
 
-use crate::row::{add, double, leaf_values, side_sum, width};
+use crate::levels::LevelSums;
+use crate::nodes::{add, width};
+use crate::writing::write_leaves;
 use mersenne_field::Fe;
 use std::alloc::{AllocError, Global};
 
@@ -30,38 +32,44 @@ pub fn puncture(
     ensures leaves { IfOk result (λ leaves. IsPunctured height missing sums.now leaves.items) }
     ensures length { IfOk result (λ leaves. vec_len leaves ≡ 2 ^ height) }
 {
-    let mut row = vec![in alloc; [0; 16]; width(height)]?;
+    let mut leaves = vec![in alloc; Fe::ZERO; width(height)]?;
+    let mut held = [LevelSums::new(); 16];
     for level in 0..height {
-        let place = missing >> (height - 1 - level);
-        double_and_repair(&mut row, width(level), place, &sums[level as usize]);
+        let below = height - 1 - level;
+        let place = missing >> below;
+        fill_sibling(
+            level,
+            below,
+            place,
+            &sums[level as usize],
+            &mut held,
+            &mut leaves,
+        );
     }
-    let leaves = leaf_values(alloc, &row)?;
     Ok(leaves)
 }
 
-/// Puts the children of the first nodes of a buffer in place of them, but for those of the missing parent: the one at a
-/// place is cleared, and its sibling is found from the sum of its side.
-fn double_and_repair(row: &mut [[u8; 16]], parents: usize, place: usize, sum: &[u8; 16])
-    requires room { 2 * parents ≤ length row.old }
-    requires inside { place < 2 * parents }
+/// Finds the sibling of the node at a place from the sum of its side, and writes the leaves below it. Of each level the
+/// XOR of the nodes that were found is held, left and right.
+fn fill_sibling(
+    level: u32,
+    height: u32,
+    place: usize,
+    sum: &[u8; 16],
+    held: &mut [LevelSums],
+    leaves: &mut [Fe],
+)
+    requires levels { level + height < length held.old }
+    requires low { height ≤ 16 }
+    requires room { sibling_of place * 2 ^ height + 2 ^ height ≤ length leaves.old }
     ensures octets { AreBytes 16 sum.now }
-    ensures nodes { AreChildrenBut parents place sum.now row.old row.new }
+    ensures filled { IsFilled level height place sum.now held.old held.new leaves.old leaves.new }
 {
-    double(row, parents);
-    repair(row, parents, place, sum);
-}
-
-/// Clears the node at a place, and finds its sibling: what the other nodes on the sibling's side leave of the sum.
-fn repair(row: &mut [[u8; 16]], parents: usize, place: usize, sum: &[u8; 16])
-    requires room { 2 * parents ≤ length row.old }
-    requires inside { place < 2 * parents }
-    ensures { IsRepaired parents place sum.now row.old row.new }
-{
+    let (above, below) = held.split_at_mut(level as usize + 1);
     let right = place % 2 == 0;
-    let sibling = place / 2 * 2 + usize::from(right);
-    row[place] = [0; 16];
-    row[sibling] = [0; 16];
-    let mut found = side_sum(row, parents, right);
-    add(&mut found, sum);
-    row[sibling] = found;
+    let mut sibling = above[level as usize].side(right);
+    add(&mut sibling, sum);
+    let count = width(height);
+    let start = (place / 2 * 2 + usize::from(right)) * count;
+    write_leaves(&sibling, height, below, &mut leaves[start..start + count]);
 }

@@ -2,7 +2,7 @@
 -- value 7.
 use Rattle.std.proofs.Common.{◌≡◌, List, [], ◌∷◌, refl}
 use Rattle.zk_model.specs.Field.{◌-ₚ◌}
-use Rattle.zk_model.specs.Mac.{Pair, AreKeysOf}
+use Rattle.zk_model.specs.Mac.{Pair, corrected_key, AreKeysOf}
 use Rattle.zk_model.specs.Extension.{leaf_offset_of}
 use Rattle.sparse_vole.specs.Noise.{IsNoise}
 
@@ -14,6 +14,9 @@ asked = refl
 
 answered : leaf_offset_of 5 19 4 (11 ∷ 13 ∷ []) ≡ 15
 answered = refl
+
+answered_sum : corrected_key 5 19 4 -ₚ 24 ≡ 15
+answered_sum = refl
 
 -- no other entries are a noise vector
 found : (others : List Pair) → IsNoise 1 7 4 15 (11 ∷ 0 ∷ []) others → others ≡ entries

@@ -7,7 +7,7 @@ use Rattle.zk_model.specs.Mac.{Pair}
 use Rattle.sparse_vole.specs.Noise.{IsNoise, entry_at}
 
 -- to take away what a sum leaves is to take away the sum
-minus_sum : (a s : ℕ) → a -ₚ (s % prime) ≡ a -ₚ s
+pub minus_sum : (a s : ℕ) → a -ₚ (s % prime) ≡ a -ₚ s
 minus_sum a s = ap (λ n. (a + (prime - n)) % prime) (mod-mod s prime)
 
 -- entries with this hidden pair are the noise vector of whatever is corrected to the value and the MAC

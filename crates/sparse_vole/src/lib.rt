@@ -7,16 +7,18 @@
 //! `laws` says that at every place the verifier's leaf is the key of the prover's entry.
 //!
 //!     let e = prover_ask(noise, base.x);                                     // the prover sends it
-//!     let offset = verifier_reply(base_key, e, key, &leaves);                // the verifier answers
+//!     let offset = verifier_reply(base_key, e, key, &leaves);                // the verifier answers,
+//!     let offset = verifier_reply_sum(base_key, e, key, leaf_sum);           // or so, from the leaves' sum
 //!     let entries = prover_finish(alloc, place, noise, base.m, offset, &found)?;
 #![tactic(auto)]
 
 mod laws;
 
-ghost use Rattle.std.specs.Prelude.{◌≡◌, ◌%◌, ◌<◌, length, map, sum, IfOk, vec_len};
+ghost use Rattle.std.specs.Prelude.{◌≡◌, ℕ, ◌%◌, ◌<◌, List, length, map, sum, IfOk, vec_len};
 ghost use Rattle.std.specs.List.{enumerate_from};
 ghost use Rattle.zk_model.specs.Field.{prime, ◌+ₚ◌, ◌-ₚ◌};
 ghost use Rattle.zk_model.specs.Extension.{leaf_offset_of};
+ghost use Rattle.zk_model.specs.Mac.{corrected_key};
 ghost use Rattle.sparse_vole.specs.Noise.{IsNoise, entry_at};
 
 pub use laws::noise_keeps_keys;
@@ -37,7 +39,16 @@ pub fn prover_ask(noise: Fe, base: Fe) -> Fe
 pub fn verifier_reply(base_key: Fe, correction: Fe, key: Fe, leaves: &[Fe]) -> Fe
     ensures { result ≡ leaf_offset_of key base_key correction leaves.now }
 {
-    base_key + correction * key - sum_of(leaves)
+    verifier_reply_sum(base_key, correction, key, sum_of(leaves))
+}
+
+/// The same from the sum of the leaves, for a verifier that holds no list of them.
+pub fn verifier_reply_sum(base_key: Fe, correction: Fe, key: Fe, leaf_sum: Fe) -> Fe
+    ensures difference { result ≡ corrected_key key base_key correction -ₚ leaf_sum }
+    ensures reply { (leaves : List ℕ) → leaf_sum ≡ sum leaves % prime
+        → result ≡ leaf_offset_of key base_key correction leaves }
+{
+    base_key + correction * key - leaf_sum
 }
 
 /// The noise vector of the prover: at the place `alpha` the value `noise`, whose MAC is that of the dealt pair less the

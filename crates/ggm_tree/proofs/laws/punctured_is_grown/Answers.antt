@@ -1,4 +1,4 @@
-use Rattle.ggm_tree.proofs.Grown as law
+use Rattle.ggm_tree.proofs.Law as law
 use Rattle.ggm_tree.proofs.laws.punctured_is_grown.Goals as goal
 
 pub returns : goal.returns

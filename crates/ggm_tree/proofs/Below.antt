@@ -1,0 +1,157 @@
+-- The nodes below a row.
+use Rattle.std.proofs.Common.{◌≡◌, ◌≢◌, ℕ, zero, suc, ◌-◌, ◌*◌, ◌^◌, ◌<◌, ◌≤◌, Bool, true, false, List, [], ◌∷◌, ◌++◌, map, length, get_or, set, fold, refl, sym, ◌∙◌, ap, subst, arith, pow-suc}
+use Rattle.std.proofs.lemmas.List.{map-append}
+use Rattle.zk_model.specs.Bytes.{LeftRight, xor_bytes}
+use Rattle.zk_model.specs.Tree.{child_of, leaf_value}
+use Rattle.ggm_tree.specs.Rows.{children_of, nodes_below, leaves_below, sums_with, level_in, AreAdded}
+
+-- ---- numbers
+
+-- a level more is twice as wide
+pub pow_more : (height : ℕ) → height ≢ 0 → 2 ^ height ≡ 2 * 2 ^ (height - 1)
+pow_more zero some = absurd (some refl)
+pow_more (suc height) some =
+    let next = pow-suc 2 height in let less : suc height - 1 ≡ height = omega arith in
+    let same = ap (λ n. 2 ^ n) less in omega (arith, next, same)
+
+-- ---- nodes
+
+-- the children of two rows, one after the other
+children_append : (front back : List (List ℕ)) → children_of (front ++ back) ≡ children_of front ++ children_of back
+children_append [] back = refl
+children_append (node ∷ front) back = λ i. child_of false node ∷ child_of true node ∷ children_append front back i
+
+-- and the nodes below them
+pub below_append : (front back : List (List ℕ)) (height : ℕ)
+    → nodes_below (front ++ back) height ≡ nodes_below front height ++ nodes_below back height
+unfolding nodes_below
+below_append front back zero = refl
+below_append front back (suc height) =
+    ap (λ row. nodes_below row height) (children_append front back) ∙ below_append (children_of front) (children_of back) height
+
+-- no level below is the row itself
+pub below_none : (row : List (List ℕ)) (height : ℕ) → height ≡ 0 → nodes_below row height ≡ row
+unfolding nodes_below
+below_none row height none = ap (nodes_below row) none
+
+-- and what is below it is below its children
+pub below_more : (row : List (List ℕ)) (height : ℕ) → height ≢ 0 → nodes_below row height ≡ nodes_below (children_of row) (height - 1)
+unfolding nodes_below
+below_more row zero some = absurd (some refl)
+below_more row (suc height) some = let less : suc height - 1 ≡ height = omega arith in ap (nodes_below (children_of row)) (sym less)
+
+-- ---- leaves
+
+pub leaves_none : (row : List (List ℕ)) (height : ℕ) (leaves : List ℕ) → height ≡ 0 → leaves ≡ map leaf_value row → leaves ≡ leaves_below row height
+leaves_none row height leaves none are = are ∙ ap (map leaf_value) (sym (below_none row height none))
+
+pub leaves_more : (row children : List (List ℕ)) (height : ℕ) (leaves : List ℕ) → height ≢ 0 → children ≡ children_of row
+    → leaves ≡ leaves_below children (height - 1) → leaves ≡ leaves_below row height
+leaves_more row children height leaves some is are =
+    are ∙ ap (map leaf_value) (ap (λ r. nodes_below r (height - 1)) is ∙ sym (below_more row height some))
+
+pub leaves_two : (row first last : List (List ℕ)) (height : ℕ) (front back : List ℕ) → height ≢ 0 → first ++ last ≡ children_of row
+    → front ≡ leaves_below first (height - 1) → back ≡ leaves_below last (height - 1) → front ++ back ≡ leaves_below row height
+leaves_two row first last height front back some is left right =
+    (λ i. left i ++ right i) ∙ sym (map-append leaf_value (nodes_below first (height - 1)) (nodes_below last (height - 1)))
+    ∙ ap (map leaf_value) (sym (below_append first last (height - 1)) ∙ ap (λ r. nodes_below r (height - 1)) is ∙ sym (below_more row height some))
+
+-- ---- sums
+
+-- two rows are added one after the other
+fold_on : (child : List ℕ → List ℕ) (front back : List (List ℕ)) (sum : List ℕ)
+    → fold xor_bytes (fold xor_bytes sum (map child front)) (map child back) ≡ fold xor_bytes sum (map child (front ++ back))
+fold_on child [] back sum = refl
+fold_on child (node ∷ front) back sum = fold_on child front back (xor_bytes sum (child node))
+
+sums_append : (sums : LeftRight) (front back : List (List ℕ)) → sums_with (sums_with sums front) back ≡ sums_with sums (front ++ back)
+sums_append sums front back = λ i. record {
+  left = fold_on (child_of false) front back sums.left i;
+  right = fold_on (child_of true) front back sums.right i;
+}
+
+-- what is added below two rows is what is added below both
+pub added_two : (row first last : List (List ℕ)) (height : ℕ) (before between after : List LeftRight) → first ++ last ≡ row
+    → AreAdded first height before between → AreAdded last height between after → AreAdded row height before after
+added_two row first last height before between after is front back = record {
+  added = λ level below. back.added level below ∙ ap (λ sums. sums_with sums (nodes_below last level)) (front.added level below)
+      ∙ sums_append (level_in before level) (nodes_below first level) (nodes_below last level)
+      ∙ ap (sums_with (level_in before level)) (sym (below_append first last level) ∙ ap (λ r. nodes_below r level) is);
+  kept = λ level below. back.kept level below ∙ front.kept level below;
+}
+
+-- the first level, and what is added below it
+added_first : (row : List (List ℕ)) (height : ℕ) (first here : LeftRight) (back after : List LeftRight) → here ≡ sums_with first row
+    → AreAdded (children_of row) (height - 1) back after → height ≢ 0 → AreAdded row height (first ∷ back) (here ∷ after)
+unfolding nodes_below
+added_first row height first here back after is so_far some = record { added = at; kept = past }
+  where
+    at : (level : ℕ) → level < height → level_in (here ∷ after) level ≡ sums_with (level_in (first ∷ back) level) (nodes_below row level)
+    at zero below = is
+    at (suc level) below = so_far.added level (omega (arith, below))
+
+    past : (level : ℕ) → height ≤ level → level_in (here ∷ after) level ≡ level_in (first ∷ back) level
+    past zero below = absurd (some (omega (arith, below)))
+    past (suc level) below = so_far.kept level (omega (arith, below))
+
+-- the same, of a list of which the first item is written apart
+pub added_more : (row children : List (List ℕ)) (height : ℕ) (sums front back after : List LeftRight) (here none : LeftRight)
+    → sums ≡ front ++ back → length front ≡ 1 → here ≡ sums_with (get_or front 0 none) row → children ≡ children_of row → height ≢ 0
+    → AreAdded children (height - 1) back after → AreAdded row height sums (set front 0 here ++ after)
+added_more row children height sums [] back after here none whole one is same some so_far = absurd (omega (arith, one))
+added_more row children height sums (first ∷ second ∷ front) back after here none whole one is same some so_far = absurd (omega (arith, one))
+added_more row children height sums (first ∷ []) back after here none whole one is same some so_far =
+    subst (λ (list : List LeftRight). AreAdded row height list (here ∷ after)) (sym whole)
+    (added_first row height first here back after is
+    (subst (λ (nodes : List (List ℕ)). AreAdded nodes (height - 1) back after) same so_far) some)
+
+-- ---- four nodes
+
+-- a list of four nodes
+pub four_are : (nodes : List (List ℕ)) → length nodes ≡ 4
+    → nodes ≡ get_or nodes 0 [] ∷ get_or nodes 1 [] ∷ get_or nodes 2 [] ∷ get_or nodes 3 [] ∷ []
+four_are [] four = absurd (omega (arith, four))
+four_are (a ∷ []) four = absurd (omega (arith, four))
+four_are (a ∷ b ∷ []) four = absurd (omega (arith, four))
+four_are (a ∷ b ∷ c ∷ []) four = absurd (omega (arith, four))
+four_are (a ∷ b ∷ c ∷ d ∷ []) four = refl
+four_are (a ∷ b ∷ c ∷ d ∷ e ∷ nodes) four = absurd (omega (arith, four))
+
+-- the children of four nodes, one by one
+pub four_children : (nodes : List (List ℕ)) (child : ℕ → Bool → List ℕ) → length nodes ≡ 4
+    → ((j : ℕ) (side : Bool) → j < 4 → child j side ≡ child_of side (get_or nodes j []))
+    → child 0 false ∷ child 0 true ∷ child 1 false ∷ child 1 true ∷ child 2 false ∷ child 2 true ∷ child 3 false ∷ child 3 true ∷ []
+    ≡ children_of nodes
+four_children nodes child four each =
+    (λ i. each 0 false (omega arith) i ∷ each 0 true (omega arith) i ∷ each 1 false (omega arith) i ∷ each 1 true (omega arith) i
+    ∷ each 2 false (omega arith) i ∷ each 2 true (omega arith) i ∷ each 3 false (omega arith) i ∷ each 3 true (omega arith) i ∷ [])
+    ∙ ap children_of (sym (four_are nodes four))
+
+-- sums with one more on each side
+abbrev pub with_pair : LeftRight → List ℕ → List ℕ → LeftRight
+with_pair sums left right = record { left = xor_bytes sums.left left; right = xor_bytes sums.right right }
+
+-- the sums with the children of four nodes, added one after the other
+four_added : (nodes children : List (List ℕ)) (sums : LeftRight) → length nodes ≡ 4 → children ≡ children_of nodes
+    → with_pair (with_pair (with_pair (with_pair sums (get_or children 0 []) (get_or children 1 [])) (get_or children 2 []) (get_or children 3 []))
+    (get_or children 4 []) (get_or children 5 [])) (get_or children 6 []) (get_or children 7 [])
+    ≡ sums_with sums nodes
+four_added nodes children sums four are =
+    ap added (are ∙ ap children_of (four_are nodes four)) ∙ ap (sums_with sums) (sym (four_are nodes four))
+  where
+    added : List (List ℕ) → LeftRight
+    added list =
+        with_pair (with_pair (with_pair (with_pair sums (get_or list 0 []) (get_or list 1 [])) (get_or list 2 []) (get_or list 3 []))
+        (get_or list 4 []) (get_or list 5 [])) (get_or list 6 []) (get_or list 7 [])
+
+-- the same, of two rows of four children
+pub rows_added : (nodes first last : List (List ℕ)) (sums : LeftRight) → length nodes ≡ 4 → length first ≡ 4 → first ++ last ≡ children_of nodes
+    → with_pair (with_pair (with_pair (with_pair sums (get_or first 0 []) (get_or first 1 [])) (get_or first 2 []) (get_or first 3 []))
+    (get_or last 0 []) (get_or last 1 [])) (get_or last 2 []) (get_or last 3 [])
+    ≡ sums_with sums nodes
+rows_added nodes [] last sums four row are = absurd (omega (arith, row))
+rows_added nodes (a ∷ []) last sums four row are = absurd (omega (arith, row))
+rows_added nodes (a ∷ b ∷ []) last sums four row are = absurd (omega (arith, row))
+rows_added nodes (a ∷ b ∷ c ∷ []) last sums four row are = absurd (omega (arith, row))
+rows_added nodes (a ∷ b ∷ c ∷ d ∷ []) last sums four row are = four_added nodes (a ∷ b ∷ c ∷ d ∷ last) sums four are
+rows_added nodes (a ∷ b ∷ c ∷ d ∷ e ∷ first) last sums four row are = absurd (omega (arith, row))

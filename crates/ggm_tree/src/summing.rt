@@ -1,0 +1,112 @@
+// The sum of the leaves below some nodes of a level, and the sums of the levels on the way, in no memory. The walk is
+// that of `writing`.
+ghost use Rattle.std.specs.Prelude.{◌≡◌, ◌+◌, ◌*◌, ◌%◌, ◌^◌, ◌<◌, ◌≤◌, [], ◌∷◌, length, map, sum};
+ghost use Rattle.zk_model.specs.Field.{prime};
+ghost use Rattle.zk_model.specs.Tree.{leaf_value};
+ghost use Rattle.ggm_tree.specs.Rows.{leaves_below, AreAdded};
+
+use crate::levels::{LevelSums, add_four, below_four, below_one, below_two};
+use crate::nodes::leaf_value;
+use crate::steps::Steps;
+use mersenne_field::Fe;
+use std::marker::Brand;
+use std::sync::ledger::{Blank, Ledger};
+
+/// The sum of the leaves below one node.
+pub(crate) fn sum_one<L: Ledger>(
+    node: &[u8; 16],
+    height: u32,
+    sums: &mut [LevelSums],
+    steps: &mut Steps<L>,
+) -> Fe
+    requires levels { height ≤ length sums.old }
+    ensures leaves { result ≡ sum (leaves_below (node.now ∷ []) height) % prime }
+    ensures sums { AreAdded (node.now ∷ []) height sums.old sums.new }
+    ensures steps { steps.new + 1 ≡ steps.old + 2 ^ height }
+{
+    if height == 0 {
+        sum_of(&[*node])
+    } else {
+        let (here, below) = sums.split_at_mut(1);
+        let children = below_one(node, &mut here[0], steps);
+        sum_two(&children, height - 1, below, steps)
+    }
+}
+
+/// The sum of the leaves below two nodes.
+fn sum_two<L: Ledger>(
+    nodes: &[[u8; 16]; 2],
+    height: u32,
+    sums: &mut [LevelSums],
+    steps: &mut Steps<L>,
+) -> Fe
+    requires levels { height ≤ length sums.old }
+    ensures leaves { result ≡ sum (leaves_below nodes.now height) % prime }
+    ensures sums { AreAdded nodes.now height sums.old sums.new }
+    ensures steps { steps.new + 2 ≡ steps.old + 2 * 2 ^ height }
+{
+    if height == 0 {
+        sum_of(nodes)
+    } else {
+        let (here, below) = sums.split_at_mut(1);
+        let children = below_two(nodes, &mut here[0], steps);
+        sum_four(&children, height - 1, below, steps)
+    }
+}
+
+/// The sum of the leaves below four nodes: those below the children of the first two and those of the last two.
+fn sum_four<L: Ledger>(
+    nodes: &[[u8; 16]; 4],
+    height: u32,
+    sums: &mut [LevelSums],
+    steps: &mut Steps<L>,
+) -> Fe
+    requires levels { height ≤ length sums.old }
+    ensures leaves { result ≡ sum (leaves_below nodes.now height) % prime }
+    ensures sums { AreAdded nodes.now height sums.old sums.new }
+    ensures steps { steps.new + 4 ≡ steps.old + 4 * 2 ^ height }
+{
+    if height == 0 {
+        sum_of(nodes)
+    } else {
+        let (here, below) = sums.split_at_mut(1);
+        let (first, last) = below_four(nodes, steps);
+        let front = sum_four(&first, height - 1, below, steps);
+        let back = sum_four(&last, height - 1, below, steps);
+        add_four(&mut here[0], &first, &last);
+        front + back
+    }
+}
+
+/// The sum of the leaves below a node, where no one counts the steps.
+pub(crate) fn sum_leaves(node: &[u8; 16], height: u32, sums: &mut [LevelSums]) -> Fe
+    requires levels { height ≤ length sums.old }
+    ensures leaves { result ≡ sum (leaves_below (node.now ∷ []) height) % prime }
+    ensures sums { AreAdded (node.now ∷ []) height sums.old sums.new }
+{
+    sum_from::<Brand>(node, height, sums, Blank::new(1))
+}
+
+/// The same, of steps that are thrown away.
+fn sum_from<L: Ledger>(node: &[u8; 16], height: u32, sums: &mut [LevelSums], blank: Blank) -> Fe
+    requires name { blank.name ≡ L.name }
+    requires parts { blank.parts ≡ L.parts }
+    requires some { 0 < blank.parts }
+    requires levels { height ≤ length sums.old }
+    ensures leaves { result ≡ sum (leaves_below (node.now ∷ []) height) % prime }
+    ensures sums { AreAdded (node.now ∷ []) height sums.old sums.new }
+{
+    let mut steps = Steps::<L>::new(blank);
+    sum_one(node, height, sums, &mut steps)
+}
+
+/// The sum of the elements of leaves.
+fn sum_of(nodes: &[[u8; 16]]) -> Fe
+    ensures { result ≡ sum (map leaf_value nodes.now) % prime }
+{
+    let mut sum = Fe::ZERO;
+    for node in nodes {
+        sum = sum + leaf_value(node);
+    }
+    sum
+}

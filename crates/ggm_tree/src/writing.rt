@@ -1,0 +1,114 @@
+// The leaves below some nodes of a level, written in order, and the sums of the levels on the way. A tree is walked in
+// depth, by two nodes side by side from one, and by four from two on, whose children are hashed at once.
+ghost use Rattle.std.specs.Prelude.{◌≡◌, ◌+◌, ◌*◌, ◌^◌, ◌<◌, ◌≤◌, [], ◌∷◌, length};
+ghost use Rattle.ggm_tree.specs.Rows.{leaves_below, AreAdded};
+
+use crate::levels::{LevelSums, add_four, below_four, below_one, below_two};
+use crate::nodes::put_leaves;
+use crate::steps::Steps;
+use mersenne_field::Fe;
+use std::marker::Brand;
+use std::sync::ledger::{Blank, Ledger};
+
+/// Writes the leaves below one node.
+pub(crate) fn write_one<L: Ledger>(
+    node: &[u8; 16],
+    height: u32,
+    sums: &mut [LevelSums],
+    leaves: &mut [Fe],
+    steps: &mut Steps<L>,
+)
+    requires levels { height ≤ length sums.old }
+    requires places { length leaves.old ≡ 2 ^ height }
+    ensures leaves { leaves.new ≡ leaves_below (node.now ∷ []) height }
+    ensures sums { AreAdded (node.now ∷ []) height sums.old sums.new }
+    ensures steps { steps.new + 1 ≡ steps.old + 2 ^ height }
+{
+    if height == 0 {
+        put_leaves(&[*node], leaves);
+    } else {
+        let (here, below) = sums.split_at_mut(1);
+        let children = below_one(node, &mut here[0], steps);
+        write_two(&children, height - 1, below, leaves, steps);
+    }
+}
+
+/// Writes the leaves below two nodes.
+fn write_two<L: Ledger>(
+    nodes: &[[u8; 16]; 2],
+    height: u32,
+    sums: &mut [LevelSums],
+    leaves: &mut [Fe],
+    steps: &mut Steps<L>,
+)
+    requires levels { height ≤ length sums.old }
+    requires places { length leaves.old ≡ 2 * 2 ^ height }
+    ensures leaves { leaves.new ≡ leaves_below nodes.now height }
+    ensures sums { AreAdded nodes.now height sums.old sums.new }
+    ensures steps { steps.new + 2 ≡ steps.old + 2 * 2 ^ height }
+{
+    if height == 0 {
+        put_leaves(nodes, leaves);
+    } else {
+        let (here, below) = sums.split_at_mut(1);
+        let children = below_two(nodes, &mut here[0], steps);
+        write_four(&children, height - 1, below, leaves, steps);
+    }
+}
+
+/// Writes the leaves below four nodes: those below the children of the first two, then those of the last two.
+fn write_four<L: Ledger>(
+    nodes: &[[u8; 16]; 4],
+    height: u32,
+    sums: &mut [LevelSums],
+    leaves: &mut [Fe],
+    steps: &mut Steps<L>,
+)
+    requires levels { height ≤ length sums.old }
+    requires places { length leaves.old ≡ 4 * 2 ^ height }
+    ensures leaves { leaves.new ≡ leaves_below nodes.now height }
+    ensures sums { AreAdded nodes.now height sums.old sums.new }
+    ensures steps { steps.new + 4 ≡ steps.old + 4 * 2 ^ height }
+{
+    if height == 0 {
+        put_leaves(nodes, leaves);
+    } else {
+        let (here, below) = sums.split_at_mut(1);
+        let (first, last) = below_four(nodes, steps);
+        let half = leaves.len() / 2;
+        let (front, back) = leaves.split_at_mut(half);
+        write_four(&first, height - 1, below, front, steps);
+        write_four(&last, height - 1, below, back, steps);
+        add_four(&mut here[0], &first, &last);
+    }
+}
+
+/// Writes the leaves below a node, where no one counts the steps.
+pub(crate) fn write_leaves(node: &[u8; 16], height: u32, sums: &mut [LevelSums], leaves: &mut [Fe])
+    requires levels { height ≤ length sums.old }
+    requires places { length leaves.old ≡ 2 ^ height }
+    ensures leaves { leaves.new ≡ leaves_below (node.now ∷ []) height }
+    ensures sums { AreAdded (node.now ∷ []) height sums.old sums.new }
+{
+    write_from::<Brand>(node, height, sums, leaves, Blank::new(1));
+}
+
+/// The same, of steps that are thrown away.
+fn write_from<L: Ledger>(
+    node: &[u8; 16],
+    height: u32,
+    sums: &mut [LevelSums],
+    leaves: &mut [Fe],
+    blank: Blank,
+)
+    requires name { blank.name ≡ L.name }
+    requires parts { blank.parts ≡ L.parts }
+    requires some { 0 < blank.parts }
+    requires levels { height ≤ length sums.old }
+    requires places { length leaves.old ≡ 2 ^ height }
+    ensures leaves { leaves.new ≡ leaves_below (node.now ∷ []) height }
+    ensures sums { AreAdded (node.now ∷ []) height sums.old sums.new }
+{
+    let mut steps = Steps::<L>::new(blank);
+    write_one(node, height, sums, leaves, &mut steps);
+}
