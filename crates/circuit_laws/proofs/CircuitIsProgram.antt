@@ -2,7 +2,7 @@
 use Rattle.std.proofs.Common.{◌≡◌, ℕ, zero, suc, Bool, true, false, ◌+◌, ◌-◌, ◌<◌, ◌≤◌, List, [], ◌∷◌, ◌++◌, length, map, flat_map, refl, sym, ap, ◌∙◌, arith, subst, inl, inr, zero-add, lit<}
 use Rattle.std.specs.Prelude.{Some, All, slice_get, get_or}
 use Rattle.zk_model.specs.Bits.{from_bit}
-use Rattle.circuit_laws.proofs.Programs.{set_later}
+use Rattle.zk_model.proofs.SetWires.{set_later}
 use Rattle.circuit_laws.proofs.Ranges.{range-append}
 use Rattle.std.specs.List.{range_with_len}
 use Rattle.std.proofs.lemmas.List.{length-map, get_or-map, map-append}

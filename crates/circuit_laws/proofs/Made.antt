@@ -9,7 +9,8 @@ use Rattle.zk_model.specs.Field.{prime, ◌*ₚ◌}
 use Rattle.zk_model.specs.Program.{Term, Step, Program, Multiplies, IsProgram, IsProduct, IsSet, IsMadeBefore, IsOrdered, AreMade, step_value}
 use Rattle.zk_model.specs.Boolean.{once, private_inputs}
 use Rattle.circuit_laws.specs.Circuits.{OneMade, BitsAreMade}
-use Rattle.circuit_laws.proofs.Programs.{set_later, weighted_same}
+use Rattle.circuit_laws.proofs.Programs.{weighted_same}
+use Rattle.zk_model.proofs.SetWires.{set_later}
 use Rattle.circuit_laws.proofs.Unique.{step_met, public_wire, input_wire}
 use Rattle.circuit_laws.proofs.BitsSolve.{value_of_bit, bits_solve}
 use Rattle.circuit_laws.proofs.Satisfied.{bits_behind, inputs_are}

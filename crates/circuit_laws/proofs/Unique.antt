@@ -8,7 +8,8 @@ use Rattle.mersenne_field.proofs.FieldLaws.{reduced}
 use Rattle.zk_model.specs.Field.{IsElement, ◌*ₚ◌}
 use Rattle.zk_model.specs.Program.{Step, Program, Carries, IsProgram, IsSet, step_value, MeetsStep}
 use Rattle.circuit_laws.specs.Circuits.{OneOnSetWires}
-use Rattle.circuit_laws.proofs.Programs.{set_later, same_value}
+use Rattle.circuit_laws.proofs.Programs.{same_value}
+use Rattle.zk_model.proofs.SetWires.{set_later}
 
 -- ---- wires that are set, in order
 

@@ -1,1 +1,9 @@
 pub mod Numbered
+pub mod Live
+pub mod Held
+pub mod Next
+pub mod Operands
+pub mod Counts
+pub mod Followed
+pub mod First
+pub mod Ends

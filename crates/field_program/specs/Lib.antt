@@ -1,3 +1,4 @@
 pub mod PackedSteps
 pub mod Programs
 pub mod Steps
+pub mod Slotting

@@ -1,6 +1,7 @@
 -- The programs that are held.
-use Rattle.std.specs.Prelude.{◌≡◌, ℕ, ◌^◌, ◌≤◌, List, map, length, slice_get, Some}
-use Rattle.zk_model.specs.Program.{Program, IsProgram, IsOrdered}
+use Rattle.std.specs.Prelude.{◌≡◌, ℕ, ◌+◌, ◌-◌, ◌<◌, ◌≤◌, List, map, flat_map, length, slice_get, Some}
+use Rattle.std.specs.List.{range_with_len}
+use Rattle.zk_model.specs.Program.{Step, Program, IsProgram, IsOrdered}
 use Rattle.zk_model.specs.declared.Product.{Product}
 use Rattle.field_program.specs.PackedSteps.{step_of, numbered}
 use Rattle.field_program.specs.Steps.{equations}
@@ -21,8 +22,17 @@ program_of wires public inputs givens rules factors opened = record {
   opened = opened;
 }
 
+-- the numbers of the given values that steps take, in order
+abbrev pub values_taken : List Step → List ℕ
+values_taken steps = flat_map (λ step. map (λ term. term.place) step.given) steps
+
+-- product i has the wire of private input i for both factors
+abbrev pub IsBitCheck : Program → ℕ → Product → Type 0
+IsBitCheck program i product = (product.a ≡ program.public + i) × (product.b ≡ program.public + i)
+
 -- a program within the limits of the circuits that are read, each of whose given values is that of the product of its number, and
--- whose steps take no product before its factors are set
+-- whose steps take no product before its factors are set; the first products are the bit checks of the private inputs, and steps take the
+-- others in order, each once
 pub record IsSmallProgram (program : Program) : Type 0 where
   pub formed : IsProgram program
   pub ordered : IsOrdered program
@@ -32,3 +42,5 @@ pub record IsSmallProgram (program : Program) : Type 0 where
   pub counted : length program.products ≡ program.givens
   pub numbered : (i : ℕ) (product : Product) → slice_get program.products i ≡ Some product → product.c ≡ i
   pub opened : length program.opened ≤ MAX_WIRES
+  pub checks : (i : ℕ) (product : Product) → i < program.inputs → slice_get program.products i ≡ Some product → IsBitCheck program i product
+  pub taken : values_taken program.steps ≡ range_with_len program.inputs (program.givens - program.inputs)

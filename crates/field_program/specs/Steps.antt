@@ -1,5 +1,5 @@
 -- What a step of the program says.
-use Rattle.std.specs.Prelude.{List, [], ◌∷◌, map}
+use Rattle.std.specs.Prelude.{ℕ, List, [], ◌∷◌, map, Option, None, Some}
 use Rattle.zk_model.specs.Boolean.{once, less_once, less_twice}
 use Rattle.zk_model.specs.Program as model
 use Rattle.field_program.specs.declared.step.Step.{Step}
@@ -18,3 +18,11 @@ step_equation (XorFrom out a b product) =
 -- the equations of steps, in order
 abbrev pub equations : List Step → List model.Step
 equations steps = map step_equation steps
+
+-- the number of the given value that a step takes, if it takes one
+abbrev pub value_taken : Step → Option ℕ
+value_taken (Const out value) = None
+value_taken (Copy out a) = None
+value_taken (Not out a) = None
+value_taken (Mul out a b product) = Some product
+value_taken (XorFrom out a b product) = Some product

@@ -2,16 +2,18 @@
 //! Wang, QuickSilver, ACM CCS 2021).
 //!
 //! `program` has `FieldProgram`, `step` one linear equation as contracts see it; `packed` keeps steps and products in 12 and in 8
-//! bytes.
+//! bytes; `slots` has `SlotPlan`, of the wires that a walk along the steps has to hold at once.
 //!
 //!     let need = program.need(g); // correlations of a session in sections of g products
 #![tactic(auto)]
 
 mod packed;
 mod program;
+mod slots;
 mod step;
 
 pub use packed::{Factors, PackedStep};
 pub use program::FieldProgram;
+pub use slots::SlotPlan;
 pub use step::Step;
 pub use zk_model::Product;

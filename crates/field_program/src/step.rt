@@ -1,6 +1,6 @@
 // The steps of a program.
 ghost use Rattle.std.specs.Prelude.{◌≡◌};
-ghost use Rattle.field_program.specs.Steps.{step_equation};
+ghost use Rattle.field_program.specs.Steps.{step_equation, value_taken};
 
 use mersenne_field::Fe;
 
@@ -40,6 +40,16 @@ pub enum Step {
 }
 
 impl Step {
+    /// The number of the given value that it takes, if it takes one.
+    pub fn value_taken(&self) -> Option<u32>
+        ensures { result ≡ value_taken self.now }
+    {
+        match *self {
+            Step::Mul { product, .. } | Step::XorFrom { product, .. } => Some(product),
+            Step::Const { .. } | Step::Copy { .. } | Step::Not { .. } => None,
+        }
+    }
+
     /// The wire that it sets.
     pub fn out(self) -> u32
         ensures { result ≡ (step_equation self).out }

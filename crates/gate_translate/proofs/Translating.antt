@@ -1,19 +1,19 @@
 -- The loop over the gates of a circuit.
 use Rattle.std.proofs.Common.{◌≡◌, ℕ, zero, suc, All, ◌+◌, ◌-◌, ◌<◌, ◌≤◌, ◌^◌, List, [], ◌∷◌, ◌++◌, length, map, flat_map, take, get_or, refl, sym, ap, ◌∙◌, arith, subst, add-zero, append-nil, append_assoc, length-append}
 use Rattle.std.specs.Prelude.{sum_by, Some, slice_get}
-use Rattle.std.proofs.lemmas.Option.{slice_get-get_or, slice_get_within, get_or_from_slice_get}
+use Rattle.std.proofs.lemmas.Option.{get_or_from_slice_get}
 use Rattle.std.specs.List.{range_with_len}
-use Rattle.std.proofs.lemmas.List.{take_more, map-append, length-map, get_or-map, get_or_append_left, get_or-append_right}
+use Rattle.std.proofs.lemmas.List.{take_more, map-append, length-map, get_or_append_left, get_or-append_right}
 use Rattle.std.proofs.lemmas.List.Elements.{All-head, All-tail, All-nil, All-push, All-same, All-weaker}
 use Rattle.std.proofs.lemmas.List.Sums.{sum_by-cons}
 use Rattle.std.proofs.Common.{length-take}
 use Rattle.std.proofs.Math.Seq.{take-length}
-use Rattle.std.proofs.lemmas.List.FromFn.{length-range_with_len}
+use Rattle.std.proofs.lemmas.List.FromFn.{length-range_with_len, length-map-range_with_len, get_or-map-range_with_len}
 use Rattle.std.proofs.lemmas.List.Concat.{flat_map-append}
 use Rattle.zk_model.specs.Circuit.{Circuit}
 use Rattle.zk_model.specs.Program as model
 use Rattle.zk_model.specs.Program.{Program}
-use Rattle.zk_model.specs.Boolean.{gate_step, gate_products, products_in, private_inputs, bit_check, circuit_products, circuit_program}
+use Rattle.zk_model.specs.Boolean.{gate_step, gate_products, products_in, private_inputs, bit_check, by_gate, circuit_products, circuit_program}
 use Rattle.zk_model.specs.declared.GateRow.{GateRow}
 use Rattle.zk_model.specs.declared.GateRow.TheVariants.{And, Xor, Inv, Eqw, Eq}
 use Rattle.zk_model.specs.declared.Product.{Product}
@@ -22,8 +22,8 @@ use Rattle.circuit_laws.specs.Circuits.{CircuitIsProgram, CircuitIsOrdered, Gate
 use Rattle.bristol_reader.specs.Circuits.{IsCircuit}
 use Rattle.gate_translate.specs.Gates.{gate_rule, gate_factors, squared}
 use Rattle.field_program.proofs.Numbered.{length-numbered, numbered-append}
-use Rattle.field_program.specs.Programs.{IsSmallProgram, program_of}
-use Rattle.field_program.specs.PackedSteps.{HasFactors, IsRule, factors_of, step_of, numbered}
+use Rattle.field_program.specs.Programs.{IsSmallProgram, program_of, values_taken}
+use Rattle.field_program.specs.PackedSteps.{IsRule, factors_of, step_of, numbered}
 use Rattle.field_program.specs.Steps.{step_equation, equations}
 use Rattle.field_program.specs.declared.packed.Factors.{Factors}
 use Rattle.field_program.specs.declared.packed.PackedStep.{PackedStep}
@@ -246,6 +246,43 @@ is_translated circuit wires public inputs givens rules factors opened w private 
       opened = o j;
     }
 
+-- ---- in order
+
+-- the given values that the gates' steps take
+taken_from : (c : ℕ) (gates : List GateRow) → values_taken (from_given gate_step c gates) ≡ range_with_len c (products_of_all gates)
+taken_from c [] = refl
+taken_from c (gate ∷ gates) =
+    first c gate (values_taken (from_given gate_step (c + products_in gate) gates)) (products_of_all gates) (taken_from (c + products_in gate) gates)
+    ∙ ap (range_with_len c) (sym (sum_by-cons products_in gate gates))
+  where
+    one : (c n : ℕ) → c ∷ range_with_len (c + 1) n ≡ range_with_len c (1 + n)
+    one c n = let same : suc n ≡ 1 + n = omega arith in ap (range_with_len c) same
+
+    none : (c n : ℕ) → range_with_len (c + 0) n ≡ range_with_len c (0 + n)
+    none c n = λ i. range_with_len (add-zero c i) (n_is i)
+      where
+        n_is : n ≡ 0 + n
+        n_is = omega arith
+
+    first : (c : ℕ) (gate : GateRow) (rest : List ℕ) (n : ℕ) → rest ≡ range_with_len (c + products_in gate) n
+        → map (λ (term : model.Term). term.place) (gate_step c gate).given ++ rest ≡ range_with_len c (products_in gate + n)
+    first c (And a b out) rest n is = ap (λ l. c ∷ l) is ∙ one c n
+    first c (Xor a b out) rest n is = ap (λ l. c ∷ l) is ∙ one c n
+    first c (Inv a out) rest n is = is ∙ none c n
+    first c (Eqw a out) rest n is = is ∙ none c n
+    first c (Eq bit out) rest n is = is ∙ none c n
+
+-- the first products are bit checks
+checks_first : (public inputs i : ℕ) (others : List Product) (product : Product) → i < inputs
+    → slice_get (map (bit_check public) (range_with_len 0 inputs) ++ others) i ≡ Some product → product ≡ bit_check public i
+checks_first public inputs i others product below at =
+    sym (get_or_from_slice_get (checks ++ others) i product product at)
+    ∙ get_or_append_left checks others product i (omega (arith, below, length-map-range_with_len (bit_check public) 0 inputs))
+    ∙ get_or-map-range_with_len (bit_check public) 0 inputs i i product below (omega arith)
+  where
+    checks : List Product
+    checks = map (bit_check public) (range_with_len 0 inputs)
+
 pub is_held : (circuit : Circuit) (public : ℕ) (program : Program) → CircuitIsProgram → CircuitIsOrdered → GatesAreFew → IsCircuit circuit
     → public ≤ circuit.inputs → program ≡ circuit_program public circuit
     → ((i : ℕ) (product : Product) → slice_get program.products i ≡ Some product → product.c ≡ i) → IsSmallProgram program
@@ -264,8 +301,16 @@ is_held circuit public program law order few rules known same numbers = subst Is
     rules.well_formed.outputs_within,
     rules.wires,
   );
+  checks = λ i product below at.
+      let is = checks_first public (private_inputs public circuit) i (flat_map (λ products. products) (by_gate public circuit gate_products)) product below at in
+      (ap (λ (p : Product). p.a) is, ap (λ (p : Product). p.b) is);
+  taken = ap values_taken (by_gate_is gate_step public circuit) ∙ taken_from (private_inputs public circuit) circuit.gates
+      ∙ ap (range_with_len (private_inputs public circuit)) (behind (private_inputs public circuit) (products_of_all circuit.gates));
 })
   where
+    behind : (a b : ℕ) → b ≡ a + b - a
+    behind a b = omega arith
+
     count : length (circuit_products public circuit) ≡ private_inputs public circuit + products_of_all circuit.gates
     count = next_given public (private_inputs public circuit) circuit.gates (circuit_products public circuit)
         (ap (λ (lists : List (List Product)). map (bit_check public) (range_with_len 0 (private_inputs public circuit)) ++ flat_map (λ products. products) lists) (by_gate_is gate_products public circuit))

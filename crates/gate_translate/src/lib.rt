@@ -9,4 +9,5 @@
 
 mod translation;
 
+pub use field_program::SlotPlan;
 pub use translation::{translate, translate_public};

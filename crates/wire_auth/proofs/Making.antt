@@ -10,14 +10,15 @@ use Rattle.zk_model.specs.Field.{prime, ◌*ₚ◌}
 use Rattle.zk_model.specs.Program.{Term, Step, Program, IsProgram, IsProduct, IsSet, IsMadeBefore, AreMade, weighted, step_value}
 use Rattle.zk_model.specs.Circuit.{Circuit, IsWellFormed}
 use Rattle.zk_model.specs.Boolean.{circuit_program}
-use Rattle.circuit_laws.proofs.Programs.{set_below, set_later, weighted_same}
+use Rattle.circuit_laws.proofs.Programs.{weighted_same}
+use Rattle.zk_model.proofs.SetWires.{set_below, set_later}
 use Rattle.circuit_laws.proofs.CircuitIsProgram.{circuit_is_program, numbered, nth_value}
 use Rattle.circuit_laws.proofs.Ordered.{circuit_is_ordered}
 use Rattle.circuit_laws.proofs.Made.{one_made, bits_are_made}
 use Rattle.field_program.specs.Programs.{IsSmallProgram}
 use Rattle.wire_auth.specs.Sides.{IsBegun}
-use Rattle.wire_auth.specs.Values.{given_value, given_from, CanBeMade, with_step, after_steps, first_values, wires_made, given_made, MadeExist, BitsMakeProducts}
-use Rattle.wire_auth.proofs.Setting.{AreSoFar, one_more, all_met, still_begun, begin_filled}
+use Rattle.wire_auth.specs.Values.{given_value, given_from, CanBeMade, with_step, after_steps, first_numbers, wires_made, given_made, after_numbers, numbers_carried, MadeExist, CarriedExist, BitsMakeProducts}
+use Rattle.wire_auth.proofs.Setting.{AreSoFar, one_more, all_met, all_follow, still_begun, begin_filled}
 use Rattle.zk_model.specs.declared.Product.{Product}
 
 abbrev no_product : Product
@@ -192,21 +193,20 @@ after_made program initial (suc n) held whole within =
     (made_more program initial values (with_step program values step) n step.out (step_value 1 values (given_from program values) step) step held at refl refl refl
     (after_made program initial n held whole (omega (arith, within))))
 
-begins : (program : Program) (public inputs : List ℕ) → IsProgram program → length public ≡ program.public → length inputs ≡ program.inputs
-    → IsBegun 1 program public inputs (first_values program public inputs)
-begins program public inputs formed p few =
-    begin_filled 1 program public inputs inputs first (first_values program public inputs) rest program.wires p few
-    (take_all program.inputs inputs (omega (arith, few))) formed refl refl
+begins : (one : ℕ) (program : Program) (public given inputs : List ℕ) → IsProgram program → length public ≡ program.public → length inputs ≡ program.inputs
+    → take program.inputs given ≡ inputs → IsBegun one program public given (first_numbers one program public inputs)
+begins one program public given inputs formed p few same =
+    begin_filled one program public given inputs first (first_numbers one program public inputs) rest program.wires p few same formed refl refl
     (ap (λ l. l ++ rest) (sym (take_all program.wires first short))) whole
   where
     first : List ℕ
-    first = map (λ value. value *ₚ 1) public ++ inputs
+    first = map (λ value. value *ₚ one) public ++ inputs
 
     rest : List ℕ
     rest = replicate (program.wires - (length public + length inputs)) 0
 
     counted : length first ≡ length public + length inputs
-    counted = length-append (map (λ value. value *ₚ 1) public) inputs ∙ ap (λ n. n + length inputs) (length-map public (λ value. value *ₚ 1))
+    counted = length-append (map (λ value. value *ₚ one) public) inputs ∙ ap (λ n. n + length inputs) (length-map public (λ value. value *ₚ one))
 
     short : length first ≤ program.wires
     short = omega (arith, counted, p, few, formed.first)
@@ -217,9 +217,38 @@ begins program public inputs formed p few =
 pub made_exist : MadeExist
 unfolding given_made wires_made
 made_exist program public inputs held p few =
-    let begun = begins program public inputs held.formed p few in
-    all_made program public inputs (first_values program public inputs) (after_steps program (first_values program public inputs) (length program.steps))
-    (length program.steps) held refl few (after_made program (first_values program public inputs) (length program.steps) held begun.whole (omega arith)) begun
+    let begun = begins 1 program public inputs inputs held.formed p few (take_all program.inputs inputs (omega (arith, few))) in
+    all_made program public inputs (first_numbers 1 program public inputs) (after_steps program (first_numbers 1 program public inputs) (length program.steps))
+    (length program.steps) held refl few (after_made program (first_numbers 1 program public inputs) (length program.steps) held begun.whole (omega arith)) begun
+
+-- ---- the one list of numbers
+
+after_carried : (one : ℕ) (program : Program) (given initial : List ℕ) (n : ℕ) → IsProgram program → length initial ≡ program.wires
+    → n ≤ length program.steps → AreSoFar program one given initial (after_numbers one program given initial n) n
+after_carried one program given initial zero formed whole within = record { whole = whole; first = refl; met = λ k step below. elim below [ ] }
+after_carried one program given initial (suc n) formed whole within =
+    let step = get_or program.steps n (record { out = 0; wires = []; given = []; constant = 0 }) in
+    let at : slice_get program.steps n ≡ Some step = slice_get-get_or program.steps n (record { out = 0; wires = []; given = []; constant = 0 }) (omega (arith, within)) in
+    let before = after_numbers one program given initial n in
+    let more : n + 1 ≡ suc n = omega arith in
+    subst (AreSoFar program one given initial (set before step.out (step_value one before given step))) more
+    (one_more program one given initial before (set before step.out (step_value one before given step)) n step.out (step_value one before given step) step formed at refl refl refl
+    (after_carried one program given initial n formed whole (omega (arith, within))))
+
+pub carried_exist : CarriedExist
+unfolding numbers_carried
+carried_exist one program public given formed p enough =
+    all_follow program one public given first (after_numbers one program given first (length program.steps)) (length program.steps) refl
+    (after_carried one program given first (length program.steps) formed begun.whole (omega arith)) begun
+  where
+    inputs : List ℕ
+    inputs = take program.inputs given
+
+    first : List ℕ
+    first = first_numbers one program public inputs
+
+    begun : IsBegun one program public given first
+    begun = begins one program public given inputs formed p (length-take-le program.inputs given enough) refl
 
 -- ---- circuits
 

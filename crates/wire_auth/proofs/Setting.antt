@@ -7,7 +7,8 @@ use Rattle.std.proofs.lemmas.Option.{slice_get-get_or}
 use Rattle.zk_model.specs.Program as model
 use Rattle.zk_model.specs.Program.{Program, IsProgram, IsStep, MeetsStep, step_value, Carries}
 use Rattle.zk_model.specs.Boolean.{once, less_once, less_twice}
-use Rattle.circuit_laws.proofs.Programs.{set_below, AreMet, met_more, first_kept}
+use Rattle.circuit_laws.proofs.Programs.{AreMet, met_more, first_kept}
+use Rattle.zk_model.proofs.SetWires.{set_below}
 use Rattle.field_program.specs.declared.step.Step.{Step}
 use Rattle.field_program.specs.declared.step.Step.TheVariants.{Const, Copy, Not, Mul, XorFrom}
 use Rattle.field_program.specs.Steps.{step_equation}

@@ -2,7 +2,7 @@
 use Rattle.std.specs.Prelude.{◌≡◌, ℕ, zero, suc, ◌+◌, ◌-◌, ◌≤◌, nat_lt, if◌then◌else◌, Bool, List, [], ◌++◌, length, map, take, drop, set, get_or, replicate, slice_index, slice_get, Some}
 use Rattle.zk_model.specs.Bits.{from_bit}
 use Rattle.zk_model.specs.Field.{◌*ₚ◌}
-use Rattle.zk_model.specs.Program.{Step, Program, IsProgram, IsOrdered, AreMade, step_value}
+use Rattle.zk_model.specs.Program.{Step, Program, IsProgram, IsOrdered, AreMade, Carries, step_value}
 use Rattle.zk_model.specs.Circuit.{Circuit, IsWellFormed, AreWireBits}
 use Rattle.zk_model.specs.Boolean.{circuit_program, products_of_bits}
 use Rattle.zk_model.specs.declared.Product.{Product}
@@ -38,15 +38,15 @@ after_steps program first zero = first
 after_steps program first (suc n) = with_step program (after_steps program first n)
     (get_or program.steps n (record { out = 0; wires = []; given = []; constant = 0 }))
 
--- public values, inputs, and 0 for the wires that steps set
-abbrev pub first_values : Program → List ℕ → List ℕ → List ℕ
-first_values program public inputs =
-    map (λ value. value *ₚ 1) public ++ inputs ++ replicate (program.wires - (length public + length inputs)) 0
+-- public values times the constant 1, inputs, and 0 for the wires that steps set
+abbrev pub first_numbers : ℕ → Program → List ℕ → List ℕ → List ℕ
+first_numbers one program public inputs =
+    map (λ value. value *ₚ one) public ++ inputs ++ replicate (program.wires - (length public + length inputs)) 0
 
 -- Values of all wires that are made of these public values and inputs, and the given values. Nothing is known of them but that they
 -- are made, as `AreMade` says, and that no other given values are.
 unfoldable pub wires_made : Program → List ℕ → List ℕ → List ℕ
-wires_made program public inputs = after_steps program (first_values program public inputs) (length program.steps)
+wires_made program public inputs = after_steps program (first_numbers 1 program public inputs) (length program.steps)
 
 unfoldable pub given_made : Program → List ℕ → List ℕ → List ℕ
 given_made program public inputs = given_from program (wires_made program public inputs)
@@ -56,6 +56,28 @@ abbrev pub MadeExist : Type 0
 MadeExist = (program : Program) (public inputs : List ℕ) → CanBeMade program → length public ≡ program.public
     → length inputs ≡ program.inputs
     → AreMade program public inputs (wires_made program public inputs) (given_made program public inputs)
+
+-- ---- the one list of numbers, where the given values have these
+
+-- numbers after the first n steps
+abbrev pub after_numbers : ℕ → Program → List ℕ → List ℕ → ℕ → List ℕ
+after_numbers one program given first zero = first
+after_numbers one program given first (suc n) =
+    let before = after_numbers one program given first n in
+    let step = get_or program.steps n (record { out = 0; wires = []; given = []; constant = 0 }) in
+    set before step.out (step_value one before given step)
+
+-- The numbers of all wires that follow from these of the given values. Nothing is known of them but that they follow, as `Carries` says.
+unfoldable pub numbers_carried : ℕ → Program → List ℕ → List ℕ → List ℕ
+numbers_carried one program public given =
+    after_numbers one program given (first_numbers one program public (take program.inputs given)) (length program.steps)
+
+-- they follow
+abbrev pub CarriedExist : Type 0
+CarriedExist = (one : ℕ) (program : Program) (public given : List ℕ) → IsProgram program → length public ≡ program.public
+    → program.inputs ≤ length given → Carries one program public given (numbers_carried one program public given)
+
+-- ---- circuits
 
 -- inputs of a circuit that are bits, of which the first may be public, make the products of the bits that it has on all wires
 abbrev pub BitsMakeProducts : Type 0

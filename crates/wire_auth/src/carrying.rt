@@ -1,5 +1,5 @@
 // What the steps of a program make of numbers: of values, MACs and keys.
-ghost use Rattle.std.specs.Prelude.{◌≡◌, ◌<◌, ◌≤◌, ℕ, List, length, map, take, IfOk};
+ghost use Rattle.std.specs.Prelude.{◌≡◌, ◌<◌, ◌≤◌, ◌++◌, ℕ, List, length, map, take, IfOk};
 ghost use Rattle.zk_model.specs.Field.{IsElement, ◌*ₚ◌};
 ghost use Rattle.zk_model.specs.Program.{Carries, step_value};
 ghost use Rattle.field_program.specs.Steps.{step_equation};
@@ -41,6 +41,21 @@ fn public_numbers(alloc: Global, public: &[Fe], one: Fe) -> Result<Vec<Fe>, Allo
     public.iter().map(|value| *value * one).collect(alloc)
 }
 
+/// The numbers of the first wires: those of the public values, and then of the inputs.
+pub(crate) fn first_numbers(
+    alloc: Global,
+    public: &[Fe],
+    one: Fe,
+    inputs: &[Fe],
+) -> Result<Vec<Fe>, AllocError>
+    ensures { IfOk result (λ numbers. numbers.items
+        ≡ map (λ value. value *ₚ one) public.now ++ inputs.now) }
+{
+    let mut numbers = public_numbers(alloc, public, one)?;
+    numbers.extend_from_slice(inputs)?;
+    Ok(numbers)
+}
+
 /// The numbers of the first wires: those of the public values, and then of the inputs; and 0 for the others.
 pub(crate) fn begun(
     alloc: Global,
@@ -54,8 +69,7 @@ pub(crate) fn begun(
     ensures { IfOk result (λ wires. (given : List ℕ) → take program.now.inputs given ≡ inputs.now
         → IsBegun one program.now public.now given wires.items) }
 {
-    let mut wires = public_numbers(alloc, public, one)?;
-    wires.extend_from_slice(inputs)?;
+    let mut wires = first_numbers(alloc, public, one, inputs)?;
     wires.resize(program.wires(), Fe::ZERO)?;
     Ok(wires)
 }

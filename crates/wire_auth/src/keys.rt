@@ -38,7 +38,12 @@ impl<'a> Model for VerifierWires<'a> {
 
 /// As many keys as there are corrections, each with its correction times the one key added.
 #[tactic(auto, using(crate::proofs::Lengths::counted_keys))]
-fn corrected(alloc: Global, keys: &[Fe], corrections: &[Fe], key: Fe) -> Result<Vec<Fe>, AllocError>
+pub(crate) fn corrected(
+    alloc: Global,
+    keys: &[Fe],
+    corrections: &[Fe],
+    key: Fe,
+) -> Result<Vec<Fe>, AllocError>
     requires { length corrections.now ≤ length keys.now }
     ensures keys { IfOk result (λ v. v.items ≡ corrected_keys key keys.now corrections.now) }
     ensures count { IfOk result (λ v. length v.items ≡ length corrections.now) }

@@ -14,11 +14,16 @@ mod corrections;
 mod correlations;
 mod keys;
 mod pairs;
+mod prover_walk;
 mod triples;
 mod values;
+mod verifier_walk;
+mod walking;
 
 pub use correlations::Correlations;
 pub use keys::VerifierWires;
 pub use pairs::ProverWires;
+pub use prover_walk::ProverWalk;
 pub use triples::{KeyTriple, Triple};
 pub use values::bits_make_products;
+pub use verifier_walk::VerifierWalk;

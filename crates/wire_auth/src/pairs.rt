@@ -48,7 +48,7 @@ impl<'a> Model for ProverWires<'a> {
 }
 
 /// The MACs of pairs.
-fn macs_of(alloc: Global, pairs: &[Pair]) -> Result<Vec<Fe>, AllocError>
+pub(crate) fn macs_of(alloc: Global, pairs: &[Pair]) -> Result<Vec<Fe>, AllocError>
     ensures { IfOk result (λ macs. macs.items ≡ macs_of pairs.now) }
 {
     pairs.iter().map(|pair| pair.m).collect(alloc)

@@ -19,3 +19,4 @@ pub mod ExampleFound
 pub mod ExampleExtendedSession
 pub mod ExampleFaults
 pub mod ExampleAudit
+pub mod SetWires

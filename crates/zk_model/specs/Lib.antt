@@ -12,6 +12,7 @@ pub mod Bristol
 pub mod TextFaults
 pub mod Generated
 pub mod Program
+pub mod Slots
 pub mod Boolean
 pub mod Mac
 pub mod Bytes

@@ -1,0 +1,246 @@
+-- How far a walk is: which product it meets next, and at which step.
+use Rattle.std.proofs.Common.{◌≡◌, ℕ, ◌+◌, ◌-◌, ◌<◌, ◌≤◌, ◌⊎◌, ⊎_elim, inl, inr, List, [], ◌∷◌, ◌++◌, map, length, take, drop, get_or, refl, sym, ◌∙◌, ap, subst, arith, length-append}
+use Rattle.std.specs.Prelude.{Some, slice_get, slice_index, Contains}
+use Rattle.std.proofs.lemmas.Bool.{cases_lt}
+use Rattle.std.proofs.lemmas.List.{length-map, take_all, take-append-drop, get_or-map, get_or_default, get_or_append_left, get_or-append-add}
+use Rattle.std.proofs.lemmas.List.Concat.{flat_map-append}
+use Rattle.std.proofs.lemmas.List.FromFn.{get_or-range_with_len, length-range_with_len}
+use Rattle.std.proofs.lemmas.Option.{slice_get_within, get_or_from_slice_get}
+use Rattle.zk_model.specs.Program.{Term, Step as model, Program, IsProgram, IsSet}
+use Rattle.zk_model.specs.Slots.{IsLive, Reads}
+use Rattle.zk_model.specs.declared.Product.{Product}
+use Rattle.field_program.specs.Programs.{IsSmallProgram, values_taken}
+use Rattle.field_program.specs.Steps.{step_equation}
+use Rattle.field_program.specs.declared.step.Step.{Step}
+use Rattle.field_program.proofs.First.{first_live}
+use Rattle.field_program.proofs.Live.{some_same}
+use Rattle.field_program.proofs.Operands.{read_set}
+use Rattle.wire_auth.specs.Walks.{IsAlong, IsTakenBy, TakesAt}
+use Rattle.wire_auth.proofs.HeldNumbers.{taken_more, one_value}
+
+-- ---- values are taken in order
+
+-- the values that the first steps take are the first of all
+taken_whole : (program : Program) (k : ℕ) → values_taken program.steps ≡ values_taken (take k program.steps) ++ values_taken (drop k program.steps)
+taken_whole program k = ap values_taken (sym (take-append-drop k program.steps))
+    ∙ flat_map-append (λ (s : model). map (λ (t : Term). t.place) s.given) (take k program.steps) (drop k program.steps)
+
+taken_count : (program : Program) → IsSmallProgram program → length (values_taken program.steps) ≡ program.givens - program.inputs
+taken_count program held = ap length held.taken ∙ length-range_with_len program.inputs (program.givens - program.inputs)
+
+-- a step takes the value behind those that earlier steps take
+value_in_order : (program : Program) (k i : ℕ) (equation : model) → IsSmallProgram program → slice_get program.steps k ≡ Some equation → i < length equation.given
+    → get_or (map (λ (t : Term). t.place) equation.given) i 0 ≡ program.inputs + (length (values_taken (take k program.steps)) + i)
+value_in_order program k i equation held stands inside =
+    sym (ap (λ l. get_or l (length before + i) 0) whole
+    ∙ get_or_append_left (before ++ here) behind 0 (length before + i) (omega (arith, inside, length-append before here, length-map equation.given (λ (t : Term). t.place)))
+    ∙ get_or-append-add before here i 0)
+    ∙ ap (λ l. get_or l (length before + i) 0) held.taken
+    ∙ get_or-range_with_len program.inputs (program.givens - program.inputs) (length before + i) 0 fits
+  where
+    before : List ℕ
+    before = values_taken (take k program.steps)
+
+    here : List ℕ
+    here = map (λ (t : Term). t.place) equation.given
+
+    behind : List ℕ
+    behind = values_taken (drop (k + 1) program.steps)
+
+    whole : values_taken program.steps ≡ (before ++ here) ++ behind
+    whole = taken_whole program (k + 1) ∙ ap (λ l. l ++ behind) (taken_more program.steps k equation stands)
+
+    fits : length before + i < program.givens - program.inputs
+    fits = omega (arith, inside, ap length whole, length-append (before ++ here) behind, length-append before here, length-map equation.given (λ (t : Term). t.place), taken_count program held)
+
+-- ---- at the step where a walk waits
+
+-- it takes the value of the product that the walk meets next
+pub takes_met : (program : Program) (steps met i : ℕ) (d : Term) (equation : model) → IsSmallProgram program → IsAlong program steps met → program.inputs ≤ met
+    → slice_get program.steps steps ≡ Some equation → i < length equation.given → (get_or equation.given i d).place ≡ met + i
+takes_met program steps met i d equation held along low stands inside =
+    sym (get_or-map (λ (t : Term). t.place) equation.given i d 0 inside)
+    ∙ value_in_order program steps i equation held stands inside ∙ (let counted = along.taken low in omega (arith, counted))
+
+-- a walk that has a product to meet behind the bit checks waits at a step that takes a value
+pub waits_at : (program : Program) (steps met : ℕ) → IsSmallProgram program → IsAlong program steps met → program.inputs ≤ met → met < length program.products
+    → TakesAt program steps
+waits_at program steps met held along low more = ⊎_elim
+    (λ end. absurd (let counted = along.taken low in let all = taken_count program held in
+    omega (arith, counted, all, more, held.counted, ap length (ap values_taken (take_all steps program.steps (omega (arith, end))))))) (λ takes. takes) (along.waits low)
+
+-- and one that has none is at the end
+pub at_end : (program : Program) (steps met : ℕ) → IsSmallProgram program → IsAlong program steps met → length program.products ≤ met → steps ≡ length program.steps
+at_end program steps met held along none = ⊎_elim (λ end. end) (λ takes. absurd (too_many takes)) (along.waits low)
+  where
+    low : program.inputs ≤ met
+    low = let enough = held.formed.inputs in omega (arith, enough, held.counted, none)
+
+    too_many : TakesAt program steps → ⊥
+    too_many (equation, stands, some) =
+        let counted = along.taken low in let within = along.within in
+        omega (
+          arith,
+          counted,
+          within,
+          some,
+          held.counted,
+          taken_count program held,
+          ap length (taken_whole program (steps + 1)),
+          length-append (values_taken (take (steps + 1) program.steps)) (values_taken (drop (steps + 1) program.steps)),
+          ap length (taken_more program.steps steps equation stands),
+          length-append (values_taken (take steps program.steps)) (map (λ (t : Term). t.place) equation.given),
+          length-map equation.given (λ (t : Term). t.place),
+        )
+
+-- the factors of the product that a walk meets next are live
+pub factors_live : (program : Program) (steps met : ℕ) (product : Product) → IsSmallProgram program → IsAlong program steps met
+    → slice_get program.products met ≡ Some product → IsLive program steps product.a × IsLive program steps product.b
+factors_live program steps met product held along stands = ⊎_elim check behind (cases_lt met program.inputs)
+  where
+    check : met < program.inputs → IsLive program steps product.a × IsLive program steps product.b
+    check first =
+        let is = held.checks met product first stands in
+        subst (λ n. IsLive program n product.a × IsLive program n product.b) (sym (along.checks first)) (
+          subst (IsLive program 0) (sym is.0) (first_live program (program.public + met) (omega (arith, first))),
+          subst (IsLive program 0) (sym is.1) (first_live program (program.public + met) (omega (arith, first))),
+        )
+
+    behind : program.inputs ≤ met → IsLive program steps product.a × IsLive program steps product.b
+    behind low = by (waits_at program steps met held along low (slice_get_within program.products met product stands))
+      where
+        live : (wire : ℕ) (equation : model) → slice_get program.steps steps ≡ Some equation → Reads program equation wire → IsLive program steps wire
+        live wire equation at reads = set_before (read_set program steps wire equation held at reads)
+          where
+            set_before : IsSet program steps wire → IsLive program steps wire
+            set_before (inl first) = record {
+              from = 0;
+              set = inl (refl, first);
+              behind = omega arith;
+              needed = inr (inl (steps + 1, omega arith, (steps, equation, refl, at, reads)));
+            }
+            set_before (inr (j, other, before, is, sets)) = record {
+              from = j + 1;
+              set = inr (j, other, refl, is, sets);
+              behind = omega (arith, before);
+              needed = inr (inl (steps + 1, omega arith, (steps, equation, refl, at, reads)));
+            }
+
+        by : TakesAt program steps → IsLive program steps product.a × IsLive program steps product.b
+        by (equation, at, some) =
+            let term : Term = get_or equation.given 0 none in
+            let first : 0 < length equation.given = omega (arith, some) in
+            let place : term.place ≡ met = takes_met program steps met 0 none equation held along low at first ∙ omega arith in
+            let number : product.c ≡ term.place = held.numbered met product stands ∙ sym place in
+            let among : Contains program.products product = (met, slice_get_within program.products met product stands, get_or_from_slice_get program.products met product product stands) in
+            let taken : Contains equation.given term = (0, first, get_or_default equation.given 0 term none first) in (
+              live product.a equation at (inr (term, product, taken, among, number, inl refl)),
+              live product.b equation at (inr (term, product, taken, among, number, inr refl)),
+            )
+          where
+            none : Term
+            none = record { factor = 0; place = 0 }
+
+-- opened wires are live in the end
+pub opened_live : (program : Program) (o : ℕ) (d : ℕ) → IsProgram program → o < length program.opened → IsLive program (length program.steps) (get_or program.opened o d)
+opened_live program o d formed below = by (formed.opened o d below)
+  where
+    there : Contains program.opened (get_or program.opened o d)
+    there = (o, below, get_or_default program.opened o (get_or program.opened o d) d below)
+
+    by : IsSet program (length program.steps) (get_or program.opened o d) → IsLive program (length program.steps) (get_or program.opened o d)
+    by (inl first) = record { from = 0; set = inl (refl, first); behind = omega arith; needed = inr (inr there) }
+    by (inr (j, other, before, is, sets)) = record { from = j + 1; set = inr (j, other, refl, is, sets); behind = omega (arith, before); needed = inr (inr there) }
+
+-- ---- one product more
+
+-- before all steps
+pub along_first : (program : Program) → 0 < program.inputs → IsSmallProgram program → IsAlong program 0 0
+along_first program some held = record {
+  upto = omega arith;
+  within = omega arith;
+  checks = λ first. refl;
+  taken = λ low. absurd (omega (arith, low, some));
+  waits = λ low. absurd (omega (arith, low, some));
+}
+
+-- at the next step that takes a value, where this one's steps have taken so many
+pub along_next : (program : Program) (from steps met : ℕ) → program.inputs ≤ met → met ≤ length program.products → steps ≤ length program.steps
+    → program.inputs + length (values_taken (take from program.steps)) ≡ met → values_taken (take steps program.steps) ≡ values_taken (take from program.steps)
+    → (steps ≡ length program.steps) ⊎ TakesAt program steps → IsAlong program steps met
+along_next program from steps met low within upto counted same waits = record {
+  upto = upto;
+  within = within;
+  checks = λ first. absurd (omega (arith, first, low));
+  taken = λ low. let longer = ap length same in omega (arith, counted, longer);
+  waits = λ low. waits;
+}
+
+-- a bit check more
+pub along_check : (program : Program) (steps met : ℕ) → IsAlong program steps met → met + 1 < program.inputs → met < length program.products → IsAlong program steps (met + 1)
+along_check program steps met along first within = record {
+  upto = along.upto;
+  within = omega (arith, within);
+  checks = λ less. along.checks (omega (arith, first));
+  taken = λ low. absurd (omega (arith, low, first));
+  waits = λ low. absurd (omega (arith, low, first));
+}
+
+-- one step more takes one value more
+pub taken_one : (program : Program) (steps met : ℕ) (equation : model) → IsAlong program steps met → program.inputs ≤ met → slice_get program.steps steps ≡ Some equation
+    → length equation.given ≡ 1 → program.inputs + length (values_taken (take (steps + 1) program.steps)) ≡ met + 1
+taken_one program steps met equation along low stands one =
+    let counted = along.taken low in
+    omega (
+      arith,
+      counted,
+      one,
+      ap length (taken_more program.steps steps equation stands),
+      length-append (values_taken (take steps program.steps)) (map (λ (t : Term). t.place) equation.given),
+      length-map equation.given (λ (t : Term). t.place),
+    )
+
+-- ---- behind the bit checks
+
+-- what is known of the step where a walk waits
+pub record IsNextStep (program : Program) (steps met : ℕ) (equation : model) : Type 0 where
+  pub there : steps < length program.steps
+  pub one : length equation.given ≡ 1
+  pub takes : (given : List ℕ) (number : ℕ) → number ≡ slice_index given met → IsTakenBy given equation number
+
+pub next_there : (program : Program) (steps met : ℕ) → IsSmallProgram program → IsAlong program steps met → program.inputs ≤ met → met < length program.products
+    → steps < length program.steps
+next_there program steps met held along low more =
+    let takes = waits_at program steps met held along low more in slice_get_within program.steps steps takes.0 takes.1
+
+pub next_step : (program : Program) (steps met : ℕ) (s : Step) → IsSmallProgram program → IsAlong program steps met → program.inputs ≤ met
+    → met < length program.products → slice_get program.steps steps ≡ Some (step_equation s) → IsNextStep program steps met (step_equation s)
+next_step program steps met s held along low more stands = record {
+  there = slice_get_within program.steps steps (step_equation s) stands;
+  one = single;
+  takes = λ given number is i d inside.
+      let only : i ≡ 0 = omega (arith, inside, single) in
+      let place : (get_or (step_equation s).given i d).place ≡ met = takes_met program steps met i d (step_equation s) held along low stands inside ∙ (let none = only in omega (arith, none)) in
+      is ∙ ap (slice_index given) (sym place);
+}
+  where
+    single : length (step_equation s).given ≡ 1
+    single = one_value s (by (waits_at program steps met held along low more))
+      where
+        by : TakesAt program steps → 1 ≤ length (step_equation s).given
+        by (equation, at, some) = subst (λ (e : model). 1 ≤ length e.given) (some_same equation (step_equation s) (slice_get program.steps steps) at stands) some
+
+-- before all steps nothing is taken
+pub none_taken : (steps : List model) (k : ℕ) → k ≡ 0 → length (values_taken (take k steps)) ≡ 0
+none_taken steps k none = ap (λ n. length (values_taken (take n steps))) none ∙ nothing steps
+  where
+    nothing : (steps : List model) → length (values_taken (take 0 steps)) ≡ 0
+    nothing [] = refl
+    nothing (step ∷ steps) = refl
+
+-- after the last product opened wires are live
+pub opened_after : (program : Program) (steps met o : ℕ) (opened : List ℕ) → IsSmallProgram program → IsAlong program steps met → length program.products ≤ met
+    → opened ≡ program.opened → o < length program.opened → IsLive program steps (slice_index opened o)
+opened_after program steps met o opened held along done are below =
+    subst (λ n. IsLive program n (slice_index opened o)) (sym (at_end program steps met held along done))
+    (subst (λ l. IsLive program (length program.steps) (slice_index l o)) (sym are) (opened_live program o 0 held.formed below))

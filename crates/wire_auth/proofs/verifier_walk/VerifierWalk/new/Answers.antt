@@ -1,0 +1,35 @@
+use Rattle.std.proofs.Common.{◌++◌, List, ℕ, arith, ap, map, refl, subst, sym, take, ◌∙◌}
+use Rattle.zk_model.specs.Field.{◌*ₚ◌}
+use Rattle.zk_model.specs.Mac.{corrected_keys}
+use Rattle.zk_model.specs.Program.{Program, Carries}
+use Rattle.wire_auth.specs.Values.{numbers_carried}
+use Rattle.wire_auth.specs.Walks.{IsVerifierWalk}
+use Rattle.wire_auth.proofs.Lengths.{counted_keys}
+use Rattle.wire_auth.proofs.Making.{carried_exist}
+use Rattle.wire_auth.proofs.BothWalks.{first_carried, first_corrected}
+use Rattle.wire_auth.proofs.verifier_walk.VerifierWalk.new.Goals as goal
+
+pub invariant_of-result : goal.invariant_of-result
+invariant_of-result c =
+    subst (λ (p : Program). IsVerifierWalk p c.args.key c.args.public.now c.args.keys.now c.args.corrections.now c.in_ok-walk.walk) (sym c.in_ok-walk.ensures.program)
+    (record {
+      along = c.in_ok-walk.ensures.program;
+      public_count = c.requires.public;
+      enough = c.requires.keys;
+      one_each = c.requires.corrections;
+      of_keys = c.in_ok-walk.ensures.follows (numbers_carried c.args.key c.args.program.now c.args.public.now given) given carried.steps
+          (first_carried c.args.key c.args.program.now c.args.public.now given (numbers_carried c.args.key c.args.program.now c.args.public.now given) carried
+          ∙ ap (λ l. map (λ value. value *ₚ c.args.key) c.args.public.now ++ l)
+          (first_corrected c.args.program.now.inputs c.args.key c.args.keys.now c.args.corrections.now
+          ∙ (λ i. corrected_keys c.args.key (take (sym c.inputs-inputs.ensures.count i) c.args.keys.now) (take (sym c.inputs-inputs.ensures.count i) c.args.corrections.now))
+          ∙ sym (c.deref.ensures.value ∙ c.in_ok-first_keys.ensures.keys))
+          ∙ sym (c.deref-2.ensures.value ∙ c.in_ok-first.ensures));
+    })
+  where
+    given : List ℕ
+    given = corrected_keys c.args.key c.args.keys.now c.args.corrections.now
+
+    carried : Carries c.args.key c.args.program.now c.args.public.now given (numbers_carried c.args.key c.args.program.now c.args.public.now given)
+    carried = carried_exist c.args.key c.args.program.now c.args.public.now given c.inputs-inputs.ensures.held.formed c.requires.public
+        (let count = counted_keys c.args.key c.args.keys.now c.args.corrections.now given (let all = c.requires.corrections in let enough = c.requires.keys in omega (arith, all, enough)) refl in
+        omega (arith, count, c.requires.corrections, c.inputs-inputs.ensures.held.formed.inputs))

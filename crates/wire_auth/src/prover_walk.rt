@@ -1,0 +1,150 @@
+// The prover's pairs, one product after another.
+ghost use Rattle.std.specs.Prelude.{◌≡◌, ◌+◌, ◌<◌, ◌≤◌, ℕ, List, Some, None, length, min, slice_get, slice_index, IfOk};
+ghost use Rattle.zk_model.specs.Check.{opened_pairs, product_triple};
+ghost use Rattle.zk_model.specs.Mac.{macs_of, pair_at};
+ghost use Rattle.zk_model.specs.Slots.{IsPlanOf};
+ghost use Rattle.zk_model.specs.declared.Product as zk;
+ghost use Rattle.wire_auth.specs.Values.{given_value};
+ghost use Rattle.wire_auth.specs.Walks.{side_made};
+
+use crate::carrying::first_numbers;
+use crate::pairs::macs_of;
+use crate::triples::Triple;
+use crate::walking::NumberWalk;
+use field_program::{FieldProgram, SlotPlan};
+use mersenne_field::{Fe, Pair};
+use std::alloc::{AllocError, Global};
+use std::marker::Model;
+
+/// The pairs that `ProverWires` has, one product after another (Weng, Yang, Katz and Wang, Wolverine, IEEE S&P 2021; Yang, Sarkar, Weng
+/// and Wang, QuickSilver, ACM CCS 2021). It holds those of the wires that are live at a step, and no more than a plan has slots.
+#[derive(Debug, Drop)]
+pub struct ProverWalk<'a> {
+    public: &'a [Fe],
+    inputs: &'a [Fe],
+    dealt: &'a [Pair],
+    values: NumberWalk<'a>,
+    macs: NumberWalk<'a>,
+}
+
+impl<'a> Model for ProverWalk<'a> {
+    ghost use Rattle.wire_auth.specs.Walks as walks;
+    ghost use Rattle.wire_auth.specs.Walks.{IsProverWalk, side_made};
+
+    ghost Value = { walks.ProverWalking };
+
+    ghost view = { λ w. record {
+      side = side_made w.values.program w.public.now w.inputs.now w.dealt.now;
+      met = w.values.met;
+    } };
+
+    ghost invariant = { λ w. IsProverWalk w.values.program w.public.now w.inputs.now w.dealt.now w.values w.macs };
+}
+
+impl<'a> ProverWalk<'a> {
+    /// A walk along a program with these public values and private inputs, that has given no product yet. `dealt` are the session's
+    /// correlations, at least one for each given value; the plan is that of the program.
+    ///
+    /// # Errors
+    ///
+    /// Only where memory runs out.
+    pub fn new(
+        alloc: Global,
+        program: &'a FieldProgram,
+        plan: &'a SlotPlan,
+        public: &'a [Fe],
+        inputs: &'a [Fe],
+        dealt: &'a [Pair],
+    ) -> Result<ProverWalk<'a>, AllocError>
+        requires plan { IsPlanOf program.now plan.now }
+        requires public { length public.now ≡ program.now.public }
+        requires inputs { length inputs.now ≡ program.now.inputs }
+        requires dealt { program.now.givens ≤ length dealt.now }
+        ensures { IfOk result (λ walk. walk ≡ record {
+          side = side_made program.now public.now inputs.now dealt.now;
+          met = 0;
+        }) }
+    {
+        let _products = program.products();
+        let first = first_numbers(alloc, public, Fe::ONE, inputs)?;
+        let values = NumberWalk::new(alloc, program, plan, Fe::ONE, &first)?;
+        let first_macs = macs_of(alloc, &dealt[..program.inputs()])?;
+        let first = first_numbers(alloc, public, Fe::ZERO, &first_macs)?;
+        let macs = NumberWalk::new(alloc, program, plan, Fe::ZERO, &first)?;
+        Ok(ProverWalk {
+            public,
+            inputs,
+            dealt,
+            values,
+            macs,
+        })
+    }
+
+    /// The pairs of the factors of the next product, and of its value; none after the last.
+    pub fn next(&mut self) -> Option<Triple>
+        ensures some { (product : zk.Product) → slice_get self.old.side.program.products self.old.met ≡ Some product
+            → result ≡ Some (product_triple self.old.side.pairs product) }
+        ensures none { length self.old.side.program.products ≤ self.old.met → result ≡ None }
+        ensures side { self.new.side ≡ self.old.side }
+        ensures met { self.new.met
+            ≡ min (self.old.met + 1) (length self.old.side.program.products) }
+    {
+        let program = self.values.program();
+        let _products = program.products();
+        let met = self.values.met();
+        let (left, right) = self.values.factors()?;
+        let (left_mac, right_mac) = self.macs.factors()?;
+        let value = given_number(program, met, left, right);
+        let mac = dealt_mac(self.dealt, met);
+        self.values.meet(value);
+        self.macs.meet(mac);
+        Some(Triple {
+            a: Pair {
+                x: left,
+                m: left_mac,
+            },
+            b: Pair {
+                x: right,
+                m: right_mac,
+            },
+            c: Pair { x: value, m: mac },
+        })
+    }
+
+    /// The pair of opened wire o, after the last product.
+    pub fn output(&self, o: usize) -> Pair
+        requires done { length self.now.side.program.products ≤ self.now.met }
+        requires there { o < length self.now.side.program.opened }
+        ensures { result ≡ pair_at (opened_pairs self.now.side.program self.now.side.pairs) o }
+    {
+        let _opened = self.values.program().opened();
+        Pair {
+            x: self.values.opened(o),
+            m: self.macs.opened(o),
+        }
+    }
+}
+
+/// The given value of a product, from the values of both factors: that of the input which it checks, or their product.
+fn given_number(program: &FieldProgram, met: usize, left: Fe, right: Fe) -> Fe
+    requires { met < length program.now.products }
+    ensures { (product : zk.Product) (values : List ℕ) → slice_get program.now.products met ≡ Some product
+        → left ≡ slice_index values product.a → right ≡ slice_index values product.b
+        → result ≡ given_value program.now values product }
+{
+    let _product = program.product(met);
+    if met < program.inputs() {
+        left
+    } else {
+        left * right
+    }
+}
+
+/// The MAC of a dealt pair, which is that of the given value that it is corrected to.
+fn dealt_mac(dealt: &[Pair], i: usize) -> Fe
+    requires { i < length dealt.now }
+    ensures { result ≡ slice_index (macs_of dealt.now) i }
+{
+    let pair = dealt[i];
+    pair.m
+}
