@@ -201,32 +201,22 @@ short_digit text front i value digit same enough within below byte_is far small 
     (scan_digit text i true true value (value * 10 + digit) (omega arith) (ap is_digit is ∙ is_digit_is) refl (omega (arith, is)) far, rw (add-one, pow-suc) (omega arith))
 
 -- its end
-pub short_ended : (text front : List ℕ) (i value : ℕ) → front ≡ take 8 text → 8 ≤ length text → i < 8 → 0 < i → get_or front i 0 ≡ 32 → AreScanned (take i text) true value
+pub short_ended : (text front : List ℕ) (i value : ℕ) → front ≡ take 8 text → 8 ≤ length text → i < 8 → 0 < i → is_blank (get_or front i 0) ≡ true → AreScanned (take i text) true value
     → IsEnded text (record { length = i; word = Number value })
-short_ended text front i value same enough within some space far = record {
+short_ended text front i value same enough within some blank far = record {
   some = some;
   within = omega arith;
-  is = scan_ended text i value (omega arith) (ap is_blank (sym (short_byte text front i same within) ∙ space)) far;
+  is = scan_ended text i value (omega arith) (ap is_blank (sym (short_byte text front i same within)) ∙ blank) far;
 }
 
--- ---- a gate's numbers of inputs and of outputs
+-- ---- a digit
 
 abbrev IsNoBlank : ℕ → Type 0
 IsNoBlank byte = is_blank byte ≡ false
 
 -- a digit and a space
-left_digit : (byte n : ℕ) (text : List ℕ) → is_blank byte ≡ false → lexeme (byte ∷ []) ≡ number n → left_of (byte ∷ 32 ∷ text) ≡ number n ∷ left_of text
+pub left_digit : (byte n : ℕ) (text : List ℕ) → is_blank byte ≡ false → lexeme (byte ∷ []) ≡ number n → left_of (byte ∷ 32 ∷ text) ≡ number n ∷ left_of text
 unfolding left_of
 left_digit byte n text no_blank is =
     ap (map lexeme) (tokens_first (byte ∷ []) (32 ∷ text) (omega arith) (All-cons IsNoBlank byte [] no_blank (All-nil IsNoBlank)) refl)
     ∙ ap (λ l. lexeme (byte ∷ []) ∷ l) (ap (map lexeme) (tokens_blank 32 text refl)) ∙ ap (λ l. l ∷ lexemes text) is
-
-pub left_digits : (text : List ℕ) (byte n : ℕ) → 4 ≤ length text → is_blank byte ≡ false → lexeme (byte ∷ []) ≡ number n → get_or text 0 0 ≡ byte → get_or text 1 0 ≡ 32
-    → get_or text 2 0 ≡ 49 → get_or text 3 0 ≡ 32 → left_of text ≡ number n ∷ number 1 ∷ left_of (take (length text - 4) (drop 4 text))
-left_digits [] byte n enough no_blank is first second third fourth = absurd (omega arith)
-left_digits (a ∷ []) byte n enough no_blank is first second third fourth = absurd (omega arith)
-left_digits (a ∷ b ∷ []) byte n enough no_blank is first second third fourth = absurd (omega arith)
-left_digits (a ∷ b ∷ c ∷ []) byte n enough no_blank is first second third fourth = absurd (omega arith)
-left_digits (a ∷ b ∷ c ∷ d ∷ text) byte n enough no_blank is first second third fourth =
-    (λ i. left_of (first i ∷ second i ∷ third i ∷ fourth i ∷ text)) ∙ left_digit byte n (49 ∷ 32 ∷ text) no_blank is ∙ ap (λ l. number n ∷ l) (left_digit 49 1 text refl refl)
-    ∙ ap (λ l. number n ∷ number 1 ∷ left_of l) (sym (take_all (length (a ∷ b ∷ c ∷ d ∷ text) - 4) text (omega arith)))

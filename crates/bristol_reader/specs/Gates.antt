@@ -1,5 +1,5 @@
 -- What the tokens of a gate say, where flags say which wires are set.
-use Rattle.std.specs.Prelude.{◌≡◌, ℕ, ◌+◌, ◌<◌, ◌≤◌, ◌==◌, ◌⊎◌, Bool, true, false, if◌then◌else◌, List, [], ◌∷◌, ◌++◌, length, nat_le, slice_index_or, All}
+use Rattle.std.specs.Prelude.{◌≡◌, ℕ, ◌+◌, ◌<◌, ◌≤◌, ◌==◌, ◌⊎◌, Bool, true, false, if◌then◌else◌, List, [], ◌∷◌, ◌++◌, length, nat_le, slice_index_or, All, Result, Ok, Err}
 use Rattle.zk_model.specs.Bristol.{Lexeme, number, gate_lexemes}
 use Rattle.zk_model.specs.Circuit.{Circuit, wire_set, wires_read}
 use Rattle.zk_model.specs.TextFaults.{GateWants, IsSetSoFar, Said, IsSaid, said_lexemes, IsInputFault, IsOutputFault}
@@ -119,6 +119,11 @@ pub record IsWireFaultBy (flags : List Bool) (before : Place) (fault : ReadFault
 -- the first fault of a gate
 abbrev pub IsGateFault : List Bool → Place → ReadFault → Type 0
 IsGateFault flags before fault = IsFaultBehind GateWants before fault ⊎ IsWireFaultBy flags before fault
+
+-- what was read of a gate: its tokens up to another place, or its first fault
+abbrev pub IsRead : List Bool → Place → Place → Result GateRow ReadFault → Type 0
+IsRead flags before after (Ok gate) = Takes (gate_lexemes gate) before after × FitsFlags flags gate
+IsRead flags before after (Err fault) = IsGateFault flags before fault
 
 -- after a gate's numbers of inputs and of outputs, this holds where they begin
 abbrev pub BehindNumbers : ℕ → Place → (Place → Type 0) → Type 0

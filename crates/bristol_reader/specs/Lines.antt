@@ -1,10 +1,10 @@
--- Lines of gates that are written plainly.
-use Rattle.std.specs.Prelude.{◌≡◌, ℕ, ◌+◌, ◌^◌, ◌<◌, List, [], ◌∷◌, length}
-use Rattle.zk_model.specs.Bristol.{number, name}
+-- Lines of gates that are read at once.
+use Rattle.std.specs.Prelude.{◌≡◌, ℕ, ◌+◌, ◌^◌, ◌<◌, ◌≤◌, Bool, false, List, [], ◌∷◌, ◌++◌, length, All}
+use Rattle.zk_model.specs.Bristol.{number, name, is_blank, lexeme}
 use Rattle.bristol_reader.specs.declared.lines.PairLine.{PairLine}
 use Rattle.bristol_reader.specs.declared.lines.SingleLine.{SingleLine}
 use Rattle.bristol_reader.specs.Words.{Place, Takes, left_of}
-use Rattle.bristol_reader.specs.Wants.{IsPlaced, pair_text, single_text}
+use Rattle.bristol_reader.specs.Wants.{IsPlaced, numbers_of, pair_text, single_text}
 
 -- the first token of a text is this number, and this is the text after it
 pub record StartsNumber (text : List ℕ) (n : ℕ) (behind : List ℕ) : Type 0 where
@@ -16,6 +16,22 @@ pub record StartsNumber (text : List ℕ) (n : ℕ) (behind : List ℕ) : Type 0
 pub record StartsName (text of behind : List ℕ) : Type 0 where
   pub shorter : length behind < length text
   pub left : left_of text ≡ name of ∷ left_of behind
+
+-- its first two are the numbers of inputs and of outputs of a gate, with two inputs or one
+pub record StartsGate (text : List ℕ) (is_pair : Bool) (behind : List ℕ) : Type 0 where
+  pub shorter : length behind + 2 ≤ length text
+  pub left : left_of text ≡ numbers_of is_pair ++ left_of behind
+
+-- the same at a place, and this is the text after both
+pub record IsGateAt (at : Place) (is_pair : Bool) (behind : List ℕ) : Type 0 where
+  pub fits : at.taken + 2 + length behind < 2 ^ 64
+  pub left : at.left ≡ numbers_of is_pair ++ left_of behind
+
+-- bytes that are one token, and a name
+pub record IsWord (word : List ℕ) : Type 0 where
+  pub some : 0 < length word
+  pub unbroken : All (λ byte. is_blank byte ≡ false) word
+  pub is_name : lexeme word ≡ name word
 
 -- the tokens of a gate with two inputs, all of them
 pub record IsPairLine (before after : Place) (line : PairLine) : Type 0 where

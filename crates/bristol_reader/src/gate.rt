@@ -1,5 +1,5 @@
 // A gate of a circuit's text.
-ghost use Rattle.std.specs.Prelude.{◌≡◌, ◌≤◌, ◌^◌, IfOk, IfErr, length};
+ghost use Rattle.std.specs.Prelude.{◌≡◌, ◌≤◌, ◌^◌, true, false, IfOk, IfErr, IfSome, IfNone, length};
 ghost use Rattle.zk_model.specs.Bristol.{gate_lexemes};
 ghost use Rattle.zk_model.specs.TextFaults.{GateWants};
 ghost use Rattle.bristol_reader.specs.Words.{Takes};
@@ -7,7 +7,8 @@ ghost use Rattle.bristol_reader.specs.Wants.{numbers_of, IsFaultBehind};
 ghost use Rattle.bristol_reader.specs.Gates.{IsSetWire, IsNoSetWire, IsFreeWire, IsNoFreeWire};
 ghost use Rattle.bristol_reader.specs.Gates.{MayBeInput, MayNotBeInput};
 ghost use Rattle.bristol_reader.specs.Gates.{FitsFlags, pair_gate, single_gate, IsWrongPair, IsWrongSingle};
-ghost use Rattle.bristol_reader.specs.Gates.{IsGateFault, IsGateBehind, IsFaultIn};
+ghost use Rattle.bristol_reader.specs.Gates.{IsGateFault, IsGateBehind, IsFaultIn, IsRead};
+ghost use Rattle.bristol_reader.specs.Lines.{IsGateAt};
 ghost use Rattle.zk_model.specs.declared.limits.TheConstants.{MAX_WIRES};
 
 use crate::lines::{PairLine, SingleLine};
@@ -23,11 +24,13 @@ fn read_wire(set: &SetWires, wire: Placed) -> Result<u32, ReadFault>
     ensures fault { IfErr result (IsNoSetWire set.now wire) }
 {
     let Placed { number, token } = wire;
-    if number as usize >= set.len() {
-        return Err(ReadFault::WireRange { token });
-    }
     if !set.contains(number) {
-        return Err(ReadFault::ReadBeforeSet { token });
+        let fault = if number as usize >= set.len() {
+            ReadFault::WireRange { token }
+        } else {
+            ReadFault::ReadBeforeSet { token }
+        };
+        return Err(fault);
     }
     Ok(number)
 }
@@ -192,7 +195,70 @@ fn read_tokens(tokens: &mut Tokens, set: &SetWires) -> Result<GateRow, ReadFault
     }
 }
 
-/// Takes the tokens of a gate: its line, if it is written plainly.
+/// Takes the line of a gate with two inputs, behind its first two numbers; nothing, if it is written otherwise.
+#[inline(always)]
+fn read_pair_line<'a, const SPACED: bool>(
+    tokens: &mut Tokens<'a>,
+    behind: &'a [u8],
+    set: &SetWires,
+) -> Option<Result<GateRow, ReadFault>>
+    requires few { length set.now ≤ MAX_WIRES }
+    requires begins { IsGateAt tokens.old true behind.now }
+    ensures none { IfNone result (tokens.new ≡ tokens.old) }
+    ensures read { IfSome result (IsRead set.now tokens.old tokens.new) }
+{
+    let PairLine { name, a, b, out } = tokens.pair_line::<SPACED>(behind)?;
+    Some(pair_row(set, name, a, b, out))
+}
+
+/// The same of a gate with one input.
+#[inline(always)]
+fn read_single_line<'a, const SPACED: bool>(
+    tokens: &mut Tokens<'a>,
+    behind: &'a [u8],
+    set: &SetWires,
+) -> Option<Result<GateRow, ReadFault>>
+    requires few { length set.now ≤ MAX_WIRES }
+    requires begins { IsGateAt tokens.old false behind.now }
+    ensures none { IfNone result (tokens.new ≡ tokens.old) }
+    ensures read { IfSome result (IsRead set.now tokens.old tokens.new) }
+{
+    let SingleLine { name, input, out } = tokens.single_line::<SPACED>(behind)?;
+    Some(single_row(set, name, input, out))
+}
+
+/// Takes the line of a gate; nothing, if it is written otherwise.
+#[inline(always)]
+fn read_line<const SPACED: bool>(
+    tokens: &mut Tokens,
+    set: &SetWires,
+) -> Option<Result<GateRow, ReadFault>>
+    requires { length set.now ≤ MAX_WIRES }
+    ensures none { IfNone result (tokens.new ≡ tokens.old) }
+    ensures read { IfSome result (IsRead set.now tokens.old tokens.new) }
+{
+    let (is_pair, behind) = tokens.heading::<SPACED>()?;
+    if is_pair {
+        read_pair_line::<SPACED>(tokens, behind, set)
+    } else {
+        read_single_line::<SPACED>(tokens, behind, set)
+    }
+}
+
+/// Takes the tokens of a gate, whose line is not plain: all at once if it is spaced, else one by one.
+#[inline(never)]
+fn read_spaced(tokens: &mut Tokens, set: &SetWires) -> Result<GateRow, ReadFault>
+    requires { length set.now ≤ MAX_WIRES }
+    ensures { IsRead set.now tokens.old tokens.new result }
+{
+    if let Some(read) = read_line::<true>(tokens, set) {
+        tokens.note_spaced();
+        return read;
+    }
+    read_tokens(tokens, set)
+}
+
+/// Takes the tokens of a gate: its line at once, if it is plain.
 #[inline(always)]
 pub fn read_gate(tokens: &mut Tokens, set: &SetWires) -> Result<GateRow, ReadFault>
     requires { length set.now ≤ MAX_WIRES }
@@ -200,14 +266,10 @@ pub fn read_gate(tokens: &mut Tokens, set: &SetWires) -> Result<GateRow, ReadFau
     ensures fits { IfOk result (FitsFlags set.now) }
     ensures fault { IfErr result (IsGateFault set.now tokens.old) }
 {
-    if let Some(PairLine { name, a, b, out }) = tokens.pair_line() {
-        let gate = pair_row(set, name, a, b, out)?;
-        return Ok(gate);
+    if !tokens.is_spaced() {
+        if let Some(read) = read_line::<false>(tokens, set) {
+            return read;
+        }
     }
-    if let Some(SingleLine { name, input, out }) = tokens.single_line() {
-        let gate = single_row(set, name, input, out)?;
-        return Ok(gate);
-    }
-    let gate = read_tokens(tokens, set)?;
-    Ok(gate)
+    read_spaced(tokens, set)
 }

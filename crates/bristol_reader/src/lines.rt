@@ -1,9 +1,11 @@
-// Lines of gates that are written plainly, as most are: one space between tokens, and a line feed after the name. All other
-// texts are read token by token.
-ghost use Rattle.std.specs.Prelude.{◌≡◌, ◌+◌, ◌<◌, IfSome};
+// Lines of gates that are read at once. A plain line has one space between tokens, as most have, and any blanks after the
+// name; a spaced one has any blanks anywhere. What is neither, as a number of eight digits, is read token by token.
+ghost use Rattle.std.specs.Prelude.{◌≡◌, ◌+◌, ◌<◌, ◌≤◌, true, [], ◌∷◌, ◌++◌, IfSome, length, take};
+ghost use Rattle.zk_model.specs.Bristol.{is_blank, tokens};
 ghost use Rattle.bristol_reader.specs.Wants.{pair_text, single_text};
-ghost use Rattle.bristol_reader.specs.Lines.{StartsName, StartsNumber};
+ghost use Rattle.bristol_reader.specs.Lines.{IsWord, StartsGate, StartsName, StartsNumber};
 
+use crate::blanks::{is_blank, skip_blanks};
 use crate::wants::{BinaryGate, Placed, UnaryGate};
 
 /// The line of a gate with two inputs.
@@ -15,7 +17,7 @@ pub struct PairLine {
     pub out: Placed,
 }
 
-/// The line of a gate INV or EQW.
+/// The line of a gate with one input.
 #[derive(Clone, Copy)]
 pub struct SingleLine {
     pub name: UnaryGate,
@@ -30,9 +32,45 @@ fn digit_value(byte: u8) -> u32
     u32::from(byte).wrapping_sub(u32::from(b'0'))
 }
 
-/// The number that a text begins with, if it has at most seven digits and a space after it, and the text after that.
+/// Whether two texts of four bytes are the same, of which all bytes are compared at once.
 #[inline(always)]
-pub fn short_number(text: &[u8]) -> Option<(u32, &[u8])>
+fn are_same(some: &[u8; 4], other: &[u8; 4]) -> bool
+    ensures { result ≡ true → some.now ≡ other.now }
+{
+    u32::from_le_bytes(*some) == u32::from_le_bytes(*other)
+}
+
+/// Four bytes, with a line feed for the last.
+#[inline(always)]
+fn with_line_feed(line: &[u8; 4]) -> [u8; 4]
+    ensures { result ≡ take 3 line.now ++ 10 ∷ [] }
+{
+    [line[0], line[1], line[2], b'\n']
+}
+
+/// Whether a byte ends a number before it: a space, or any blank of a line that is spaced.
+#[inline(always)]
+fn ends_number<const SPACED: bool>(byte: u8) -> bool
+    ensures { result ≡ true → is_blank byte ≡ true }
+{
+    byte == b' ' || (SPACED && is_blank(byte))
+}
+
+/// Where the next token of a line begins: after blanks, if it is spaced.
+#[inline(always)]
+fn next_token<const SPACED: bool>(text: &[u8]) -> &[u8]
+    ensures within { length result.now ≤ length text.now }
+    ensures tokens_kept { tokens result.now ≡ tokens text.now }
+{
+    if SPACED {
+        return skip_blanks(text);
+    }
+    text
+}
+
+/// The number that a text begins with, if it has at most seven digits and its end after it, and the text after that.
+#[inline(always)]
+fn number_here<const SPACED: bool>(text: &[u8]) -> Option<(u32, &[u8])>
     ensures { IfSome result (λ r. StartsNumber text.now r.0 r.1.now) }
 {
     let front = text.first_chunk::<8>()?;
@@ -41,7 +79,7 @@ pub fn short_number(text: &[u8]) -> Option<(u32, &[u8])>
         let digit = digit_value(*byte);
         if digit < 10 {
             value = value * 10 + digit;
-        } else if *byte == b' ' && i > 0 {
+        } else if i > 0 && ends_number::<SPACED>(*byte) {
             return Some((value, &text[i + 1..]));
         } else {
             return None;
@@ -50,10 +88,82 @@ pub fn short_number(text: &[u8]) -> Option<(u32, &[u8])>
     None
 }
 
-/// The name of a gate with two inputs that a text begins with, if a line feed is after it, and the text after that. Its
-/// first letter tells which name it can be, and is no branch: which gates come is hard to foretell.
+/// The next number of a line, if it is short, and the text after it.
+#[tactic(auto, using(crate::proofs::PlainLines::number_after))]
 #[inline(always)]
-pub fn pair_name(text: &[u8]) -> Option<(BinaryGate, &[u8])>
+pub fn short_number<const SPACED: bool>(text: &[u8]) -> Option<(u32, &[u8])>
+    ensures { IfSome result (λ r. StartsNumber text.now r.0 r.1.now) }
+{
+    let start = next_token::<SPACED>(text);
+    let (number, behind) = number_here::<SPACED>(start)?;
+    Some((number, behind))
+}
+
+/// Whether the gate of a plain line has two inputs, by its numbers of inputs and of outputs, and the text after them.
+#[inline(always)]
+fn plain_heading(text: &[u8]) -> Option<(bool, &[u8])>
+    ensures { IfSome result (λ r. StartsGate text.now r.0 r.1.now) }
+{
+    let (front, behind) = text.split_first_chunk::<4>()?;
+    if are_same(front, b"2 1 ") {
+        return Some((true, behind));
+    }
+    if are_same(front, b"1 1 ") {
+        return Some((false, behind));
+    }
+    None
+}
+
+/// The same of a line that is spaced.
+#[inline(always)]
+fn spaced_heading(text: &[u8]) -> Option<(bool, &[u8])>
+    ensures { IfSome result (λ r. StartsGate text.now r.0 r.1.now) }
+{
+    let (inputs, behind) = short_number::<true>(text)?;
+    let (outputs, behind) = short_number::<true>(behind)?;
+    match (inputs, outputs) {
+        (1, 1) => Some((false, behind)),
+        (2, 1) => Some((true, behind)),
+        _ => None,
+    }
+}
+
+/// The same of either line.
+#[tactic(auto, using(crate::proofs::PlainLines::gate_after))]
+#[inline(always)]
+pub fn heading<const SPACED: bool>(text: &[u8]) -> Option<(bool, &[u8])>
+    ensures { IfSome result (λ r. StartsGate text.now r.0 r.1.now) }
+{
+    let start = next_token::<SPACED>(text);
+    if let Some((is_pair, behind)) = plain_heading(start) {
+        return Some((is_pair, behind));
+    }
+    if !SPACED {
+        return None;
+    }
+    let (is_pair, behind) = spaced_heading(start)?;
+    Some((is_pair, behind))
+}
+
+/// The text after a name and the blanks behind it, if it begins with that name and a blank.
+#[inline(always)]
+fn behind_name<'a>(text: &'a [u8], name: &[u8]) -> Option<&'a [u8]>
+    requires { IsWord name.now }
+    ensures { IfSome result (λ behind. StartsName text.now name.now behind.now) }
+{
+    let rest = text.strip_prefix(name)?;
+    let (blank, behind) = rest.split_first()?;
+    if !is_blank(*blank) {
+        return None;
+    }
+    Some(skip_blanks(behind))
+}
+
+/// The name of a gate with two inputs that a text begins with, if a blank is after it, and the text after the blanks there; that
+/// is mostly a line feed alone. The first letter tells which name it can be, and is no branch: which gates come is hard to
+/// foretell.
+#[inline(always)]
+fn pair_here(text: &[u8]) -> Option<(BinaryGate, &[u8])>
     ensures { IfSome result (λ r. StartsName text.now (pair_text r.0) r.1.now) }
 {
     let (line, behind) = text.split_first_chunk::<4>()?;
@@ -62,15 +172,18 @@ pub fn pair_name(text: &[u8]) -> Option<(BinaryGate, &[u8])>
     } else {
         (BinaryGate::Xor, b"XOR\n")
     };
-    if line != wanted {
+    if are_same(line, wanted) {
+        return Some((name, behind));
+    }
+    if !is_blank(line[3]) || !are_same(&with_line_feed(line), wanted) {
         return None;
     }
-    Some((name, behind))
+    Some((name, skip_blanks(behind)))
 }
 
-/// The same of INV and EQW.
+/// The same of a gate with one input.
 #[inline(always)]
-pub fn single_name(text: &[u8]) -> Option<(UnaryGate, &[u8])>
+fn single_here(text: &[u8]) -> Option<(UnaryGate, &[u8])>
     ensures { IfSome result (λ r. StartsName text.now (single_text r.0) r.1.now) }
 {
     let (line, behind) = text.split_first_chunk::<4>()?;
@@ -79,8 +192,32 @@ pub fn single_name(text: &[u8]) -> Option<(UnaryGate, &[u8])>
     } else {
         (UnaryGate::Eqw, b"EQW\n")
     };
-    if line != wanted {
-        return None;
+    if are_same(line, wanted) {
+        return Some((name, behind));
     }
+    if is_blank(line[3]) && are_same(&with_line_feed(line), wanted) {
+        return Some((name, skip_blanks(behind)));
+    }
+    let behind = behind_name(text, b"EQ")?;
+    Some((UnaryGate::Eq, behind))
+}
+
+/// The name of a gate with two inputs at the end of a line, and the text after it.
+#[inline(always)]
+pub fn pair_name<const SPACED: bool>(text: &[u8]) -> Option<(BinaryGate, &[u8])>
+    ensures { IfSome result (λ r. StartsName text.now (pair_text r.0) r.1.now) }
+{
+    let start = next_token::<SPACED>(text);
+    let (name, behind) = pair_here(start)?;
+    Some((name, behind))
+}
+
+/// The same of a gate with one input.
+#[inline(always)]
+pub fn single_name<const SPACED: bool>(text: &[u8]) -> Option<(UnaryGate, &[u8])>
+    ensures { IfSome result (λ r. StartsName text.now (single_text r.0) r.1.now) }
+{
+    let start = next_token::<SPACED>(text);
+    let (name, behind) = single_here(start)?;
     Some((name, behind))
 }

@@ -46,14 +46,13 @@ impl SetWires {
         self.flags.len()
     }
 
-    /// Whether a wire is set.
+    /// Whether a wire is set, of those that there are.
     #[inline(always)]
     pub fn contains(&self, wire: u32) -> bool
-        requires { wire < length self.now }
         ensures { result ≡ flag_of self.now wire }
     {
         let wire = wire as usize;
-        wire < self.mark || self.flags[wire]
+        wire < self.mark || (wire < self.flags.len() && self.flags[wire])
     }
 
     /// Sets a wire.

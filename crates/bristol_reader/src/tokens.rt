@@ -1,12 +1,13 @@
 // A text, token by token.
 ghost use Rattle.std.specs.Prelude.{◌≡◌, ◌≤◌, ◌+◌, ◌*◌, ◌-◌, ◌<◌, ◌^◌};
-ghost use Rattle.std.specs.Prelude.{IfSome, IfNone, [], length, min};
-ghost use Rattle.zk_model.specs.Bristol.{is_blank, is_digit, lexeme, tokens};
-ghost use Rattle.bristol_reader.specs.Words.{greatest, name_of, word_of, BeginsToken, TakesWord, place_of};
+ghost use Rattle.std.specs.Prelude.{IfSome, IfNone, true, false, [], length, min};
+ghost use Rattle.zk_model.specs.Bristol.{is_digit, lexeme};
+ghost use Rattle.bristol_reader.specs.Words.{greatest, name_of, word_of, TakesWord, place_of};
 ghost use Rattle.bristol_reader.specs.Scans.{AreScanned, IsScanned};
-ghost use Rattle.bristol_reader.specs.Lines.{IsPairLine, IsSingleLine};
+ghost use Rattle.bristol_reader.specs.Lines.{IsGateAt, IsPairLine, IsSingleLine};
 
-use crate::lines::{PairLine, SingleLine, pair_name, short_number, single_name};
+use crate::blanks::{is_blank, skip_blanks};
+use crate::lines::{PairLine, SingleLine, heading, pair_name, short_number, single_name};
 use crate::wants::Placed;
 use std::marker::Model;
 
@@ -28,34 +29,11 @@ pub enum Word {
     Name(GateName),
 }
 
-/// Space, tab, carriage return or line feed.
-fn is_blank(byte: u8) -> bool
-    ensures { result ≡ is_blank byte }
-{
-    byte == b' ' || byte == b'\t' || byte == b'\r' || byte == b'\n'
-}
-
 /// An ASCII digit.
 fn is_digit(byte: u8) -> bool
     ensures { result ≡ is_digit byte }
 {
     b'0' <= byte && byte <= b'9'
-}
-
-/// The text from its first byte on that is no blank.
-fn skip_blanks(text: &[u8]) -> &[u8]
-    ensures within { length result.now ≤ length text.now }
-    ensures begins { BeginsToken result.now }
-    ensures tokens_kept { tokens result.now ≡ tokens text.now }
-{
-    let mut rest = text;
-    while let [byte, behind @ ..] = rest {
-        if !is_blank(*byte) {
-            return rest;
-        }
-        rest = behind;
-    }
-    rest
 }
 
 /// The number with one digit more, or 2^32 - 1 if it is greater.
@@ -129,11 +107,16 @@ fn scan(text: &[u8]) -> Scanned
     }
 }
 
-/// What is left of a text after its first tokens, and how many those are.
+/// How many lines after a spaced one are taken for spaced ones before a plain one is looked for again.
+const SPACED_LINES: u32 = 64;
+
+/// What is left of a text after its first tokens, how many those are, and how many of its next lines are taken for spaced
+/// ones.
 #[derive(Drop)]
 pub struct Tokens<'a> {
     rest: &'a [u8],
     taken: u64,
+    spaced_lines: u32,
 }
 
 impl<'a> Model for Tokens<'a> {
@@ -155,6 +138,7 @@ impl<'a> Tokens<'a> {
         Tokens {
             rest: text,
             taken: 0,
+            spaced_lines: 0,
         }
     }
 
@@ -163,6 +147,24 @@ impl<'a> Tokens<'a> {
         ensures { result ≡ self.now.taken }
     {
         self.taken
+    }
+
+    /// Whether the next line is taken for a spaced one.
+    #[inline(always)]
+    pub fn is_spaced(&self) -> bool {
+        self.spaced_lines > 0
+    }
+
+    /// Notes that a line was read as a spaced one.
+    #[inline(always)]
+    pub fn note_spaced(&mut self)
+        ensures { self.new ≡ self.old }
+    {
+        if self.spaced_lines > 0 {
+            self.spaced_lines -= 1;
+        } else {
+            self.spaced_lines = SPACED_LINES;
+        }
     }
 
     /// Takes the next token, if there is one, and the blanks around it.
@@ -180,19 +182,27 @@ impl<'a> Tokens<'a> {
         Some(scanned.word)
     }
 
-    /// Takes all tokens of a gate with two inputs, if they are a plain line; else none.
+    /// Whether the gate that comes next has two inputs, and the text after its numbers of inputs and of outputs, if they
+    /// are 1 or 2 and 1.
     #[inline(always)]
-    pub fn pair_line(&mut self) -> Option<PairLine>
+    pub fn heading<const SPACED: bool>(&self) -> Option<(bool, &'a [u8])>
+        ensures { IfSome result (λ r. IsGateAt self.now r.0 r.1.now) }
+    {
+        let (is_pair, behind) = heading::<SPACED>(self.rest)?;
+        Some((is_pair, behind))
+    }
+
+    /// Takes all tokens of a gate with two inputs, if its wires and its name come behind its first two; else none.
+    #[inline(always)]
+    pub fn pair_line<const SPACED: bool>(&mut self, behind: &'a [u8]) -> Option<PairLine>
+        requires { IsGateAt self.old true behind.now }
         ensures none { IfNone result (self.new ≡ self.old) }
         ensures line { IfSome result (IsPairLine self.old self.new) }
     {
-        let [b'2', b' ', b'1', b' ', behind @ ..] = self.rest else {
-            return None;
-        };
-        let (a, behind) = short_number(behind)?;
-        let (b, behind) = short_number(behind)?;
-        let (out, behind) = short_number(behind)?;
-        let (name, behind) = pair_name(behind)?;
+        let (a, behind) = short_number::<SPACED>(behind)?;
+        let (b, behind) = short_number::<SPACED>(behind)?;
+        let (out, behind) = short_number::<SPACED>(behind)?;
+        let (name, behind) = pair_name::<SPACED>(behind)?;
         let first = self.taken;
         self.rest = behind;
         self.taken += 6;
@@ -213,18 +223,16 @@ impl<'a> Tokens<'a> {
         })
     }
 
-    /// The same of a gate INV or EQW.
+    /// The same of a gate with one input.
     #[inline(always)]
-    pub fn single_line(&mut self) -> Option<SingleLine>
+    pub fn single_line<const SPACED: bool>(&mut self, behind: &'a [u8]) -> Option<SingleLine>
+        requires { IsGateAt self.old false behind.now }
         ensures none { IfNone result (self.new ≡ self.old) }
         ensures line { IfSome result (IsSingleLine self.old self.new) }
     {
-        let [b'1', b' ', b'1', b' ', behind @ ..] = self.rest else {
-            return None;
-        };
-        let (input, behind) = short_number(behind)?;
-        let (out, behind) = short_number(behind)?;
-        let (name, behind) = single_name(behind)?;
+        let (input, behind) = short_number::<SPACED>(behind)?;
+        let (out, behind) = short_number::<SPACED>(behind)?;
+        let (name, behind) = single_name::<SPACED>(behind)?;
         let first = self.taken;
         self.rest = behind;
         self.taken += 5;
