@@ -1,0 +1,5 @@
+mod Growing
+mod Joining
+mod Units
+mod Pairs
+mod Replies

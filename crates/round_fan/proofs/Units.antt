@@ -1,0 +1,75 @@
+-- Lists of vectors, and the pairs of units that stand one unit after another.
+use Rattle.std.proofs.Common.{◌≡◌, ◌⊎◌, inl, inr, ℕ, ◌+◌, ◌-◌, ◌*◌, ◌^◌, ◌<◌, ◌≤◌, List, [], ◌++◌, take, drop, length, get_or, sym, ◌∙◌, ap, subst, arith, rules, length-append, Vec, Global}
+use Rattle.std.specs.Prelude.{All, slice_index_or}
+use Rattle.std.specs.Fork.{IsChunk}
+use Rattle.std.proofs.lemmas.List.{length-map, get_or-map, take-map, drop-map, get_or-take, get_or-drop, get_or_append_left, get_or-append-add}
+use Rattle.std.proofs.lemmas.List.Concat.{flat_map-append}
+use Rattle.zk_model.specs.Mac.{Pair}
+use Rattle.zk_model.specs.Files.{correlations_per_unit}
+use Rattle.zk_model.specs.declared.Kind.TheVariants.{Extended}
+use Rattle.zk_model.specs.declared.Params.{Params}
+use Rattle.round_fan.specs.Fans.{lists_of, AreUnits}
+
+-- ---- lists of vectors
+
+-- what all lists are, each vector's is
+pub list_at : {A : Type 0} (P : List A → Type 0) (vectors : List (Vec A Global)) (i : ℕ) (vector : Vec A Global) → All P (lists_of vectors)
+    → i < length vectors → vector ≡ get_or vectors i vector → P vector.items
+list_at P vectors i vector all below at =
+    subst P (get_or-map (λ v. v.items) vectors i vector [] below ∙ ap (λ (v : Vec _ Global). v.items) (sym at))
+    (all i [] (omega (arith, below, length-map vectors (λ (v : Vec _ Global). v.items))))
+
+-- and those of a chunk are
+pub chunk_lists : {A : Type 0} (P : List A → Type 0) (vectors chunk : List (Vec A Global)) (size start : ℕ) → All P (lists_of vectors)
+    → IsChunk vectors size start chunk → All P (lists_of chunk)
+chunk_lists P vectors chunk size start all is k d below =
+    let short : k < length chunk = omega (arith, below, length-map chunk (λ (v : Vec _ Global). v.items)) in
+    let cut : lists_of chunk ≡ take size (drop start (lists_of vectors)) =
+    ap lists_of is.value ∙ sym (take-map (λ (v : Vec _ Global). v.items) size (drop start vectors))
+    ∙ ap (take size) (sym (drop-map (λ (v : Vec _ Global). v.items) start vectors)) in
+    subst P
+    (sym (ap (λ l. get_or l k d) cut
+    ∙ get_or-take size (drop start (lists_of vectors)) k d (omega (arith, short, is.at_most_size))
+    ∙ get_or-drop start (lists_of vectors) k d))
+    (all (start + k) d (omega (arith, short, is.in_bounds, length-map vectors (λ (v : Vec _ Global). v.items))))
+
+-- ---- units
+
+-- how many correlations a unit gives
+pub per_unit : (params : Params) → params.kind ≡ Extended → correlations_per_unit params ≡ params.trees * 2 ^ params.height
+per_unit params extended = search (rules, extended)
+
+-- of other facts
+pub units_as : (P Q : ℕ → List Pair → Type 0) (n : ℕ) (pairs : List Pair) → ((i : ℕ) (unit : List Pair) → i < n → P i unit → Q i unit)
+    → AreUnits P n pairs → AreUnits Q n pairs
+units_as P Q n pairs turn are = record {
+  units = are.units;
+  one_each = are.one_each;
+  each = λ i below. turn i (slice_index_or are.units i []) below (are.each i below);
+  joined = are.joined;
+}
+
+le_or_lt : (m n : ℕ) → (m ≤ n) ⊎ (n < m)
+le_or_lt m n = grind arith
+
+-- one run of units after another
+pub units_joined : (Holds : ℕ → List Pair → Type 0) (n m : ℕ) (a b : List Pair) → AreUnits Holds n a → AreUnits (λ i unit. Holds (n + i) unit) m b
+    → AreUnits Holds (n + m) (a ++ b)
+units_joined Holds n m a b front back = record {
+  units = front.units ++ back.units;
+  one_each = length-append front.units back.units ∙ (λ i. front.one_each i + back.one_each i);
+  each = λ i below. at i below (le_or_lt n i);
+  joined = (λ i. front.joined i ++ back.joined i) ∙ sym (flat_map-append (λ unit. unit) front.units back.units);
+}
+  where
+    far : (i : ℕ) → i < n + m → (k : ℕ) → n + k ≡ i → Holds i (slice_index_or (front.units ++ back.units) i [])
+    far i below k is =
+        let there : get_or (front.units ++ back.units) (n + k) [] ≡ get_or back.units k [] =
+        ap (λ j. get_or (front.units ++ back.units) (j + k) []) (sym front.one_each) ∙ get_or-append-add front.units back.units k [] in
+        subst (λ j. Holds j (slice_index_or (front.units ++ back.units) j [])) is
+        (subst (Holds (n + k)) (sym there) (back.each k (omega (arith, is, below))))
+
+    at : (i : ℕ) → i < n + m → (n ≤ i) ⊎ (i < n) → Holds i (slice_index_or (front.units ++ back.units) i [])
+    at i below (inr before) =
+        subst (Holds i) (sym (get_or_append_left front.units back.units [] i (omega (arith, front.one_each, before)))) (front.each i before)
+    at i below (inl behind) = far i below (i - n) (omega (arith, behind))
