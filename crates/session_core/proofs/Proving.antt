@@ -1,9 +1,8 @@
 -- What a prover proves with: the given values that its statement and its inputs make.
-use Rattle.std.proofs.Common.{◌≡◌, ℕ, List, length, sym, ap, ◌∙◌, subst}
+use Rattle.std.proofs.Common.{◌≡◌, ℕ, List, length, ap, ◌∙◌, subst}
 use Rattle.zk_model.specs.Mac.{Pair, values_of, corrected_pairs}
 use Rattle.zk_model.specs.Program.{Program, AreMade}
 use Rattle.zk_model.specs.Statement.{Statement, IsStatement}
-use Rattle.zk_model.specs.Files.{ProverFile}
 use Rattle.zk_model.specs.Check.{WirePairs, ArePairsOf}
 use Rattle.zk_model.specs.HonestProver.{honest_corrections}
 use Rattle.circuit_laws.proofs.Made.{one_made}

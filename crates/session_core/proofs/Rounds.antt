@@ -1,8 +1,9 @@
 -- Lists that grow unit by unit, and what the prover sees of a round of all units.
-use Rattle.std.proofs.Common.{◌≡◌, ℕ, zero, suc, ◌+◌, ◌*◌, ◌<◌, ◌≤◌, List, [], ◌∷◌, ◌++◌, map, flat_map, drop, length, get_or, refl, sym, ◌∙◌, ap, subst, arith, append-nil, length-append, ◌⊎◌, inl, inr}
+use Rattle.std.proofs.Common.{◌≡◌, ℕ, ◌+◌, ◌*◌, ◌<◌, List, [], ◌∷◌, ◌++◌, map, flat_map, drop, length, get_or, refl, sym, ◌∙◌, ap, subst, arith, append-nil, append_assoc, length-append, Vec, Global}
 use Rattle.std.specs.Prelude.{slice_index_or, All}
 use Rattle.std.specs.List.{range_with_len, enumerate_from}
 use Rattle.std.proofs.lemmas.List.{length-map, get_or-map, map-append}
+use Rattle.std.proofs.lemmas.List.Elements.{All-push}
 use Rattle.std.proofs.lemmas.List.Concat.{flat_map-append}
 use Rattle.std.proofs.lemmas.List.FromFn.{fill_by_all, map-range_with_len_more, length-enumerate_from, get_or-enumerate_from, get_or-map-range_with_len}
 use Rattle.zk_model.specs.Mac.{Pair}
@@ -15,8 +16,9 @@ use Rattle.zk_laws.proofs.WholePairs.{each_more}
 use Rattle.zk_model.specs.Frames as model
 use Rattle.proof_frames.specs.Frames.{frame_value}
 use Rattle.proof_frames.specs.declared.frame.Frame.{Frame}
+use Rattle.round_fan.specs.Fans.{lists_of, AreUnits}
 use Rattle.session_core.specs.Extending.{asks_in, replies_in, asks_of, replies_of}
-use Rattle.session_core.specs.Fixing.{AreFirstPairs, AreUnits}
+use Rattle.session_core.specs.Fixing.{AreFirstPairs}
 
 -- ---- lists that grow
 
@@ -127,3 +129,24 @@ pub units_all : {Holds : ℕ → List Pair → Type 0} (units : List (List Pair)
     → ((k : ℕ) → k < n → Holds k (get_or units k [])) → pairs ≡ flat_map (λ unit. unit) units → AreUnits Holds count pairs
 units_all units n count pairs sized all each joined =
     record { units = units; one_each = sized ∙ all; each = λ k below. each k (omega (arith, below, all)); joined = joined }
+
+-- ---- lists of vectors that grow
+
+-- one vector more
+pub vector_pushed : {A : Type 0} (P : List A → Type 0) (vectors now : List (Vec A Global)) (vector : Vec A Global) → All P (lists_of vectors)
+    → P vector.items → now ≡ vectors ++ vector ∷ [] → All P (lists_of now)
+vector_pushed P vectors now vector all one pushed =
+    subst (All P) (sym (ap lists_of pushed ∙ map-append (λ (v : Vec _ Global). v.items) vectors (vector ∷ [])))
+    (All-push P (lists_of vectors) vector.items all one)
+
+-- one frame more of those that are left
+pub one_framed : (frames now : List Frame) (frame : Frame) (trees : Vec TreeReply Global) (rest left : List (Vec TreeReply Global)) (all : List model.Frame)
+    → map frame_value frames ++ map model.replies (lists_of rest) ≡ all → rest ≡ trees ∷ left → now ≡ frames ++ frame ∷ []
+    → frame_value frame ≡ model.replies trees.items → map frame_value now ++ map model.replies (lists_of left) ≡ all
+one_framed frames now frame trees rest left all far next pushed is =
+    ap (λ l. map frame_value l ++ map model.replies (lists_of left)) pushed
+    ∙ ap (λ l. l ++ map model.replies (lists_of left)) (map-append frame_value frames (frame ∷ []))
+    ∙ append_assoc (map frame_value frames) (frame_value frame ∷ []) (map model.replies (lists_of left))
+    ∙ ap (λ f. map frame_value frames ++ f ∷ map model.replies (lists_of left)) is
+    ∙ ap (λ l. map frame_value frames ++ map model.replies (lists_of l)) (sym next)
+    ∙ far

@@ -3,18 +3,18 @@ use Rattle.std.specs.Prelude.{◌≡◌, ◌≢◌, ◌⊎◌, ◌+◌, ◌-◌,
 use Rattle.zk_model.specs.Mac.{Pair, macs_of}
 use Rattle.zk_model.specs.Program.{section_count}
 use Rattle.zk_model.specs.Statement.{Statement}
-use Rattle.zk_model.specs.Files.{ProverFile, prover_unit, span_pairs}
+use Rattle.zk_model.specs.Files.{span_pairs}
 use Rattle.zk_model.specs.Check.{WirePairs, all_sums, opened_pairs}
 use Rattle.zk_model.specs.Transcript.{Hello, Grant, TreeAsk, TreeReply, IsHelloFor, IsGrant, version_of, digest_said}
-use Rattle.zk_model.specs.Correlations.{IsExtension}
 use Rattle.zk_model.specs.Frames.{Frame, hello, grant, asks, replies, corrections, challenge, sums, openings, verdict, refuse, AreAsks}
 use Rattle.zk_model.specs.View.{span_of, verdict_code, verdict_number}
-use Rattle.zk_model.specs.HonestProver.{honest_asks, round_asks}
+use Rattle.zk_model.specs.HonestProver.{round_asks}
 use Rattle.zk_model.specs.ServedVerifier.{challenge_coin, round_replies}
 use Rattle.zk_model.specs.declared.Expect.{Expect}
 use Rattle.zk_model.specs.declared.Expect.TheVariants as expect
 use Rattle.zk_model.specs.declared.Kind.{Kind}
 use Rattle.zk_model.specs.declared.Kind.TheVariants.{Direct, Extended}
+use Rattle.round_fan.specs.Fans.{ArePairsFrom}
 use Rattle.session_core.specs.Ends.{IsFixed}
 use Rattle.session_core.specs.Jobs.{VerifierJob, ProverJob, Suits, units_of_job, granted_from}
 use Rattle.session_core.specs.Judgements.{verdict_in, Finds}
@@ -164,11 +164,11 @@ VerifierRefuses job stage frame verifier.NoMemory = Unit {0}
 
 -- ---- the prover
 
--- What a prover waits for: a grant; with that, the number of units whose replies have come and the pairs that these make, the
--- replies of the next unit; with the pairs of all correlations and of all wires, the challenge; the verdict; nothing more.
+-- What a prover waits for: a grant; with that and the replies that have come, unit by unit, the replies of the next unit; with the
+-- pairs of all correlations and of all wires, the challenge; the verdict; nothing more.
 pub data ProverStage : Type 0 where
   awaits_grant : ProverStage
-  awaits_replies : Grant → ℕ → List Pair → ProverStage
+  awaits_replies : Grant → List (List TreeReply) → ProverStage
   awaits_challenge : Grant → List Pair → WirePairs → ProverStage
   awaits_verdict : ProverStage
   has_ended : ProverStage
@@ -181,8 +181,8 @@ pub record ProverState : Type 0 where
 -- the frame that it expects
 abbrev pub prover_expects : ProverJob → ProverStage → Option Expect
 prover_expects job awaits_grant = Some expect.Grant
-prover_expects job (awaits_replies given done pairs) =
-    Some (expect.Reply job.file.params.height job.file.params.trees (given.count - done))
+prover_expects job (awaits_replies given came) =
+    Some (expect.Reply job.file.params.height job.file.params.trees (given.count - length came))
 prover_expects job (awaits_challenge given pairs wires) = Some expect.Challenge
 prover_expects job awaits_verdict = Some expect.Verdict
 prover_expects job has_ended = None
@@ -201,19 +201,15 @@ AnswersGrant job given answer now = by_kind job.file.params.kind
     by_kind : Kind → Type 0
     by_kind Direct = Commits job given (span_pairs job.file (span_of given)) answer now
     by_kind Extended =
-        (answer ≡ map asks (round_asks job.file given)) × (now ≡ awaits_replies given 0 [])
+        (answer ≡ map asks (round_asks job.file given)) × (now ≡ awaits_replies given [])
 
--- the pairs that the round of a unit makes, with what an honest prover asked and these replies
-abbrev pub AreRoundPairs : ProverFile → ℕ → List TreeReply → List Pair → Type 0
-AreRoundPairs file unit trees pairs =
-    IsExtension file.params file.code_seed (prover_unit file unit)
-    (record { asks = honest_asks file unit; replies = trees }) pairs
-
--- pairs of so many units are answered by nothing, as long as replies of others are to come
-abbrev pub GoesOn : ProverJob → Grant → ℕ → List Pair → List Frame → ProverStage → Type 0
-GoesOn job given done pairs answer now =
-    ((done < given.count) × (answer ≡ []) × (now ≡ awaits_replies given done pairs))
-    ⊎ ((done ≡ given.count) × Commits job given pairs answer now)
+-- replies of so many units are answered by nothing, as long as those of others are to come, and then by the corrections of the pairs
+-- that they make
+abbrev pub GoesOn : ProverJob → Grant → List (List TreeReply) → List Frame → ProverStage → Type 0
+GoesOn job given came answer now =
+    ((length came < given.count) × (answer ≡ []) × (now ≡ awaits_replies given came))
+    ⊎ ((length came ≡ given.count) × (pairs : List Pair)
+    × ArePairsFrom job.file given.start came pairs × Commits job given pairs answer now)
 
 -- A grant is answered by the corrections or the asks, the replies of the last unit by the corrections, the challenge by the sums
 -- of all sections and the MACs of the opened wires, and a verdict by nothing.
@@ -222,10 +218,8 @@ ProverAnswers job awaits_grant frame answer now = (given : Grant)
     × (frame ≡ grant given)
     × IsGrant job.file.params job.statement.program given
     × AnswersGrant job given answer now
-ProverAnswers job (awaits_replies given done pairs) frame answer now = (trees : List TreeReply) × (more : List Pair)
-    × (frame ≡ replies trees)
-    × AreRoundPairs job.file (given.start + done) trees more
-    × GoesOn job given (done + 1) (pairs ++ more) answer now
+ProverAnswers job (awaits_replies given came) frame answer now = (trees : List TreeReply)
+    × (frame ≡ replies trees) × GoesOn job given (came ++ trees ∷ []) answer now
 ProverAnswers job (awaits_challenge given pairs wires) frame answer now = (element : ℕ)
     × (frame ≡ challenge element)
     × (answer

@@ -11,7 +11,7 @@ ghost use Rattle.zk_model.specs.View.{span_of};
 ghost use Rattle.zk_model.specs.declared.Kind.TheVariants.{Extended};
 ghost use Rattle.proof_frames.specs.Frames.{frame_value};
 ghost use Rattle.vole_extend.specs.Rounds.{unit_code};
-ghost use Rattle.session_core.specs.Cores.{AreRoundPairs};
+ghost use Rattle.round_fan.specs.Fans.{AreRoundPairs};
 ghost use Rattle.session_core.specs.Extending.{asks_in, replies_in, asks_of, replies_of};
 ghost use Rattle.session_core.specs.Fixing.{AreFirstPairs};
 
@@ -69,7 +69,7 @@ pub fn ask_units(alloc: Global, file: &ProverFile, grant: Grant) -> Result<Vec<F
 }
 
 /// The pairs that the replies for all trees of a unit make.
-pub(crate) fn finish_unit(
+fn finish_unit(
     alloc: Global,
     file: &ProverFile,
     columns: &Columns,

@@ -20,6 +20,7 @@ mod judgement;
 mod prover_core;
 mod prover_job;
 mod statement;
+mod unit_rounds;
 mod verifier_core;
 mod verifier_job;
 mod verifier_jobs;

@@ -1,7 +1,7 @@
 // The prover's end of a session, frame by frame.
-ghost use Rattle.std.specs.Prelude.{◌≡◌, ◌*◌, ◌≤◌, ℕ, [], ◌∷◌, length, map, IfOk, IfErr, OnErr, IfSome, IsSomeAnd};
+ghost use Rattle.std.specs.Prelude.{◌≡◌, ◌*◌, ◌≤◌, ℕ, [], ◌∷◌, length, map, vec_len, All, IfOk, IfErr, OnErr, IfSome, IsSomeAnd};
 ghost use Rattle.zk_model.specs.Files.{correlations_per_unit};
-ghost use Rattle.zk_model.specs.Frames.{Allows};
+ghost use Rattle.zk_model.specs.Frames.{Allows, AreReplies};
 ghost use Rattle.zk_model.specs.Frames as model;
 ghost use Rattle.zk_model.specs.Transcript.{IsGrant, wanted_hello};
 ghost use Rattle.zk_model.specs.declared.Expect.TheVariants as expect;
@@ -9,33 +9,33 @@ ghost use Rattle.zk_model.specs.declared.Kind.TheVariants.{Extended};
 ghost use Rattle.proof_frames.specs.Frames.{frame_value};
 ghost use Rattle.proof_frames.specs.Readings.{IsShortPlace};
 ghost use Rattle.wire_auth.specs.Held.{items_in};
-ghost use Rattle.vole_extend.specs.Rounds.{unit_code};
+ghost use Rattle.round_fan.specs.Fans.{lists_of};
 ghost use Rattle.session_core.specs.Fixing.{IsFixedUnder, IsGrowing};
 ghost use Rattle.session_core.specs.Cores.{AnswersGrant, Commits, GoesOn, ProverAnswers, ProverRefuses, StaysWithin, awaits_grant, awaits_replies, awaits_challenge, awaits_verdict, has_ended, prover_expects};
 
-use crate::extending::{ask_units, finish_unit};
+use crate::extending::ask_units;
 use crate::fault::ProverFault;
-use crate::prover_job::ProverJob;
+use crate::prover_job::{ProverJob, units_of};
+use crate::unit_rounds::{Fan, OneThread, Rounds};
 use crate::verifier_core::one_frame;
-use linear_code::Columns;
 use mersenne_field::Pair;
 use proof_frames::{Frame, Grant};
 use std::alloc::{AllocError, Global};
 use std::marker::Model;
 use std::mem;
+use std::thread::Threads;
+use tree_messages::TreeReply;
 use vole_extend::columns_of;
 use wire_auth::{Correlations, ProverWires};
 use zk_model::{Expect, Kind, Params};
 
-/// What the prover waits for, with the grant, the pairs of so many units that replies have made, or the pairs of all wires, which it has fixed.
+/// What the prover waits for, with the grant, the replies that have come, unit by unit, or the pairs of all wires, which it has fixed.
 #[derive(Debug, Drop)]
 pub(crate) enum Stage<'a> {
     Grant,
     Replies {
         grant: Grant,
-        done: u32,
-        pairs: Vec<Pair>,
-        columns: Columns,
+        came: Vec<Vec<TreeReply>>,
     },
     Challenge {
         grant: Grant,
@@ -118,10 +118,10 @@ impl<'a> ProverCore<'a> {
         let Params { height, trees, .. } = self.job.file().params();
         match &self.stage {
             Stage::Grant => Some(Expect::Grant),
-            Stage::Replies { grant, done, .. } => Some(Expect::Reply {
+            Stage::Replies { grant, came } => Some(Expect::Reply {
                 height: usize::from(height),
                 trees: trees as usize,
-                units_left: (grant.count - *done) as usize,
+                units_left: grant.count as usize - came.len(),
             }),
             Stage::Challenge { .. } => Some(Expect::Challenge),
             Stage::Verdict => Some(Expect::Verdict),
@@ -145,14 +145,57 @@ impl<'a> ProverCore<'a> {
         ensures ended { OnErr result (self.new.stage ≡ has_ended) }
         ensures job { self.new.job ≡ self.old.job }
     {
+        self.advance(&OneThread, alloc, frame)
+    }
+
+    /// Does the same, and has so many workers for the rounds of all units.
+    ///
+    /// # Errors
+    ///
+    /// As `step`.
+    pub fn step_with<R: Threads + Sync>(
+        &mut self,
+        rt: &R,
+        alloc: Global,
+        frame: Frame,
+        workers: u32,
+    ) -> Result<Vec<Frame>, ProverFault>
+        requires some { 1 ≤ workers }
+        requires few { workers ≤ 1024 }
+        requires expected { IsSomeAnd (prover_expects self.old.job self.old.stage)
+            (λ stage. Allows stage (frame_value frame)) }
+        requires within { StaysWithin self.old.job (frame_value frame) }
+        ensures answered { IfOk result (λ answer. ProverAnswers self.old.job self.old.stage
+            (frame_value frame) (map frame_value answer.items) self.new.stage) }
+        ensures refused { IfErr result (ProverRefuses self.old.job self.old.stage (frame_value frame)) }
+        ensures ended { OnErr result (self.new.stage ≡ has_ended) }
+        ensures job { self.new.job ≡ self.old.job }
+    {
+        self.advance(&Fan::new(rt, workers), alloc, frame)
+    }
+
+    /// Does the same, and has the rounds of all units done so.
+    fn advance<H: Rounds>(
+        &mut self,
+        rounds: &H,
+        alloc: Global,
+        frame: Frame,
+    ) -> Result<Vec<Frame>, ProverFault>
+        requires ready { H.is_ready rounds.now }
+        requires expected { IsSomeAnd (prover_expects self.old.job self.old.stage)
+            (λ stage. Allows stage (frame_value frame)) }
+        requires within { StaysWithin self.old.job (frame_value frame) }
+        ensures answered { IfOk result (λ answer. ProverAnswers self.old.job self.old.stage
+            (frame_value frame) (map frame_value answer.items) self.new.stage) }
+        ensures refused { IfErr result (ProverRefuses self.old.job self.old.stage (frame_value frame)) }
+        ensures ended { OnErr result (self.new.stage ≡ has_ended) }
+        ensures job { self.new.job ≡ self.old.job }
+    {
         match mem::replace(&mut self.stage, Stage::Ended) {
             Stage::Grant => self.take_grant(alloc, frame),
-            Stage::Replies {
-                grant,
-                done,
-                pairs,
-                columns,
-            } => Ok(self.take_replies(alloc, grant, done, pairs, columns, frame)?),
+            Stage::Replies { grant, came } => {
+                Ok(self.take_replies(rounds, alloc, grant, came, frame)?)
+            }
             Stage::Challenge { grant, wires } => {
                 Ok(self.take_challenge(alloc, grant, wires, frame)?)
             }
@@ -192,20 +235,16 @@ impl<'a> ProverCore<'a> {
         ensures job { self.new.job ≡ self.old.job }
     {
         let file = self.job.file();
-        let params = file.params();
-        match params.kind {
+        match file.params().kind {
             Kind::Direct => {
                 let pairs = Correlations::Dealt(self.job.dealt_pairs(grant));
                 self.commit(alloc, grant, pairs)
             }
             Kind::Extended => {
                 let answer = ask_units(alloc, file, grant)?;
-                let columns = columns_of(alloc, &params, &file.code_seed())?;
                 self.stage = Stage::Replies {
                     grant,
-                    done: 0,
-                    pairs: Vec::new(alloc),
-                    columns,
+                    came: Vec::new(alloc),
                 };
                 Ok(answer)
             }
@@ -213,20 +252,20 @@ impl<'a> ProverCore<'a> {
     }
 
     /// Takes the replies for a unit; after those for the last it answers by the corrections.
-    fn take_replies(
+    fn take_replies<H: Rounds>(
         &mut self,
+        rounds: &H,
         alloc: Global,
         grant: Grant,
-        done: u32,
-        pairs: Vec<Pair>,
-        columns: Columns,
+        came: Vec<Vec<TreeReply>>,
         frame: Frame,
     ) -> Result<Vec<Frame>, AllocError>
-        requires growing { IsGrowing self.old.job grant done pairs.items columns }
+        requires ready { H.is_ready rounds.now }
+        requires growing { IsGrowing self.old.job grant (lists_of came.items) }
         requires expected { (left : ℕ) × Allows (expect.Reply self.old.job.file.params.height
             self.old.job.file.params.trees left) (frame_value frame) }
         ensures answered { IfOk result (λ answer. ProverAnswers self.old.job
-            (awaits_replies grant done pairs.items)
+            (awaits_replies grant (lists_of came.items))
             (frame_value frame) (map frame_value answer.items) self.new.stage) }
         ensures ended { OnErr result (self.new.stage ≡ self.old.stage) }
         ensures job { self.new.job ≡ self.old.job }
@@ -234,44 +273,38 @@ impl<'a> ProverCore<'a> {
         let Frame::ExtendReply(trees) = frame else {
             unreachable!();
         };
-        let file = self.job.file();
-        let _total = file.total();
-        let unit = grant.start + u64::from(done);
-        let more = finish_unit(alloc, file, &columns, unit, &trees)?;
-        let mut pairs = pairs;
-        pairs.extend_from_slice(&more)?;
-        self.go_on(alloc, grant, done + 1, pairs, columns)
+        let mut came = came;
+        came.push(trees)?;
+        self.go_on(rounds, alloc, grant, came)
     }
 
-    /// Goes on with the pairs of so many units: as long as others are missing, it waits for their replies.
-    fn go_on(
+    /// Goes on with the replies of so many units: as long as others are missing, it waits for these.
+    fn go_on<H: Rounds>(
         &mut self,
+        rounds: &H,
         alloc: Global,
         grant: Grant,
-        done: u32,
-        pairs: Vec<Pair>,
-        columns: Columns,
+        came: Vec<Vec<TreeReply>>,
     ) -> Result<Vec<Frame>, AllocError>
+        requires ready { H.is_ready rounds.now }
         requires extended { self.old.job.file.params.kind ≡ Extended }
         requires granted { IsGrant self.old.job.file.params self.old.job.statement.program grant }
-        requires bounded { done ≤ grant.count }
-        requires count { length pairs.items ≡ done * correlations_per_unit self.old.job.file.params }
-        requires code { columns ≡ unit_code self.old.job.file.params self.old.job.file.code_seed }
-        ensures answered { IfOk result (λ answer.
-            GoesOn self.old.job grant done pairs.items (map frame_value answer.items) self.new.stage) }
+        requires bounded { vec_len came ≤ grant.count }
+        requires each { All (AreReplies self.old.job.file.params.height self.old.job.file.params.trees)
+            (lists_of came.items) }
+        ensures answered { IfOk result (λ answer. GoesOn self.old.job grant
+            (lists_of came.items) (map frame_value answer.items) self.new.stage) }
         ensures ended { OnErr result (self.new.stage ≡ self.old.stage) }
         ensures job { self.new.job ≡ self.old.job }
     {
-        if done == grant.count {
-            return self.commit(alloc, grant, Correlations::Made(pairs));
+        if came.len() < grant.count as usize {
+            self.stage = Stage::Replies { grant, came };
+            return Ok(Vec::new(alloc));
         }
-        self.stage = Stage::Replies {
-            grant,
-            done,
-            pairs,
-            columns,
-        };
-        Ok(Vec::new(alloc))
+        let file = self.job.file();
+        let columns = columns_of(alloc, &file.params(), &file.code_seed())?;
+        let pairs = rounds.pairs(alloc, file, &columns, units_of(grant), &came)?;
+        self.commit(alloc, grant, Correlations::Made(pairs))
     }
 
     /// Takes the challenge, and answers by the sums and the openings.

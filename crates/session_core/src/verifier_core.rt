@@ -12,14 +12,15 @@ ghost use Rattle.session_core.specs.Judgements.{verdict_in};
 ghost use Rattle.zk_model.specs.declared.Expect.TheVariants as expect;
 ghost use Rattle.zk_model.specs.declared.Kind.TheVariants.{Extended};
 ghost use Rattle.zk_model.specs.Program.{section_count};
-ghost use Rattle.session_core.specs.Extending.{asks_of};
+ghost use Rattle.round_fan.specs.Fans.{lists_of};
 ghost use Rattle.session_core.specs.Fixing.{HoldsKeys};
 ghost use Rattle.session_core.specs.Cores.{AnswersAsks, VerifierAnswers, VerifierRefuses, IsVerifierStage, awaits_hello, owes_grant, behind_grant, awaits_asks, awaits_corrections, awaits_sums, awaits_openings, has_refused, verifier_expects, judgement_at, digests_said, DiffersFirst};
 
-use crate::extending::reply_units;
 use crate::fault::{Digests, HelloDiffers, VerifierFault};
 use crate::judgement::Judgement;
+use crate::prover_job::units_of;
 use crate::statement::{Statement, version_of};
+use crate::unit_rounds::{Fan, OneThread, Rounds, reply_frames};
 use crate::verifier_job::VerifierJob;
 use mersenne_field::Fe;
 use proof_frames::{Frame, Hello};
@@ -27,6 +28,8 @@ use sha2::{Digest, Sha256};
 use std::alloc::{AllocError, Global};
 use std::marker::Model;
 use std::mem;
+use std::thread::Threads;
+use tree_messages::TreeAsk;
 use vole_extend::columns_of;
 use wire_auth::Correlations;
 use zk_model::{Expect, Kind, Params, Span, Verdict};
@@ -38,7 +41,7 @@ pub(crate) enum Stage<'a> {
     Grant,
     Asks {
         start: u64,
-        asked: Vec<Frame>,
+        asked: Vec<Vec<TreeAsk>>,
     },
     Corrections {
         start: u64,
@@ -254,9 +257,55 @@ impl<'a> VerifierCore<'a> {
         ensures ended { OnErr result (self.new.stage ≡ has_refused) }
         ensures job { self.new.job ≡ self.old.job }
     {
+        self.advance(&OneThread, alloc, frame)
+    }
+
+    /// Does the same, and has so many workers for the rounds of all units.
+    ///
+    /// # Errors
+    ///
+    /// As `step`.
+    pub fn step_with<R: Threads + Sync>(
+        &mut self,
+        rt: &R,
+        alloc: Global,
+        frame: Frame,
+        workers: u32,
+    ) -> Result<Vec<Frame>, VerifierFault>
+        requires some { 1 ≤ workers }
+        requires few { workers ≤ 1024 }
+        requires expected { IsSomeAnd (verifier_expects self.old.job self.old.stage)
+            (λ expect. Allows expect (frame_value frame)) }
+        ensures answered { IfOk result (λ answer. VerifierAnswers self.old.job self.old.stage
+            (frame_value frame) (map frame_value answer.items) self.new.stage) }
+        ensures refused { IfErr result (VerifierRefuses self.old.job self.old.stage (frame_value frame)) }
+        ensures ended { OnErr result (self.new.stage ≡ has_refused) }
+        ensures job { self.new.job ≡ self.old.job }
+    {
+        self.advance(&Fan::new(rt, workers), alloc, frame)
+    }
+
+    /// Does the same, and has the rounds of all units done so.
+    fn advance<H: Rounds>(
+        &mut self,
+        rounds: &H,
+        alloc: Global,
+        frame: Frame,
+    ) -> Result<Vec<Frame>, VerifierFault>
+        requires ready { H.is_ready rounds.now }
+        requires expected { IsSomeAnd (verifier_expects self.old.job self.old.stage)
+            (λ expect. Allows expect (frame_value frame)) }
+        ensures answered { IfOk result (λ answer. VerifierAnswers self.old.job self.old.stage
+            (frame_value frame) (map frame_value answer.items) self.new.stage) }
+        ensures refused { IfErr result (VerifierRefuses self.old.job self.old.stage (frame_value frame)) }
+        ensures ended { OnErr result (self.new.stage ≡ has_refused) }
+        ensures job { self.new.job ≡ self.old.job }
+    {
         match mem::replace(&mut self.stage, Stage::Refused) {
             Stage::Hello => self.meet(alloc, frame),
-            Stage::Asks { start, asked } => Ok(self.take_asks(alloc, start, asked, frame)?),
+            Stage::Asks { start, asked } => {
+                Ok(self.take_asks(rounds, alloc, start, asked, frame)?)
+            }
             Stage::Corrections { start, keys } => {
                 Ok(self.take_corrections(alloc, start, keys, frame)?)
             }
@@ -296,41 +345,48 @@ impl<'a> VerifierCore<'a> {
     }
 
     /// Takes the asks for a unit; after those for the last it answers by the replies to all.
-    fn take_asks(
+    fn take_asks<H: Rounds>(
         &mut self,
+        rounds: &H,
         alloc: Global,
         start: u64,
-        asked: Vec<Frame>,
+        asked: Vec<Vec<TreeAsk>>,
         frame: Frame,
     ) -> Result<Vec<Frame>, AllocError>
-        requires held { IsVerifierStage self.old.job (awaits_asks start (asks_of asked.items)) }
+        requires ready { H.is_ready rounds.now }
+        requires held { IsVerifierStage self.old.job (awaits_asks start (lists_of asked.items)) }
         requires expected { (left : ℕ) × Allows (expect.Ask self.old.job.task.file.params.height
             self.old.job.task.file.params.trees left) (frame_value frame) }
         ensures answered { IfOk result (λ answer. VerifierAnswers self.old.job
-            (awaits_asks start (asks_of asked.items))
+            (awaits_asks start (lists_of asked.items))
             (frame_value frame) (map frame_value answer.items) self.new.stage) }
         ensures ended { OnErr result (self.new.stage ≡ self.old.stage) }
         ensures job { self.new.job ≡ self.old.job }
     {
+        let Frame::ExtendAsk(trees) = frame else {
+            unreachable!();
+        };
         let mut asked = asked;
-        asked.push(frame)?;
-        self.answer_asks(alloc, start, asked)
+        asked.push(trees)?;
+        self.answer_asks(rounds, alloc, start, asked)
     }
 
     /// Answers the asks for so many units: as long as others are missing, it waits for these.
-    fn answer_asks(
+    fn answer_asks<H: Rounds>(
         &mut self,
+        rounds: &H,
         alloc: Global,
         start: u64,
-        asked: Vec<Frame>,
+        asked: Vec<Vec<TreeAsk>>,
     ) -> Result<Vec<Frame>, AllocError>
+        requires ready { H.is_ready rounds.now }
         requires extended { self.old.job.task.file.params.kind ≡ Extended }
         requires within { start + units_of_job self.old.job ≤ self.old.job.task.file.params.total }
         requires bounded { length asked.items ≤ units_of_job self.old.job }
         requires each { All (AreAsks self.old.job.task.file.params.height
-            self.old.job.task.file.params.trees) (asks_of asked.items) }
+            self.old.job.task.file.params.trees) (lists_of asked.items) }
         ensures answered { IfOk result (λ answer. AnswersAsks self.old.job start
-            (asks_of asked.items) (map frame_value answer.items) self.new.stage) }
+            (lists_of asked.items) (map frame_value answer.items) self.new.stage) }
         ensures ended { OnErr result (self.new.stage ≡ self.old.stage) }
         ensures job { self.new.job ≡ self.old.job }
     {
@@ -339,11 +395,16 @@ impl<'a> VerifierCore<'a> {
             return Ok(Vec::new(alloc));
         }
         let file = self.job.file();
+        let _total = file.total();
         let columns = columns_of(alloc, &file.params(), &file.code_seed())?;
-        let replied = reply_units(alloc, file, &columns, self.job.grant(start), &asked)?;
-        let keys = Correlations::Made(replied.keys);
-        self.stage = Stage::Corrections { start, keys };
-        Ok(replied.replies)
+        let span = units_of(self.job.grant(start));
+        let reply = rounds.replies(alloc, file, &columns, span, &asked)?;
+        let answer = reply_frames(alloc, reply.replies)?;
+        self.stage = Stage::Corrections {
+            start,
+            keys: Correlations::Made(reply.keys),
+        };
+        Ok(answer)
     }
 
     /// Takes corrections, and answers by the challenge.

@@ -20,14 +20,15 @@ use Rattle.zk_model.specs.declared.Side.TheVariants.{Prover, Verifier}
 use Rattle.frame_link.specs.Lines.{IsUnfinished}
 use Rattle.session_core.specs.Jobs.{ProverJob}
 use Rattle.session_core.specs.Ends.{IsFixed}
-use Rattle.session_core.specs.Cores.{ProverStage, awaits_grant, awaits_replies, awaits_challenge, awaits_verdict, prover_expects, Commits, AnswersGrant, AreRoundPairs, GoesOn, ProverAnswers}
+use Rattle.session_core.specs.Fixing.{AreFirstPairs}
+use Rattle.session_core.specs.Cores.{ProverStage, awaits_grant, awaits_replies, awaits_challenge, awaits_verdict, prover_expects, Commits, AnswersGrant, GoesOn, ProverAnswers}
 use Rattle.session_prover.specs.Stages.{Claim, ClaimedFor, AreAskedRounds, AreSomeReplies, IsLogAt, IsLogTaken, setup_for, all_asks, granted_log, asked_log, replied_log, rounds_log, challenged_log, sums_for, openings_for}
 use Rattle.session_prover.specs.Notes.{task_of}
 use Rattle.session_prover.specs.Proving.{IsSound}
 use Rattle.session_prover.proofs.Sides.{bytes_more, prover_says, verifier_hears}
 use Rattle.session_core.proofs.DirectViews.{pairs_seen}
 use Rattle.session_core.proofs.Rounds.{whole_view}
-use Rattle.session_prover.proofs.Heard.{first_none, first_more, unit_pairs, asked_none, asked_round}
+use Rattle.session_prover.proofs.Heard.{all_pairs, asked_none, asked_round}
 use Rattle.session_prover.proofs.Waiting.{fixed_by, setup_is, committed, has_answered}
 use Rattle.std.proofs.lemmas.Nat.{mul-le}
 use Rattle.std.proofs.lemmas.List.{length-map}
@@ -77,7 +78,7 @@ of_kind job kind = record job { file = record job.file { params = record job.fil
 abbrev pub IsGrantAnswer : ProverJob → Grant → List Frame → ProverStage → Type 0
 IsGrantAnswer job given answer now =
     ((job.file.params.kind ≡ Direct) × Commits job given (span_pairs job.file (span_of given)) answer now)
-    ⊎ ((job.file.params.kind ≡ Extended) × (answer ≡ map asks (round_asks job.file given)) × (now ≡ awaits_replies given 0 []))
+    ⊎ ((job.file.params.kind ≡ Extended) × (answer ≡ map asks (round_asks job.file given)) × (now ≡ awaits_replies given []))
 
 by_kind : (job : ProverJob) (kind : Kind) (given : Grant) (answer : List Frame) (now : ProverStage) → AnswersGrant (of_kind job kind) given answer now
     → IsGrantAnswer (of_kind job kind) given answer now
@@ -101,7 +102,7 @@ answer_of_kind job Direct given can =
     let c = can refl in
     (corrections c.d ∷ [], awaits_challenge given (span_pairs (of_kind job Direct).file (span_of given)) c.wires, (c.d, c.wires, c.fixed, refl, refl))
 answer_of_kind job Extended given can =
-    (map asks (round_asks (of_kind job Extended).file given), awaits_replies given 0 [], (refl, refl))
+    (map asks (round_asks (of_kind job Extended).file given), awaits_replies given [], (refl, refl))
 
 commits_to : (job : ProverJob) (given : Grant) (rounds : List Round) (pairs : List Pair) → IsSound job → IsGrant job.file.params job.statement.program given
     → AreAskedRounds job given rounds → IsProverView job.file (setup_for job given rounds) pairs → CanCommit job given pairs
@@ -133,19 +134,16 @@ spelled_asks (first ∷ trees) = ap (λ l. ask_frame first ++ l) (spelled_asks t
 
 asks_at : (job : ProverJob) (claim : Claim) (given : Grant) (answer : List Frame) (now : ProverStage) (log : List (Side × ℕ))
     → ClaimedFor claim given → IsGrant job.file.params job.statement.program given → job.file.params.kind ≡ Extended
-    → log ≡ granted_log job given → answer ≡ map asks (round_asks job.file given) → now ≡ awaits_replies given 0 []
+    → log ≡ granted_log job given → answer ≡ map asks (round_asks job.file given) → now ≡ awaits_replies given []
     → IsLogAt job claim now (log ++ bytes_from Prover (flat_map frame_spelling answer))
 asks_at job claim given answer now log claimed granted extended at said next =
     subst (λ p. IsLogAt job claim p (log ++ bytes_from Prover (flat_map frame_spelling answer))) (sym next) (
-      [],
       claimed,
       record {
         granted = granted;
         extended = extended;
         more = (let count = granted.count in omega (arith, count));
-        count = refl;
         each = All-nil (AreReplies job.file.params.height job.file.params.trees);
-        made = first_none job.file given;
       },
       (λ i. at i ++ bytes_from Prover (flat_map frame_spelling (said i)))
           ∙ ap (λ l. granted_log job given ++ bytes_from Prover l) (spelled_asks (round_asks job.file given))
@@ -153,13 +151,9 @@ asks_at job claim given answer now log claimed granted extended at said next =
     )
 
 -- the replies that came, one unit more
-pub replied_more : (job : ProverJob) (given : Grant) (done : ℕ) (pairs : List Pair) (came : List (List TreeReply)) (trees : List TreeReply) → AreSomeReplies job given done pairs came
-    → AreReplies job.file.params.height job.file.params.trees trees
-    → (length (came ++ trees ∷ []) ≡ done + 1) × All (AreReplies job.file.params.height job.file.params.trees) (came ++ trees ∷ [])
-replied_more job given done pairs came trees some are = (
-  (let whole = length-append came (trees ∷ []) in let count = some.count in omega (arith, whole, count)),
-  All-push (AreReplies job.file.params.height job.file.params.trees) came trees some.each are,
-)
+pub replied_more : (job : ProverJob) (given : Grant) (came : List (List TreeReply)) (trees : List TreeReply) → AreSomeReplies job given came
+    → AreReplies job.file.params.height job.file.params.trees trees → All (AreReplies job.file.params.height job.file.params.trees) (came ++ trees ∷ [])
+replied_more job given came trees some are = All-push (AreReplies job.file.params.height job.file.params.trees) came trees some.each are
 
 -- a whole round
 abbrev pub round_with : ProverJob → Grant → List (List TreeReply) → List Round
@@ -171,31 +165,25 @@ whole_log job given came =
     ∙ ap (λ l. granted_log job given ++ l) (sym (append-nil (bytes_from Prover (all_asks job given) ++ bytes_from Verifier (flat_map reply_frame came))))
 
 -- after the replies of one unit more
-replies_at : (job : ProverJob) (claim : Claim) (given : Grant) (done : ℕ) (pairs more : List Pair) (came : List (List TreeReply)) (trees : List TreeReply) (answer : List Frame) (now : ProverStage) (log : List (Side × ℕ))
-    → IsSound job → ClaimedFor claim given → AreSomeReplies job given done pairs came → AreReplies job.file.params.height job.file.params.trees trees
-    → log ≡ replied_log job given (came ++ trees ∷ []) → AreRoundPairs job.file (given.start + done) trees more
-    → GoesOn job given (done + 1) (pairs ++ more) answer now
+replies_at : (job : ProverJob) (claim : Claim) (given : Grant) (came : List (List TreeReply)) (trees : List TreeReply) (answer : List Frame) (now : ProverStage) (log : List (Side × ℕ))
+    → IsSound job → ClaimedFor claim given → AreSomeReplies job given came → AreReplies job.file.params.height job.file.params.trees trees
+    → log ≡ replied_log job given (came ++ trees ∷ []) → GoesOn job given (came ++ trees ∷ []) answer now
     → IsLogAt job claim now (log ++ bytes_from Prover (flat_map frame_spelling answer))
-replies_at job claim given done pairs more came trees answer now log sound claimed some are at one (inl (less, said, next)) =
+replies_at job claim given came trees answer now log sound claimed some are at (inl (less, said, next)) =
     subst (λ p. IsLogAt job claim p (log ++ bytes_from Prover (flat_map frame_spelling answer))) (sym next) (
-      came ++ trees ∷ [],
       claimed,
       record {
         granted = some.granted;
         extended = some.extended;
         more = less;
-        count = (replied_more job given done pairs came trees some are).0;
-        each = (replied_more job given done pairs came trees some are).1;
-        made = first_more job.file given came trees pairs more done some.count some.made one;
+        each = replied_more job given came trees some are;
       },
       (λ i. at i ++ bytes_from Prover (flat_map frame_spelling (said i))) ∙ append-nil (replied_log job given (came ++ trees ∷ [])),
     )
-replies_at job claim given done pairs more came trees answer now log sound claimed some are at one (inr (all, commits)) =
-    let replied = replied_more job given done pairs came trees some are in
-    commits_at job claim given (round_with job given (came ++ trees ∷ [])) (pairs ++ more) answer now log claimed some.granted
-    (asked_round job given (came ++ trees ∷ []) sound.file some.granted some.extended (replied.0 ∙ all) replied.1)
-    (whole_view job.file (setup_for job given []).hello given (came ++ trees ∷ []) (pairs ++ more) (replied.0 ∙ all)
-    (first_more job.file given came trees pairs more done some.count some.made one))
+replies_at job claim given came trees answer now log sound claimed some are at (inr (all, pairs, made, commits)) =
+    commits_at job claim given (round_with job given (came ++ trees ∷ [])) pairs answer now log claimed some.granted
+    (asked_round job given (came ++ trees ∷ []) sound.file some.granted some.extended all (replied_more job given came trees some are))
+    (whole_view job.file (setup_for job given []).hello given (came ++ trees ∷ []) pairs all made)
     (at ∙ whole_log job given (came ++ trees ∷ [])) commits
 
 -- a prover that is where it waits, after its answer
@@ -213,9 +201,9 @@ answered job claim awaits_grant frame answer now log sound (given, is, claimed, 
         commits_at job claim given [] (span_pairs job.file (span_of given)) answer now log claimed granted (asked_none job given direct)
         (pairs_seen job.file (setup_for job given [])) (at ∙ sym (append-nil (granted_log job given))) commits
     of_kind_of (inr (extended, said, next)) = asks_at job claim given answer now log claimed granted extended at said next
-answered job claim (awaits_replies given done pairs) frame answer now log sound (trees, came, is, are, claimed, some, at) (other, more, is_too, one, goes) =
-    replies_at job claim given done pairs more came trees answer now log sound claimed some are at
-    (subst (λ t. AreRoundPairs job.file (given.start + done) t more) (sym (same_trees trees other (sym is ∙ is_too))) one) goes
+answered job claim (awaits_replies given came) frame answer now log sound (trees, is, are, claimed, some, at) (other, is_too, goes) =
+    replies_at job claim given came trees answer now log sound claimed some are at
+    (subst (λ t. GoesOn job given (came ++ t ∷ []) answer now) (sym (same_trees trees other (sym is ∙ is_too))) goes)
 answered job claim (awaits_challenge given pairs wires) frame answer now log sound (element, rounds, d, is, ranged, claimed, fixes, at) (other, is_too, said, next) =
     let same : element ≡ other = same_element element other (sym is ∙ is_too) in
     let u : List ℕ = sums_frame (sums_for job given pairs wires element) in
@@ -245,9 +233,9 @@ record IsNext (job : ProverJob) (now : ProverStage) : Type 0 where
   none_yet : IsUnfinished awaited []
 
 -- a frame of replies has some bytes
-next_reply : (job : ProverJob) (given : Grant) (done : ℕ) (pairs : List Pair) (now : ProverStage) → now ≡ awaits_replies given done pairs → IsNext job now
-next_reply job given done pairs now next = record {
-  awaited = expect.Reply job.file.params.height job.file.params.trees (given.count - done);
+next_reply : (job : ProverJob) (given : Grant) (came : List (List TreeReply)) (now : ProverStage) → now ≡ awaits_replies given came → IsNext job now
+next_reply job given came now next = record {
+  awaited = expect.Reply job.file.params.height job.file.params.trees (given.count - length came);
   expected = ap (prover_expects job) next;
   none_yet = inl (omega arith);
 }
@@ -260,15 +248,29 @@ next_of : (job : ProverJob) (claim : Claim) (stage : ProverStage) (frame : Frame
     → IsLogTaken job claim stage frame log → ProverAnswers job stage frame answer now → IsNext job now
 next_of job claim awaits_grant frame answer now log taken (other, is_too, fits, answers) = elim (grant_answer job other answer now answers) [
   | inl (direct, commits) ↦ next_challenge job other (span_pairs job.file (span_of other)) answer now commits
-  | inr (extended, said, next) ↦ next_reply job other 0 [] now next
+  | inr (extended, said, next) ↦ next_reply job other [] now next
 ]
-next_of job claim (awaits_replies given done pairs) frame answer now log taken (other, more, is_too, one, inl (less, said, next)) =
-    next_reply job given (done + 1) (pairs ++ more) now next
-next_of job claim (awaits_replies given done pairs) frame answer now log taken (other, more, is_too, one, inr (all, commits)) =
-    next_challenge job given (pairs ++ more) answer now commits
+next_of job claim (awaits_replies given came) frame answer now log taken (trees, is, inl (less, said, next)) =
+    next_reply job given (came ++ trees ∷ []) now next
+next_of job claim (awaits_replies given came) frame answer now log taken (trees, is, inr (all, pairs, made, commits)) =
+    next_challenge job given pairs answer now commits
 next_of job claim (awaits_challenge given pairs wires) frame answer now log taken (other, is_too, said, next) =
     record { awaited = expect.Verdict; expected = ap (prover_expects job) next; none_yet = inl (omega arith) }
 next_of job claim other frame answer now log taken answers = absurd taken
+
+-- the replies for all units have an answer
+rounds_end : (job : ProverJob) (given : Grant) (came : List (List TreeReply)) → IsSound job → IsGrant job.file.params job.statement.program given
+    → job.file.params.kind ≡ Extended → length came ≡ given.count → All (AreReplies job.file.params.height job.file.params.trees) came
+    → (answer : List Frame) × (now : ProverStage) × GoesOn job given came answer now
+rounds_end job given came sound granted extended all each =
+    (corrections c.d ∷ [], awaits_challenge given found.0 c.wires, inr (all, found.0, found.1, (c.d, c.wires, c.fixed, refl, refl)))
+  where
+    found : (pairs : List Pair) × AreFirstPairs job.file given came pairs
+    found = all_pairs job.file given came sound.file extended granted.within all each
+
+    c : CanCommit job given found.0
+    c = commits_to job given (round_with job given came) found.0 sound granted (asked_round job given came sound.file granted extended all each)
+        (whole_view job.file (setup_for job given []).hello given came found.0 all found.1)
 
 -- a frame that has come has an answer
 pub answer_exists : (job : ProverJob) (claim : Claim) (stage : ProverStage) (frame : Frame) (log : List (Side × ℕ)) → IsSound job
@@ -277,22 +279,14 @@ answer_exists job claim awaits_grant frame log sound (given, is, claimed, grante
     let found = answer_of_kind job job.file.params.kind given (λ direct. commits_to job given [] (span_pairs job.file (span_of given)) sound granted
     (asked_none job given direct) (pairs_seen job.file (setup_for job given []))) in
     (found.0, found.1, (given, is, granted, found.2))
-answer_exists job claim (awaits_replies given done pairs) frame log sound (trees, came, is, are, claimed, some, at) =
-    elim (cases_lt (done + 1) given.count) [
-      | inl less ↦ ([], awaits_replies given (done + 1) (pairs ++ found.0), (trees, found.0, is, found.1, inl (less, refl, refl)))
+answer_exists job claim (awaits_replies given came) frame log sound (trees, is, are, claimed, some, at) =
+    elim (cases_lt (length (came ++ trees ∷ [])) given.count) [
+      | inl less ↦ ([], awaits_replies given (came ++ trees ∷ []), (trees, is, inl (less, refl, refl)))
       | inr few ↦
-          let all : done + 1 ≡ given.count = (let less = some.more in omega (arith, few, less)) in
-          let replied = replied_more job given done pairs came trees some are in
-          let c = commits_to job given (round_with job given (came ++ trees ∷ [])) (pairs ++ found.0) sound some.granted
-          (asked_round job given (came ++ trees ∷ []) sound.file some.granted some.extended (replied.0 ∙ all) replied.1)
-          (whole_view job.file (setup_for job given []).hello given (came ++ trees ∷ []) (pairs ++ found.0) (replied.0 ∙ all)
-          (first_more job.file given came trees pairs found.0 done some.count some.made found.1)) in
-          (corrections c.d ∷ [], awaits_challenge given (pairs ++ found.0) c.wires, (trees, found.0, is, found.1, inr (all, (c.d, c.wires, c.fixed, refl, refl))))
+          let all : length (came ++ trees ∷ []) ≡ given.count = (let less = some.more in omega (arith, few, less, length-append came (trees ∷ []))) in
+          let end = rounds_end job given (came ++ trees ∷ []) sound some.granted some.extended all (replied_more job given came trees some are) in
+          (end.0, end.1, (trees, is, end.2))
     ]
-  where
-    found : (more : List Pair) × AreRoundPairs job.file (given.start + done) trees more
-    found = unit_pairs job.file (given.start + done) trees sound.file some.extended
-        (let within = some.granted.within in let less = some.more in omega (arith, within, less)) are
 answer_exists job claim (awaits_challenge given pairs wires) frame log sound (element, rounds, d, is, ranged, claimed, fixes, at) =
     (sums (sums_for job given pairs wires element) ∷ openings (openings_for job wires) ∷ [], awaits_verdict, (element, is, refl, refl))
 answer_exists job claim other frame log sound taken = absurd taken
@@ -375,15 +369,15 @@ answer_short job claim awaits_grant frame answer now log sound taken (given, is,
           (pairs_seen job.file (setup_for job given [])) commits
       | inr (extended, said, next) ↦ subst (All IsShort) (sym said) (all_asks_short job.file given sound.file granted.within)
     ]
-answer_short job claim (awaits_replies given done pairs) frame answer now log sound taken (trees, more, is, one, inl (less, said, next)) =
+answer_short job claim (awaits_replies given came) frame answer now log sound taken (trees, is, inl (less, said, next)) =
     subst (All IsShort) (sym said) (All-nil IsShort)
-answer_short job claim (awaits_replies given done pairs) frame answer now log sound (trees, came, is, are, claimed, some, at) (other, more, is_too, one, inr (all, commits)) =
-    let replied = replied_more job given done pairs came trees some are in
-    let asked = asked_round job given (came ++ trees ∷ []) sound.file some.granted some.extended (replied.0 ∙ all) replied.1 in
-    commits_short job given (round_with job given (came ++ trees ∷ [])) (pairs ++ more) answer now sound some.granted asked
-    (whole_view job.file (setup_for job given []).hello given (came ++ trees ∷ []) (pairs ++ more) (replied.0 ∙ all)
-    (first_more job.file given came trees pairs more done some.count some.made
-    (subst (λ t. AreRoundPairs job.file (given.start + done) t more) (sym (same_trees trees other (sym is ∙ is_too))) one))) commits
+answer_short job claim (awaits_replies given came) frame answer now log sound (trees, is, are, claimed, some, at) (other, is_too, inr (all, pairs, made, commits)) =
+    let same : trees ≡ other = same_trees trees other (sym is ∙ is_too) in
+    let whole : length (came ++ trees ∷ []) ≡ given.count = length-append came (trees ∷ []) ∙ sym (length-append came (other ∷ [])) ∙ all in
+    let asked = asked_round job given (came ++ trees ∷ []) sound.file some.granted some.extended whole (replied_more job given came trees some are) in
+    commits_short job given (round_with job given (came ++ trees ∷ [])) pairs answer now sound some.granted asked
+    (whole_view job.file (setup_for job given []).hello given (came ++ trees ∷ []) pairs whole
+    (subst (λ t. AreFirstPairs job.file given (came ++ t ∷ []) pairs) (sym same) made)) commits
 answer_short job claim (awaits_challenge given pairs wires) frame answer now log sound (element, rounds, d, is, ranged, claimed, fixes, at) (other, is_too, said, next) =
     let u : List (ℕ × ℕ) = sums_for job given pairs wires other in
     let o : List ℕ = openings_for job wires in

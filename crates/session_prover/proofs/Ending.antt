@@ -46,7 +46,7 @@ record IsClaimRead (job : ProverJob) (claim : Claim) (log : List (Side × ℕ)) 
 claim_read : (job : ProverJob) (claim : Claim) (stage : ProverStage) (before more : List (Side × ℕ)) → IsBehindGrant stage → IsLogAt job claim stage before
     → IsClaimRead job claim (before ++ more)
 claim_read job claim awaits_grant before more behind at = absurd behind
-claim_read job claim (awaits_replies given done pairs) before more behind (came, claimed, some, at) = record {
+claim_read job claim (awaits_replies given came) before more behind (claimed, some, at) = record {
   given = given;
   granted = some.granted;
   read = read_is job given (before ++ more) (bytes_from Prover (all_asks job given) ++ (bytes_from Verifier (flat_map reply_frame came) ++ more)) some.granted

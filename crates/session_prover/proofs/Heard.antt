@@ -1,5 +1,5 @@
 -- What stands next in what a verifier says, where a prover waits; and what an honest prover sends when it is not there.
-use Rattle.std.proofs.Common.{◌≡◌, ℕ, zero, suc, ◌+◌, ◌*◌, ◌<◌, List, [], ◌∷◌, ◌++◌, flat_map, length, replicate, slice_index_or, refl, ap, sym, ◌∙◌, subst, append_assoc, append-nil, length-append, add-zero, arith, inl, ◌≤◌, ◌^◌, take, Bool, true, false, nat_lt, inr, drop}
+use Rattle.std.proofs.Common.{◌≡◌, ℕ, zero, suc, ◌+◌, ◌*◌, ◌<◌, List, [], ◌∷◌, ◌++◌, flat_map, length, replicate, slice_index_or, refl, ap, sym, ◌∙◌, subst, append_assoc, append-nil, length-append, arith, inl, ◌≤◌, ◌^◌, take, Bool, true, false, nat_lt, inr, drop}
 use Rattle.std.specs.Prelude.{All, None}
 use Rattle.std.specs.List.{AllByRecursion}
 use Rattle.std.proofs.lemmas.List.{length-replicate, length-map, take-append-drop}
@@ -23,7 +23,6 @@ use Rattle.zk_model.specs.declared.Kind.{Kind}
 use Rattle.zk_model.specs.declared.Kind.TheVariants.{Direct, Extended}
 use Rattle.zk_model.specs.declared.Params.{Params}
 use Rattle.session_core.specs.Jobs.{ProverJob}
-use Rattle.session_core.specs.Cores.{AreRoundPairs}
 use Rattle.session_core.specs.Fixing.{AreFirstPairs}
 use Rattle.session_core.specs.Rounds.{round_turns}
 use Rattle.session_prover.specs.Stages.{AreAskedRounds}
@@ -108,58 +107,38 @@ next_part f P per each (x ∷ xs) (y ∷ ys) bytes tail left right less same =
 
 -- ---- and the pairs that they make
 
--- what holds of two lists place by place holds of one item more of each
-each_more : {A B : Type 0} (P : ℕ → A → B → Type 0) (xs : List A) (ys : List B) (x a : A) (y b : B) → length xs ≡ length ys
-    → ((i : ℕ) → i < length xs → P i (slice_index_or xs i a) (slice_index_or ys i b)) → P (length xs) x y
-    → (i : ℕ) → i < length xs + 1 → P i (slice_index_or (xs ++ x ∷ []) i a) (slice_index_or (ys ++ y ∷ []) i b)
-each_more P [] [] x a y b same each last zero below = last
-each_more P [] [] x a y b same each last (suc i) below = absurd (omega (arith, below))
-each_more P [] (v ∷ ys) x a y b same each last i below = absurd (omega (arith, same))
-each_more P (u ∷ xs) [] x a y b same each last i below = absurd (omega (arith, same))
-each_more P (u ∷ xs) (v ∷ ys) x a y b same each last zero below = each 0 (omega arith)
-each_more P (u ∷ xs) (v ∷ ys) x a y b same each last (suc i) below =
-    each_more (λ j. P (suc j)) xs ys x a y b (omega (arith, same)) (λ j less. each (suc j) (omega (arith, less))) last i (omega (arith, below))
+-- the units of a grant have pairs that the replies to their asks make
+pub all_pairs : (file : ProverFile) (given : Grant) (came : List (List TreeReply)) → IsProverFile file → file.params.kind ≡ Extended
+    → given.start + given.count ≤ file.params.total → length came ≡ given.count → All (AreReplies file.params.height file.params.trees) came
+    → (pairs : List Pair) × AreFirstPairs file given came pairs
+all_pairs file given came is extended within counted are = (
+  found.0,
+  record {
+    units = found.1.units;
+    one_each = found.1.count ∙ sym counted;
+    each = λ i below. let inside : i < given.count = omega (arith, below, counted) in
+        subst (λ (asks : List TreeAsk). IsExtension file.params file.code_seed (prover_unit file (given.start + i))
+        (record { asks = asks; replies = slice_index_or came i [] }) (slice_index_or found.1.units i []))
+        (get_or-map-range_with_len (honest_asks file) given.start given.count i (given.start + i) [] inside refl) (found.1.each i inside);
+    joined = found.1.joined;
+  },
+)
+  where
+    hello : Hello
+    hello = record { id = []; circuit = []; outputs = []; version = 0; public = None }
 
--- the pairs of one unit more
-pub first_more : (file : ProverFile) (given : Grant) (came : List (List TreeReply)) (trees : List TreeReply) (pairs more : List Pair) (done : ℕ)
-    → length came ≡ done → AreFirstPairs file given came pairs → AreRoundPairs file (given.start + done) trees more
-    → AreFirstPairs file given (came ++ trees ∷ []) (pairs ++ more)
-first_more file given came trees pairs more done counted first one = record {
-  units = first.units ++ more ∷ [];
-  one_each = length-append first.units (more ∷ []) ∙ ap (λ n. n + 1) first.one_each ∙ sym (length-append came (trees ∷ []));
-  each = λ i below. each_more (λ j replied made. AreRoundPairs file (given.start + j) replied made) came first.units trees [] more [] (sym first.one_each) first.each
-      (subst (λ n. AreRoundPairs file (given.start + n) trees more) (sym counted) one) i (let whole = length-append came (trees ∷ []) in omega (arith, below, whole));
-  joined = ap (λ l. l ++ more) first.joined ∙ ap (λ l. flat_map (λ unit. unit) first.units ++ l) (sym (append-nil more))
-      ∙ sym (flat_map-append (λ unit. unit) first.units (more ∷ []));
-}
+    setup : Setup
+    setup = record { hello = hello; grant = given; rounds = record { asks = round_asks file given; replies = came } ∷ [] }
 
--- no replies make no pairs
-pub first_none : (file : ProverFile) (given : Grant) → AreFirstPairs file given [] []
-first_none file given = record { units = []; one_each = refl; each = λ i below. absurd (omega (arith, below)); joined = refl }
-
--- a unit has pairs that the replies to its asks make
-pub unit_pairs : (file : ProverFile) (unit : ℕ) (trees : List TreeReply) → IsProverFile file → file.params.kind ≡ Extended
-    → unit < file.params.total → AreReplies file.params.height file.params.trees trees
-    → (pairs : List Pair) × AreRoundPairs file unit trees pairs
-unit_pairs file unit trees is extended below are =
-    let alone : Grant = record { start = unit; count = 1; section_length = 1 } in
-    let hello : Hello = record { id = []; circuit = []; outputs = []; version = 0; public = None } in
-    let setup : Setup = record { hello = hello; grant = alone; rounds = record { asks = round_asks file alone; replies = trees ∷ [] } ∷ [] } in
-    let found : (pairs : List Pair) × IsProverView file setup pairs = pairs_exist file setup is (record {
-      within = omega (arith, below);
+    found : (pairs : List Pair) × IsProverView file setup pairs
+    found = pairs_exist file setup is (record {
+      within = within;
       count = sym (ap rounds_of extended);
-      each = All-cons (IsRound file.params alone) _ [] (record {
-        asks = round_asks_shaped file alone is (omega (arith, below));
-        replies = replied_each file.params alone (trees ∷ []) refl
-            (All-cons (AreReplies file.params.height file.params.trees) trees [] are (All-nil (AreReplies file.params.height file.params.trees)));
-      }) (All-nil (IsRound file.params alone));
-    }) in (
-      slice_index_or found.1.units 0 [],
-      subst (λ n. AreRoundPairs file n trees (slice_index_or found.1.units 0 [])) (add-zero unit)
-          (subst (λ (asks : List TreeAsk). IsExtension file.params file.code_seed (prover_unit file (unit + 0))
-          (record { asks = asks; replies = trees }) (slice_index_or found.1.units 0 []))
-          (get_or-map-range_with_len (honest_asks file) unit 1 0 (unit + 0) [] (omega arith) refl) (found.1.each 0 (omega arith))),
-    )
+      each = All-cons (IsRound file.params given) _ [] (record {
+        asks = round_asks_shaped file given is within;
+        replies = replied_each file.params given came counted are;
+      }) (All-nil (IsRound file.params given));
+    })
 
 -- ---- rounds that are asked for
 

@@ -41,8 +41,8 @@ use Rattle.session_prover.proofs.Stopping.{stops_sending, some_for, stops_answer
 pub log_taken : (job : ProverJob) (claim : Claim) (stage : ProverStage) (frame : Frame) (before : List (Side × ℕ)) → IsToAnswer stage
     → IsLogAt job claim stage before → IsSomeAnd (prover_expects job stage) (λ place. Allows place frame)
     → IsLogTaken job claim stage frame (before ++ bytes_from Verifier (frame_spelling frame))
-log_taken job claim (awaits_replies given done pairs) frame before answers at (trees, is, are) =
-    (trees, at.0, is, are, at.1, at.2, (λ i. at.3 i ++ bytes_from Verifier (frame_spelling (is i))) ∙ replied_on job given at.0 trees)
+log_taken job claim (awaits_replies given came) frame before answers at (trees, is, are) =
+    (trees, is, are, at.0, at.1, (λ i. at.2 i ++ bytes_from Verifier (frame_spelling (is i))) ∙ replied_on job given came trees)
 log_taken job claim (awaits_challenge given pairs wires) frame before answers at (element, is, ranged) =
     (element, at.0, at.1, is, ranged, at.2, at.3, λ i. at.4 i ++ bytes_from Verifier (frame_spelling (is i)))
 log_taken job claim other frame before answers at allowed = absurd answers

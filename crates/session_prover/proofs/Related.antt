@@ -222,7 +222,7 @@ pub related_at : (job : ProverJob) (claim : Claim) (stage : ProverStage) (before
     → IsLogAt job claim stage before → IsRelated job (before ++ bytes_from Verifier rest)
 related_at job claim awaits_grant before rest sound at =
     related_greeting job (before ++ bytes_from Verifier rest) (prover_hears before rest ∙ ap (sent_by Prover) at.1 ∙ greeted_sent job)
-related_at job claim (awaits_replies given done pairs) before rest sound (came, claimed, some, at) =
+related_at job claim (awaits_replies given came) before rest sound (claimed, some, at) =
     related_replied job given came (before ++ bytes_from Verifier rest) rest some.extended some.granted (ap (λ l. l ++ bytes_from Verifier rest) at)
 related_at job claim (awaits_challenge given pairs wires) before rest sound (rounds, d, claimed, fixes, at) =
     related_fixed job given rounds pairs d wires (before ++ bytes_from Verifier rest) (bytes_from Verifier rest) sound fixes (ap (λ l. l ++ bytes_from Verifier rest) at)

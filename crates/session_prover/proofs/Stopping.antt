@@ -73,7 +73,7 @@ related_taken : (job : ProverJob) (claim : Claim) (stage : ProverStage) (frame :
     → IsLogTaken job claim stage frame log → IsRelated job log
 related_taken job claim awaits_grant frame log sound (given, is, claimed, granted, at) =
     related_greeting job log (ap (sent_by Prover) at ∙ granted_sent job given)
-related_taken job claim (awaits_replies given done pairs) frame log sound (trees, came, is, are, claimed, some, at) =
+related_taken job claim (awaits_replies given came) frame log sound (trees, is, are, claimed, some, at) =
     related_replied job given (came ++ trees ∷ []) log [] some.extended some.granted (at ∙ sym (append-nil (replied_log job given (came ++ trees ∷ []))))
 related_taken job claim (awaits_challenge given pairs wires) frame log sound (element, rounds, d, is, ranged, claimed, fixes, at) =
     related_fixed job given rounds pairs d wires log (bytes_from Verifier (challenge_frame element)) sound fixes at
@@ -100,13 +100,13 @@ related_answer job claim awaits_grant frame answer now log n sound (given, is, c
         (prover_says log part ∙ ap (λ l. l ++ part) (ap (sent_by Prover) at ∙ granted_sent job given))
         (sym (spelled_asks (round_asks job.file given)) ∙ ap (flat_map frame_spelling) (sym said ∙ sym (take-append-drop n answer))
         ∙ flat_map-append frame_spelling (take n answer) (drop n answer))
-related_answer job claim (awaits_replies given done pairs) frame answer now log n sound taken (trees, more, is, one, inl (less, said, next)) =
+related_answer job claim (awaits_replies given came) frame answer now log n sound taken (trees, is, inl (less, said, next)) =
     subst (λ (l : List Frame). IsRelated job (log ++ bytes_from Prover (flat_map frame_spelling l))) (sym (ap (take n) said ∙ none_of_none n))
-    (subst (IsRelated job) (sym (append-nil log)) (related_taken job claim (awaits_replies given done pairs) frame log sound taken))
-related_answer job claim (awaits_replies given done pairs) frame answer now log n sound taken (trees, more, is, one, inr (all, commits)) =
-    related_commits job claim given (pairs ++ more) answer now log n sound commits
-    (answered job claim (awaits_replies given done pairs) frame answer now log sound taken (trees, more, is, one, inr (all, commits)))
-    (related_taken job claim (awaits_replies given done pairs) frame log sound taken)
+    (subst (IsRelated job) (sym (append-nil log)) (related_taken job claim (awaits_replies given came) frame log sound taken))
+related_answer job claim (awaits_replies given came) frame answer now log n sound taken (trees, is, inr (all, pairs, made, commits)) =
+    related_commits job claim given pairs answer now log n sound commits
+    (answered job claim (awaits_replies given came) frame answer now log sound taken (trees, is, inr (all, pairs, made, commits)))
+    (related_taken job claim (awaits_replies given came) frame log sound taken)
 related_answer job claim (awaits_challenge given pairs wires) frame answer now log n sound (element, rounds, d, is, ranged, claimed, fixes, at) answers =
     let v : List (Side × ℕ) = bytes_from Prover (flat_map frame_spelling (take n answer)) in
     related_fixed job given rounds pairs d wires (log ++ v) (bytes_from Verifier (challenge_frame element) ++ v) sound fixes
@@ -271,7 +271,7 @@ under : (job : ProverJob) (claim : Claim) (stage : ProverStage) (frame : Frame) 
     → IsUnder job claim log
 under job claim awaits_grant frame log (given, is, claimed, granted, at) =
     record { given = given; claimed = claimed; granted = granted; more = []; logged = at ∙ sym (append-nil (granted_log job given)) }
-under job claim (awaits_replies given done pairs) frame log (trees, came, is, are, claimed, some, at) = record {
+under job claim (awaits_replies given came) frame log (trees, is, are, claimed, some, at) = record {
   given = given;
   claimed = claimed;
   granted = some.granted;
@@ -316,17 +316,19 @@ follows job claim awaits_grant frame answer now log taken (given, is, fits, answ
   | inl (direct, (d, wires, fixed, said, next)) ↦ follows_to awaits_grant now _ next tt (omega arith)
   | inr (extended, said, next) ↦ follows_to awaits_grant now _ next tt (let most = fits.count_most in omega (arith, most))
 ]
-follows job claim (awaits_replies given done pairs) frame answer now log taken (trees, more, is, one, inl (less, said, next)) =
-    follows_to (awaits_replies given done pairs) now _ next tt (omega (arith, less))
-follows job claim (awaits_replies given done pairs) frame answer now log taken (trees, more, is, one, inr (all, (d, wires, fixed, said, next))) =
-    follows_to (awaits_replies given done pairs) now _ next tt (omega (arith, all))
+follows job claim (awaits_replies given came) frame answer now log taken (trees, is, inl (less, said, next)) =
+    let longer = length-append came (trees ∷ []) in
+    follows_to (awaits_replies given came) now _ next tt (omega (arith, less, longer))
+follows job claim (awaits_replies given came) frame answer now log taken (trees, is, inr (all, pairs, made, (d, wires, fixed, said, next))) =
+    let longer = length-append came (trees ∷ []) in
+    follows_to (awaits_replies given came) now _ next tt (omega (arith, all, longer))
 follows job claim (awaits_challenge given pairs wires) frame answer now log taken (element, is, said, next) =
     follows_to (awaits_challenge given pairs wires) now _ next tt (omega arith)
 follows job claim other frame answer now log taken answers = absurd taken
 
 -- after a grant a frame is expected
 expects_behind : (job : ProverJob) (stage : ProverStage) → IsBehindGrant stage → (expect : Expect) × (prover_expects job stage ≡ Some expect)
-expects_behind job (awaits_replies given done pairs) behind = (expect.Reply job.file.params.height job.file.params.trees (given.count - done), refl)
+expects_behind job (awaits_replies given came) behind = (expect.Reply job.file.params.height job.file.params.trees (given.count - length came), refl)
 expects_behind job (awaits_challenge given pairs wires) behind = (expect.Challenge, refl)
 expects_behind job awaits_verdict behind = (expect.Verdict, refl)
 expects_behind job other behind = absurd behind
@@ -380,14 +382,14 @@ refuses_nothing job course stage frame session.BadGrant line sound taken (given,
     elsewhere awaits_grant frame (other, is_too, claimed, granted, at) is unsuited =
         unsuited (suits_is job.file.params job.statement.program given
         (subst (λ (g : Grant). IsGrant job.file.params job.statement.program g) (same_grant other given (sym is_too ∙ is)) granted))
-    elsewhere (awaits_replies other done pairs) frame (trees, came, is_too, are, claimed, some, at) is unsuited = no_replies_is_grant trees given (sym is_too ∙ is)
+    elsewhere (awaits_replies other came) frame (trees, is_too, are, claimed, some, at) is unsuited = no_replies_is_grant trees given (sym is_too ∙ is)
     elsewhere (awaits_challenge other pairs wires) frame (element, rounds, d, is_too, ranged, claimed, fixes, at) is unsuited = no_challenge_is_grant element given (sym is_too ∙ is)
     elsewhere other frame taken is unsuited = taken
 refuses_nothing job course stage frame (session.PeerRefused code) line sound taken (there, is) = absurd (elsewhere stage frame taken.log is)
   where
     elsewhere : (stage : ProverStage) (frame : Frame) → IsLogTaken job course.claim stage frame line.log → frame ≡ refuse code → ⊥
     elsewhere awaits_grant frame (given, is_too, claimed, granted, at) is = no_refusal_is_grant code given (sym is ∙ is_too)
-    elsewhere (awaits_replies other done pairs) frame (trees, came, is_too, are, claimed, some, at) is = no_refusal_is_replies code trees (sym is ∙ is_too)
+    elsewhere (awaits_replies other came) frame (trees, is_too, are, claimed, some, at) is = no_refusal_is_replies code trees (sym is ∙ is_too)
     elsewhere (awaits_challenge other pairs wires) frame (element, rounds, d, is_too, ranged, claimed, fixes, at) is = no_refusal_is_challenge code element (sym is ∙ is_too)
     elsewhere other frame taken is = taken
 refuses_nothing job course stage frame session.NoMemory line sound taken refused = stops_unanswered job course stage frame line sound taken

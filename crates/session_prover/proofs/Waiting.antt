@@ -382,7 +382,7 @@ opened_heard job given rounds pairs d wires element =
 
 -- the turns that have come where a prover waits
 abbrev pub turns_at : ProverJob → ProverStage → ℕ
-turns_at job (awaits_replies given done pairs) = 1
+turns_at job (awaits_replies given came) = 1
 turns_at job (awaits_challenge given pairs wires) = suc (rounds_of job.file.params.kind)
 turns_at job awaits_verdict = suc (suc (rounds_of job.file.params.kind))
 turns_at job other = 0
@@ -395,10 +395,10 @@ next_frame job claim awaits_grant awaited before bytes inputs sound at is heard 
     subst (λ e. IsNextFrame e bytes) (sym (same_stage expect.Grant awaited is))
     (next_grant job.file.params job.statement.program heard.u bytes heard.more sound.file.params.total heard.is
     (ap (λ l. l ++ bytes) (sym (ap (sent_by Verifier) at.1 ∙ greeted_heard job)) ∙ heard.begun))
-next_frame job claim (awaits_replies given done pairs) awaited before bytes inputs sound (came, claimed, some, at) is heard =
+next_frame job claim (awaits_replies given came) awaited before bytes inputs sound (claimed, some, at) is heard =
     subst (λ e. IsNextFrame e bytes) (sym (same_stage _ awaited is))
     (next_replies (task_of job inputs) given came _ heard.u bytes heard.more sound.file some.extended some.granted
-    (omega (arith, some.count, some.more)) some.each heard.is
+    (omega (arith, some.more)) some.each heard.is
     (ap (λ l. l ++ bytes) (sym (ap (sent_by Verifier) at ∙ replied_heard job given came)) ∙ heard.begun))
 next_frame job claim (awaits_challenge given pairs wires) awaited before bytes inputs sound (rounds, d, claimed, fixes, at) is heard =
     subst (λ e. IsNextFrame e bytes) (sym (same_stage expect.Challenge awaited is))
@@ -417,7 +417,7 @@ sent_after : (job : ProverJob) (claim : Claim) (stage : ProverStage) (before : L
     → IsLogAt job claim stage before → IsWitness job.statement inputs values job.given
     → SentAfter (task_of job inputs) (sent_by Verifier before ++ rest) (turns_at job stage) (sent_by Prover before)
 sent_after job claim awaits_grant before rest inputs values sound at witness = ap (sent_by Prover) at.1 ∙ greeted_sent job
-sent_after job claim (awaits_replies given done pairs) before rest inputs values sound (came, claimed, some, at) witness =
+sent_after job claim (awaits_replies given came) before rest inputs values sound (claimed, some, at) witness =
     subst (λ (q : List ℕ × List ℕ). SentAfter (task_of job inputs) (q.0 ++ rest) 1 q.1)
     (λ i. (sym (ap (sent_by Verifier) at ∙ replied_heard job given came) i, sym (ap (sent_by Prover) at ∙ replied_sent job given came) i))
     (subst (λ l. SentAfter (task_of job inputs) l 1 (greeting job ++ all_asks job given)) (sym (append_assoc (grant_frame given) (flat_map reply_frame came) rest))

@@ -47,14 +47,14 @@ IsBehindGrant stage = Unit {0}
 
 -- a frame is expected that is to be answered: replies or a challenge
 abbrev pub IsToAnswer : ProverStage → Type 0
-IsToAnswer (awaits_replies given done pairs) = Unit {0}
+IsToAnswer (awaits_replies given came) = Unit {0}
 IsToAnswer (awaits_challenge given pairs wires) = Unit {0}
 IsToAnswer stage = ⊥
 
 -- how many frames are answered yet: after a grant at most the replies of 4,096 units, and the challenge
 abbrev pub answers_left : ProverStage → ℕ
 answers_left awaits_grant = 4098
-answers_left (awaits_replies given done pairs) = given.count - done + 1
+answers_left (awaits_replies given came) = given.count - length came + 1
 answers_left (awaits_challenge given pairs wires) = 1
 answers_left stage = 0
 

@@ -20,7 +20,6 @@ use Rattle.session_core.specs.Ends.{IsFixed}
 use Rattle.session_core.specs.Jobs.{ProverJob}
 use Rattle.session_core.specs.Rounds.{round_turns}
 use Rattle.session_core.specs.Cores.{ProverStage, awaits_grant, awaits_replies, awaits_challenge, awaits_verdict, has_ended}
-use Rattle.session_core.specs.Fixing.{AreFirstPairs}
 
 -- ---- what was claimed
 
@@ -117,19 +116,12 @@ pub record Fixes
   pub seen : IsProverView job.file (setup_for job given rounds) pairs
   pub fixed : IsFixed job.statement job.given pairs d wires
 
--- a grant that fits, in kind extended, and replies for the first units of it, but not for all, with the pairs that they make
-pub record AreSomeReplies
-    (job : ProverJob)
-    (given : Grant)
-    (done : ℕ)
-    (pairs : List Pair)
-    (came : List (List TreeReply)) : Type 0 where
+-- a grant that fits, in kind extended, and replies for the first units of it, but not for all
+pub record AreSomeReplies (job : ProverJob) (given : Grant) (came : List (List TreeReply)) : Type 0 where
   pub granted : IsGrant job.file.params job.statement.program given
   pub extended : job.file.params.kind ≡ Extended
-  pub more : done < given.count
-  pub count : length came ≡ done
+  pub more : length came < given.count
   pub each : All (AreReplies job.file.params.height job.file.params.trees) came
-  pub made : AreFirstPairs job.file given came pairs
 
 -- what is logged where a prover waits for the verdict
 pub record IsOpenedLog (job : ProverJob) (claim : Claim) (log : List (Side × ℕ)) : Type 0 where
@@ -148,8 +140,8 @@ pub record IsOpenedLog (job : ProverJob) (claim : Claim) (log : List (Side × �
 -- once a grant has come, which is answered only where its units are claimed.
 abbrev pub IsLogAt : ProverJob → Claim → ProverStage → List (Side × ℕ) → Type 0
 IsLogAt job claim awaits_grant log = (claim.answer ≡ None) × (log ≡ greeted_log job)
-IsLogAt job claim (awaits_replies given done pairs) log = (came : List (List TreeReply))
-    × ClaimedFor claim given × AreSomeReplies job given done pairs came × (log ≡ replied_log job given came)
+IsLogAt job claim (awaits_replies given came) log =
+    ClaimedFor claim given × AreSomeReplies job given came × (log ≡ replied_log job given came)
 IsLogAt job claim (awaits_challenge given pairs wires) log = (rounds : List Round) × (d : List ℕ)
     × ClaimedFor claim given × Fixes job given rounds pairs d wires × (log ≡ fixed_log job given rounds d)
 IsLogAt job claim awaits_verdict log = IsOpenedLog job claim log
@@ -160,9 +152,9 @@ abbrev pub IsLogTaken : ProverJob → Claim → ProverStage → Frame → List (
 IsLogTaken job claim awaits_grant frame log = (given : Grant)
     × (frame ≡ grant given) × ClaimedFor claim given × IsGrant job.file.params job.statement.program given
     × (log ≡ granted_log job given)
-IsLogTaken job claim (awaits_replies given done pairs) frame log = (trees : List TreeReply) × (came : List (List TreeReply))
+IsLogTaken job claim (awaits_replies given came) frame log = (trees : List TreeReply)
     × (frame ≡ replies trees) × AreReplies job.file.params.height job.file.params.trees trees
-    × ClaimedFor claim given × AreSomeReplies job given done pairs came
+    × ClaimedFor claim given × AreSomeReplies job given came
     × (log ≡ replied_log job given (came ++ trees ∷ []))
 IsLogTaken job claim (awaits_challenge given pairs wires) frame log = (element : ℕ) × (rounds : List Round) × (d : List ℕ)
     × (frame ≡ challenge element) × IsElement element × ClaimedFor claim given × Fixes job given rounds pairs d wires

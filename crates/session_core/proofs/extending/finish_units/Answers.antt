@@ -5,7 +5,7 @@ use Rattle.proof_frames.specs.declared.frame.Frame.{Frame}
 use Rattle.zk_model.specs.Transcript.{Grant, TreeReply}
 use Rattle.zk_model.specs.Files.{correlations_per_unit}
 use Rattle.zk_model.specs.Frames.{AreReplies}
-use Rattle.session_core.specs.Cores.{AreRoundPairs}
+use Rattle.round_fan.specs.Fans.{AreRoundPairs}
 use Rattle.session_core.specs.Extending.{replies_in, replies_of}
 use Rattle.session_core.proofs.Rounds.{replies_at, units_more, units_all}
 use Rattle.session_core.proofs.extending.finish_units.Goals as goal

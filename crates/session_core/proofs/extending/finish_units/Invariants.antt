@@ -2,7 +2,7 @@ use Rattle.std.proofs.Common.{◌≡◌, ◌<◌, ◌*◌, ◌+◌, ℕ, List, [
 use Rattle.std.specs.Prelude.{slice_index_or}
 use Rattle.zk_model.specs.Mac.{Pair}
 use Rattle.zk_model.specs.Files.{correlations_per_unit}
-use Rattle.session_core.specs.Cores.{AreRoundPairs}
+use Rattle.round_fan.specs.Fans.{AreRoundPairs}
 use Rattle.session_core.specs.Extending.{replies_of}
 use Rattle.session_core.proofs.extending.finish_units.Given as goal
 

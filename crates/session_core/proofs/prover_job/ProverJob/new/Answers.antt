@@ -1,5 +1,4 @@
-use Rattle.std.proofs.Common.{subst, sym}
-use Rattle.zk_model.specs.Program.{Program}
+use Rattle.std.proofs.Common.{subst}
 use Rattle.field_program.specs.Programs.{IsSmallProgram}
 use Rattle.wire_auth.specs.Values.{wires_made}
 use Rattle.session_core.proofs.Proving.{job_made}
