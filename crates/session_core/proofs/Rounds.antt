@@ -140,13 +140,13 @@ vector_pushed P vectors now vector all one pushed =
     (All-push P (lists_of vectors) vector.items all one)
 
 -- one frame more of those that are left
-pub one_framed : (frames now : List Frame) (frame : Frame) (trees : Vec TreeReply Global) (rest left : List (Vec TreeReply Global)) (all : List model.Frame)
-    → map frame_value frames ++ map model.replies (lists_of rest) ≡ all → rest ≡ trees ∷ left → now ≡ frames ++ frame ∷ []
-    → frame_value frame ≡ model.replies trees.items → map frame_value now ++ map model.replies (lists_of left) ≡ all
-one_framed frames now frame trees rest left all far next pushed is =
-    ap (λ l. map frame_value l ++ map model.replies (lists_of left)) pushed
-    ∙ ap (λ l. l ++ map model.replies (lists_of left)) (map-append frame_value frames (frame ∷ []))
-    ∙ append_assoc (map frame_value frames) (frame_value frame ∷ []) (map model.replies (lists_of left))
-    ∙ ap (λ f. map frame_value frames ++ f ∷ map model.replies (lists_of left)) is
-    ∙ ap (λ l. map frame_value frames ++ map model.replies (lists_of l)) (sym next)
+pub one_framed : {A : Type 0} (said : List A → model.Frame) (frames now : List Frame) (frame : Frame) (trees : Vec A Global) (rest left : List (Vec A Global)) (all : List model.Frame)
+    → map frame_value frames ++ map said (lists_of rest) ≡ all → rest ≡ trees ∷ left → now ≡ frames ++ frame ∷ []
+    → frame_value frame ≡ said trees.items → map frame_value now ++ map said (lists_of left) ≡ all
+one_framed said frames now frame trees rest left all far next pushed is =
+    ap (λ l. map frame_value l ++ map said (lists_of left)) pushed
+    ∙ ap (λ l. l ++ map said (lists_of left)) (map-append frame_value frames (frame ∷ []))
+    ∙ append_assoc (map frame_value frames) (frame_value frame ∷ []) (map said (lists_of left))
+    ∙ ap (λ f. map frame_value frames ++ f ∷ map said (lists_of left)) is
+    ∙ ap (λ l. map frame_value frames ++ map said (lists_of l)) (sym next)
     ∙ far

@@ -11,10 +11,11 @@ ghost use Rattle.zk_model.specs.View.{span_of};
 ghost use Rattle.zk_model.specs.declared.Kind.TheVariants.{Extended};
 ghost use Rattle.proof_frames.specs.Frames.{frame_value};
 ghost use Rattle.vole_extend.specs.Rounds.{unit_code};
-ghost use Rattle.round_fan.specs.Fans.{AreRoundPairs};
+ghost use Rattle.round_fan.specs.Fans.{AreRoundPairs, lists_of};
 ghost use Rattle.session_core.specs.Extending.{asks_in, replies_in, asks_of, replies_of};
 ghost use Rattle.session_core.specs.Fixing.{AreFirstPairs};
 
+use crate::unit_rounds::ask_frames;
 use crate::verifier_job::correlations_per_unit;
 use dealer_files::{ProverFile, VerifierFile};
 use linear_code::Columns;
@@ -52,6 +53,25 @@ pub fn replies_in(frame: &Frame) -> &[TreeReply]
     }
 }
 
+/// What a prover asks for the trees of all units of a grant, unit by unit.
+pub fn ask_lists(
+    alloc: Global,
+    file: &ProverFile,
+    grant: Grant,
+) -> Result<Vec<Vec<TreeAsk>>, AllocError>
+    requires extended { file.now.params.kind ≡ Extended }
+    requires within { grant.start + grant.count ≤ file.now.params.total }
+    ensures { IfOk result (λ asks. lists_of asks.items ≡ round_asks file.now grant) }
+{
+    let _total = file.total();
+    let mut asks = Vec::with_capacity(alloc, grant.count as usize)?;
+    for unit in grant.start..grant.start + u64::from(grant.count) {
+        let trees = ProverRound::new(file, unit).ask(alloc)?;
+        asks.push(trees)?;
+    }
+    Ok(asks)
+}
+
 /// What a prover asks for the trees of all units of a grant: a frame for each unit.
 pub fn ask_units(alloc: Global, file: &ProverFile, grant: Grant) -> Result<Vec<Frame>, AllocError>
     requires extended { file.now.params.kind ≡ Extended }
@@ -59,13 +79,8 @@ pub fn ask_units(alloc: Global, file: &ProverFile, grant: Grant) -> Result<Vec<F
     ensures { IfOk result (λ frames. map frame_value frames.items
         ≡ map model.asks (round_asks file.now grant)) }
 {
-    let _total = file.total();
-    let mut frames = Vec::with_capacity(alloc, grant.count as usize)?;
-    for unit in grant.start..grant.start + u64::from(grant.count) {
-        let asks = ProverRound::new(file, unit).ask(alloc)?;
-        frames.push(Frame::ExtendAsk(asks))?;
-    }
-    Ok(frames)
+    let asks = ask_lists(alloc, file, grant)?;
+    ask_frames(alloc, asks)
 }
 
 /// The pairs that the replies for all trees of a unit make.

@@ -26,12 +26,15 @@ mod verifier_job;
 mod verifier_jobs;
 
 pub use circuit_claim::{CircuitClaim, input_bits_prove};
-pub use extending::{Replied, ask_units, asks_in, finish_units, replies_in, reply_units};
+pub use extending::{
+    Replied, ask_lists, ask_units, asks_in, finish_units, replies_in, reply_units,
+};
 pub use fault::{Digests, HelloDiffers, ProverFault, VerifierFault};
 pub use judgement::Judgement;
 pub use prover_core::ProverCore;
-pub use prover_job::{Committed, Opened, ProverJob};
+pub use prover_job::{Committed, Opened, ProverJob, units_of};
 pub use statement::{Statement, bits_digest, elements_of};
+pub use unit_rounds::{ask_frames, reply_frames};
 pub use verifier_core::{VerifierCore, difference};
 pub use verifier_job::{TooLarge, VerifierJob, units_for};
 pub use verifier_jobs::VerifierJobs;

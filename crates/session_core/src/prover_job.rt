@@ -69,7 +69,7 @@ pub(crate) fn masks_of<T>(items: &[T], givens: usize, sections: usize) -> &[T]
 }
 
 /// The units of a grant.
-pub(crate) fn units_of(grant: Grant) -> Span
+pub fn units_of(grant: Grant) -> Span
     requires { grant.start + grant.count ≤ MAX_DEALT_UNITS }
     ensures { result ≡ span_of grant }
 {

@@ -143,11 +143,20 @@ impl<'a, R: Threads + Sync> Rounds for Fan<'a, R> {
     }
 }
 
+/// A frame for each unit's asks, in order.
+pub fn ask_frames(alloc: Global, asks: Vec<Vec<TreeAsk>>) -> Result<Vec<Frame>, AllocError>
+    ensures { IfOk result (λ frames. map frame_value frames.items
+        ≡ map model.asks (lists_of asks.items)) }
+{
+    let mut frames = Vec::with_capacity(alloc, asks.len())?;
+    for trees in asks {
+        frames.push(Frame::ExtendAsk(trees))?;
+    }
+    Ok(frames)
+}
+
 /// A frame for each unit's replies, in order.
-pub(crate) fn reply_frames(
-    alloc: Global,
-    replies: Vec<Vec<TreeReply>>,
-) -> Result<Vec<Frame>, AllocError>
+pub fn reply_frames(alloc: Global, replies: Vec<Vec<TreeReply>>) -> Result<Vec<Frame>, AllocError>
     ensures { IfOk result (λ frames. map frame_value frames.items
         ≡ map model.replies (lists_of replies.items)) }
 {

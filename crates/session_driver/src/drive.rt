@@ -12,6 +12,7 @@ use crate::party::{Party, Refusal};
 use frame_link::{Line, LineFault};
 use proof_frames::Frame;
 use std::alloc::{AllocError, Global};
+use std::thread::Threads;
 use zk_model::Expect;
 use zk_port::Link;
 
@@ -116,7 +117,8 @@ fn send_all<L: Link>(
 }
 
 /// Takes the frame that is expected, and sends what is answered, or a refusal.
-fn turn<O, P: Party<O>, L: Link>(
+fn turn<R: Threads + Sync, O, P: Party<O>, L: Link>(
+    rt: &R,
     alloc: Global,
     party: &mut P,
     asked: &mut O,
@@ -138,7 +140,7 @@ fn turn<O, P: Party<O>, L: Link>(
 {
     let lack = party.lack_code();
     let frame = take(alloc, line, place, lack)?;
-    match party.step(alloc, asked, frame) {
+    match party.step(rt, alloc, asked, frame) {
         Ok(answer) => {
             send_all(alloc, line, &answer, lack)?;
             Ok(())
@@ -165,7 +167,8 @@ fn greet<O, P: Party<O>, L: Link>(
 }
 
 /// Greets, and takes and answers frames until nothing more is expected.
-fn turns<O, P: Party<O>, L: Link>(
+fn turns<R: Threads + Sync, O, P: Party<O>, L: Link>(
+    rt: &R,
     alloc: Global,
     party: &mut P,
     asked: &mut O,
@@ -181,7 +184,7 @@ fn turns<O, P: Party<O>, L: Link>(
 {
     greet::<O, P, L>(alloc, party, line)?;
     'turns: while let Some(place) = party.expects() {
-        turn(alloc, party, asked, line, place)?;
+        turn(rt, alloc, party, asked, line, place)?;
     }
     Ok(())
 }
@@ -189,7 +192,8 @@ fn turns<O, P: Party<O>, L: Link>(
 /// Leads a session's end over a line, from its greeting on, whatever comes, until nothing more is expected or something stops it.
 /// Each answer goes out by one send. Where the end says that its place may be answered by a refusal, room for one is kept before
 /// the frame is taken; it goes out where the frame is refused, or where memory is missing for the answer.
-pub fn run<O, P: Party<O>, L: Link>(
+pub fn run<R: Threads + Sync, O, P: Party<O>, L: Link>(
+    rt: &R,
     alloc: Global,
     party: &mut P,
     asked: &mut O,
@@ -203,7 +207,7 @@ pub fn run<O, P: Party<O>, L: Link>(
     ensures side { line.new.side ≡ line.old.side }
     ensures open_still { IsTrue line.new.is_open }
 {
-    match turns(alloc, party, asked, line) {
+    match turns(rt, alloc, party, asked, line) {
         Ok(()) => Outcome::Done,
         Err(outcome) => outcome,
     }

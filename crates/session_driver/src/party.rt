@@ -1,11 +1,13 @@
 // One end of a session, as the driver sees it.
 ghost use Rattle.std.specs.Prelude.{◌≡◌, ◌<◌, ◌≤◌, length, map, All, IfOk, IfErr, OnOk, OnErr, IfSome, IsSome, IsSomeAnd};
+ghost use Rattle.std.specs.Thread.{IsSync};
 ghost use Rattle.zk_model.specs.Frames.{Allows};
 ghost use Rattle.proof_frames.specs.Frames.{frame_value, IsShort};
 ghost use Rattle.proof_frames.specs.Readings.{IsShortPlace};
 
 use proof_frames::Frame;
 use std::alloc::{AllocError, Global};
+use std::thread::Threads;
 use zk_model::Expect;
 
 /// Why an end of a session refuses a frame, and the code of the refusal that goes out in a grant's place, if one does.
@@ -61,13 +63,15 @@ pub trait Party<O> {
         ensures short { IfOk result (λ frames. All IsShort (map frame_value frames.items)) }
         ensures refused { OnErr result (1 ≤ length (greeting self.now)) };
 
-    /// Takes a frame that it expects, and hands back what it answers.
-    fn step(
+    /// Takes a frame that it expects, and hands back what it answers. It may have threads make of it what takes long.
+    fn step<R: Threads + Sync>(
         &mut self,
+        rt: &R,
         alloc: Global,
         asked: &mut O,
         frame: Frame,
     ) -> Result<Vec<Frame>, Refusal<Self::Fault>>
+        requires shared { IsSync R.row }
         requires expected { IsSomeAnd (expects self.old) (λ place. Allows place (frame_value frame)) }
         requires holds { holds self.old asked.old }
         ensures answered { IfOk result (λ answer. answers self.old asked.old

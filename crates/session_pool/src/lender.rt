@@ -9,6 +9,7 @@ use lease_store::{Grantor, LeaseFault, LeaseName, LeaseStore};
 use lease_words::Pass;
 use std::alloc::Global;
 use std::sync::Wait;
+use std::thread::Threads;
 use zk_model::Span;
 use zk_port::{Disk, Gate, Link};
 
@@ -62,7 +63,7 @@ where
     B: Disk,
     N: LeaseName,
     G: Gate,
-    R: Wait,
+    R: Threads + Wait + Sync,
     requires own { IsPassAt N.table N.total pass.old }
     requires total { N.total ≡ S.total session.now }
     requires fresh { IsFreshLink (L.state link) }
@@ -78,7 +79,7 @@ where
         asked: None,
         answer: None,
     };
-    let note = session.lead(alloc, &mut lender, link, gate);
+    let note = session.lead(rt, alloc, &mut lender, link, gate);
     let Lender {
         rt: _,
         store: _,

@@ -1,5 +1,6 @@
 // The sessions with all peers that call.
 ghost use Rattle.std.specs.Prelude.{◌≡◌, ◌+◌, ◌<◌, ◌≤◌, ◌⊎◌, ℕ, List, true, [], Some, IfSome, All, AllPairs, length, vec_len, vec_capacity};
+ghost use Rattle.std.specs.Thread.{IsSync};
 ghost use Rattle.zk_model.specs.Journals.{HasHeader};
 ghost use Rattle.zk_model.specs.declared.JournalKind.TheVariants as kind;
 ghost use Rattle.lease_store.specs.Desks.{Begins};
@@ -120,7 +121,7 @@ where
     D: Door<Link = L>,
     B: Disk,
     G: Gate,
-    R: Wait,
+    R: Threads + Wait + Sync,
     requires { IsShiftOf W.is_note W.granted W.refused W.size N.total
         (S.is_note session.now) S.granted S.refused (S.size session.now) (S.total session.now) }
     ensures { (worker.new.starved ≡ true) ⊎ (doorway.new.is_done ≡ true) }
@@ -164,7 +165,11 @@ where
         rt,
         workers,
         threads,
-        &|_, worker| { worker.serve(rt, alloc, session, store, &doorway, sessions, gate) },
+        &|_, worker: &mut Worker<M, N, W>|
+            requires { IsSync R.row
+                × IsShiftOf W.is_note W.granted W.refused W.size N.total
+                (S.is_note session.now) S.granted S.refused (S.size session.now) (S.total session.now) }
+        { worker.serve(rt, alloc, session, store, &doorway, sessions, gate) },
     );
     let mut doorway = doorway.into_inner();
     serve_rest(

@@ -1,10 +1,12 @@
 // What is led over a link.
 ghost use Rattle.std.specs.Prelude.{◌≡◌, ◌≤◌, ℕ, None, Some, Err, IfSome, MatchOption};
+ghost use Rattle.std.specs.Thread.{IsSync};
 ghost use Rattle.zk_model.specs.declared.limits.TheConstants.{MAX_UNITS};
 ghost use Rattle.zk_port.specs.Doors.{IsFreshLink};
 
 use lease_store::Grantor;
 use std::alloc::Global;
+use std::thread::Threads;
 use zk_port::{Gate, Link};
 
 /// What is led over each link of a door: a session that leases units once at most, all of them at once, and of which a note is made.
@@ -34,14 +36,16 @@ pub trait Session<L: Link> {
     /// Why none were, where the session ended by that.
     ghost refused: { Self.Note → Option LeaseFault };
 
-    /// Leads it over a fresh link, which is ended then.
-    fn lead<T: Grantor, G: Gate>(
+    /// Leads it over a fresh link, which is ended then. It may have threads of its own.
+    fn lead<R: Threads + Sync, T: Grantor, G: Gate>(
         &self,
+        rt: &R,
         alloc: Global,
         grantor: &mut T,
         link: L,
         gate: &G,
     ) -> Self::Note
+        requires shared { IsSync R.row }
         requires fresh { IsFreshLink (L.state link) }
         requires once { T.answer grantor.old ≡ None }
         requires total { T.total grantor.old ≡ total self.now }

@@ -14,6 +14,7 @@ use std::alloc::Global;
 use std::marker::{Model, PhantomData};
 use std::sync::ledger::Share;
 use std::sync::{Mutex, Wait};
+use std::thread::Threads;
 use zk_port::{Disk, Door, Gate, Link};
 
 /// Serves one peer after another: with a pass and a share of its own, and the notes so far. Contracts see whether it wanted memory.
@@ -70,7 +71,7 @@ impl<M, N: LeaseName, W: Shift<M>> Worker<M, N, W> {
         D: Door<Link = L>,
         B: Disk,
         G: Gate,
-        R: Wait,
+        R: Threads + Wait + Sync,
         requires { IsShiftOf W.is_note W.granted W.refused W.size N.total
             (S.is_note session.now) S.granted S.refused (S.size session.now) (S.total session.now) }
     {
@@ -103,7 +104,7 @@ impl<M, N: LeaseName, W: Shift<M>> Worker<M, N, W> {
         D: Door<Link = L>,
         B: Disk,
         G: Gate,
-        R: Wait,
+        R: Threads + Wait + Sync,
         requires { IsShiftOf W.is_note W.granted W.refused W.size N.total
             (S.is_note session.now) S.granted S.refused (S.size session.now) (S.total session.now) }
     {
@@ -130,7 +131,7 @@ impl<M, N: LeaseName, W: Shift<M>> Worker<M, N, W> {
         D: Door<Link = L>,
         B: Disk,
         G: Gate,
-        R: Wait,
+        R: Threads + Wait + Sync,
         requires { IsShiftOf W.is_note W.granted W.refused W.size N.total
             (S.is_note session.now) S.granted S.refused (S.size session.now) (S.total session.now) }
         ensures { MatchBool result (doorway.new.wanted + 1 ≡ doorway.old.wanted)

@@ -14,14 +14,16 @@ use frame_link::Line;
 use session_core::ProverJob;
 use session_laws::honest_verdict;
 use std::alloc::Global;
+use std::thread::Threads;
 use zk_model::Side;
 use zk_port::Link;
 
 /// Proves a job's statement to any verifier at the other end of a link (Weng, Yang, Katz and Wang, Wolverine, IEEE S&P 2021;
 /// Yang, Sarkar, Weng and Wang, QuickSilver, ACM CCS 2021). It claims the units that the verifier grants before it sends
 /// anything of them, and uses them for this session alone; in kind extended it then makes many correlations of the few that
-/// each has. Each answer is sent by one send, and a verdict that was read is the outcome. The stream is ended, whatever came of it.
-pub fn prove_session<C: Claimant, L: Link>(
+/// each has, in several threads. Each answer is sent by one send, and a verdict that was read is the outcome. The stream is ended, whatever came of it.
+pub fn prove_session<R: Threads + Sync, C: Claimant, L: Link>(
+    rt: &R,
     alloc: Global,
     job: &ProverJob<'_>,
     claimant: &mut C,
@@ -65,7 +67,7 @@ pub fn prove_session<C: Claimant, L: Link>(
     let _total = job.file().total();
     let _opened = job.statement().program().opened();
     let mut line = Line::new(alloc, link, Side::Prover);
-    let course = prove(alloc, job, claimant, &mut line);
+    let course = prove(rt, alloc, job, claimant, &mut line);
     let (link, log) = line.end();
     ProverNote {
         granted: course.granted,

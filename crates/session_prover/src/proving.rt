@@ -20,9 +20,11 @@ use crate::note::ProverOutcome;
 use claim_store::ClaimFault;
 use frame_link::Line;
 use proof_frames::{Frame, Grant};
+use round_fan::SESSION_WORKERS;
 use session_core::{ProverCore, ProverJob};
 use session_driver::{Outcome, Party, Refusal, run};
 use std::alloc::{AllocError, Global};
+use std::thread::Threads;
 use zk_model::{Expect, Span};
 use zk_port::Link;
 
@@ -67,7 +69,8 @@ fn claim_units<C: Claimant>(claimant: &mut C, grant: Grant) -> Result<Span, Clai
 }
 
 /// Has the core answer a frame.
-fn answer(
+fn answer<R: Threads + Sync>(
+    rt: &R,
     alloc: Global,
     core: &mut ProverCore<'_>,
     frame: Frame,
@@ -82,7 +85,7 @@ fn answer(
         × (refusal.fault ≡ session_outcome fault) × (refusal.code ≡ None)) }
     ensures job { core.new.job ≡ core.old.job }
 {
-    match core.step(alloc, frame) {
+    match core.step_with(rt, alloc, frame, SESSION_WORKERS) {
         Ok(answer) => Ok(answer),
         Err(fault) => Err(Refusal {
             fault: ProverOutcome::from(fault),
@@ -92,7 +95,8 @@ fn answer(
 }
 
 /// Has the units of a grant claimed that suits, and answers it.
-fn answer_grant<C: Claimant>(
+fn answer_grant<R: Threads + Sync, C: Claimant>(
+    rt: &R,
     alloc: Global,
     job: &ProverJob<'_>,
     core: &mut ProverCore<'_>,
@@ -121,7 +125,7 @@ fn answer_grant<C: Claimant>(
         }),
         Ok(span) => {
             *granted = Some(span);
-            answer(alloc, core, Frame::Grant(grant))
+            answer(rt, alloc, core, Frame::Grant(grant))
         }
     }
 }
@@ -195,17 +199,19 @@ impl<'a, C: Claimant> Party<C> for Proving<'a> {
         Ok(frames)
     }
 
-    fn step(
+    fn step<R: Threads + Sync>(
         &mut self,
+        rt: &R,
         alloc: Global,
         asked: &mut C,
         frame: Frame,
     ) -> Result<Vec<Frame>, Refusal<ProverOutcome>> {
         if answers(&self.core) {
-            return answer(alloc, &mut self.core, frame);
+            return answer(rt, alloc, &mut self.core, frame);
         }
         match self.core.expects() {
             Some(Expect::Grant) => answer_grant(
+                rt,
                 alloc,
                 self.job,
                 &mut self.core,
@@ -250,7 +256,8 @@ fn core_of<'a>(job: &'a ProverJob<'a>) -> ProverCore<'a>
 }
 
 /// The whole session.
-pub(crate) fn prove<C: Claimant, L: Link>(
+pub(crate) fn prove<R: Threads + Sync, C: Claimant, L: Link>(
+    rt: &R,
     alloc: Global,
     job: &ProverJob<'_>,
     claimant: &mut C,
@@ -277,7 +284,7 @@ pub(crate) fn prove<C: Claimant, L: Link>(
         granted: None,
         accepted: false,
     };
-    let outcome = run(alloc, &mut proving, claimant, line);
+    let outcome = run(rt, alloc, &mut proving, claimant, line);
     Course {
         granted: proving.granted,
         outcome: outcome_of(outcome),

@@ -58,33 +58,6 @@ all_replies : (params : Params) (grant : Grant) (units : List (List TreeReply)) 
     → All (AreReplies params.height params.trees) units
 all_replies params grant units each k none below = record { counted = (each.1 k none below).0; each = (each.1 k none below).1 }
 
--- a short frame for each unit, and units that are as they are to be
-pub record AreUnitFrames {T : Type 0} (Each : List T → Type 0) (units_of : List Frame → List (List T)) (count : ℕ) (frames : List Frame) : Type 0 where
-  pub short : All IsShort (map frame_value frames)
-  pub counted : length frames ≡ count
-  pub each : All Each (units_of frames)
-
-unit_frames : {T : Type 0} (Each : List T → Type 0) (frame : List T → model.Frame) (units_of : List Frame → List (List T)) (count : ℕ) (units : List (List T)) (frames : List Frame)
-    → ((unit : List T) → Each unit → IsShort (frame unit)) → All Each units → length units ≡ count
-    → map frame_value frames ≡ map frame units → units_of frames ≡ units → AreUnitFrames Each units_of count frames
-unit_frames Each frame units_of count units frames short all counted are same = record {
-  short = subst (All IsShort) (sym are) (All-map IsShort frame units (λ k none below. short _ (all k none below)));
-  counted = sym (length-map frames frame_value) ∙ ap length are ∙ length-map units frame ∙ counted;
-  each = subst (All Each) (sym same) all;
-}
-
-ask_frames : (params : Params) (grant : Grant) (units : List (List TreeAsk)) (frames : List Frame) → AreWithinLimits Extended params
-    → ForEachTree params grant (IsTreeAsk params.height) units → map frame_value frames ≡ map model.asks units
-    → AreUnitFrames (AreAsks params.height params.trees) asks_of grant.count frames
-ask_frames params grant units frames limits each are = unit_frames (AreAsks params.height params.trees) model.asks asks_of grant.count units frames
-    (λ trees. asks_short params trees limits) (all_asks params grant units each) each.0 are (asks_are frames units are)
-
-reply_frames : (params : Params) (grant : Grant) (units : List (List TreeReply)) (frames : List Frame) → AreWithinLimits Extended params
-    → ForEachTree params grant (IsTreeReply params.height) units → map frame_value frames ≡ map model.replies units
-    → AreUnitFrames (AreReplies params.height params.trees) replies_of grant.count frames
-reply_frames params grant units frames limits each are = unit_frames (AreReplies params.height params.trees) model.replies replies_of grant.count units frames
-    (λ trees. replies_short params trees limits) (all_replies params grant units each) each.0 are (replies_are frames units are)
-
 -- ---- the round
 
 -- honest asks, and the replies of the verifier's file
@@ -112,15 +85,12 @@ spelled_replies (unit ∷ units) = ap (λ l. reply_frame unit ++ l) (spelled_rep
 pub round_held : (prover : ProverFile) (verifier : VerifierFile) (grant : Grant) (asked replied : List Frame) (pairs : List Pair) (old mid new : List (Side × ℕ))
     → verifier.params.kind ≡ Extended → IsRound verifier.params grant (held_round prover verifier grant)
     → map frame_value asked ≡ map model.asks (round_asks prover grant)
-    → map frame_value replied ≡ map model.replies (round_replies verifier grant (asks_of asked))
-    → AreFirstPairs prover grant (replies_of replied) pairs
+    → map frame_value replied ≡ map model.replies (round_replies verifier grant (round_asks prover grant))
+    → AreFirstPairs prover grant (round_replies verifier grant (round_asks prover grant)) pairs
     → mid ≡ old ++ bytes_from Prover (flat_map frame_spelling (map frame_value asked))
     → new ≡ mid ++ bytes_from Verifier (flat_map frame_spelling (map frame_value replied))
     → HoldsRounds prover verifier grant pairs old new
-round_held prover verifier grant asked replied pairs old mid new extended ranged asks replies first m n =
-    let answered : map frame_value replied ≡ map model.replies (round_replies verifier grant (round_asks prover grant)) =
-    replies ∙ ap (λ l. map model.replies (round_replies verifier grant l)) (asks_are asked (round_asks prover grant) asks) in
-    let given : replies_of replied ≡ round_replies verifier grant (round_asks prover grant) = replies_are replied _ answered in
+round_held prover verifier grant asked replied pairs old mid new extended ranged asks answered first m n =
     record {
       rounds = held_round prover verifier grant ∷ [];
       held = record {
@@ -130,8 +100,7 @@ round_held prover verifier grant asked replied pairs old mid new extended ranged
           replies = All-cons (λ round. round.replies ≡ round_replies verifier grant round.asks) _ [] refl (All-nil (λ round. round.replies ≡ round_replies verifier grant round.asks));
         };
         asks = All-cons (λ round. round.asks ≡ round_asks prover grant) _ [] refl (All-nil (λ round. round.asks ≡ round_asks prover grant));
-        seen = λ hello. whole_view prover hello grant (round_replies verifier grant (round_asks prover grant)) pairs ranged.replies.0
-            (subst (λ l. AreFirstPairs prover grant l pairs) given first);
+        seen = λ hello. whole_view prover hello grant (round_replies verifier grant (round_asks prover grant)) pairs ranged.replies.0 first;
       };
       noted = n
           ∙ (λ i. (m ∙ ap (λ l. old ++ bytes_from Prover l) (ap (flat_map frame_spelling) asks ∙ spelled_asks (round_asks prover grant))) i
@@ -158,15 +127,32 @@ knows_round prover verifier grant asks_law replies_law is file same extended wit
   ranged = in_range prover verifier grant asks_law replies_law is file same within;
 }
 
-pub asked_are : (prover : ProverFile) (verifier : VerifierFile) (grant : Grant) (asked frames : List Frame) → KnowsRound prover verifier grant
-    → frames ≡ asked → map frame_value asked ≡ map model.asks (round_asks prover grant) → AreUnitFrames (AreAsks verifier.params.height verifier.params.trees) asks_of grant.count frames
-asked_are prover verifier grant asked frames knows same are =
-    subst (AreUnitFrames (AreAsks verifier.params.height verifier.params.trees) asks_of grant.count) (sym same) (ask_frames verifier.params grant (round_asks prover grant) asked knows.limits knows.ranged.asks are)
+-- the asks of all units are as many, and fit, and so do the replies
+pub asks_fit : (prover : ProverFile) (verifier : VerifierFile) (grant : Grant) (asks : List (List TreeAsk)) → KnowsRound prover verifier grant
+    → asks ≡ round_asks prover grant → (length asks ≡ grant.count) × All (AreAsks verifier.params.height verifier.params.trees) asks
+asks_fit prover verifier grant asks knows is = (
+  ap length is ∙ knows.ranged.asks.0,
+  subst (All (AreAsks verifier.params.height verifier.params.trees)) (sym is) (all_asks verifier.params grant (round_asks prover grant) knows.ranged.asks),
+)
 
-pub replied_are : (prover : ProverFile) (verifier : VerifierFile) (grant : Grant) (asked replied known frames : List Frame) → KnowsRound prover verifier grant
-    → frames ≡ replied → known ≡ asked → map frame_value asked ≡ map model.asks (round_asks prover grant)
-    → map frame_value replied ≡ map model.replies (round_replies verifier grant (asks_of known)) → AreUnitFrames (AreReplies verifier.params.height verifier.params.trees) replies_of grant.count frames
-replied_are prover verifier grant asked replied known frames knows same k asks are =
-    subst (AreUnitFrames (AreReplies verifier.params.height verifier.params.trees) replies_of grant.count) (sym same)
-    (reply_frames verifier.params grant (round_replies verifier grant (round_asks prover grant)) replied knows.limits knows.ranged.replies
-    (are ∙ ap (λ l. map model.replies (round_replies verifier grant l)) (ap asks_of k ∙ asks_are asked (round_asks prover grant) asks)))
+pub replies_fit : (prover : ProverFile) (verifier : VerifierFile) (grant : Grant) (replies : List (List TreeReply)) → KnowsRound prover verifier grant
+    → replies ≡ round_replies verifier grant (round_asks prover grant) → (length replies ≡ grant.count) × All (AreReplies prover.params.height prover.params.trees) replies
+replies_fit prover verifier grant replies knows is = (
+  ap length is ∙ knows.ranged.replies.0,
+  subst (λ (params : Params). All (AreReplies params.height params.trees) replies) (sym knows.same)
+      (subst (All (AreReplies verifier.params.height verifier.params.trees)) (sym is)
+      (all_replies verifier.params grant (round_replies verifier grant (round_asks prover grant)) knows.ranged.replies)),
+)
+
+-- their frames are short
+pub asked_short : (prover : ProverFile) (verifier : VerifierFile) (grant : Grant) (asked : List Frame) → KnowsRound prover verifier grant
+    → map frame_value asked ≡ map model.asks (round_asks prover grant) → All IsShort (map frame_value asked)
+asked_short prover verifier grant asked knows are =
+    let all = all_asks verifier.params grant (round_asks prover grant) knows.ranged.asks in
+    subst (All IsShort) (sym are) (All-map IsShort model.asks (round_asks prover grant) (λ k none below. asks_short verifier.params _ knows.limits (all k none below)))
+
+pub replied_short : (prover : ProverFile) (verifier : VerifierFile) (grant : Grant) (replied : List Frame) → KnowsRound prover verifier grant
+    → map frame_value replied ≡ map model.replies (round_replies verifier grant (round_asks prover grant)) → All IsShort (map frame_value replied)
+replied_short prover verifier grant replied knows are =
+    let all = all_replies verifier.params grant (round_replies verifier grant (round_asks prover grant)) knows.ranged.replies in
+    subst (All IsShort) (sym are) (All-map IsShort model.replies (round_replies verifier grant (round_asks prover grant)) (λ k none below. replies_short verifier.params _ knows.limits (all k none below)))

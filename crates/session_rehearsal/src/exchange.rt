@@ -18,12 +18,14 @@ ghost use Rattle.session_rehearsal.specs.Holding.{AreRoundsHeld, HoldsRounds, Is
 use dealer_files::{ProverFile, VerifierFile};
 use mersenne_field::{Fe, Pair};
 use proof_frames::{Frame, Grant, Hello};
+use round_fan::{SESSION_WORKERS, fan_prover, fan_verifier};
 use session_core::{
-    Committed, Correlations, Opened, ProverJob, Statement, VerifierJob, ask_units, finish_units,
-    reply_units,
+    Committed, Correlations, Opened, ProverJob, Statement, VerifierJob, ask_frames, ask_lists,
+    reply_frames, units_of,
 };
 use session_laws::{asks_are_in_range, replies_are_in_range};
 use std::alloc::{AllocError, Global};
+use std::thread::Threads;
 use vole_extend::columns_of;
 use zk_model::{Kind, Verdict};
 
@@ -64,7 +66,8 @@ pub(crate) struct OpenedSession<'v> {
 }
 
 /// A session of both ends over all units of their files. The prover's file is given up once it has answered the challenge.
-pub(crate) fn run_session(
+pub(crate) fn run_session<R: Threads + Sync>(
+    rt: &R,
     alloc: Global,
     statement: &Statement<'_>,
     inputs: &[Fe],
@@ -82,14 +85,15 @@ pub(crate) fn run_session(
     ensures short { IfOk result IsShortExchange }
 {
     let verifier = VerifierJob::new(statement, verifier_file, section);
-    let answered = answer(alloc, statement, inputs, &prover_file, &verifier)?;
+    let answered = answer(rt, alloc, statement, inputs, &prover_file, &verifier)?;
     drop(prover_file);
     let exchange = judge(alloc, &verifier, answered)?;
     Ok(exchange)
 }
 
 /// All turns up to the prover's answer to the challenge, which are those that both cores take.
-fn answer<'v>(
+fn answer<'v, R: Threads + Sync>(
+    rt: &R,
     alloc: Global,
     statement: &Statement<'_>,
     inputs: &[Fe],
@@ -106,13 +110,14 @@ fn answer<'v>(
 {
     let prover = ProverJob::new(statement, prover_file, inputs);
     let grant = verifier.grant(0);
-    let established = establish(alloc, &prover, verifier, grant)?;
+    let established = establish(rt, alloc, &prover, verifier, grant)?;
     let answered = open(alloc, &prover, verifier, grant, established)?;
     Ok(answered)
 }
 
 /// The rounds after the grant: none in kind direct, and one in kind extended.
-fn establish<'p, 'v>(
+fn establish<'p, 'v, R: Threads + Sync>(
+    rt: &R,
     alloc: Global,
     prover: &ProverJob<'p>,
     verifier: &VerifierJob<'v>,
@@ -138,14 +143,16 @@ fn establish<'p, 'v>(
             keys: Correlations::Dealt(verifier.dealt_keys(0)),
         }),
         Kind::Extended => {
-            let established = extend(alloc, prover.file(), verifier.file(), grant)?;
+            let established = extend(rt, alloc, prover.file(), verifier.file(), grant)?;
             Ok(established)
         }
     }
 }
 
-/// The round of all units of a grant: all asks, and all replies. Both files have one code, whose columns are made once.
-fn extend<'p, 'v>(
+/// The round of all units of a grant: all asks, and all replies. Both files have one code, whose columns are made once. Several threads do
+/// the rounds.
+fn extend<'p, 'v, R: Threads + Sync>(
+    rt: &R,
     alloc: Global,
     prover: &'p ProverFile,
     verifier: &'v VerifierFile,
@@ -168,13 +175,24 @@ fn extend<'p, 'v>(
     replies_are_in_range();
     let _verifier = verifier.params();
     let _prover = prover.params();
-    let asked = ask_units(alloc, prover, grant)?;
+    let span = units_of(grant);
+    let asks = ask_lists(alloc, prover, grant)?;
     let columns = columns_of(alloc, &verifier.params(), &verifier.code_seed())?;
-    let given = reply_units(alloc, verifier, &columns, grant, &asked)?;
-    let pairs = finish_units(alloc, prover, &columns, grant, &given.replies)?;
+    let given = fan_verifier(rt, alloc, verifier, &columns, span, &asks, SESSION_WORKERS)?;
+    let pairs = fan_prover(
+        rt,
+        alloc,
+        prover,
+        &columns,
+        span,
+        &given.replies,
+        SESSION_WORKERS,
+    )?;
+    let asked = ask_frames(alloc, asks)?;
+    let replied = reply_frames(alloc, given.replies)?;
     Ok(Correlated {
         asked,
-        replied: given.replies,
+        replied,
         pairs: Correlations::Made(pairs),
         keys: Correlations::Made(given.keys),
     })

@@ -5,7 +5,7 @@
 //! said; `bits` is a list of bits.
 //!
 //!     let circuit = read(alloc, &text)?;
-//!     let rehearsal = rehearse(alloc, circuit, &[], bits, Kind::Direct, section, &seed)?;
+//!     let rehearsal = rehearse(rt, alloc, circuit, &[], bits, Kind::Direct, section, &seed)?;
 //!     let bytes = rehearsal.log.bytes();
 #![tactic(auto)]
 

@@ -25,6 +25,7 @@ use dealer_files::deal;
 use mersenne_field::Fe;
 use session_core::{CircuitClaim, Statement, elements_of, units_for};
 use std::alloc::{AllocError, Global};
+use std::thread::Threads;
 use wire_auth::bits_make_products;
 use zk_laws::honest_session_is_accepted;
 use zk_model::{Kind, MAX_UNITS, Params};
@@ -48,7 +49,8 @@ fn rehearsed_params(kind: Kind, total: u64) -> Params
 }
 
 /// All that passes in a session over this many units, which are dealt from the seed.
-fn exchange_dealt(
+fn exchange_dealt<R: Threads + Sync>(
+    rt: &R,
     alloc: Global,
     statement: &Statement<'_>,
     inputs: &[Fe],
@@ -74,12 +76,13 @@ fn exchange_dealt(
 {
     let params = rehearsed_params(kind, units);
     let (prover, verifier) = deal(alloc, &params, seed)?;
-    let exchange = run_session(alloc, statement, inputs, prover, &verifier, section)?;
+    let exchange = run_session(rt, alloc, statement, inputs, prover, &verifier, section)?;
     Ok(exchange)
 }
 
 /// A rehearsal of a claim whose prover has these values of its inputs.
-fn rehearse_claim(
+fn rehearse_claim<R: Threads + Sync>(
+    rt: &R,
     alloc: Global,
     claim: &CircuitClaim,
     inputs: &[Fe],
@@ -110,7 +113,7 @@ fn rehearse_claim(
     if units > MAX_UNITS {
         return Err(RehearseFault::TooLarge { need, units });
     }
-    let exchange = exchange_dealt(alloc, &statement, inputs, kind, section, units, seed)?;
+    let exchange = exchange_dealt(rt, alloc, &statement, inputs, kind, section, units, seed)?;
     let log = note(alloc, &exchange)?;
     Ok(Rehearsal {
         outputs,
@@ -157,7 +160,8 @@ fn wires_at(
 /// seed's files of this kind, as many units as the session takes, and both ends over a log. The circuit is given up once its
 /// program and its outputs are known. The private bits must be as many as the circuit's inputs that are not public (else
 /// [`RehearseFault::WrongLength`]), and the units 4,096 at most (else [`RehearseFault::TooLarge`]).
-pub fn rehearse(
+pub fn rehearse<R: Threads + Sync>(
+    rt: &R,
     alloc: Global,
     circuit: Circuit,
     public: &[bool],
@@ -179,6 +183,6 @@ pub fn rehearse(
     drop(wires);
     drop(circuit);
     let inputs = elements_of(alloc, bits)?;
-    let rehearsal = rehearse_claim(alloc, &claim, &inputs, outputs, kind, section, seed)?;
+    let rehearsal = rehearse_claim(rt, alloc, &claim, &inputs, outputs, kind, section, seed)?;
     Ok(rehearsal)
 }

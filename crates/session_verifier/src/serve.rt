@@ -22,10 +22,12 @@ use crate::note::VerifierOutcome;
 use frame_link::Line;
 use lease_store::{Grantor, LeaseFault};
 use proof_frames::Frame;
+use round_fan::SESSION_WORKERS;
 use session_core::{VerifierCore, VerifierFault, VerifierJob, VerifierJobs};
 use session_driver::{Outcome, Party, Refusal, run};
 use session_laws::replies_are_in_range;
 use std::alloc::{AllocError, Global};
+use std::thread::Threads;
 use zk_model::{Expect, Span};
 use zk_port::{Gate, Link, Phase};
 
@@ -180,7 +182,8 @@ fn grant_units<'a, R: Grantor, G: Gate>(
 }
 
 /// Has the core answer a frame after the grant.
-fn answer(
+fn answer<H: Threads + Sync>(
+    rt: &H,
     alloc: Global,
     job: &VerifierJob<'_>,
     core: &mut VerifierCore<'_>,
@@ -206,7 +209,7 @@ fn answer(
     replies_are_in_range();
     let _total = job.file().total();
     let _held = core.expects();
-    match core.step(alloc, frame) {
+    match core.step_with(rt, alloc, frame, SESSION_WORKERS) {
         Ok(answer) => Ok(answer),
         Err(fault) => Err(Refusal {
             fault: VerifierOutcome::from(fault),
@@ -216,7 +219,8 @@ fn answer(
 }
 
 /// Takes a frame that is expected, and hands back what is answered.
-fn step<'a, R: Grantor, G: Gate>(
+fn step<'a, H: Threads + Sync, R: Grantor, G: Gate>(
+    rt: &H,
     alloc: Global,
     jobs: &'a VerifierJobs<'a>,
     core: &mut VerifierCore<'a>,
@@ -250,7 +254,7 @@ fn step<'a, R: Grantor, G: Gate>(
 {
     match *granted {
         None => grant_units(alloc, jobs, core, gate, taken, granted, grantor, frame),
-        Some(span) => answer(alloc, jobs.noted(*taken), core, frame, span),
+        Some(span) => answer(rt, alloc, jobs.noted(*taken), core, frame, span),
     }
 }
 
@@ -297,13 +301,15 @@ impl<'a, 'g, R: Grantor, G: Gate> Party<R> for Serving<'a, 'g, G> {
         Ok(Vec::new(alloc))
     }
 
-    fn step(
+    fn step<H: Threads + Sync>(
         &mut self,
+        rt: &H,
         alloc: Global,
         asked: &mut R,
         frame: Frame,
     ) -> Result<Vec<Frame>, Refusal<VerifierOutcome>> {
         step(
+            rt,
             alloc,
             self.jobs,
             &mut self.core,
@@ -347,7 +353,8 @@ fn tell_end<G: Gate>(gate: &G, granted: Option<Span>) {
 }
 
 /// The whole session. The gate is told when units are leased, and when such a session has ended.
-pub(crate) fn serve<L: Link, R: Grantor, G: Gate>(
+pub(crate) fn serve<H: Threads + Sync, L: Link, R: Grantor, G: Gate>(
+    rt: &H,
     alloc: Global,
     jobs: &VerifierJobs<'_>,
     grantor: &mut R,
@@ -381,7 +388,7 @@ pub(crate) fn serve<L: Link, R: Grantor, G: Gate>(
         taken: None,
         granted: None,
     };
-    let outcome = run(alloc, &mut serving, grantor, line);
+    let outcome = run(rt, alloc, &mut serving, grantor, line);
     tell_end(gate, serving.granted);
     Course {
         taken: serving.taken,

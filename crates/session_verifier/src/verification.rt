@@ -7,6 +7,7 @@ use lease_store::Grantor;
 use session_core::VerifierJobs;
 use session_pool::Session;
 use std::alloc::Global;
+use std::thread::Threads;
 use zk_port::{Gate, Link};
 
 /// A verifier's sessions, each about one of its statements, as a pool leads them.
@@ -43,13 +44,14 @@ impl<'a, L: Link + Drop> Session<L> for Verification<'a> {
 
     ghost refused = { λ note. lease_fault note.outcome };
 
-    fn lead<T: Grantor, G: Gate>(
+    fn lead<R: Threads + Sync, T: Grantor, G: Gate>(
         &self,
+        rt: &R,
         alloc: Global,
         grantor: &mut T,
         link: L,
         gate: &G,
     ) -> SessionNote<L> {
-        verify_session(alloc, self.jobs, grantor, link, gate)
+        verify_session(rt, alloc, self.jobs, grantor, link, gate)
     }
 }

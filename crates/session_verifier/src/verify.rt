@@ -20,6 +20,7 @@ use session_laws::{
     replies_are_in_range, served_session_exists, verdict_is_said,
 };
 use std::alloc::Global;
+use std::thread::Threads;
 use zk_laws::{extraction_holds, keys_fit};
 use zk_model::Side;
 use zk_port::{Gate, Link};
@@ -36,12 +37,13 @@ fn are_stated(jobs: &VerifierJobs<'_>)
 
 /// Leads a session with a peer that may send anything: meets its hello, which may be for any of the verifier's statements, of which the
 /// first is taken that it is for, leases the units that the session takes, grants them,
-/// replies in kind extended to the asks for all of them, challenges, and judges (Weng, Yang, Katz and Wang, Wolverine, IEEE S&P
+/// replies in kind extended to the asks for all of them, in several threads, challenges, and judges (Weng, Yang, Katz and Wang, Wolverine, IEEE S&P
 /// 2021; Yang, Sarkar, Weng and Wang, QuickSilver, ACM CCS 2021). The gate is told when units are leased and when such a session
 /// has ended. Each receive asks for no more bytes than the frame under way still wants; each answer is sent by one send, and `end`
 /// is the last call of the link. A refusal is sent in the grant's place for a hello that differs, for units that are not leased,
 /// and where memory is missing for the grant; its own room is kept first, and whether its send fails changes nothing.
-pub fn verify_session<L: Link, R: Grantor, G: Gate>(
+pub fn verify_session<H: Threads + Sync, L: Link, R: Grantor, G: Gate>(
+    rt: &H,
     alloc: Global,
     jobs: &VerifierJobs<'_>,
     grantor: &mut R,
@@ -97,7 +99,7 @@ pub fn verify_session<L: Link, R: Grantor, G: Gate>(
     keys_fit();
     are_stated(jobs);
     let mut line = Line::new(alloc, link, Side::Verifier);
-    let course = serve(alloc, jobs, grantor, gate, &mut line);
+    let course = serve(rt, alloc, jobs, grantor, gate, &mut line);
     let job = jobs.noted(course.taken);
     let _opened = job.statement().program().opened();
     let _total = job.file().total();

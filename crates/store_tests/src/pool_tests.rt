@@ -84,7 +84,14 @@ impl<L: Link + Drop> Session<L> for Asks {
 
     ghost refused = { λ note. note.refused };
 
-    fn lead<T: Grantor, G: Gate>(&self, alloc: Global, grantor: &mut T, link: L, gate: &G) -> Note {
+    fn lead<R: Threads + Sync, T: Grantor, G: Gate>(
+        &self,
+        _rt: &R,
+        alloc: Global,
+        grantor: &mut T,
+        link: L,
+        gate: &G,
+    ) -> Note {
         let mut link = link;
         let mut byte = [0];
         let came = link.receive(alloc, &mut byte);

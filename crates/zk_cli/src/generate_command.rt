@@ -12,6 +12,7 @@ use circuit_gen::generate;
 use file_commands::{Refusal, say_stop};
 use session_rehearsal::{Rehearsal, RehearseFault, rehearse};
 use std::alloc::Global;
+use std::thread::Threads;
 use zk_model::Kind;
 use zk_port::{Shelf, Sink};
 
@@ -25,7 +26,8 @@ pub struct GenerateWords {
 }
 
 /// A rehearsal of the circuit that is drawn from the number, at its input bits.
-fn rehearse_generated(
+fn rehearse_generated<R: Threads + Sync>(
+    rt: &R,
     alloc: Global,
     words: &GenerateWords,
     seed: &[u8; 32],
@@ -44,7 +46,7 @@ fn rehearse_generated(
         Err(ReadError::NoMemory) => return Err(Refusal::NoMemory),
     };
     let (kind, section) = (words.kind, words.section);
-    match rehearse(alloc, circuit, &[], &made.bits, kind, section, seed) {
+    match rehearse(rt, alloc, circuit, &[], &made.bits, kind, section, seed) {
         Ok(rehearsal) => Ok(rehearsal),
         Err(RehearseFault::WrongLength { .. }) => unreachable!(),
         Err(RehearseFault::TooLarge { need, units }) => Err(Refusal::TooLarge { need, units }),
@@ -54,7 +56,8 @@ fn rehearse_generated(
 
 /// `rehearse --gates N --number S [--section G] [--extended]`: rehearses a session over the circuit of N gates that is drawn from the
 /// number S, says what came of it and hands it back, or says why there is no rehearsal; with the status.
-pub fn run_generate<F: Shelf, O: Sink, L: Drop>(
+pub fn run_generate<R: Threads + Sync, F: Shelf, O: Sink, L: Drop>(
+    rt: &R,
     alloc: Global,
     shelf: &mut F,
     out: &mut O,
@@ -70,7 +73,7 @@ pub fn run_generate<F: Shelf, O: Sink, L: Drop>(
         (effects result.status (change (F.state shelf.old) (F.state shelf.new))
         (change (O.state out.old) (O.state out.new))) }
 {
-    match rehearse_generated(alloc, words, seed) {
+    match rehearse_generated(rt, alloc, words, seed) {
         Ok(rehearsal) => Ending {
             status: say_rehearsal(alloc, out, &rehearsal),
             part: Part::Rehearsed(rehearsal),

@@ -24,6 +24,7 @@ use session_core::{CircuitClaim, ProverJob, elements_of, input_bits_prove};
 use session_prover::{ProverNote, StoreClaimant, prove_session};
 use sha2::{Digest, Sha256};
 use std::alloc::{AllocError, Global};
+use std::thread::Threads;
 use zk_port::{Disk, Door, PortFault, Shelf, Sink};
 
 /// What the words of the command name.
@@ -161,7 +162,8 @@ fn connect_stop(fault: PortFault) -> Refusal
 }
 
 /// Opens the file's journal, connects, and holds a session about a job with who listens at the address; and gives the disk back.
-fn prove_job<D: Door, B: Disk>(
+fn prove_job<R: Threads + Sync, D: Door, B: Disk>(
+    rt: &R,
     alloc: Global,
     job: &ProverJob<'_>,
     words: &ProveWords<'_>,
@@ -183,7 +185,7 @@ fn prove_job<D: Door, B: Disk>(
         Err(fault) => return Err((connect_stop(fault), store.close())),
     };
     let mut claimant = StoreClaimant::new(alloc, store);
-    let note = prove_session(alloc, job, &mut claimant, link);
+    let note = prove_session(rt, alloc, job, &mut claimant, link);
     Ok((note, claimant.into_store().close()))
 }
 
@@ -209,7 +211,8 @@ fn load_all<F: Shelf>(
 }
 
 /// Proves what the words name, or says why not.
-fn prove_files<F: Shelf, D: Door, B: Disk>(
+fn prove_files<R: Threads + Sync, F: Shelf, D: Door, B: Disk>(
+    rt: &R,
     alloc: Global,
     shelf: &mut F,
     words: &ProveWords<'_>,
@@ -233,12 +236,13 @@ fn prove_files<F: Shelf, D: Door, B: Disk>(
     };
     let statement = witness.claim.statement();
     let job = ProverJob::new(&statement, &file, &witness.inputs);
-    prove_job(alloc, &job, words, journal, door)
+    prove_job(rt, alloc, &job, words, journal, door)
 }
 
 /// `prove ADDRESS FILE CIRCUIT BITS OUTPUTS [--public BITS]`: proves to the verifier at the address what the words name, with
 /// units that are claimed in the file's journal, says what came of it and hands it back, or says why nothing is proved; with the status.
-pub fn run_prove<F, D, B, O>(
+pub fn run_prove<R, F, D, B, O>(
+    rt: &R,
     alloc: Global,
     shelf: &mut F,
     journal: B,
@@ -247,6 +251,7 @@ pub fn run_prove<F, D, B, O>(
     words: &ProveWords<'_>,
 ) -> Finish<B, D>
 where
+    R: Threads + Sync,
     F: Shelf,
     D: Door + Drop,
     D::Link: Drop,
@@ -260,7 +265,7 @@ where
 {
     one_circuit();
     claims_start_again();
-    match prove_files(alloc, shelf, words, journal, &mut door) {
+    match prove_files(rt, alloc, shelf, words, journal, &mut door) {
         Ok((note, journal)) => {
             let count = journal.faults();
             let status = say_proved(alloc, out, note.granted, count, &note.outcome);

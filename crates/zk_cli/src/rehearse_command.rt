@@ -12,6 +12,7 @@ use command_words::write_bits;
 use file_commands::{Refusal, check_public, load_circuit, say, say_memory, say_stop};
 use session_rehearsal::{Rehearsal, RehearseFault, Verdict, rehearse};
 use std::alloc::{AllocError, Global};
+use std::thread::Threads;
 use zk_model::Kind;
 use zk_port::{Shelf, Sink};
 
@@ -26,7 +27,8 @@ pub struct RehearseWords<'a> {
 }
 
 /// A rehearsal of the circuit that the words name, at their bits.
-fn rehearse_file<F: Shelf>(
+fn rehearse_file<R: Threads + Sync, F: Shelf>(
+    rt: &R,
     alloc: Global,
     shelf: &mut F,
     words: &RehearseWords<'_>,
@@ -45,6 +47,7 @@ fn rehearse_file<F: Shelf>(
     check_public(&circuit, words.public)?;
     let (public, bits) = (words.public, words.bits);
     match rehearse(
+        rt,
         alloc,
         circuit,
         public,
@@ -119,7 +122,8 @@ pub(crate) fn say_rehearsal<O: Sink>(alloc: Global, out: &mut O, rehearsal: &Reh
 
 /// `rehearse CIRCUIT BITS [--section G] [--extended] [--public BITS]`: rehearses a session over the circuit of this name at these
 /// bits, says what came of it and hands it back, or says why there is no rehearsal; with the status.
-pub fn run_rehearse<F: Shelf, O: Sink, L: Drop>(
+pub fn run_rehearse<R: Threads + Sync, F: Shelf, O: Sink, L: Drop>(
+    rt: &R,
     alloc: Global,
     shelf: &mut F,
     out: &mut O,
@@ -133,7 +137,7 @@ pub fn run_rehearse<F: Shelf, O: Sink, L: Drop>(
         (change (O.state out.old) (O.state out.new))) }
 {
     one_circuit();
-    match rehearse_file(alloc, shelf, words, seed) {
+    match rehearse_file(rt, alloc, shelf, words, seed) {
         Ok(rehearsal) => Ending {
             status: say_rehearsal(alloc, out, &rehearsal),
             part: Part::Rehearsed(rehearsal),

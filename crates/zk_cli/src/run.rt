@@ -82,7 +82,7 @@ where
                 kind,
                 section,
             };
-            let Ending { status, part } = run_rehearse(alloc, shelf, out, &named, seed);
+            let Ending { status, part } = run_rehearse(rt, alloc, shelf, out, &named, seed);
             Finish {
                 status,
                 journal,
@@ -102,7 +102,7 @@ where
                 kind,
                 section,
             };
-            let Ending { status, part } = run_generate(alloc, shelf, out, &named, seed);
+            let Ending { status, part } = run_generate(rt, alloc, shelf, out, &named, seed);
             Finish {
                 status,
                 journal,
@@ -157,7 +157,7 @@ where
                 bits: &bits,
                 outputs: &outputs,
             };
-            run_prove(alloc, shelf, journal, door, out, &named)
+            run_prove(rt, alloc, shelf, journal, door, out, &named)
         }
         Command::Audit {
             circuit,

@@ -38,7 +38,7 @@ module _ (g : Over) (job : ProverJob) (old new : Proving × g.row.C.Denot) (outc
   ended_from = session_ended (claims g) old.1 unasked job sound (view g new) outcome first now side run_from
 
 pub run-outcome-requires-clause-holds : goal.run-outcome-requires-clause-holds
-run-outcome-requires-clause-holds g c =
+run-outcome-requires-clause-holds g c κs within =
     subst (λ (s : ProverState). IsProving (claims g) c.args.job.now (proved s None false c.args.claimant.now)) (sym c.core_of.ensures)
     (proving_first (claims g) c.args.job.now c.args.claimant.now c.requires.sound c.requires.unasked c.requires.total)
 

@@ -7,7 +7,7 @@ use Rattle.session_rehearsal.proofs.DirectRounds.{none_held}
 use Rattle.session_rehearsal.proofs.exchange.establish.Goals as goal
 
 pub returns-in-Direct-clause-held : goal.returns-in-Direct-clause-held
-returns-in-Direct-clause-held c =
+returns-in-Direct-clause-held g c =
     let asked : c.new.result.items ≡ [] = search rules in
     let replied : c.new-in-Direct.result.items ≡ [] = search rules in
     subst (HoldsRounds c.args.prover.now.file c.args.verifier.now.task.file c.args.grant c.dealt_pairs.result.now [])

@@ -1,61 +1,94 @@
-use Rattle.std.proofs.Common.{◌∙◌, sym, ap, subst, refl, map}
-use Rattle.std.specs.Prelude.{All}
+use Rattle.std.proofs.Common.{◌≡◌, ℕ, ◌+◌, ◌*◌, ◌∙◌, ap, sym, refl, subst, map, length, arith, List, Vec, Global}
+use Rattle.std.proofs.lemmas.List.{length-map}
 use Rattle.zk_model.specs.Frames as model
-use Rattle.zk_model.specs.Frames.{AreReplies, frame_spelling}
+use Rattle.zk_model.specs.Files.{correlations_per_unit}
+use Rattle.zk_model.specs.Transcript.{TreeAsk, TreeReply}
+use Rattle.zk_model.specs.HonestProver.{round_asks}
 use Rattle.zk_model.specs.ServedVerifier.{round_replies}
-use Rattle.zk_model.specs.declared.Params.{Params}
-use Rattle.session_core.specs.Extending.{asks_of, replies_of}
+use Rattle.zk_model.specs.declared.Span.{Span}
+use Rattle.round_fan.specs.Fans.{lists_of, replies_from, ArePairsFrom}
 use Rattle.session_core.specs.Fixing.{AreFirstPairs}
-use Rattle.session_rehearsal.proofs.HeldRounds.{knows_round, asked_are, replied_are, round_held}
+use Rattle.session_rehearsal.proofs.HeldRounds.{KnowsRound, knows_round, asks_fit, replies_fit, asked_short, replied_short, round_held}
 use Rattle.session_rehearsal.proofs.exchange.extend.Goals as goal
+use Rattle.session_rehearsal.proofs.exchange.extend.Goals.{After-deref, After-deref-2}
+use Rattle.session_rehearsal.proofs.exchange.extend.Given.{Over}
 
-pub reply_units-requires-clause-count : goal.reply_units-requires-clause-count
-reply_units-requires-clause-count c = (asked_are c.args.prover.now c.args.verifier.now c.args.grant c.in_ok-asked.asked.items c.deref.result.now
-    (knows_round c.args.prover.now c.args.verifier.now c.args.grant c.asks_are_in_range.ensures c.replies_are_in_range.ensures
-    c.params-prover.ensures.file c.params-verifier.ensures.file c.requires.params c.requires.extended c.requires.within)
-    c.deref.ensures.value c.in_ok-asked.ensures).counted
+-- the asks are those of an honest prover
+asks_are : (g : Over) (c : After-deref g) → lists_of c.deref.result.now ≡ round_asks c.args.prover.now c.args.grant
+asks_are g c = ap lists_of c.deref.ensures.value ∙ c.in_ok-asks.ensures
 
-pub reply_units-requires-clause-asks : goal.reply_units-requires-clause-asks
-reply_units-requires-clause-asks c = (asked_are c.args.prover.now c.args.verifier.now c.args.grant c.in_ok-asked.asked.items c.deref.result.now
-    (knows_round c.args.prover.now c.args.verifier.now c.args.grant c.asks_are_in_range.ensures c.replies_are_in_range.ensures
-    c.params-prover.ensures.file c.params-verifier.ensures.file c.requires.params c.requires.extended c.requires.within)
-    c.deref.ensures.value c.in_ok-asked.ensures).each
+knows : (g : Over) (c : After-deref g) → KnowsRound c.args.prover.now c.args.verifier.now c.args.grant
+knows g c = knows_round c.args.prover.now c.args.verifier.now c.args.grant c.asks_are_in_range.ensures c.replies_are_in_range.ensures
+    c.params-prover.ensures.file c.params-verifier.ensures.file c.requires.params c.requires.extended c.requires.within
 
-pub finish_units-requires-clause-count : goal.finish_units-requires-clause-count
-finish_units-requires-clause-count c = (replied_are c.args.prover.now c.args.verifier.now c.args.grant c.in_ok-asked.asked.items c.in_ok-given.given.replies.items
-    c.deref.result.now c.deref-2.result.now
-    (knows_round c.args.prover.now c.args.verifier.now c.args.grant c.asks_are_in_range.ensures c.replies_are_in_range.ensures
-    c.params-prover.ensures.file c.params-verifier.ensures.file c.requires.params c.requires.extended c.requires.within)
-    c.deref-2.ensures.value c.deref.ensures.value c.in_ok-asked.ensures c.in_ok-given.ensures.replies).counted
+asked_count : (g : Over) (c : After-deref g) → length c.deref.result.now ≡ c.args.grant.count
+asked_count g c =
+    sym (length-map c.deref.result.now (λ (v : Vec TreeAsk Global). v.items))
+    ∙ (asks_fit c.args.prover.now c.args.verifier.now c.args.grant (lists_of c.deref.result.now) (knows g c) (asks_are g c)).0
 
-pub finish_units-requires-clause-replies : goal.finish_units-requires-clause-replies
-finish_units-requires-clause-replies c =
-    subst (λ (params : Params). All (AreReplies params.height params.trees) (replies_of c.deref-2.result.now)) (sym c.requires.params)
-    (replied_are c.args.prover.now c.args.verifier.now c.args.grant c.in_ok-asked.asked.items c.in_ok-given.given.replies.items
-    c.deref.result.now c.deref-2.result.now
-    (knows_round c.args.prover.now c.args.verifier.now c.args.grant c.asks_are_in_range.ensures c.replies_are_in_range.ensures
-    c.params-prover.ensures.file c.params-verifier.ensures.file c.requires.params c.requires.extended c.requires.within)
-    c.deref-2.ensures.value c.deref.ensures.value c.in_ok-asked.ensures c.in_ok-given.ensures.replies).each
+pub fan_verifier-requires-clause-units : goal.fan_verifier-requires-clause-units
+fan_verifier-requires-clause-units g c κs within =
+    let start = ap (λ (s : Span). s.start) c.units_of-span.ensures in
+    let end = ap (λ (s : Span). s.end) c.units_of-span.ensures in
+    omega (arith, start, end, asked_count g c)
+
+pub fan_verifier-requires-clause-fits : goal.fan_verifier-requires-clause-fits
+fan_verifier-requires-clause-fits g c κs within =
+    (asks_fit c.args.prover.now c.args.verifier.now c.args.grant (lists_of c.deref.result.now) (knows g c) (asks_are g c)).1
+
+-- the replies are those of the verifier's file
+replies_are : (g : Over) (c : After-deref-2 g) → lists_of c.in_ok-given.given.replies.items ≡ round_replies c.args.verifier.now c.args.grant (round_asks c.args.prover.now c.args.grant)
+replies_are g c =
+    let start = ap (λ (s : Span). s.start) c.units_of-span.ensures in
+    let asks = ap lists_of c.deref.ensures.value ∙ c.in_ok-asks.ensures in
+    c.in_ok-given.ensures.replies ∙ (λ i. replies_from c.args.verifier.now (start i) (asks i))
+
+replies_there : (g : Over) (c : After-deref-2 g) → lists_of c.deref-2.result.now ≡ round_replies c.args.verifier.now c.args.grant (round_asks c.args.prover.now c.args.grant)
+replies_there g c = ap lists_of c.deref-2.ensures.value ∙ replies_are g c
+
+knows_too : (g : Over) (c : After-deref-2 g) → KnowsRound c.args.prover.now c.args.verifier.now c.args.grant
+knows_too g c = knows_round c.args.prover.now c.args.verifier.now c.args.grant c.asks_are_in_range.ensures c.replies_are_in_range.ensures
+    c.params-prover.ensures.file c.params-verifier.ensures.file c.requires.params c.requires.extended c.requires.within
+
+replied_count : (g : Over) (c : After-deref-2 g) → length c.deref-2.result.now ≡ c.args.grant.count
+replied_count g c =
+    sym (length-map c.deref-2.result.now (λ (v : Vec TreeReply Global). v.items))
+    ∙ (replies_fit c.args.prover.now c.args.verifier.now c.args.grant (lists_of c.deref-2.result.now) (knows_too g c) (replies_there g c)).0
+
+pub fan_prover-requires-clause-units : goal.fan_prover-requires-clause-units
+fan_prover-requires-clause-units g c κs within =
+    let start = ap (λ (s : Span). s.start) c.units_of-span.ensures in
+    let end = ap (λ (s : Span). s.end) c.units_of-span.ensures in
+    omega (arith, start, end, replied_count g c)
+
+pub fan_prover-requires-clause-fits : goal.fan_prover-requires-clause-fits
+fan_prover-requires-clause-fits g c κs within =
+    (replies_fit c.args.prover.now c.args.verifier.now c.args.grant (lists_of c.deref-2.result.now) (knows_too g c) (replies_there g c)).1
 
 pub returns-clause-short : goal.returns-clause-short
-returns-clause-short c = record {
-  asks = (asked_are c.args.prover.now c.args.verifier.now c.args.grant c.in_ok-asked.asked.items c.in_ok-asked.asked.items
-      (knows_round c.args.prover.now c.args.verifier.now c.args.grant c.asks_are_in_range.ensures c.replies_are_in_range.ensures
-      c.params-prover.ensures.file c.params-verifier.ensures.file c.requires.params c.requires.extended c.requires.within)
-      refl c.in_ok-asked.ensures).short;
-  replies = (replied_are c.args.prover.now c.args.verifier.now c.args.grant c.in_ok-asked.asked.items c.in_ok-given.given.replies.items
-      c.deref.result.now c.in_ok-given.given.replies.items
-      (knows_round c.args.prover.now c.args.verifier.now c.args.grant c.asks_are_in_range.ensures c.replies_are_in_range.ensures
-      c.params-prover.ensures.file c.params-verifier.ensures.file c.requires.params c.requires.extended c.requires.within)
-      refl c.deref.ensures.value c.in_ok-asked.ensures c.in_ok-given.ensures.replies).short;
-}
+returns-clause-short g c =
+    let knows = knows_too g (goal.at.returns-clause-short g c).After-deref-2 in record {
+      asks = asked_short c.args.prover.now c.args.verifier.now c.args.grant c.in_ok-asked.asked.items knows (c.in_ok-asked.ensures ∙ ap (map model.asks) c.in_ok-asks.ensures);
+      replies = replied_short c.args.prover.now c.args.verifier.now c.args.grant c.in_ok-replied.replied.items knows
+          (c.in_ok-replied.ensures ∙ ap (map model.replies) (replies_are g (goal.at.returns-clause-short g c).After-deref-2));
+    }
 
 pub returns-clause-held : goal.returns-clause-held
-returns-clause-held c =
-    let knows = (knows_round c.args.prover.now c.args.verifier.now c.args.grant c.asks_are_in_range.ensures c.replies_are_in_range.ensures
-    c.params-prover.ensures.file c.params-verifier.ensures.file c.requires.params c.requires.extended c.requires.within) in
-    round_held c.args.prover.now c.args.verifier.now c.args.grant c.in_ok-asked.asked.items c.in_ok-given.given.replies.items c.in_ok-pairs.pairs.items
-    _ _ _ c.requires.extended knows.ranged c.in_ok-asked.ensures
-    (c.in_ok-given.ensures.replies ∙ ap (λ l. map model.replies (round_replies c.args.verifier.now c.args.grant (asks_of l))) c.deref.ensures.value)
-    (subst (λ l. AreFirstPairs c.args.prover.now c.args.grant (replies_of l) c.in_ok-pairs.pairs.items) c.deref-2.ensures.value c.in_ok-pairs.ensures.pairs)
+returns-clause-held g c =
+    let at = (goal.at.returns-clause-held g c).After-deref-2 in
+    let start = ap (λ (s : Span). s.start) c.units_of-span.ensures in
+    let there = replies_there g at in
+    round_held c.args.prover.now c.args.verifier.now c.args.grant c.in_ok-asked.asked.items c.in_ok-replied.replied.items c.in_ok-pairs.pairs.items
+    _ _ _ c.requires.extended (knows_too g at).ranged
+    (c.in_ok-asked.ensures ∙ ap (map model.asks) c.in_ok-asks.ensures)
+    (c.in_ok-replied.ensures ∙ ap (map model.replies) (replies_are g at))
+    (subst (λ (q : ℕ × List (List TreeReply)). ArePairsFrom c.args.prover.now q.0 q.1 c.in_ok-pairs.pairs.items) (λ i. (start i, there i)) c.in_ok-pairs.ensures.pairs)
     refl refl
+
+pub returns-clause-pairs : goal.returns-clause-pairs
+returns-clause-pairs g c =
+    c.in_ok-pairs.ensures.count ∙ ap (λ n. n * correlations_per_unit c.args.prover.now.params) (replied_count g (goal.at.returns-clause-pairs g c).After-deref-2)
+
+pub returns-clause-key_count : goal.returns-clause-key_count
+returns-clause-key_count g c =
+    c.in_ok-given.ensures.key_count ∙ ap (λ n. n * correlations_per_unit c.args.verifier.now.params) (asked_count g (goal.at.returns-clause-key_count g c).After-deref)

@@ -8,7 +8,7 @@ use Rattle.session_rehearsal.proofs.Held.{units_of_pair}
 use Rattle.session_rehearsal.proofs.exchange.run_session.Goals as goal
 
 pub new-verifier-requires : goal.new-verifier-requires
-new-verifier-requires c =
+new-verifier-requires g c =
     let units = units_of_pair c.args.prover_file.params c.args.verifier_file.now.params c.args.statement.now.program c.args.prover_file.params.total c.args.section
     c.requires.dealt.params c.requires.granted in
     record {
@@ -21,19 +21,19 @@ within : (job made : VerifierJob) → units_of_job made ≤ made.task.file.param
 within job made few same = subst (λ (j : VerifierJob). units_of_job j ≤ j.task.file.params.total) (sym same) few
 
 pub answer-requires-clause-within : goal.answer-requires-clause-within
-answer-requires-clause-within c =
+answer-requires-clause-within g c κs inside =
     let units = units_of_pair c.args.prover_file.params c.args.verifier_file.now.params c.args.statement.now.program c.args.prover_file.params.total c.args.section
     c.requires.dealt.params c.requires.granted in
     within _ _ (omega (arith, units, ap (λ (p : Params). p.total) c.requires.dealt.params)) c.new-verifier.ensures
 
 pub judge-requires-clause-within : goal.judge-requires-clause-within
-judge-requires-clause-within c =
+judge-requires-clause-within g c =
     let units = units_of_pair c.args.prover_file.params c.args.verifier_file.now.params c.args.statement.now.program c.args.prover_file.params.total c.args.section
     c.requires.dealt.params c.requires.granted in
     within _ _ (omega (arith, units, ap (λ (p : Params). p.total) c.requires.dealt.params)) c.new-verifier.ensures
 
 pub returns-clause-session : goal.returns-clause-session
-returns-clause-session c log noted =
+returns-clause-session g c log noted =
     let units = units_of_pair c.args.prover_file.params c.args.verifier_file.now.params c.args.statement.now.program c.args.prover_file.params.total c.args.section
     c.requires.dealt.params c.requires.granted in
     let prover = prover_from c.args.statement.now c.args.inputs.now c.args.prover_file in

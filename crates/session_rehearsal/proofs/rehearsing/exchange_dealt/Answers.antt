@@ -10,7 +10,7 @@ use Rattle.session_rehearsal.proofs.Rehearsed.{granted_all, total_is}
 use Rattle.session_rehearsal.proofs.rehearsing.exchange_dealt.Goals as goal
 
 pub run_session-requires-clause-granted : goal.run_session-requires-clause-granted
-run_session-requires-clause-granted c =
+run_session-requires-clause-granted g c κs within =
     let params = ap (λ (f : ProverFile). f.params) (c.in_ok-prover.ensures.prover ∙ ap (λ (p : Params). dealt_prover p c.args.seed.now) c.rehearsed_params-params.ensures) in
     let total = ap (λ (p : Params). p.total) params ∙ total_is c.args.kind c.args.units in
     subst (λ (q : Params × ℕ). IsGrant q.0 c.args.statement.now.program (whole_grant q.1 c.args.section))
@@ -18,7 +18,7 @@ run_session-requires-clause-granted c =
     (granted_all c.args.statement.now.program c.args.kind c.args.section c.args.units c.requires.at_least_one c.requires.at_most c.requires.units c.requires.units_most)
 
 pub returns-clause-held : goal.returns-clause-held
-returns-clause-held c log noted =
+returns-clause-held g c log noted =
     let params : c.rehearsed_params-params.result ≡ rehearsed_params c.args.kind c.args.units = c.rehearsed_params-params.ensures in
     let prover = c.in_ok-prover.ensures.prover ∙ ap (λ (p : Params). dealt_prover p c.args.seed.now) params in
     let verifier = c.in_ok-prover.ensures.verifier ∙ ap (λ (p : Params). dealt_verifier p c.args.seed.now) params in
@@ -30,7 +30,7 @@ returns-clause-held c log noted =
     (whole_grant n c.args.section) c.in_ok-exchange.exchange.verdict log) total (c.in_ok-exchange.ensures.session log noted))
 
 pub returns-clause-files : goal.returns-clause-files
-returns-clause-files c =
+returns-clause-files g c =
     let params : c.rehearsed_params-params.result ≡ rehearsed_params c.args.kind c.args.units = c.rehearsed_params-params.ensures in
     let prover = c.in_ok-prover.ensures.prover ∙ ap (λ (p : Params). dealt_prover p c.args.seed.now) params in
     let verifier = c.in_ok-prover.ensures.verifier ∙ ap (λ (p : Params). dealt_verifier p c.args.seed.now) params in

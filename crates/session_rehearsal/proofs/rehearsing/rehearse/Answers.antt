@@ -9,20 +9,20 @@ use Rattle.session_rehearsal.specs.Rehearsals.{IsClaimed, RehearseCause}
 use Rattle.session_rehearsal.proofs.rehearsing.rehearse.Goals as goal
 
 pub returns-in_err-wires-clause-cause : goal.returns-in_err-wires-clause-cause
-returns-in_err-wires-clause-cause c =
+returns-in_err-wires-clause-cause g c =
     raised (RehearseCause c.args.circuit c.args.public.now c.args.bits.now c.args.kind c.args.section) c.from_residual.result c.in_err-wires.field-0.0
     c.from_residual.ensures.1 (c.in_err-wires.ensures.cause c.args.kind c.args.section)
 
 pub new-requires-clause-digest : goal.new-requires-clause-digest
-new-requires-clause-digest c = bytes_by_test 32 (replicate 32 0) refl refl
+new-requires-clause-digest g c = bytes_by_test 32 (replicate 32 0) refl refl
 
 pub rehearse_claim-requires-clause-inputs : goal.rehearse_claim-requires-clause-inputs
-rehearse_claim-requires-clause-inputs c =
+rehearse_claim-requires-clause-inputs g c κs within =
     ap length (c.deref-2.ensures.value ∙ c.in_ok-inputs.ensures) ∙ length-map c.args.bits.now from_bit
     ∙ c.in_ok-wires.ensures.length ∙ sym (ap (λ (s : Statement). s.program.inputs) c.in_ok-claim.ensures)
 
 pub returns-in_err-rehearsal-clause-cause : goal.returns-in_err-rehearsal-clause-cause
-returns-in_err-rehearsal-clause-cause c =
+returns-in_err-rehearsal-clause-cause g c =
     raised (RehearseCause c.args.circuit c.args.public.now c.args.bits.now c.args.kind c.args.section) c.from_residual-in_err-rehearsal.result c.in_err-rehearsal.field-0.0
     c.from_residual-in_err-rehearsal.ensures.1
     (c.in_err-rehearsal.ensures.cause c.args.circuit c.args.public.now c.args.bits.now c.in_ok-wires.wires.items (record {
@@ -34,7 +34,7 @@ returns-in_err-rehearsal-clause-cause c =
     }))
 
 pub returns-clause-done : goal.returns-clause-done
-returns-clause-done c = c.in_ok-rehearsal.ensures.done c.args.circuit c.args.public.now c.args.bits.now c.in_ok-wires.wires.items
+returns-clause-done g c = c.in_ok-rehearsal.ensures.done c.args.circuit c.args.public.now c.args.bits.now c.in_ok-wires.wires.items
     (c.deref-2.ensures.value ∙ c.in_ok-inputs.ensures) (record {
       formed = c.wires-wires.ensures.rules.well_formed;
       few = c.requires.public;

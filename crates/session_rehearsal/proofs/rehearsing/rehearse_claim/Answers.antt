@@ -52,7 +52,7 @@ made_products circuit public inputs bits law formed few met =
     ∙ law (length public) circuit (public ++ inputs) bits formed few met
 
 pub returns-then-units-gt-MAX_UNITS-clause-cause : goal.returns-then-units-gt-MAX_UNITS-clause-cause
-returns-then-units-gt-MAX_UNITS-clause-cause c circuit public inputs bits claimed =
+returns-then-units-gt-MAX_UNITS-clause-cause g c circuit public inputs bits claimed =
     let program : c.program-program.result.now ≡ circuit_program (length public) circuit =
     c.program-program.ensures.program ∙ ap (λ (s : Statement). s.program) (c.statement-statement.ensures ∙ claimed.stated) in
     let need : c.need-need.result ≡ rehearsal_need circuit public c.args.section =
@@ -66,7 +66,7 @@ returns-then-units-gt-MAX_UNITS-clause-cause c circuit public inputs bits claime
     }
 
 pub returns-clause-done : goal.returns-clause-done
-returns-clause-done c circuit public inputs bits values claimed =
+returns-clause-done g c circuit public inputs bits values claimed =
     let statement : c.statement-statement.result ≡ circuit_statement circuit (replicate 32 0) public (drop (output_wire circuit 0) bits) =
     c.statement-statement.ensures ∙ claimed.stated ∙ ap (circuit_statement circuit (replicate 32 0) public) claimed.last in
     let program : c.program-program.result.now ≡ circuit_program (length public) circuit = c.program-program.ensures.program ∙ ap (λ (s : Statement). s.program) statement in

@@ -52,7 +52,7 @@ statement_of g c =
     (sym (ap (λ (s : LinkSnapshot). s.log) c.end-link.ensures.passed)) c.serve-course.ensures.statement
 
 pub serve-course-requires-clause-fresh : goal.serve-course-requires-clause-fresh
-serve-course-requires-clause-fresh g c = record {
+serve-course-requires-clause-fresh g c κs within = record {
   log = ap (λ (l : LineState). l.log) c.new-line.ensures;
   reading = ap (λ (l : LineState). l.reading) c.new-line.ensures;
   is_open = ap (λ (l : LineState). l.is_open) c.new-line.ensures ∙ c.requires.open;

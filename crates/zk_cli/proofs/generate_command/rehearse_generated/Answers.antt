@@ -7,7 +7,7 @@ use Rattle.zk_cli.proofs.generate_command.rehearse_generated.Goals as goal
 
 -- the circuit that was read is the one that was drawn
 pub returns-in-Ok-rehearse-clause-rehearsed : goal.returns-in-Ok-rehearse-clause-rehearsed
-returns-in-Ok-rehearse-clause-rehearsed c =
+returns-in-Ok-rehearse-clause-rehearsed g c =
     let drawn : Circuit = generated_circuit c.args.words.now.gates c.args.words.now.number in
     let same : drawn ≡ c.in-Ok.circuit =
     c.in-Ok.ensures.found.only drawn (subst (IsText drawn) (sym c.deref.ensures.value) c.in_ok-made.ensures.says) in
