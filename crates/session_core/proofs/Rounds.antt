@@ -1,5 +1,5 @@
 -- Lists that grow unit by unit, and what the prover sees of a round of all units.
-use Rattle.std.proofs.Common.{◌≡◌, ℕ, ◌+◌, ◌*◌, ◌<◌, List, [], ◌∷◌, ◌++◌, map, flat_map, drop, length, get_or, refl, sym, ◌∙◌, ap, subst, arith, append-nil, append_assoc, length-append, Vec, Global}
+use Rattle.std.proofs.Common.{◌≡◌, ℕ, ◌+◌, ◌<◌, List, [], ◌∷◌, ◌++◌, map, flat_map, drop, length, get_or, refl, sym, ◌∙◌, ap, subst, arith, append-nil, append_assoc, Vec, Global}
 use Rattle.std.specs.Prelude.{slice_index_or, All}
 use Rattle.std.specs.List.{range_with_len, enumerate_from}
 use Rattle.std.proofs.lemmas.List.{length-map, get_or-map, map-append}
@@ -12,11 +12,10 @@ use Rattle.zk_model.specs.Transcript.{Hello, Grant, TreeAsk, TreeReply, Setup}
 use Rattle.zk_model.specs.Correlations.{IsExtension, IsProverView}
 use Rattle.zk_model.specs.HonestProver.{honest_asks, round_asks}
 use Rattle.circuit_laws.proofs.Ranges.{range-append}
-use Rattle.zk_laws.proofs.WholePairs.{each_more}
 use Rattle.zk_model.specs.Frames as model
 use Rattle.proof_frames.specs.Frames.{frame_value}
 use Rattle.proof_frames.specs.declared.frame.Frame.{Frame}
-use Rattle.round_fan.specs.Fans.{lists_of, AreUnits}
+use Rattle.round_fan.specs.Fans.{lists_of}
 use Rattle.session_core.specs.Extending.{asks_in, replies_in, asks_of, replies_of}
 use Rattle.session_core.specs.Fixing.{AreFirstPairs}
 
@@ -73,13 +72,6 @@ asks_at P frames i frame trees all below at is =
     let there : trees ≡ get_or (asks_of frames) i [] = is ∙ ap (λ f. asks_in (frame_value f)) at ∙ sym (get_or-map (λ f. asks_in (frame_value f)) frames i frame [] below) in
     (there, subst P (sym there) (all i [] (omega (arith, below, length-map frames (λ f. asks_in (frame_value f))))))
 
--- the replies of frame i
-pub replies_at : (P : List TreeReply → Type 0) (frames : List Frame) (i : ℕ) (frame : Frame) (trees : List TreeReply) → All P (replies_of frames) → i < length frames
-    → frame ≡ get_or frames i frame → trees ≡ replies_in (frame_value frame) → (trees ≡ get_or (replies_of frames) i []) × P trees
-replies_at P frames i frame trees all below at is =
-    let there : trees ≡ get_or (replies_of frames) i [] = is ∙ ap (λ f. replies_in (frame_value f)) at ∙ sym (get_or-map (λ f. replies_in (frame_value f)) frames i frame [] below) in
-    (there, subst P (sym there) (all i [] (omega (arith, below, length-map frames (λ f. replies_in (frame_value f))))))
-
 -- ---- what the prover sees
 
 -- a session's setup with one round of honest asks and these replies
@@ -105,30 +97,6 @@ whole_view file hello grant replies pairs counted first = record {
 pub map_twice : {A B C : Type 0} (g : B → C) (f : A → B) (items : List A) → map (λ item. g (f item)) items ≡ map g (map f items)
 map_twice g f [] = refl
 map_twice g f (item ∷ items) = ap (λ l. g (f item) ∷ l) (map_twice g f items)
-
--- ---- units that grow
-
--- one unit's pairs more
-pub units_more : {A : Type 0} (P : ℕ → A → List Pair → Type 0) (trees : List A) (none : A) (units : List (List Pair)) (n size : ℕ) (pairs now more : List Pair)
-    → length units ≡ n → ((k : ℕ) → k < n → P k (get_or trees k none) (get_or units k []))
-    → pairs ≡ flat_map (λ unit. unit) units → length pairs ≡ n * size
-    → P n (get_or trees n none) more → now ≡ pairs ++ more → length more ≡ size
-    → (units_now : List (List Pair)) × (length units_now ≡ n + 1)
-    × ((k : ℕ) → k < n + 1 → P k (get_or trees k none) (get_or units_now k []))
-    × (now ≡ flat_map (λ unit. unit) units_now) × (length now ≡ (n + 1) * size)
-units_more P trees none units n size pairs now more sized far joined counted is pushed long = (
-  units ++ more ∷ [],
-  length-append units (more ∷ []) ∙ ap (λ m. m + 1) sized,
-  each_more (λ k unit. P k (get_or trees k none) unit) units more n sized far is,
-  pushed ∙ (λ i. joined i ++ sym (append-nil more) i) ∙ sym (flat_map-append (λ unit. unit) units (more ∷ [])),
-  omega (arith, ap length pushed, length-append pairs more, counted, long),
-)
-
--- all of them
-pub units_all : {Holds : ℕ → List Pair → Type 0} (units : List (List Pair)) (n count : ℕ) (pairs : List Pair) → length units ≡ n → n ≡ count
-    → ((k : ℕ) → k < n → Holds k (get_or units k [])) → pairs ≡ flat_map (λ unit. unit) units → AreUnits Holds count pairs
-units_all units n count pairs sized all each joined =
-    record { units = units; one_each = sized ∙ all; each = λ k below. each k (omega (arith, below, all)); joined = joined }
 
 -- ---- lists of vectors that grow
 

@@ -3,7 +3,7 @@ ghost use Rattle.std.specs.Prelude.{◌≡◌, ◌+◌, ◌*◌, ◌<◌, ◌≤
 ghost use Rattle.zk_model.specs.Correlations.{unit_keys, span_keys};
 ghost use Rattle.zk_model.specs.Replies.{unit_reply};
 ghost use Rattle.zk_model.specs.Files.{AreParams, correlations_per_unit};
-ghost use Rattle.zk_model.specs.Frames.{AreAsks, AreReplies};
+ghost use Rattle.zk_model.specs.Frames.{AreAsks};
 ghost use Rattle.zk_model.specs.Frames as model;
 ghost use Rattle.zk_model.specs.HonestProver.{round_asks};
 ghost use Rattle.zk_model.specs.ServedVerifier.{round_replies};
@@ -11,15 +11,14 @@ ghost use Rattle.zk_model.specs.View.{span_of};
 ghost use Rattle.zk_model.specs.declared.Kind.TheVariants.{Extended};
 ghost use Rattle.proof_frames.specs.Frames.{frame_value};
 ghost use Rattle.vole_extend.specs.Rounds.{unit_code};
-ghost use Rattle.round_fan.specs.Fans.{AreRoundPairs, lists_of};
-ghost use Rattle.session_core.specs.Extending.{asks_in, replies_in, asks_of, replies_of};
-ghost use Rattle.session_core.specs.Fixing.{AreFirstPairs};
+ghost use Rattle.round_fan.specs.Fans.{lists_of};
+ghost use Rattle.session_core.specs.Extending.{asks_in, replies_in, asks_of};
 
 use crate::unit_rounds::ask_frames;
 use crate::verifier_job::correlations_per_unit;
 use dealer_files::{ProverFile, VerifierFile};
 use linear_code::Columns;
-use mersenne_field::{Fe, Pair};
+use mersenne_field::Fe;
 use proof_frames::{Frame, Grant};
 use std::alloc::{AllocError, Global};
 use tree_messages::{TreeAsk, TreeReply};
@@ -83,58 +82,11 @@ pub fn ask_units(alloc: Global, file: &ProverFile, grant: Grant) -> Result<Vec<F
     ask_frames(alloc, asks)
 }
 
-/// The pairs that the replies for all trees of a unit make.
-fn finish_unit(
-    alloc: Global,
-    file: &ProverFile,
-    columns: &Columns,
-    unit: u64,
-    replies: &[TreeReply],
-) -> Result<Vec<Pair>, AllocError>
-    requires extended { file.now.params.kind ≡ Extended }
-    requires within { unit < file.now.params.total }
-    requires columns { columns.now ≡ unit_code file.now.params file.now.code_seed }
-    requires replies { AreReplies file.now.params.height file.now.params.trees replies.now }
-    ensures pairs { IfOk result (λ pairs. AreRoundPairs file.now unit replies.now pairs.items) }
-    ensures count { IfOk result (λ pairs. length pairs.items ≡ correlations_per_unit file.now.params) }
-{
-    let pairs = ProverRound::new(file, unit).finish(alloc, columns, replies)?;
-    Ok(pairs)
-}
-
 /// How many correlations so many units give: the room to take for them at once.
 fn room_of(params: &Params, units: usize) -> usize
     requires { AreParams params.now }
 {
     units.saturating_mul(correlations_per_unit(params) as usize)
-}
-
-/// The pairs that the replies for all units of a grant make, unit by unit.
-pub fn finish_units(
-    alloc: Global,
-    file: &ProverFile,
-    columns: &Columns,
-    grant: Grant,
-    replies: &[Frame],
-) -> Result<Vec<Pair>, AllocError>
-    requires extended { file.now.params.kind ≡ Extended }
-    requires within { grant.start + grant.count ≤ file.now.params.total }
-    requires columns { columns.now ≡ unit_code file.now.params file.now.code_seed }
-    requires count { length replies.now ≡ grant.count }
-    requires replies { All (AreReplies file.now.params.height file.now.params.trees)
-        (replies_of replies.now) }
-    ensures pairs { IfOk result (λ pairs. AreFirstPairs file.now grant (replies_of replies.now) pairs.items) }
-    ensures count { IfOk result (λ pairs. length pairs.items
-        ≡ grant.count * correlations_per_unit file.now.params) }
-{
-    let _total = file.total();
-    let mut pairs = Vec::with_capacity(alloc, room_of(&file.params(), replies.len()))?;
-    for (i, frame) in replies.iter().enumerate() {
-        let unit = grant.start + i as u64;
-        let more = finish_unit(alloc, file, columns, unit, replies_in(frame))?;
-        pairs.extend_from_slice(&more)?;
-    }
-    Ok(pairs)
 }
 
 /// What a verifier replies to the asks for the trees of a unit, and its keys.

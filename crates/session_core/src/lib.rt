@@ -26,9 +26,7 @@ mod verifier_job;
 mod verifier_jobs;
 
 pub use circuit_claim::{CircuitClaim, input_bits_prove};
-pub use extending::{
-    Replied, ask_lists, ask_units, asks_in, finish_units, replies_in, reply_units,
-};
+pub use extending::{Replied, ask_lists, ask_units, asks_in, replies_in, reply_units};
 pub use fault::{Digests, HelloDiffers, ProverFault, VerifierFault};
 pub use judgement::Judgement;
 pub use prover_core::ProverCore;

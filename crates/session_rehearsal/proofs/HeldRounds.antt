@@ -1,7 +1,6 @@
 -- The one round of an extended session, as both ends hold it.
 use Rattle.std.proofs.Common.{◌≡◌, ℕ, ◌+◌, ◌*◌, ◌≤◌, List, [], ◌∷◌, ◌++◌, map, flat_map, length, refl, sym, ◌∙◌, ap, subst, arith, append-nil, append_assoc}
 use Rattle.std.specs.Prelude.{All}
-use Rattle.std.proofs.lemmas.List.{length-map}
 use Rattle.std.proofs.lemmas.List.Elements.{All-map, All-nil, All-cons}
 use Rattle.std.proofs.lemmas.Nat.{mul-le}
 use Rattle.zk_model.specs.Mac.{Pair}
@@ -21,10 +20,9 @@ use Rattle.proof_frames.specs.Frames.{frame_value, IsShort}
 use Rattle.proof_frames.specs.declared.frame.Frame.{Frame}
 use Rattle.proof_frames.proofs.Lengths.{whole_length}
 use Rattle.session_laws.specs.Rounds.{AsksAreInRange, RepliesAreInRange}
-use Rattle.session_core.specs.Extending.{asks_of, replies_of}
 use Rattle.session_core.specs.Fixing.{AreFirstPairs}
 use Rattle.session_rehearsal.specs.Holding.{HoldsRounds}
-use Rattle.session_core.proofs.Rounds.{asks_are, replies_are, whole_view}
+use Rattle.session_core.proofs.Rounds.{whole_view}
 
 -- ---- frames of a round are short
 

@@ -1,5 +1,5 @@
 -- A rehearsal's statement and witness, and what its session makes.
-use Rattle.std.proofs.Common.{◌≡◌, ℕ, ◌+◌, ◌-◌, ◌^◌, ◌≤◌, Bool, List, [], ◌++◌, map, take, drop, length, replicate, refl, sym, ◌∙◌, ap, subst, arith}
+use Rattle.std.proofs.Common.{◌≡◌, ℕ, ◌^◌, ◌≤◌, Bool, List, ◌++◌, map, drop, length, replicate, refl, sym, ◌∙◌, ap, subst, arith}
 use Rattle.std.proofs.Math.Seq.{take-append_seam, drop-append_seam}
 use Rattle.zk_model.specs.Bits.{from_bit}
 use Rattle.zk_model.specs.Circuit.{Circuit, IsWellFormed, AreWireBits, output_wire}

@@ -1,5 +1,5 @@
 -- What a rehearsal gives, and why there is none.
-use Rattle.std.specs.Prelude.{◌≡◌, ◌≢◌, ◌<◌, ◌≤◌, ℕ, List, [], ◌++◌, length, map, drop, replicate, Bool}
+use Rattle.std.specs.Prelude.{◌≡◌, ◌≢◌, ◌<◌, ◌≤◌, ℕ, List, ◌++◌, length, map, drop, replicate, Bool}
 use Rattle.zk_model.specs.Bits.{from_bit}
 use Rattle.zk_model.specs.Circuit.{Circuit, IsWellFormed, AreWireBits, Satisfies, output_wire}
 use Rattle.zk_model.specs.Program.{section_count, correlations_needed}

@@ -1,4 +1,4 @@
-use Rattle.std.proofs.Common.{◌≡◌, ℕ, ◌+◌, ◌*◌, ◌∙◌, ap, sym, refl, subst, map, length, arith, List, Vec, Global}
+use Rattle.std.proofs.Common.{◌≡◌, ℕ, ◌*◌, ◌∙◌, ap, sym, refl, subst, map, length, arith, List, Vec, Global}
 use Rattle.std.proofs.lemmas.List.{length-map}
 use Rattle.zk_model.specs.Frames as model
 use Rattle.zk_model.specs.Files.{correlations_per_unit}
@@ -7,7 +7,6 @@ use Rattle.zk_model.specs.HonestProver.{round_asks}
 use Rattle.zk_model.specs.ServedVerifier.{round_replies}
 use Rattle.zk_model.specs.declared.Span.{Span}
 use Rattle.round_fan.specs.Fans.{lists_of, replies_from, ArePairsFrom}
-use Rattle.session_core.specs.Fixing.{AreFirstPairs}
 use Rattle.session_rehearsal.proofs.HeldRounds.{KnowsRound, knows_round, asks_fit, replies_fit, asked_short, replied_short, round_held}
 use Rattle.session_rehearsal.proofs.exchange.extend.Goals as goal
 use Rattle.session_rehearsal.proofs.exchange.extend.Goals.{After-deref, After-deref-2}

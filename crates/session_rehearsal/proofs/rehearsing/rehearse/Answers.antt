@@ -5,7 +5,7 @@ use Rattle.zk_model.specs.Circuit.{output_wire}
 use Rattle.zk_model.specs.Statement.{Statement, circuit_statement}
 use Rattle.zk_model.proofs.ExampleTools.{bytes_by_test}
 use Rattle.bristol_reader.proofs.Exits.{raised}
-use Rattle.session_rehearsal.specs.Rehearsals.{IsClaimed, RehearseCause}
+use Rattle.session_rehearsal.specs.Rehearsals.{RehearseCause}
 use Rattle.session_rehearsal.proofs.rehearsing.rehearse.Goals as goal
 
 pub returns-in_err-wires-clause-cause : goal.returns-in_err-wires-clause-cause
