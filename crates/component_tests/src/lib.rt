@@ -1,7 +1,8 @@
 //! Tests of the parts that stand below sessions, against values that the program did not make.
 //!
-//! `worked_values` has worked values of the field, checks, circuits, frames and findings, `port_tests` the objects in memory,
-//! `dealing_tests` dealt files and journals against bytes that `vectors/dealt_files.py` computes, which `vectors` has.
+//! `worked_values` has worked values of the field, checks, circuits, frames and findings, `walk_tests` of trees, slots, walks and parts
+//! of sums, `port_tests` the objects in memory, `dealing_tests` dealt files and journals against bytes that `vectors/dealt_files.py`
+//! computes, which `vectors` has.
 #![tactic(auto)]
 
 #[cfg(test)]
@@ -10,5 +11,7 @@ mod dealing_tests;
 mod port_tests;
 #[cfg(test)]
 mod vectors;
+#[cfg(test)]
+mod walk_tests;
 #[cfg(test)]
 mod worked_values;
