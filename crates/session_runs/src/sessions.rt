@@ -86,7 +86,8 @@ pub fn link_of(alloc: Global, script: Vec<u8>, call: u64, piece: u64) -> Result<
 }
 
 /// A verifier's session whose units are leased from this one on, or refused, and what it asked for, with the statement that it took.
-fn verified(
+fn verified<R: Threads + Sync>(
+    rt: &R,
     alloc: Global,
     jobs: &VerifierJobs<'_>,
     start: u64,
@@ -102,7 +103,7 @@ fn verified(
         asked: None,
         answer: None,
     };
-    let note = verify_session(alloc, jobs, &mut grantor, link, &QuietGate);
+    let note = verify_session(rt, alloc, jobs, &mut grantor, link, &QuietGate);
     let asked = match grantor.asked {
         Some(count) => Asked::Count(count),
         None => Asked::Nothing,
@@ -118,7 +119,13 @@ fn verified(
 }
 
 /// A prover's session whose units are claimed, or refused, and what it asked for.
-fn proved(alloc: Global, job: &ProverJob<'_>, fault: Option<ClaimFault>, link: PieceLink) -> Session
+fn proved<R: Threads + Sync>(
+    rt: &R,
+    alloc: Global,
+    job: &ProverJob<'_>,
+    fault: Option<ClaimFault>,
+    link: PieceLink,
+) -> Session
     requires { (⟦<PieceLink as Link>⟧.state link).is_open ≡ true }
 {
     let mut claimant = AskedUnits {
@@ -127,7 +134,7 @@ fn proved(alloc: Global, job: &ProverJob<'_>, fault: Option<ClaimFault>, link: P
         asked: None,
         answer: None,
     };
-    let note = prove_session(alloc, job, &mut claimant, link);
+    let note = prove_session(rt, alloc, job, &mut claimant, link);
     let asked = match claimant.asked {
         Some((start, count)) => Asked::From(start, count),
         None => Asked::Nothing,
@@ -149,26 +156,33 @@ fn proved(alloc: Global, job: &ProverJob<'_>, fault: Option<ClaimFault>, link: P
 }
 
 /// What a prover sends whose peer sends these bytes.
-fn prover_part(alloc: Global, job: &ProverJob<'_>, heard: &[u8]) -> Result<Vec<u8>> {
+fn prover_part<R: Threads + Sync>(
+    rt: &R,
+    alloc: Global,
+    job: &ProverJob<'_>,
+    heard: &[u8],
+) -> Result<Vec<u8>> {
     let link = link_of(alloc, heard.to_vec(alloc)?, 0, 4096)?;
-    let session = proved(alloc, job, None, link);
+    let session = proved(rt, alloc, job, None, link);
     Ok(part_of(alloc, &session.log, Side::Prover)?)
 }
 
 /// What a verifier sends whose peer sends these bytes.
-fn verifier_part(
+fn verifier_part<R: Threads + Sync>(
+    rt: &R,
     alloc: Global,
     jobs: &VerifierJobs<'_>,
     start: u64,
     heard: &[u8],
 ) -> Result<Vec<u8>> {
     let link = link_of(alloc, heard.to_vec(alloc)?, 0, 4096)?;
-    let (_, session) = verified(alloc, jobs, start, None, link);
+    let (_, session) = verified(rt, alloc, jobs, start, None, link);
     Ok(part_of(alloc, &session.log, Side::Verifier)?)
 }
 
 /// The session that both ends hold with each other: turn by turn, each has what the other has sent.
-fn hold_dialogue(
+fn hold_dialogue<R: Threads + Sync>(
+    rt: &R,
     alloc: Global,
     start: u64,
     prover: &ProverJob<'_>,
@@ -179,8 +193,8 @@ fn hold_dialogue(
         verifier: Vec::new(alloc),
     };
     for _ in 0..4 {
-        sent.prover = prover_part(alloc, prover, &sent.verifier)?;
-        sent.verifier = verifier_part(alloc, verifier, start, &sent.prover)?;
+        sent.prover = prover_part(rt, alloc, prover, &sent.verifier)?;
+        sent.verifier = verifier_part(rt, alloc, verifier, start, &sent.prover)?;
     }
     Ok(sent)
 }
@@ -275,7 +289,8 @@ enum Party<'a, 'b> {
 }
 
 /// The line of one session.
-fn case_line(
+fn case_line<R: Threads + Sync>(
+    rt: &R,
     alloc: Global,
     scenario: &Scenario<'_>,
     party: &Party<'_, '_>,
@@ -291,19 +306,20 @@ fn case_line(
     match party {
         Party::Verifier(jobs) => {
             let fault = lease_fault(scenario)?;
-            let (statement, session) = verified(alloc, jobs, scenario.start, fault, link);
+            let (statement, session) = verified(rt, alloc, jobs, scenario.start, fault, link);
             let taken = taken_word(alloc, scenario, statement)?;
             line_of(alloc, &name, &taken, &session)
         }
         Party::Prover(job) => {
             let fault = claim_fault(scenario)?;
-            line_of(alloc, &name, "", &proved(alloc, job, fault, link))
+            line_of(alloc, &name, "", &proved(rt, alloc, job, fault, link))
         }
     }
 }
 
 /// The lines of one end's sessions, whose honest peer sends these bytes.
-fn case_lines(
+fn case_lines<R: Threads + Sync>(
+    rt: &R,
     alloc: Global,
     scenario: &Scenario<'_>,
     party: &Party<'_, '_>,
@@ -311,13 +327,14 @@ fn case_lines(
 ) -> Result<String> {
     let mut lines = String::new(alloc);
     for case in cases_of(alloc, scenario, honest)? {
-        lines.push_str(&case_line(alloc, scenario, party, case)?)?;
+        lines.push_str(&case_line(rt, alloc, scenario, party, case)?)?;
     }
     Ok(lines)
 }
 
 /// What the honest peers of a service send: the first over the first unit that is stated, and each over the units after.
-fn honest_peers(
+fn honest_peers<R: Threads + Sync>(
+    rt: &R,
     alloc: Global,
     scenario: &Scenario<'_>,
     prover: &ProverJob<'_>,
@@ -326,7 +343,7 @@ fn honest_peers(
     let mut honest = Vec::new(alloc);
     let mut start = scenario.start;
     for _ in 0..scenario.service.peers {
-        let sent = hold_dialogue(alloc, start, prover, verifier)?;
+        let sent = hold_dialogue(rt, alloc, start, prover, verifier)?;
         honest.push(sent.prover)?;
         start = start.saturating_add(u64::from(verifier.noted(None).units()));
     }
@@ -343,18 +360,19 @@ fn lines_of<R: Threads + Wait + Sync>(
 ) -> Result<String> {
     let scenario = claimed.scenario;
     if scenario.end == End::Service {
-        let honest = honest_peers(alloc, scenario, prover, verifier)?;
+        let honest = honest_peers(rt, alloc, scenario, prover, verifier)?;
         return service_lines(rt, alloc, claimed, &honest);
     }
-    let sent = hold_dialogue(alloc, scenario.start, prover, verifier)?;
+    let sent = hold_dialogue(rt, alloc, scenario.start, prover, verifier)?;
     match scenario.end {
         End::Proof => proof_lines(rt, alloc, claimed, &sent.verifier),
-        _ => party_lines(alloc, scenario, prover, verifier, &sent),
+        _ => party_lines(rt, alloc, scenario, prover, verifier, &sent),
     }
 }
 
 /// The lines of sessions of the one end, the other or both.
-fn party_lines(
+fn party_lines<R: Threads + Sync>(
+    rt: &R,
     alloc: Global,
     scenario: &Scenario<'_>,
     prover: &ProverJob<'_>,
@@ -363,11 +381,11 @@ fn party_lines(
 ) -> Result<String> {
     let (verifier, prover) = (Party::Verifier(verifier), Party::Prover(prover));
     match scenario.end {
-        End::Verifier => case_lines(alloc, scenario, &verifier, &sent.prover),
-        End::Prover => case_lines(alloc, scenario, &prover, &sent.verifier),
+        End::Verifier => case_lines(rt, alloc, scenario, &verifier, &sent.prover),
+        End::Prover => case_lines(rt, alloc, scenario, &prover, &sent.verifier),
         _ => {
-            let mut lines = case_lines(alloc, scenario, &verifier, &sent.prover)?;
-            lines.push_str(&case_lines(alloc, scenario, &prover, &sent.verifier)?)?;
+            let mut lines = case_lines(rt, alloc, scenario, &verifier, &sent.prover)?;
+            lines.push_str(&case_lines(rt, alloc, scenario, &prover, &sent.verifier)?)?;
             Ok(lines)
         }
     }
@@ -442,14 +460,15 @@ fn unfit_lines<R: Threads + Wait + Sync>(
 ) -> Result<String> {
     let TooLarge { need, units } = *fault;
     match claimed.scenario.end {
-        End::Prover => case_lines(alloc, claimed.scenario, &Party::Prover(prover), &[]),
+        End::Prover => case_lines(rt, alloc, claimed.scenario, &Party::Prover(prover), &[]),
         End::Proof => proof_lines(rt, alloc, claimed, &[]),
         _ => Ok(format!(in alloc; "too-large need={need} units={units}\n")?),
     }
 }
 
 /// A rehearsal over files of its own.
-fn rehearsed(
+fn rehearsed<R: Threads + Sync>(
+    rt: &R,
     alloc: Global,
     scenario: &Scenario<'_>,
     public: &[bool],
@@ -461,15 +480,20 @@ fn rehearsed(
         return Err(Error::msg("another circuit"));
     }
     let kind = params_of(scenario)?.kind;
-    let rehearsal = rehearse(alloc, circuit, public, private, kind, section, &SEED)?;
+    let rehearsal = rehearse(rt, alloc, circuit, public, private, kind, section, &SEED)?;
     Ok(rehearsal)
 }
 
 /// The line of a rehearsal.
-fn rehearsal_line(alloc: Global, scenario: &Scenario<'_>, circuit: &Circuit) -> Result<String> {
+fn rehearsal_line<R: Threads + Sync>(
+    rt: &R,
+    alloc: Global,
+    scenario: &Scenario<'_>,
+    circuit: &Circuit,
+) -> Result<String> {
     let bits = input_bits(alloc, circuit, scenario)?;
     let (public, private) = bits.all.split_at(bits.public);
-    let rehearsal = rehearsed(alloc, scenario, public, private)?;
+    let rehearsal = rehearsed(rt, alloc, scenario, public, private)?;
     let judged = Judged {
         verdict: rehearsal.verdict,
     };
@@ -481,11 +505,16 @@ fn rehearsal_line(alloc: Global, scenario: &Scenario<'_>, circuit: &Circuit) -> 
 }
 
 /// The lines of audits of a rehearsal's log.
-fn audits_of(alloc: Global, scenario: &Scenario<'_>, circuit: &Circuit) -> Result<String> {
+fn audits_of<R: Threads + Sync>(
+    rt: &R,
+    alloc: Global,
+    scenario: &Scenario<'_>,
+    circuit: &Circuit,
+) -> Result<String> {
     let bits = input_bits(alloc, circuit, scenario)?;
     let outputs = claimed_outputs(alloc, circuit, scenario.outputs, &bits.all)?;
     let (public, private) = bits.all.split_at(bits.public);
-    let rehearsal = rehearsed(alloc, scenario, public, private)?;
+    let rehearsal = rehearsed(rt, alloc, scenario, public, private)?;
     let cases = cases_of(alloc, scenario, rehearsal.log.bytes())?;
     audit_lines(
         alloc,
@@ -516,8 +545,8 @@ pub fn scenario_lines<R: Threads + Wait + Sync>(
     }
     let circuit = read(alloc, scenario.text)?;
     match scenario.end {
-        End::Rehearsal => rehearsal_line(alloc, scenario, &circuit),
-        End::Audit => audits_of(alloc, scenario, &circuit),
+        End::Rehearsal => rehearsal_line(rt, alloc, scenario, &circuit),
+        End::Audit => audits_of(rt, alloc, scenario, &circuit),
         _ => circuit_lines(rt, alloc, scenario, &circuit, digest_of(scenario.text)),
     }
 }
