@@ -8,7 +8,7 @@ ghost use Rattle.file_commands.specs.Effects.{effects};
 use crate::finish::{Ending, Part};
 use crate::rehearse_command::say_rehearsal;
 use bristol_reader::{ReadError, read};
-use circuit_gen::generate;
+use circuit_gen::{Generated, generate};
 use file_commands::{Refusal, say_stop};
 use session_rehearsal::{Rehearsal, RehearseFault, rehearse};
 use std::alloc::Global;
@@ -39,14 +39,15 @@ fn rehearse_generated<R: Threads + Sync>(
     ensures rehearsed { IfOk result (IsGenerated (generate_words words.now) seed.now) }
     ensures stop { IfErr result (GenerateStop (generate_words words.now)) }
 {
-    let made = generate(alloc, words.gates, words.number)?;
-    let circuit = match read(alloc, &made.text) {
+    let Generated { text, bits, .. } = generate(alloc, words.gates, words.number)?;
+    let circuit = match read(alloc, &text) {
         Ok(circuit) => circuit,
         Err(ReadError::Fault(_)) => unreachable!(),
         Err(ReadError::NoMemory) => return Err(Refusal::NoMemory),
     };
+    drop(text);
     let (kind, section) = (words.kind, words.section);
-    match rehearse(rt, alloc, circuit, &[], &made.bits, kind, section, seed) {
+    match rehearse(rt, alloc, circuit, &[], &bits, kind, section, seed) {
         Ok(rehearsal) => Ok(rehearsal),
         Err(RehearseFault::WrongLength { .. }) => unreachable!(),
         Err(RehearseFault::TooLarge { need, units }) => Err(Refusal::TooLarge { need, units }),

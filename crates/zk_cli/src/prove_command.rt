@@ -146,6 +146,7 @@ fn load_witness<F: Shelf>(
     let wires = satisfying_wires(alloc, &circuit, words)?;
     drop(wires);
     let digest = Sha256::digest(&text);
+    drop(text);
     let claim = CircuitClaim::new(alloc, &circuit, digest, words.public, words.outputs)?;
     let inputs = elements_of(alloc, words.bits)?;
     Ok(Witness { claim, inputs })

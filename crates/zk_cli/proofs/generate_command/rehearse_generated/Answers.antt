@@ -10,6 +10,6 @@ pub returns-in-Ok-rehearse-clause-rehearsed : goal.returns-in-Ok-rehearse-clause
 returns-in-Ok-rehearse-clause-rehearsed g c =
     let drawn : Circuit = generated_circuit c.args.words.now.gates c.args.words.now.number in
     let same : drawn ≡ c.in-Ok.circuit =
-    c.in-Ok.ensures.found.only drawn (subst (IsText drawn) (sym c.deref.ensures.value) c.in_ok-made.ensures.says) in
+    c.in-Ok.ensures.found.only drawn (subst (IsText drawn) (sym c.deref.ensures.value) c.in_ok-text.ensures.says) in
     subst (λ (q : Circuit × List Bool). IsRehearsalOf q.0 [] q.1 c.args.words.now.kind c.args.words.now.section c.args.seed.now c.in-Ok-rehearse.rehearsal)
-    (λ i. (sym same i, (c.deref-2.ensures.value ∙ c.in_ok-made.ensures.bits) i)) c.in-Ok-rehearse.ensures.done
+    (λ i. (sym same i, (c.deref-2.ensures.value ∙ c.in_ok-text.ensures.bits) i)) c.in-Ok-rehearse.ensures.done
