@@ -16,7 +16,7 @@ use Rattle.zk_cli.proofs.prove_command.load_witness.Goals as goal
 pub new-requires-clause-digest : goal.new-requires-clause-digest
 new-requires-clause-digest g c = subst (AreBytes 32) (sym c.digest-digest.ensures) (length-sha256 _, sha256_octets _)
 
-stated : (g : Over) (c : goal.After-drop-text-2 g) → c.in_ok-claim.claim
+stated : (g : Over) (c : goal.After-drop-circuit-inside-2 g) → c.in_ok-claim.claim
     ≡ circuit_statement c.in_ok-circuit.circuit (sha256 c.in_ok-text.text.items) c.args.words.now.public.now c.args.words.now.outputs.now
 stated g c = c.in_ok-claim.ensures
     ∙ ap (λ (digest : List ℕ). circuit_statement c.in_ok-circuit.circuit digest c.args.words.now.public.now c.args.words.now.outputs.now) c.digest-digest.ensures
