@@ -2,3 +2,5 @@ mod Over
 pub mod Products
 pub mod Sectioning
 pub mod WeightedSums
+mod Streaming
+mod Testing

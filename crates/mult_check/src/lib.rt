@@ -1,18 +1,27 @@
 //! The batched check of products and the openings of wires: what a prover sends, and what a verifier tests (Yang, Sarkar,
 //! Weng and Wang, QuickSilver, ACM CCS 2021).
 //!
-//! `parts` has the sums of parts of a list of products, on either side, and of one section; `sections` has `prover_sums` and `check`, over all sections, block by
-//! block; `openings` has `check_openings`.
+//! `parts` has the sums of parts of a list of products, on either side, and of one section; `sections` has `prover_sums` and
+//! `check`, over all sections of wires that are held; `streams` has `stream_sums` and `stream_check`, the same along walks that hold
+//! a block of products at most, by so many workers, and `walked` what both have in common; `openings` has `check_openings`.
 //!
 //!     let sums = prover_sums(alloc, &wires, g, challenge, masks)?;  // at the prover
 //!     check(&wires, g, challenge, mask_keys, key, &sums)?;          // at the verifier: or the first section that differs
 //!     check_openings(&wires, key, &openings, claims)?;
+//!
+//!     let sums = stream_sums(rt, alloc, &mut walk, g, challenge, masks, workers)?;
+//!     stream_check(rt, alloc, &mut walk, g, challenge, mask_keys, key, &sums, workers)?;
 #![tactic(auto)]
 
+mod fault;
 mod openings;
 mod parts;
 mod sections;
+mod streams;
+mod walked;
 
+pub use fault::StreamFault;
 pub use openings::{OpeningDiffers, check_openings};
 pub use parts::{ProverPart, VerifierPart, section_left, section_sums};
 pub use sections::{Differs, check, prover_sums};
+pub use streams::{stream_check, stream_sums};

@@ -8,6 +8,23 @@ use mersenne_field::{Fe, Pair};
 use std::marker::Model;
 use wire_auth::{KeyTriple, Triple};
 
+/// The sums over some of a list's items, at either end: over `T`, what the end has of a product.
+pub(crate) trait Sums<T>: Copy + Send + Sync {
+    ghost use Rattle.std.specs.Prelude.{List, [], ◌++◌};
+
+    /// Sums over these items, for what a part over no item was made for.
+    ghost Over: { Self → List T → Self → Type 0 };
+
+    /// With the next items, in order.
+    fn with(self, items: &[T]) -> Self
+        ensures { (none : Self) (before : List T) → Over none before self → Over none (before ++ items.now) result };
+
+    /// With those of a later part.
+    fn and(self, later: Self) -> Self
+        ensures { (none : Self) (first rest : List T) → Over none first self → Over none rest later
+            → Over none (first ++ rest) result };
+}
+
 /// The prover's two sums over some of a list's products, and the power of the challenge that the last of them has. With the
 /// i-th product times the i-th power of the challenge, from the first on, the one sum adds up `a.m * b.m`, and the other
 /// `a.x * b.m + b.x * a.m - c.m` (Yang, Sarkar, Weng and Wang, QuickSilver, ACM CCS 2021). It takes no memory.
@@ -200,6 +217,36 @@ impl VerifierPart {
             → result ≡ section_left key challenge triples mask }
     {
         self.sum + mask
+    }
+}
+
+impl Sums<Triple> for ProverPart {
+    ghost use Rattle.mult_check.specs.Parts.{AreSumsOf};
+
+    ghost Over = { λ none triples part. AreSumsOf none.challenge triples part };
+
+    fn with(mut self, triples: &[Triple]) -> Self {
+        self.extend(triples);
+        self
+    }
+
+    fn and(self, later: ProverPart) -> Self {
+        self.join(later)
+    }
+}
+
+impl Sums<KeyTriple> for VerifierPart {
+    ghost use Rattle.mult_check.specs.Parts.{IsSumOf};
+
+    ghost Over = { λ none triples part. IsSumOf none.key none.challenge triples part };
+
+    fn with(mut self, triples: &[KeyTriple]) -> Self {
+        self.extend(triples);
+        self
+    }
+
+    fn and(self, later: VerifierPart) -> Self {
+        self.join(later)
     }
 }
 

@@ -1,7 +1,7 @@
 // All sections of a program's products.
-ghost use Rattle.std.specs.Prelude.{◌≡◌, ◌<◌, ◌≤◌, ◌*◌, ◌+◌, length, min, IfOk, IfErr};
+ghost use Rattle.std.specs.Prelude.{◌≡◌, ◌≢◌, ◌<◌, ◌≤◌, ◌*◌, ◌+◌, length, min, IfOk, IfErr};
 ghost use Rattle.zk_model.specs.Program.{part_count, section_count};
-ghost use Rattle.zk_model.specs.Check.{honest_sums, section_left, section_triples, section_keys, all_sums, AllSectionsHold};
+ghost use Rattle.zk_model.specs.Check.{honest_sums, section_left, section_right, section_triples, section_keys, all_sums, AllSectionsHold};
 ghost use Rattle.mult_check.specs.Checks.{product_check, DiffersFirst, products_between, keys_between};
 
 use crate::parts::{ProverPart, VerifierPart};
@@ -117,7 +117,7 @@ fn left_between(
 }
 
 /// Where section s begins and ends, for sections of this many of all products.
-fn section_bounds(products: usize, g: usize, s: usize) -> (usize, usize)
+pub(crate) fn section_bounds(products: usize, g: usize, s: usize) -> (usize, usize)
     requires at_least_one { 1 ≤ g }
     requires there { s < part_count products g }
     ensures first { result.0 ≡ s * g }
@@ -161,6 +161,28 @@ fn left_of_section(
     let products = wires.program().products();
     let (first, end) = section_bounds(products, g, s);
     left_between(wires, first, end, challenge, mask, key)
+}
+
+/// Tests the equation of a section of this left side, from the sums that were sent.
+///
+/// # Errors
+///
+/// Exactly where it fails: both sides.
+pub(crate) fn meets(section: u32, left: Fe, sums: (Fe, Fe), key: Fe) -> Result<(), Differs>
+    ensures holds { IfOk result (λ _. left ≡ section_right key sums) }
+    ensures differs { IfErr result (λ d. (left ≢ section_right key sums)
+        × (d ≡ record { section = section; left = left; right = section_right key sums })) }
+{
+    let (u, v) = sums;
+    let right = u + v * key;
+    if left != right {
+        return Err(Differs {
+            section,
+            left,
+            right,
+        });
+    }
+    Ok(())
 }
 
 /// U and V of every section of g products under its mask, for the challenge (Yang, Sarkar, Weng and Wang, QuickSilver, ACM
@@ -215,15 +237,7 @@ pub fn check(
     let _products = wires.program().products();
     for (s, mask) in mask_keys.iter().enumerate() {
         let left = left_of_section(wires, g as usize, s, challenge, *mask, key);
-        let (u, v) = sums[s];
-        let right = u + v * key;
-        if left != right {
-            return Err(Differs {
-                section: s as u32,
-                left,
-                right,
-            });
-        }
+        meets(s as u32, left, sums[s], key)?;
     }
     Ok(())
 }

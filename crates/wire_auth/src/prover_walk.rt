@@ -5,6 +5,7 @@ ghost use Rattle.zk_model.specs.Mac.{macs_of, pair_at};
 ghost use Rattle.zk_model.specs.Slots.{IsPlanOf};
 ghost use Rattle.zk_model.specs.declared.Product as zk;
 ghost use Rattle.wire_auth.specs.Values.{given_value};
+ghost use Rattle.field_program.specs.Programs.{IsSmallProgram};
 ghost use Rattle.wire_auth.specs.Walks.{side_made};
 
 use crate::carrying::first_numbers;
@@ -78,6 +79,14 @@ impl<'a> ProverWalk<'a> {
             values,
             macs,
         })
+    }
+
+    /// How many products the program has, whose pairs `next` gives.
+    pub fn products(&self) -> usize
+        ensures count { result ≡ length self.now.side.program.products }
+        ensures held { IsSmallProgram self.now.side.program }
+    {
+        self.values.program().products()
     }
 
     /// The pairs of the factors of the next product, and of its value; none after the last.

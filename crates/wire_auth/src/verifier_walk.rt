@@ -3,6 +3,7 @@ ghost use Rattle.std.specs.Prelude.{◌≡◌, ◌+◌, ◌<◌, ◌≤◌, ℕ,
 ghost use Rattle.zk_model.specs.Check.{key_triple};
 ghost use Rattle.zk_model.specs.Slots.{IsPlanOf};
 ghost use Rattle.zk_model.specs.declared.Product as zk;
+ghost use Rattle.field_program.specs.Programs.{IsSmallProgram};
 ghost use Rattle.wire_auth.specs.Walks.{keys_made};
 
 use crate::carrying::first_numbers;
@@ -75,6 +76,14 @@ impl<'a> VerifierWalk<'a> {
             key,
             walk,
         })
+    }
+
+    /// How many products the program has, whose keys `next` gives.
+    pub fn products(&self) -> usize
+        ensures count { result ≡ length self.now.side.program.products }
+        ensures held { IsSmallProgram self.now.side.program }
+    {
+        self.walk.program().products()
     }
 
     /// The keys of the factors of the next product, and of its value; none after the last.

@@ -1,0 +1,4 @@
+use Rattle.mult_check.proofs.parts.VerifierPartSumsKeyTriple.and.Goals as goal
+
+pub returns : goal.returns
+returns c none first rest before behind = c.join.ensures none.key none.challenge first rest before behind
