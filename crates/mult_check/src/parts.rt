@@ -17,7 +17,8 @@ pub(crate) trait Sums<T>: Copy + Send + Sync {
 
     /// With the next items, in order.
     fn with(self, items: &[T]) -> Self
-        ensures { (none : Self) (before : List T) → Over none before self → Over none (before ++ items.now) result };
+        ensures { (none : Self) (before : List T) → Over none before self
+            → Over none (before ++ items.now) result };
 
     /// With those of a later part.
     fn and(self, later: Self) -> Self

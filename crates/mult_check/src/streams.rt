@@ -38,7 +38,8 @@ impl<'a> Walk<Triple> for ProverWalk<'a> {
 
     ghost kept_both = { λ first then last far more. more ∙ far };
 
-    ghost kept_all = { λ first last kept. ap (λ side. map (product_triple side.pairs) side.program.products) kept };
+    ghost kept_all = { λ first last kept.
+        ap (λ side. map (product_triple side.pairs) side.program.products) kept };
 }
 
 impl<'a> Walk<KeyTriple> for VerifierWalk<'a> {
@@ -64,7 +65,8 @@ impl<'a> Walk<KeyTriple> for VerifierWalk<'a> {
 
     ghost kept_both = { λ first then last far more. more ∙ far };
 
-    ghost kept_all = { λ first last kept. ap (λ side. map (key_triple side.keys) side.program.products) kept };
+    ghost kept_all = { λ first last kept.
+        ap (λ side. map (key_triple side.keys) side.program.products) kept };
 }
 
 /// U and V of every section of g products under its mask, for the challenge, as `prover_sums` gives them, of a walk that has given no
