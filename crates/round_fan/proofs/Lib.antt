@@ -1,5 +1,4 @@
-mod Growing
-mod Joining
+mod Adding
 mod Units
 mod Pairs
 mod Replies

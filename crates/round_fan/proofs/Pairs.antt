@@ -1,25 +1,12 @@
 -- The pairs of neighbouring units grow unit by unit.
 use Rattle.std.proofs.Common.{◌≡◌, ℕ, zero, suc, ◌+◌, ◌*◌, ◌<◌, List, [], ◌∷◌, ◌++◌, length, refl, sym, ◌∙◌, ap, subst, arith, append-nil, length-append, Vec, Global}
-use Rattle.std.specs.Prelude.{slice_index_or, Result, Ok, Err, IfOk}
+use Rattle.std.specs.Prelude.{slice_index_or}
 use Rattle.std.proofs.lemmas.List.{length-map, map-append, get_or_append_left, get_or-append-add}
 use Rattle.zk_model.specs.Mac.{Pair}
 use Rattle.zk_model.specs.Files.{ProverFile, correlations_per_unit}
 use Rattle.zk_model.specs.Transcript.{TreeReply}
-use Rattle.round_fan.specs.Fans.{lists_of, AreUnits, AreRoundPairs, ArePairsFrom}
-use Rattle.round_fan.proofs.Growing.{Grows}
-use Rattle.round_fan.proofs.Units.{units_as, units_joined}
-
--- the pairs of units, from vectors of replies, and how many they are
-pub record ArePairs (file : ProverFile) (start : ℕ) (replies : List (Vec TreeReply Global)) (pairs : List Pair) : Type 0 where
-  pub made : ArePairsFrom file start (lists_of replies) pairs
-  pub count : length pairs ≡ length replies * correlations_per_unit file.params
-
--- of no unit
-no_pairs : (file : ProverFile) (start : ℕ) → ArePairs file start [] []
-no_pairs file start = record {
-  made = record { units = []; one_each = refl; each = λ i below. absurd (omega (arith, below)); joined = refl };
-  count = omega arith;
-}
+use Rattle.round_fan.specs.Fans.{lists_of, AreUnits, AreRoundPairs, ArePairsFrom, ArePairs}
+use Rattle.round_fan.proofs.Units.{units_as, units_joined, counts}
 
 -- of neighbours
 from_both : (file : ProverFile) (s : ℕ) (xs ys : List (List TreeReply)) (a b : List Pair)
@@ -35,20 +22,16 @@ from_both file s xs ys a b front back =
     far : (i : ℕ) → s + length xs + i ≡ s + (length xs + i)
     far i = omega arith
 
-pub pairs_grow : (file : ProverFile) → Grows (ArePairs file)
-pairs_grow file = record {
-  empty = no_pairs file;
-  more = λ s xs ys a b front back. record {
-    made = subst (λ l. ArePairsFrom file s l (a ++ b)) (sym (map-append (λ (v : Vec TreeReply Global). v.items) xs ys))
-        (from_both file s (lists_of xs) (lists_of ys) a b front.made
-        (subst (λ n. ArePairsFrom file (s + n) (lists_of ys) b) (sym (length-map xs (λ (v : Vec TreeReply Global). v.items))) back.made));
-    count = length-append a b ∙ (λ i. front.count i + back.count i) ∙ sums (length xs) (length ys) (correlations_per_unit file.params)
-        ∙ ap (λ n. n * correlations_per_unit file.params) (sym (length-append xs ys));
-  };
+-- the pairs of later units behind them
+pub pairs_more : (file : ProverFile) (s : ℕ) (xs ys : List (Vec TreeReply Global)) (a b : List Pair) → ArePairs file s xs a → ArePairs file (s + length xs) ys b
+    → ArePairs file s (xs ++ ys) (a ++ b)
+pairs_more file s xs ys a b front back = record {
+  made = subst (λ l. ArePairsFrom file s l (a ++ b)) (sym (map-append (λ (v : Vec TreeReply Global). v.items) xs ys))
+      (from_both file s (lists_of xs) (lists_of ys) a b front.made
+      (subst (λ n. ArePairsFrom file (s + n) (lists_of ys) b) (sym (length-map xs (λ (v : Vec TreeReply Global). v.items))) back.made));
+  count = length-append a b ∙ (λ i. front.count i + back.count i) ∙ counts (length xs) (length ys) (correlations_per_unit file.params)
+      ∙ ap (λ n. n * correlations_per_unit file.params) (sym (length-append xs ys));
 }
-  where
-    sums : (n m c : ℕ) → n * c + m * c ≡ (n + m) * c
-    sums n m c = omega arith
 
 -- the pairs of one unit
 pub one_unit : (file : ProverFile) (unit : ℕ) (trees : Vec TreeReply Global) (pairs : List Pair)
@@ -64,11 +47,3 @@ one_unit file unit trees pairs are counted = record {
     each : (i : ℕ) → i < 1 → AreRoundPairs file (unit + i) (slice_index_or (trees.items ∷ []) i []) (slice_index_or (pairs ∷ []) i [])
     each zero below = subst (λ n. AreRoundPairs file n trees.items pairs) (omega arith) are
     each (suc i) below = absurd (omega (arith, below))
-
--- what a worker makes of a block
-pub block_pairs : {F : Type 0} (file : ProverFile) (start : ℕ) (block chunk : List (Vec TreeReply Global)) (result : Result (Vec Pair Global) F) → block ≡ chunk
-    → IfOk result (λ pairs. ArePairsFrom file start (lists_of block) pairs.items × (length pairs.items ≡ length block * correlations_per_unit file.params))
-    → IfOk result (λ pairs. ArePairs file start chunk pairs.items)
-block_pairs file start block chunk (Ok pairs) is (made, count) =
-    subst (λ l. ArePairs file start l pairs.items) is (record { made = made; count = count })
-block_pairs file start block chunk (Err fault) is none = none

@@ -1,39 +1,36 @@
 -- Lists of vectors, and the pairs of units that stand one unit after another.
-use Rattle.std.proofs.Common.{◌≡◌, ◌⊎◌, inl, inr, ℕ, ◌+◌, ◌-◌, ◌*◌, ◌^◌, ◌<◌, ◌≤◌, List, [], ◌++◌, take, drop, length, get_or, sym, ◌∙◌, ap, subst, arith, rules, length-append, Vec, Global}
+use Rattle.std.proofs.Common.{◌≡◌, ◌⊎◌, inl, inr, ℕ, ◌+◌, ◌-◌, ◌*◌, ◌^◌, ◌<◌, ◌≤◌, List, [], ◌++◌, length, get_or, sym, ◌∙◌, ap, subst, arith, rules, length-append, Vec, Global}
 use Rattle.std.specs.Prelude.{All, slice_index_or}
-use Rattle.std.specs.Fork.{IsChunk}
-use Rattle.std.proofs.lemmas.List.{length-map, get_or-map, take-map, drop-map, get_or-take, get_or-drop, get_or_append_left, get_or-append-add}
+use Rattle.std.proofs.lemmas.List.{length-map, get_or-map, get_or_append_left, get_or-append-add}
 use Rattle.std.proofs.lemmas.List.Concat.{flat_map-append}
 use Rattle.zk_model.specs.Mac.{Pair}
 use Rattle.zk_model.specs.Files.{correlations_per_unit}
 use Rattle.zk_model.specs.declared.Kind.TheVariants.{Extended}
 use Rattle.zk_model.specs.declared.Params.{Params}
-use Rattle.round_fan.specs.Fans.{lists_of, AreUnits}
+use Rattle.linear_code.specs.Codes.{Code}
+use Rattle.vole_extend.specs.Rounds.{unit_code}
+use Rattle.round_fan.specs.Fans.{lists_of, AreUnits, Fit, DoFit}
 
 -- ---- lists of vectors
 
--- what all lists are, each vector's is
-pub list_at : {A : Type 0} (P : List A → Type 0) (vectors : List (Vec A Global)) (i : ℕ) (vector : Vec A Global) → All P (lists_of vectors)
-    → i < length vectors → vector ≡ get_or vectors i vector → P vector.items
-list_at P vectors i vector all below at =
-    subst P (get_or-map (λ v. v.items) vectors i vector [] below ∙ ap (λ (v : Vec _ Global). v.items) (sym at))
-    (all i [] (omega (arith, below, length-map vectors (λ (v : Vec _ Global). v.items))))
-
--- and those of a chunk are
-pub chunk_lists : {A : Type 0} (P : List A → Type 0) (vectors chunk : List (Vec A Global)) (size start : ℕ) → All P (lists_of vectors)
-    → IsChunk vectors size start chunk → All P (lists_of chunk)
-chunk_lists P vectors chunk size start all is k d below =
-    let short : k < length chunk = omega (arith, below, length-map chunk (λ (v : Vec _ Global). v.items)) in
-    let cut : lists_of chunk ≡ take size (drop start (lists_of vectors)) =
-    ap lists_of is.value ∙ sym (take-map (λ (v : Vec _ Global). v.items) size (drop start vectors))
-    ∙ ap (take size) (sym (drop-map (λ (v : Vec _ Global). v.items) start vectors)) in
-    subst P
-    (sym (ap (λ l. get_or l k d) cut
-    ∙ get_or-take size (drop start (lists_of vectors)) k d (omega (arith, short, is.at_most_size))
-    ∙ get_or-drop start (lists_of vectors) k d))
-    (all (start + k) d (omega (arith, short, is.in_bounds, length-map vectors (λ (v : Vec _ Global). v.items))))
+-- what came for all units fits each of them
+pub all_fit : {A : Type 0} (Are : ℕ → ℕ → List A → Type 0) (params : Params) (code_seed : List ℕ) (code : Code) (start : ℕ) (came : List (Vec A Global))
+    → params.kind ≡ Extended → start + length came ≤ params.total → code ≡ unit_code params code_seed → All (Are params.height params.trees) (lists_of came)
+    → DoFit (λ unit (one : Vec A Global). Fit Are params code_seed code unit one.items) start came
+all_fit Are params code_seed code start came extended within columns all i one below at = record {
+  extended = extended;
+  within = omega (arith, below, within);
+  columns = columns;
+  fits = subst (Are params.height params.trees)
+      (get_or-map (λ (v : Vec _ Global). v.items) came i one [] below ∙ ap (λ (v : Vec _ Global). v.items) (sym at))
+      (all i [] (omega (arith, below, length-map came (λ (v : Vec _ Global). v.items))));
+}
 
 -- ---- units
+
+-- two runs of units give as many as one of them all
+pub counts : (n m c : ℕ) → n * c + m * c ≡ (n + m) * c
+counts n m c = omega arith
 
 -- how many correlations a unit gives
 pub per_unit : (params : Params) → params.kind ≡ Extended → correlations_per_unit params ≡ params.trees * 2 ^ params.height

@@ -1,9 +1,13 @@
 -- What rounds over neighbouring units make, unit by unit.
-use Rattle.std.specs.Prelude.{◌≡◌, ℕ, ◌+◌, ◌<◌, List, [], map, flat_map, length, slice_index_or, Result, Ok, Vec}
+use Rattle.std.specs.Prelude.{◌≡◌, ℕ, ◌+◌, ◌*◌, ◌<◌, List, [], ◌∷◌, map, flat_map, length, slice_index_or, IfOk, Result, Vec}
 use Rattle.std.specs.Global.{Global}
 use Rattle.std.specs.List.{enumerate_from, range_with_len}
 use Rattle.zk_model.specs.Mac.{Pair}
-use Rattle.zk_model.specs.Files.{ProverFile, VerifierFile, prover_unit}
+use Rattle.zk_model.specs.Files.{ProverFile, VerifierFile, prover_unit, correlations_per_unit}
+use Rattle.zk_model.specs.declared.Kind.TheVariants.{Extended}
+use Rattle.zk_model.specs.declared.Params.{Params}
+use Rattle.linear_code.specs.Codes.{Code}
+use Rattle.vole_extend.specs.Rounds.{unit_code}
 use Rattle.zk_model.specs.Transcript.{TreeAsk, TreeReply}
 use Rattle.zk_model.specs.Correlations.{IsExtension, unit_keys}
 use Rattle.zk_model.specs.HonestProver.{honest_asks}
@@ -43,10 +47,31 @@ replies_from file start asks = map (λ entry. unit_reply file entry.0 entry.1) (
 abbrev pub keys_from : VerifierFile → ℕ → ℕ → List ℕ
 keys_from file start count = flat_map (unit_keys file) (range_with_len start count)
 
--- ---- blocks
+-- ---- rounds
 
--- all blocks were made, and these items are theirs, one block after another
-pub record AreJoined {B F Y : Type 0} (read : B → List Y) (blocks : List (Result B F)) (items : List Y) : Type 0 where
-  pub made : List B
-  pub each : blocks ≡ map Ok made
-  pub joined : items ≡ flat_map read made
+-- every unit's round made something, of which this holds by the unit's number and what came for it
+pub record AreMade {X M F : Type 0} (Makes : ℕ → List X → M → Type 0) (start : ℕ) (came : List X) (made : List (Result M F)) : Type 0 where
+  pub one_each : length made ≡ length came
+  pub each : (i : ℕ) (x : X) (other : Result M F) → i < length came → IfOk (slice_index_or made i other) (Makes (start + i) (slice_index_or came i x ∷ []))
+
+-- what came for each of the units from this one on fits the unit
+abbrev pub DoFit : {X : Type 0} → (ℕ → X → Type 0) → ℕ → List X → Type 0
+DoFit {X = X} Fits start came = (i : ℕ) (x : X) → i < length came → x ≡ slice_index_or came i x → Fits (start + i) x
+
+-- the unit is one of an extended file of this code, and as much came for it as it has trees
+pub record Fit {A : Type 0} (Are : ℕ → ℕ → List A → Type 0) (params : Params) (code_seed : List ℕ) (code : Code) (unit : ℕ) (came : List A) : Type 0 where
+  pub extended : params.kind ≡ Extended
+  pub within : unit < params.total
+  pub columns : code ≡ unit_code params code_seed
+  pub fits : Are params.height params.trees came
+
+-- the pairs of the units from this one on, and how many they are
+pub record ArePairs (file : ProverFile) (start : ℕ) (replies : List (Vec TreeReply Global)) (pairs : List Pair) : Type 0 where
+  pub made : ArePairsFrom file start (lists_of replies) pairs
+  pub count : length pairs ≡ length replies * correlations_per_unit file.params
+
+-- the replies of the units from this one on, and their keys
+pub record AreReplied (file : VerifierFile) (start : ℕ) (asks : List (Vec TreeAsk Global)) (replies : List (Vec TreeReply Global)) (keys : List ℕ) : Type 0 where
+  pub replied : lists_of replies ≡ replies_from file start (lists_of asks)
+  pub keyed : keys ≡ keys_from file start (length asks)
+  pub count : length keys ≡ length asks * correlations_per_unit file.params

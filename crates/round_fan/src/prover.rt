@@ -4,18 +4,51 @@ ghost use Rattle.zk_model.specs.Files.{correlations_per_unit};
 ghost use Rattle.zk_model.specs.Frames.{AreReplies};
 ghost use Rattle.zk_model.specs.declared.Kind.TheVariants.{Extended};
 ghost use Rattle.vole_extend.specs.Rounds.{unit_code};
-ghost use Rattle.round_fan.specs.Fans.{lists_of, ArePairsFrom, AreJoined};
+ghost use Rattle.round_fan.specs.Fans.{lists_of, ArePairsFrom};
 
-use crate::blocks::{block_size, room_of};
+use crate::room::room_of;
+use crate::rounds::{Rounds, one_by_one, some_at_a_time};
 use dealer_files::ProverFile;
 use linear_code::Columns;
 use mersenne_field::Pair;
 use std::alloc::{AllocError, Global};
-use std::thread;
 use std::thread::Threads;
 use tree_messages::TreeReply;
 use vole_extend::ProverRound;
 use zk_model::Span;
+
+/// A prover's rounds over units of an extended file.
+#[derive(Clone, Copy)]
+struct ProverRounds<'a> {
+    file: &'a ProverFile,
+    columns: &'a Columns,
+}
+
+impl<'a> Rounds<Vec<TreeReply>, Vec<Pair>> for ProverRounds<'a> {
+    ghost use Rattle.zk_model.specs.Frames.{AreReplies};
+    ghost use Rattle.round_fan.specs.Fans.{ArePairs, Fit};
+
+    ghost Fits = { λ rounds unit came.
+        Fit AreReplies rounds.file.now.params rounds.file.now.code_seed rounds.columns.now unit came.items };
+
+    ghost Makes = { λ rounds start replies pairs. ArePairs rounds.file.now start replies pairs.items };
+
+    fn make(
+        &self,
+        alloc: Global,
+        unit: u64,
+        came: &Vec<TreeReply>,
+    ) -> Result<Vec<Pair>, AllocError> {
+        let round = ProverRound::new(self.file, unit);
+        let pairs = round.finish(alloc, self.columns, came)?;
+        Ok(pairs)
+    }
+
+    fn add(&self, all: &mut Vec<Pair>, more: Vec<Pair>) -> Result<(), AllocError> {
+        all.extend_from_slice(&more)?;
+        Ok(())
+    }
+}
 
 /// The pairs of the units from this one on, from the replies for the trees of each, on one thread.
 ///
@@ -39,26 +72,8 @@ pub fn unit_pairs(
 {
     let _total = file.total();
     let mut pairs = Vec::with_capacity(alloc, room_of(&file.params(), replies.len()))?;
-    for (i, trees) in replies.iter().enumerate() {
-        let round = ProverRound::new(file, start + i as u64);
-        let more = round.finish(alloc, columns, trees)?;
-        pairs.extend_from_slice(&more)?;
-    }
-    Ok(pairs)
-}
-
-/// The pairs of all blocks, one block after another.
-fn joined_pairs(
-    alloc: Global,
-    room: usize,
-    blocks: Vec<Result<Vec<Pair>, AllocError>>,
-) -> Result<Vec<Pair>, AllocError>
-    ensures { IfOk result (λ pairs. AreJoined (λ block. block.items) blocks.items pairs.items) }
-{
-    let mut pairs = Vec::with_capacity(alloc, room)?;
-    for block in blocks {
-        pairs.extend_from_slice(&block?)?;
-    }
+    let rounds = ProverRounds { file, columns };
+    one_by_one(alloc, &rounds, start, replies, &mut pairs)?;
     Ok(pairs)
 }
 
@@ -88,24 +103,9 @@ pub fn fan_prover<R: Threads + Sync>(
     ensures count { IfOk result (λ pairs. length pairs.items
         ≡ length replies.now * correlations_per_unit file.now.params) }
 {
-    let start = span.start;
-    let size = block_size(replies.len(), workers);
-    if replies.len() <= size {
-        return unit_pairs(alloc, file, columns, start, replies);
-    }
     let _total = file.total();
-    let part = |from: usize, block: &[Vec<TreeReply>]| -> Result<Vec<Pair>, AllocError>
-        requires { (file.now.params.kind ≡ Extended)
-            × (start + from + length block.now ≤ file.now.params.total)
-            × (columns.now ≡ unit_code file.now.params file.now.code_seed)
-            × All (AreReplies file.now.params.height file.now.params.trees) (lists_of block.now) }
-        ensures { IfOk result (λ pairs.
-            ArePairsFrom file.entry.now (start + from) (lists_of block.entry.now) pairs.items
-            × (length pairs.items ≡ length block.entry.now * correlations_per_unit file.entry.now.params)) }
-    {
-        let _total = file.total();
-        unit_pairs(alloc, file, columns, start + from as u64, block)
-    };
-    let blocks = thread::map_chunks(rt, alloc, replies, size, &part)?;
-    joined_pairs(alloc, room_of(&file.params(), replies.len()), blocks)
+    let mut pairs = Vec::with_capacity(alloc, room_of(&file.params(), replies.len()))?;
+    let rounds = ProverRounds { file, columns };
+    some_at_a_time(rt, alloc, &rounds, span.start, replies, workers, &mut pairs)?;
+    Ok(pairs)
 }

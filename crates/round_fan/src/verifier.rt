@@ -5,14 +5,14 @@ ghost use Rattle.zk_model.specs.Files.{AreParams, correlations_per_unit};
 ghost use Rattle.zk_model.specs.Frames.{AreAsks};
 ghost use Rattle.zk_model.specs.declared.Kind.TheVariants.{Extended};
 ghost use Rattle.vole_extend.specs.Rounds.{unit_code};
-ghost use Rattle.round_fan.specs.Fans.{lists_of, replies_from, keys_from, AreJoined};
+ghost use Rattle.round_fan.specs.Fans.{lists_of, replies_from, keys_from};
 
-use crate::blocks::{block_size, room_of};
+use crate::room::room_of;
+use crate::rounds::{Rounds, one_by_one, some_at_a_time};
 use dealer_files::VerifierFile;
 use linear_code::Columns;
 use mersenne_field::Fe;
 use std::alloc::{AllocError, Global};
-use std::thread;
 use std::thread::Threads;
 use tree_messages::{TreeAsk, TreeReply};
 use vole_extend::VerifierRound;
@@ -23,6 +23,41 @@ use zk_model::Span;
 pub struct FanReply {
     pub replies: Vec<Vec<TreeReply>>,
     pub keys: Vec<Fe>,
+}
+
+/// A verifier's rounds over units of an extended file.
+#[derive(Clone, Copy)]
+struct VerifierRounds<'a> {
+    file: &'a VerifierFile,
+    columns: &'a Columns,
+}
+
+impl<'a> Rounds<Vec<TreeAsk>, FanReply> for VerifierRounds<'a> {
+    ghost use Rattle.zk_model.specs.Frames.{AreAsks};
+    ghost use Rattle.round_fan.specs.Fans.{AreReplied, Fit};
+
+    ghost Fits = { λ rounds unit came.
+        Fit AreAsks rounds.file.now.params rounds.file.now.code_seed rounds.columns.now unit came.items };
+
+    ghost Makes = { λ rounds start asks all.
+        AreReplied rounds.file.now start asks all.replies.items all.keys.items };
+
+    fn make(&self, alloc: Global, unit: u64, came: &Vec<TreeAsk>) -> Result<FanReply, AllocError> {
+        let reply = VerifierRound::new(self.file, unit).reply(alloc, self.columns, came)?;
+        let mut replies = Vec::with_capacity(alloc, 1)?;
+        replies.push(reply.replies)?;
+        Ok(FanReply {
+            replies,
+            keys: reply.keys,
+        })
+    }
+
+    fn add(&self, all: &mut FanReply, more: FanReply) -> Result<(), AllocError> {
+        let mut more = more;
+        all.keys.extend_from_slice(&more.keys)?;
+        all.replies.append(&mut more.replies)?;
+        Ok(())
+    }
 }
 
 /// The replies and keys of the units from this one on, to the asks for the trees of each, on one thread.
@@ -49,36 +84,12 @@ pub fn unit_replies(
         ≡ length asks.now * correlations_per_unit file.now.params) }
 {
     let _total = file.total();
-    let mut replies = Vec::with_capacity(alloc, asks.len())?;
-    let mut keys = Vec::with_capacity(alloc, room_of(&file.params(), asks.len()))?;
-    for (i, trees) in asks.iter().enumerate() {
-        let round = VerifierRound::new(file, start + i as u64);
-        let reply = round.reply(alloc, columns, trees)?;
-        keys.extend_from_slice(&reply.keys)?;
-        replies.push(reply.replies)?;
-    }
-    Ok(FanReply { replies, keys })
-}
-
-/// The replies and keys of all blocks, one block after another.
-fn joined_replies(
-    alloc: Global,
-    units: usize,
-    room: usize,
-    blocks: Vec<Result<FanReply, AllocError>>,
-) -> Result<FanReply, AllocError>
-    ensures replies { IfOk result (λ r.
-        AreJoined (λ block. block.replies.items) blocks.items r.replies.items) }
-    ensures keys { IfOk result (λ r. AreJoined (λ block. block.keys.items) blocks.items r.keys.items) }
-{
-    let mut replies = Vec::with_capacity(alloc, units)?;
-    let mut keys = Vec::with_capacity(alloc, room)?;
-    for block in blocks {
-        let mut block = block?;
-        keys.extend_from_slice(&block.keys)?;
-        replies.append(&mut block.replies)?;
-    }
-    Ok(FanReply { replies, keys })
+    let replies = Vec::with_capacity(alloc, asks.len())?;
+    let keys = Vec::with_capacity(alloc, room_of(&file.params(), asks.len()))?;
+    let mut all = FanReply { replies, keys };
+    let rounds = VerifierRounds { file, columns };
+    one_by_one(alloc, &rounds, start, asks, &mut all)?;
+    Ok(all)
 }
 
 /// The replies and keys of all units of a span, to the asks for the trees of each, by so many workers. The keys are the same
@@ -110,29 +121,11 @@ pub fn fan_verifier<R: Threads + Sync>(
     ensures key_count { IfOk result (λ r. length r.keys.items
         ≡ length asks.now * correlations_per_unit file.now.params) }
 {
-    let start = span.start;
-    let size = block_size(asks.len(), workers);
-    if asks.len() <= size {
-        return unit_replies(alloc, file, columns, start, asks);
-    }
-    let part = |from: usize, block: &[Vec<TreeAsk>]| -> Result<FanReply, AllocError>
-        requires { (file.now.params.kind ≡ Extended)
-            × (start + from + length block.now ≤ file.now.params.total)
-            × (columns.now ≡ unit_code file.now.params file.now.code_seed)
-            × All (AreAsks file.now.params.height file.now.params.trees) (lists_of block.now) }
-        ensures { IfOk result (λ r.
-            (lists_of r.replies.items ≡ replies_from file.entry.now (start + from) (lists_of block.entry.now))
-            × (r.keys.items ≡ keys_from file.entry.now (start + from) (length block.entry.now))
-            × (length r.keys.items ≡ length block.entry.now * correlations_per_unit file.entry.now.params)) }
-    {
-        let _total = file.total();
-        unit_replies(alloc, file, columns, start + from as u64, block)
-    };
-    let blocks = thread::map_chunks(rt, alloc, asks, size, &part)?;
-    joined_replies(
-        alloc,
-        asks.len(),
-        room_of(&file.params(), asks.len()),
-        blocks,
-    )
+    let _total = file.total();
+    let replies = Vec::with_capacity(alloc, asks.len())?;
+    let keys = Vec::with_capacity(alloc, room_of(&file.params(), asks.len()))?;
+    let mut all = FanReply { replies, keys };
+    let rounds = VerifierRounds { file, columns };
+    some_at_a_time(rt, alloc, &rounds, span.start, asks, workers, &mut all)?;
+    Ok(all)
 }

@@ -1,5 +1,5 @@
-// How units are cut into blocks, and the room that they take.
-ghost use Rattle.std.specs.Prelude.{◌≡◌, ◌*◌, ◌≤◌};
+// How many workers there are, and the room that units take.
+ghost use Rattle.std.specs.Prelude.{◌≡◌};
 ghost use Rattle.zk_model.specs.Files.{AreParams};
 ghost use Rattle.zk_model.specs.declared.Kind.TheVariants.{Extended};
 
@@ -7,15 +7,6 @@ use zk_model::Params;
 
 /// How many workers a session's rounds have.
 pub const SESSION_WORKERS: u32 = 4;
-
-/// How many units a block has, at least one, where so many workers do all blocks.
-pub(crate) fn block_size(units: usize, workers: u32) -> usize
-    requires { 1 ≤ workers }
-    ensures some { 1 ≤ result }
-    ensures all { units ≤ result * workers }
-{
-    units.div_ceil(workers as usize).max(1)
-}
 
 /// How many pairs or keys so many units give: the room to take for them at once.
 pub(crate) fn room_of(params: &Params, units: usize) -> usize
