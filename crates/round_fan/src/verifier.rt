@@ -1,5 +1,5 @@
 // The verifier's rounds.
-ghost use Rattle.std.specs.Prelude.{◌≡◌, ◌+◌, ◌*◌, ◌≤◌, length, All, IfOk};
+ghost use Rattle.std.specs.Prelude.{◌≡◌, ◌+◌, ◌*◌, ◌≤◌, [], length, All, IfOk};
 ghost use Rattle.zk_model.specs.Correlations.{span_keys};
 ghost use Rattle.zk_model.specs.Files.{AreParams, correlations_per_unit};
 ghost use Rattle.zk_model.specs.Frames.{AreAsks};
@@ -16,7 +16,7 @@ use std::alloc::{AllocError, Global};
 use std::thread::Threads;
 use tree_messages::{TreeAsk, TreeReply};
 use vole_extend::VerifierRound;
-use zk_model::Span;
+use zk_model::{Params, Span};
 
 /// What a verifier has of the rounds of neighbouring units: the replies for the trees of each unit, and all keys, unit by unit.
 #[derive(Debug, Drop)]
@@ -60,6 +60,18 @@ impl<'a> Rounds<Vec<TreeAsk>, FanReply> for VerifierRounds<'a> {
     }
 }
 
+/// No replies and keys yet, with room for those of so many units.
+fn none_yet(alloc: Global, params: &Params, units: usize) -> Result<FanReply, AllocError>
+    requires params { AreParams params.now }
+    requires extended { params.now.kind ≡ Extended }
+    ensures replies { IfOk result (λ r. r.replies.items ≡ []) }
+    ensures keys { IfOk result (λ r. r.keys.items ≡ []) }
+{
+    let replies = Vec::with_capacity(alloc, units)?;
+    let keys = Vec::with_capacity(alloc, room_of(params, units))?;
+    Ok(FanReply { replies, keys })
+}
+
 /// The replies and keys of the units from this one on, to the asks for the trees of each, on one thread.
 ///
 /// # Errors
@@ -84,9 +96,7 @@ pub fn unit_replies(
         ≡ length asks.now * correlations_per_unit file.now.params) }
 {
     let _total = file.total();
-    let replies = Vec::with_capacity(alloc, asks.len())?;
-    let keys = Vec::with_capacity(alloc, room_of(&file.params(), asks.len()))?;
-    let mut all = FanReply { replies, keys };
+    let mut all = none_yet(alloc, &file.params(), asks.len())?;
     let rounds = VerifierRounds { file, columns };
     one_by_one(alloc, &rounds, start, asks, &mut all)?;
     Ok(all)
@@ -122,9 +132,7 @@ pub fn fan_verifier<R: Threads + Sync>(
         ≡ length asks.now * correlations_per_unit file.now.params) }
 {
     let _total = file.total();
-    let replies = Vec::with_capacity(alloc, asks.len())?;
-    let keys = Vec::with_capacity(alloc, room_of(&file.params(), asks.len()))?;
-    let mut all = FanReply { replies, keys };
+    let mut all = none_yet(alloc, &file.params(), asks.len())?;
     let rounds = VerifierRounds { file, columns };
     some_at_a_time(rt, alloc, &rounds, span.start, asks, workers, &mut all)?;
     Ok(all)
