@@ -72,6 +72,11 @@ held : Differs → StreamFault → Differs
 held other (stream.Differs differs) = differs
 held other stream.NoMemory = other
 
+-- what an error is
+pub on_err : {T E : Type 0} (P : E → Type 0) (result : Result T E) (fault : E) → IsErrAnd result (λ e. e ≡ fault) → P fault → IfErr result P
+on_err P (Ok value) fault is holds = absurd is
+on_err P (Err e) fault is holds = subst P (sym is) holds
+
 -- no other fault says that sides differ
 pub differs_only : {T : Type 0} (result : Result T StreamFault) (check : ProductCheck) (differs : Differs) → IsErrAnd result (λ fault. fault ≡ stream.Differs differs)
     → DiffersFirst check differs → IfErr result (λ fault. (d : Differs) → fault ≡ stream.Differs d → DiffersFirst check d)

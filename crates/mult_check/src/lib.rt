@@ -13,6 +13,7 @@
 //!     stream_check(rt, alloc, &mut walk, g, challenge, mask_keys, key, &sums, workers)?;
 #![tactic(auto)]
 
+mod along;
 mod fault;
 mod openings;
 mod parts;
@@ -20,8 +21,9 @@ mod sections;
 mod streams;
 mod walked;
 
+pub use along::{check_along, sums_along};
 pub use fault::StreamFault;
-pub use openings::{OpeningDiffers, check_openings};
+pub use openings::{OpeningDiffers, check_openings, openings_along};
 pub use parts::{ProverPart, VerifierPart, section_left, section_sums};
 pub use sections::{Differs, check, prover_sums};
 pub use streams::{stream_check, stream_sums};

@@ -10,10 +10,14 @@ use wire_auth::{KeyTriple, Triple};
 
 /// The sums over some of a list's items, at either end: over `T`, what the end has of a product.
 pub(crate) trait Sums<T>: Copy + Send + Sync {
-    ghost use Rattle.std.specs.Prelude.{List, [], ◌++◌};
+    ghost use Rattle.std.specs.Prelude.{List, [], ◌∷◌, ◌++◌};
 
     /// Sums over these items, for what a part over no item was made for.
     ghost Over: { Self → List T → Self → Type 0 };
+
+    /// With the next item.
+    fn with_next(self, item: T) -> Self
+        ensures { (none : Self) (before : List T) → Over none before self → Over none (before ++ item ∷ []) result };
 
     /// With the next items, in order.
     fn with(self, items: &[T]) -> Self
@@ -226,6 +230,11 @@ impl Sums<Triple> for ProverPart {
 
     ghost Over = { λ none triples part. AreSumsOf none.challenge triples part };
 
+    fn with_next(mut self, triple: Triple) -> Self {
+        self.push(triple);
+        self
+    }
+
     fn with(mut self, triples: &[Triple]) -> Self {
         self.extend(triples);
         self
@@ -240,6 +249,11 @@ impl Sums<KeyTriple> for VerifierPart {
     ghost use Rattle.mult_check.specs.Parts.{IsSumOf};
 
     ghost Over = { λ none triples part. IsSumOf none.key none.challenge triples part };
+
+    fn with_next(mut self, triple: KeyTriple) -> Self {
+        self.push(triple);
+        self
+    }
 
     fn with(mut self, triples: &[KeyTriple]) -> Self {
         self.extend(triples);

@@ -13,6 +13,7 @@ use Rattle.zk_model.specs.declared.Product.{Product}
 use Rattle.field_program.specs.Programs.{IsSmallProgram}
 use Rattle.wire_auth.specs.Values.{wires_made, given_made, given_from, given_value, numbers_carried}
 use Rattle.wire_auth.specs.Walks.{side_made}
+use Rattle.wire_auth.proofs.Lengths.{counted_keys}
 use Rattle.wire_auth.proofs.Joined.{joined_at, given_pair_at}
 use Rattle.wire_auth.proofs.Making.{can_be_made, factors_within, made_exist, carried_exist}
 
@@ -126,6 +127,14 @@ first_corrected zero key keys corrections = none (corrected_keys key keys correc
 first_corrected (suc n) key [] corrections = refl
 first_corrected (suc n) key (k ∷ keys) [] = refl
 first_corrected (suc n) key (k ∷ keys) (c ∷ corrections) = ap (λ l. corrected_key key k c ∷ l) (first_corrected n key keys corrections)
+
+-- corrected keys go along the steps
+pub keys_carried : (key : ℕ) (program : Program) (public keys corrections : List ℕ) → IsSmallProgram program → length public ≡ program.public
+    → program.givens ≤ length keys → length corrections ≡ program.givens
+    → Carries key program public (corrected_keys key keys corrections) (numbers_carried key program public (corrected_keys key keys corrections))
+keys_carried key program public keys corrections held p enough each =
+    let count = counted_keys key keys corrections (corrected_keys key keys corrections) (omega (arith, each, enough)) refl in
+    carried_exist key program public (corrected_keys key keys corrections) held.formed p (omega (arith, count, each, held.formed.inputs))
 
 -- a corrected key
 pub key_at : (key : ℕ) (keys corrections : List ℕ) (i : ℕ) → i < length keys → i < length corrections

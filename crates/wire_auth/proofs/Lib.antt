@@ -5,3 +5,4 @@ pub mod Making
 pub mod HeldNumbers
 pub mod Along
 pub mod BothWalks
+pub mod Correcting

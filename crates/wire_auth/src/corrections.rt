@@ -1,11 +1,18 @@
 // What a prover sends to fix its given values.
-ghost use Rattle.std.specs.Prelude.{◌≡◌, ◌≤◌, ◌<◌, length, IfOk, All};
+ghost use Rattle.std.specs.Prelude.{◌≡◌, ◌+◌, ◌≤◌, ◌<◌, ℕ, List, length, slice_index, IfOk, All};
+ghost use Rattle.zk_model.specs.Check.{ArePairsOf};
 ghost use Rattle.zk_model.specs.Field.{IsElement};
 ghost use Rattle.zk_model.specs.HonestProver.{honest_corrections};
-ghost use Rattle.wire_auth.specs.Values.{given_from};
+ghost use Rattle.zk_model.specs.Mac.{corrected_pairs};
+ghost use Rattle.zk_model.specs.Slots.{IsPlanOf};
+ghost use Rattle.wire_auth.specs.Values.{given_from, given_made};
+ghost use Rattle.wire_auth.specs.Walks.{Follows, side_made};
 
+use crate::carrying::{first_numbers, known};
+use crate::prover_walk::given_number;
 use crate::values::given_value;
-use field_program::FieldProgram;
+use crate::walking::NumberWalk;
+use field_program::{FieldProgram, SlotPlan};
 use mersenne_field::{Fe, Pair};
 use std::alloc::{AllocError, Global};
 
@@ -28,6 +35,65 @@ pub(crate) fn corrections(
     for i in 0..program.products() {
         let pair = dealt[i];
         corrections.push(given_value(program, values, program.product(i)) - pair.x)?;
+    }
+    Ok(corrections)
+}
+
+/// Meets the next product of a walk over values, and says its given value.
+fn meet_value(walk: &mut NumberWalk<'_>) -> Fe
+    requires more { walk.old.met < length walk.old.program.products }
+    ensures program { walk.new.program ≡ walk.old.program }
+    ensures met { walk.new.met ≡ walk.old.met + 1 }
+    ensures value { (values : List ℕ) → Follows walk.old values (given_from walk.old.program values)
+        → result ≡ slice_index (given_from walk.old.program values) walk.old.met }
+    ensures follows { (values : List ℕ) → Follows walk.old values (given_from walk.old.program values)
+        → Follows walk.new values (given_from walk.old.program values) }
+    ensures element { IsElement result }
+{
+    let program = walk.program();
+    let met = walk.met();
+    let Some(factors) = walk.factors() else {
+        unreachable!();
+    };
+    let value = known(given_number(program, met, factors.0, factors.1));
+    walk.meet(value);
+    value
+}
+
+/// The corrections that `ProverWires::run` makes, by a walk along a program: they turn dealt pairs into those of the given values
+/// that these public values and inputs make, which a `ProverWalk` over the same gives. `dealt` are the session's correlations, at
+/// least one for each given value; the plan is that of the program.
+///
+/// # Errors
+///
+/// Only where memory runs out.
+pub fn walk_corrections(
+    alloc: Global,
+    program: &FieldProgram,
+    plan: &SlotPlan,
+    public: &[Fe],
+    inputs: &[Fe],
+    dealt: &[Pair],
+) -> Result<Vec<Fe>, AllocError>
+    requires plan { IsPlanOf program.now plan.now }
+    requires public { length public.now ≡ program.now.public }
+    requires inputs { length inputs.now ≡ program.now.inputs }
+    requires dealt { program.now.givens ≤ length dealt.now }
+    ensures corrections { IfOk result (λ v. v.items
+        ≡ honest_corrections (given_made program.now public.now inputs.now) dealt.now) }
+    ensures one_each { IfOk result (λ v. length v.items ≡ program.now.givens) }
+    ensures given { IfOk result (λ v. (side_made program.now public.now inputs.now dealt.now).pairs.given
+        ≡ corrected_pairs dealt.now v.items) }
+    ensures carried { IfOk result (λ _. ArePairsOf program.now public.now
+        (side_made program.now public.now inputs.now dealt.now).pairs) }
+{
+    let first = first_numbers(alloc, public, Fe::ONE, inputs)?;
+    let mut walk = NumberWalk::new(alloc, program, plan, Fe::ONE, &first)?;
+    let mut corrections = Vec::with_capacity(alloc, program.products())?;
+    for i in 0..program.products() {
+        let value = meet_value(&mut walk);
+        let pair = dealt[i];
+        corrections.push(value - pair.x)?;
     }
     Ok(corrections)
 }

@@ -4,8 +4,8 @@ ghost use Rattle.zk_model.specs.Check.{opened_pairs, product_triple};
 ghost use Rattle.zk_model.specs.Mac.{macs_of, pair_at};
 ghost use Rattle.zk_model.specs.Slots.{IsPlanOf};
 ghost use Rattle.zk_model.specs.declared.Product as zk;
-ghost use Rattle.wire_auth.specs.Values.{given_value};
 ghost use Rattle.field_program.specs.Programs.{IsSmallProgram};
+ghost use Rattle.wire_auth.specs.Values.{given_value};
 ghost use Rattle.wire_auth.specs.Walks.{side_made};
 
 use crate::carrying::first_numbers;
@@ -81,6 +81,13 @@ impl<'a> ProverWalk<'a> {
         })
     }
 
+    /// The program.
+    pub fn program(&self) -> &'a FieldProgram
+        ensures { result.now ≡ self.now.side.program }
+    {
+        self.values.program()
+    }
+
     /// How many products the program has, whose pairs `next` gives.
     pub fn products(&self) -> usize
         ensures count { result ≡ length self.now.side.program.products }
@@ -135,7 +142,7 @@ impl<'a> ProverWalk<'a> {
 }
 
 /// The given value of a product, from the values of both factors: that of the input which it checks, or their product.
-fn given_number(program: &FieldProgram, met: usize, left: Fe, right: Fe) -> Fe
+pub(crate) fn given_number(program: &FieldProgram, met: usize, left: Fe, right: Fe) -> Fe
     requires { met < length program.now.products }
     ensures { (product : zk.Product) (values : List ℕ) → slice_get program.now.products met ≡ Some product
         → left ≡ slice_index values product.a → right ≡ slice_index values product.b

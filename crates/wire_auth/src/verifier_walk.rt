@@ -1,6 +1,6 @@
 // The verifier's keys, one product after another.
 ghost use Rattle.std.specs.Prelude.{◌≡◌, ◌+◌, ◌<◌, ◌≤◌, ℕ, Some, None, length, min, slice_get, slice_index, IfOk};
-ghost use Rattle.zk_model.specs.Check.{key_triple};
+ghost use Rattle.zk_model.specs.Check.{AreKeysFor, key_triple};
 ghost use Rattle.zk_model.specs.Slots.{IsPlanOf};
 ghost use Rattle.zk_model.specs.declared.Product as zk;
 ghost use Rattle.field_program.specs.Programs.{IsSmallProgram};
@@ -60,10 +60,12 @@ impl<'a> VerifierWalk<'a> {
         requires public { length public.now ≡ program.now.public }
         requires keys { program.now.givens ≤ length keys.now }
         requires corrections { length corrections.now ≡ program.now.givens }
-        ensures { IfOk result (λ walk. walk ≡ record {
+        ensures walk { IfOk result (λ walk. walk ≡ record {
           side = keys_made key program.now public.now keys.now corrections.now;
           met = 0;
         }) }
+        ensures carried { IfOk result (λ _. AreKeysFor key program.now public.now
+            (keys_made key program.now public.now keys.now corrections.now).keys) }
     {
         let inputs = program.inputs();
         let first_keys = corrected(alloc, &keys[..inputs], &corrections[..inputs], key)?;
@@ -76,6 +78,13 @@ impl<'a> VerifierWalk<'a> {
             key,
             walk,
         })
+    }
+
+    /// The program.
+    pub fn program(&self) -> &'a FieldProgram
+        ensures { result.now ≡ self.now.side.program }
+    {
+        self.walk.program()
     }
 
     /// How many products the program has, whose keys `next` gives.

@@ -1,23 +1,14 @@
-use Rattle.std.proofs.Common.{◌≡◌, ◌<◌, ◌≤◌, ◌+◌, ◌∙◌, ◌++◌, ℕ, List, [], ◌∷◌, arith, length, take, ap, sym, subst, ⊎_elim}
+use Rattle.std.proofs.Common.{◌≡◌, ◌∙◌, ◌++◌, [], ◌∷◌, arith, take, ap, sym, subst}
 use Rattle.std.specs.Prelude.{slice_index}
-use Rattle.std.proofs.lemmas.Bool.{cases_lt}
-use Rattle.std.proofs.lemmas.List.{take_all}
 use Rattle.std.proofs.lemmas.List.Elements.{All-from_get_or}
 use Rattle.zk_model.specs.Field.{IsElement, ◌-ₚ◌}
 use Rattle.zk_model.specs.Mac.{Pair}
 use Rattle.zk_model.specs.HonestProver.{honest_corrections}
-use Rattle.zk_model.specs.Program.{Program}
 use Rattle.wire_auth.specs.Values.{given_from}
-use Rattle.wire_auth.proofs.Lengths.{length-honest_corrections, next_correction}
+use Rattle.wire_auth.proofs.Correcting.{one_more, all_made}
+use Rattle.wire_auth.proofs.Lengths.{next_correction}
 use Rattle.wire_auth.proofs.Making.{given_at, length-given_from}
 use Rattle.wire_auth.proofs.corrections.corrections.Goals as goal
-
--- one more of the given values is an element
-one_more : (P : ℕ → Type 0) (n : ℕ) → ((k : ℕ) → k < n → P k) → P n → (k : ℕ) → k < n + 1 → P k
-one_more P n before now k below = ⊎_elim
-    (λ less. before k less)
-    (λ past. let same : n ≡ k = omega (arith, past, below) in subst P same now)
-    (cases_lt k n)
 
 pub loop-i-preserved : goal.loop-i-preserved
 loop-i-preserved c =
@@ -36,17 +27,6 @@ loop-i-preserved c =
       elements = one_more (λ k. IsElement (slice_index given k)) c.loop-i.i c.loop-i.invariant.elements
           (subst IsElement value c.given_value.ensures.element);
     }
-
--- all corrections, once as many are made as there are products
-all_made : (program : Program) (values corrections : List ℕ) (dealt : List Pair) (n : ℕ) → length program.products ≡ program.givens
-    → program.givens ≤ length dealt → length program.products ≤ n
-    → corrections ≡ take n (honest_corrections (given_from program values) dealt)
-    → (corrections ≡ honest_corrections (given_from program values) dealt) × (length corrections ≡ program.givens)
-all_made program values corrections dealt n counted enough end far =
-    let sized = length-given_from program values in
-    let all = length-honest_corrections (given_from program values) dealt (omega (arith, sized, counted, enough)) in
-    let are = far ∙ take_all n (honest_corrections (given_from program values) dealt) (omega (arith, sized, all, end)) in
-    (are, ap length are ∙ all ∙ sized ∙ counted)
 
 pub returns-clause-corrections : goal.returns-clause-corrections
 returns-clause-corrections c =

@@ -1,12 +1,10 @@
-use Rattle.std.proofs.Common.{◌++◌, List, ℕ, arith, ap, map, refl, subst, sym, take, ◌∙◌}
+use Rattle.std.proofs.Common.{◌++◌, List, ℕ, ap, map, subst, sym, take, ◌∙◌}
 use Rattle.zk_model.specs.Field.{◌*ₚ◌}
 use Rattle.zk_model.specs.Mac.{corrected_keys}
 use Rattle.zk_model.specs.Program.{Program, Carries}
 use Rattle.wire_auth.specs.Values.{numbers_carried}
 use Rattle.wire_auth.specs.Walks.{IsVerifierWalk}
-use Rattle.wire_auth.proofs.Lengths.{counted_keys}
-use Rattle.wire_auth.proofs.Making.{carried_exist}
-use Rattle.wire_auth.proofs.BothWalks.{first_carried, first_corrected}
+use Rattle.wire_auth.proofs.BothWalks.{first_carried, first_corrected, keys_carried}
 use Rattle.wire_auth.proofs.verifier_walk.VerifierWalk.new.Goals as goal
 
 pub invariant_of-result : goal.invariant_of-result
@@ -30,6 +28,10 @@ invariant_of-result c =
     given = corrected_keys c.args.key c.args.keys.now c.args.corrections.now
 
     carried : Carries c.args.key c.args.program.now c.args.public.now given (numbers_carried c.args.key c.args.program.now c.args.public.now given)
-    carried = carried_exist c.args.key c.args.program.now c.args.public.now given c.inputs-inputs.ensures.held.formed c.requires.public
-        (let count = counted_keys c.args.key c.args.keys.now c.args.corrections.now given (let all = c.requires.corrections in let enough = c.requires.keys in omega (arith, all, enough)) refl in
-        omega (arith, count, c.requires.corrections, c.inputs-inputs.ensures.held.formed.inputs))
+    carried = keys_carried c.args.key c.args.program.now c.args.public.now c.args.keys.now c.args.corrections.now c.inputs-inputs.ensures.held
+        c.requires.public c.requires.keys c.requires.corrections
+
+pub returns-clause-carried : goal.returns-clause-carried
+returns-clause-carried c =
+    keys_carried c.args.key c.args.program.now c.args.public.now c.args.keys.now c.args.corrections.now c.inputs-inputs.ensures.held
+    c.requires.public c.requires.keys c.requires.corrections
