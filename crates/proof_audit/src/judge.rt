@@ -24,7 +24,8 @@ use dealer_files::VerifierFile;
 use pad_transfer::Masked;
 use proof_frames::{Expect, Frame, Grant};
 use session_core::{
-    Judgement, Replied, Statement, Verdict, VerifierJob, difference, replies_in, reply_units,
+    Judgement, OneThread, Replied, Statement, Verdict, VerifierJob, difference, replies_in,
+    reply_units,
 };
 use std::alloc::{AllocError, Global};
 use std::marker::Model;
@@ -407,6 +408,7 @@ impl<'a> Judge<'a> {
             Kind::Extended => &session.keys,
         };
         let judgement = job.judge(
+            &OneThread,
             alloc,
             start,
             keys,

@@ -1,5 +1,5 @@
 -- What the checks say of what the verifier took is what they say of the whole session.
-use Rattle.std.proofs.Common.{◌≡◌, ℕ, List, drop, take, refl, ◌∙◌, subst}
+use Rattle.std.proofs.Common.{◌≡◌, ℕ, List, drop, take, refl, sym, ◌∙◌, subst}
 use Rattle.zk_model.specs.Program.{Program, section_count}
 use Rattle.zk_model.specs.Mac.{corrected_keys}
 use Rattle.zk_model.specs.Correlations.{span_keys}
@@ -8,10 +8,15 @@ use Rattle.zk_model.specs.Check.{ProductCheck, OpeningCheck, WireKeys, AreKeysFo
 use Rattle.zk_model.specs.View.{IsVerdictOf, span_of, session_keys, session_products, session_openings}
 use Rattle.zk_model.specs.ServedVerifier.{challenge_coin}
 use Rattle.wire_auth.specs.Sides.{VerifierSide}
-use Rattle.mult_check.specs.Checks.{product_check, opening_check}
+use Rattle.std.specs.Prelude.{Result, Ok, Err, IfOk}
+use Rattle.std.specs.declared.alloc.AllocError.{AllocError}
+use Rattle.mult_check.specs.Checks.{product_check, opening_check, DiffersFirst}
+use Rattle.mult_check.specs.declared.sections.Differs.{Differs}
+use Rattle.mult_check.specs.declared.fault.StreamFault.{StreamFault}
+use Rattle.mult_check.specs.declared.fault.StreamFault.TheVariants as stream
 use Rattle.session_core.specs.Ends.{masks_in}
 use Rattle.session_core.specs.Jobs.{VerifierJob, granted_from}
-use Rattle.session_core.specs.Judgements.{HasSides, IsJudgement, session_transcript, verdict_in}
+use Rattle.session_core.specs.Judgements.{HasSides, IsJudgement, IsRejectedFor, Judges, session_transcript, verdict_in}
 use Rattle.session_core.specs.declared.judgement.Judgement.{Judgement}
 use Rattle.session_core.specs.declared.judgement.Judgement.TheVariants.{Accepted, RejectedSum, RejectedOpening}
 use Rattle.session_core.proofs.Masks.{verdict_of_few, left_of_few}
@@ -25,6 +30,14 @@ sides_of_few check openings masks Accepted few is sides = sides
 sides_of_few check openings masks (RejectedSum section left right) few is sides =
     (sides.0 ∙ left_of_few check masks section few is.below, sides.1)
 sides_of_few check openings masks (RejectedOpening output left right) few is sides = sides
+
+-- sums that are refused for a section whose sides differ first
+pub rejected : (check : ProductCheck) (openings : OpeningCheck) (fault : StreamFault) (result : Result Judgement AllocError)
+    → ((differs : Differs) → fault ≡ stream.Differs differs → DiffersFirst check differs) → IfOk result (IsRejectedFor fault)
+    → IfOk result (Judges check openings)
+rejected check openings fault (Ok judgement) first (differs, is, same) =
+    subst (Judges check openings) (sym same) ((first differs is).first, ((first differs is).left, (first differs is).right))
+rejected check openings fault (Err error) first none = tt
 
 -- the check of products over the dealt keys of a grant's units, and as many masks as there are sections
 abbrev pub few_products : VerifierJob → Hello → ℕ → List Round → List ℕ → List (ℕ × ℕ) → List ℕ → WireKeys → ProductCheck

@@ -1,15 +1,18 @@
 -- What a prover proves with: the given values that its statement and its inputs make.
-use Rattle.std.proofs.Common.{◌≡◌, ℕ, List, length, ap, ◌∙◌, subst}
-use Rattle.zk_model.specs.Mac.{Pair, values_of, corrected_pairs}
+use Rattle.std.proofs.Common.{◌≡◌, ℕ, List, length, ap, sym, subst}
+use Rattle.zk_model.specs.Mac.{Pair, corrected_pairs}
 use Rattle.zk_model.specs.Program.{Program, AreMade}
 use Rattle.zk_model.specs.Statement.{Statement, IsStatement}
-use Rattle.zk_model.specs.Check.{WirePairs, ArePairsOf}
+use Rattle.zk_model.specs.Files.{ProverFile}
+use Rattle.zk_model.specs.Check.{ArePairsOf}
 use Rattle.zk_model.specs.HonestProver.{honest_corrections}
-use Rattle.circuit_laws.proofs.Made.{one_made}
 use Rattle.field_program.specs.Programs.{IsSmallProgram}
 use Rattle.wire_auth.specs.Values.{wires_made, given_made}
 use Rattle.wire_auth.proofs.Making.{can_be_made, made_exist}
+use Rattle.wire_auth.specs.Walks.{side_made}
 use Rattle.session_core.specs.Ends.{IsFixed}
+use Rattle.session_core.specs.Jobs.{prover_from}
+use Rattle.session_core.specs.Fixing.{pairs_fixed}
 
 -- they are made
 pub job_made : (statement : Statement) (inputs : List ℕ) → IsStatement statement → IsSmallProgram statement.program
@@ -18,24 +21,34 @@ pub job_made : (statement : Statement) (inputs : List ℕ) → IsStatement state
 job_made statement inputs stated held counted =
     made_exist statement.program statement.public inputs (can_be_made statement.program held) stated.public_count counted
 
--- so they are those of any pairs that are made, and these are what fixes the prover
-pub job_fixed : (statement : Statement) (inputs : List ℕ) (program : Program) (public : List ℕ) (pairs : List Pair) (corrections : List ℕ) (wires : WirePairs)
+-- the first of them are the inputs
+pub inputs_walked : (statement : Statement) (inputs : List ℕ) (file : ProverFile) (pairs : List Pair) → IsStatement statement → IsSmallProgram statement.program
+    → length inputs ≡ statement.program.inputs
+    → (side_made statement.program statement.public inputs pairs).pairs ≡ pairs_fixed (prover_from statement inputs file) pairs
+inputs_walked statement inputs file pairs stated held counted =
+    ap (λ (l : List ℕ). (side_made statement.program statement.public l pairs).pairs) (sym (job_made statement inputs stated held counted).first)
+
+-- these corrections fix the prover with the pairs of a walk
+AreWalked : List ℕ → List Pair → List ℕ → Program × List ℕ → Type 0
+AreWalked inputs pairs corrections (program, public) =
+    (corrections ≡ honest_corrections (given_made program public inputs) pairs)
+    × ((side_made program public inputs pairs).pairs.given ≡ corrected_pairs pairs corrections)
+    × ArePairsOf program public (side_made program public inputs pairs).pairs
+
+pub job_fixed : (statement : Statement) (inputs : List ℕ) (file : ProverFile) (program : Program) (public : List ℕ) (pairs : List Pair) (corrections : List ℕ)
     → IsStatement statement → IsSmallProgram statement.program → length inputs ≡ statement.program.inputs
     → program ≡ statement.program → public ≡ statement.public
-    → AreMade program public inputs (values_of wires.wires) (values_of wires.given)
-    → corrections ≡ honest_corrections (values_of wires.given) pairs → wires.given ≡ corrected_pairs pairs corrections → ArePairsOf program public wires
-    → IsFixed statement (given_made statement.program statement.public inputs) pairs corrections wires
-job_fixed statement inputs program public pairs corrections wires stated held counted same known made corrections_are given_are carried = record {
-  corrections_are = corrections_are ∙ ap (λ (l : List ℕ). honest_corrections l pairs) given;
-  given_are = given_are;
-  carried = subst (λ (p : Program). ArePairsOf p statement.public wires) same (subst (λ (l : List ℕ). ArePairsOf program l wires) known carried);
-}
+    → corrections ≡ honest_corrections (given_made program public inputs) pairs
+    → (side_made program public inputs pairs).pairs.given ≡ corrected_pairs pairs corrections
+    → ArePairsOf program public (side_made program public inputs pairs).pairs
+    → IsFixed statement (given_made statement.program statement.public inputs) pairs corrections (pairs_fixed (prover_from statement inputs file) pairs)
+unfolding AreWalked
+job_fixed statement inputs file program public pairs corrections stated held counted same known corrections_are given_are carried =
+    subst (IsFixed statement (given_made statement.program statement.public inputs) pairs corrections) (inputs_walked statement inputs file pairs stated held counted) (record {
+      corrections_are = walked.0;
+      given_are = walked.1;
+      carried = walked.2;
+    })
   where
-    made_so : AreMade statement.program statement.public inputs (values_of wires.wires) (values_of wires.given)
-    made_so = subst (λ (p : Program). AreMade p statement.public inputs (values_of wires.wires) (values_of wires.given)) same
-        (subst (λ (l : List ℕ). AreMade program l inputs (values_of wires.wires) (values_of wires.given)) known made)
-
-    given : values_of wires.given ≡ given_made statement.program statement.public inputs
-    given = one_made statement.program statement.public inputs (values_of wires.wires) (values_of wires.given)
-        (wires_made statement.program statement.public inputs) (given_made statement.program statement.public inputs)
-        held.formed held.ordered made_so (job_made statement inputs stated held counted)
+    walked : AreWalked inputs pairs corrections (statement.program, statement.public)
+    walked = subst (AreWalked inputs pairs corrections) (λ i. (same i, known i)) (corrections_are, given_are, carried)

@@ -6,6 +6,9 @@ use Rattle.zk_model.specs.View.{AreSessionKeys, IsVerdictOf, session_products, s
 use Rattle.zk_model.specs.ServedVerifier.{VerifierTask, challenge_coin}
 use Rattle.zk_model.specs.declared.Verdict.{Verdict}
 use Rattle.zk_model.specs.declared.Verdict.TheVariants as verdict
+use Rattle.mult_check.specs.declared.sections.Differs.{Differs}
+use Rattle.mult_check.specs.declared.fault.StreamFault.{StreamFault}
+use Rattle.mult_check.specs.declared.fault.StreamFault.TheVariants as stream
 use Rattle.session_core.specs.Jobs.{VerifierJob, granted_from}
 use Rattle.session_core.specs.declared.judgement.Judgement.{Judgement}
 use Rattle.session_core.specs.declared.judgement.Judgement.TheVariants.{Accepted, RejectedSum, RejectedOpening}
@@ -23,6 +26,15 @@ HasSides products openings (RejectedSum section left right) =
     (left ≡ left_of_section products section) × (right ≡ right_of_section products section)
 HasSides products openings (RejectedOpening output left right) =
     (left ≡ left_of_opening openings output) × (right ≡ right_of_opening openings output)
+
+-- a judgement and its sides are what the checks say
+abbrev pub Judges : ProductCheck → OpeningCheck → Judgement → Type 0
+Judges products openings judgement = IsVerdictOf products openings (verdict_in judgement) × HasSides products openings judgement
+
+-- the sums are refused for the first section whose sides differ
+abbrev pub IsRejectedFor : StreamFault → Judgement → Type 0
+IsRejectedFor fault judgement = (differs : Differs)
+    × (fault ≡ stream.Differs differs) × (judgement ≡ RejectedSum differs.section differs.left differs.right)
 
 -- Over keys of all wires, it is what the checks say, with both sides where one fails.
 pub record IsJudgement (task : VerifierTask) (t : Transcript) (judgement : Judgement) : Type 0 where

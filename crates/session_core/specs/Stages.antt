@@ -3,7 +3,7 @@ use Rattle.wire_auth.specs.Held.{items_in}
 use Rattle.round_fan.specs.Fans.{lists_of}
 use Rattle.session_core.specs.Cores.{VerifierStage, awaits_hello, owes_grant, awaits_asks, awaits_corrections, awaits_sums, awaits_openings, has_judged, has_refused, ProverStage, awaits_grant, awaits_replies, awaits_challenge, awaits_verdict, has_ended}
 use Rattle.session_core.specs.Jobs.{ProverJob, VerifierJob}
-use Rattle.session_core.specs.Fixing.{IsFixedUnder, IsGrowing, HoldsKeys}
+use Rattle.session_core.specs.Fixing.{IsFixedUnder, IsGrowing, HoldsKeys, pairs_fixed}
 use Rattle.session_core.specs.declared.verifier_core.Stage as verifier
 use Rattle.session_core.specs.declared.verifier_core.Stage.TheVariants as at
 use Rattle.session_core.specs.declared.prover_core.Stage as prover
@@ -32,17 +32,18 @@ HoldsKeysAt job (at.Judged start judgement) = Unit {0}
 HoldsKeysAt job at.Refused = Unit {0}
 
 -- what a prover waits for
-abbrev pub prover_stage : prover.Stage → ProverStage
-prover_stage in_turn.Grant = awaits_grant
-prover_stage (in_turn.Replies grant came) = awaits_replies grant (lists_of came.items)
-prover_stage (in_turn.Challenge grant wires) = awaits_challenge grant wires.dealt wires.pairs
-prover_stage in_turn.Verdict = awaits_verdict
-prover_stage in_turn.Ended = has_ended
+abbrev pub prover_stage : ProverJob → prover.Stage → ProverStage
+prover_stage job in_turn.Grant = awaits_grant
+prover_stage job (in_turn.Replies grant came) = awaits_replies grant (lists_of came.items)
+prover_stage job (in_turn.Challenge grant pairs) =
+    awaits_challenge grant (items_in pairs) (pairs_fixed job (items_in pairs))
+prover_stage job in_turn.Verdict = awaits_verdict
+prover_stage job in_turn.Ended = has_ended
 
 -- what it has fixed is that of its grant
 abbrev pub IsHeldAt : ProverJob → prover.Stage → Type 0
 IsHeldAt job in_turn.Grant = Unit {0}
 IsHeldAt job (in_turn.Replies grant came) = IsGrowing job grant (lists_of came.items)
-IsHeldAt job (in_turn.Challenge grant wires) = IsFixedUnder job grant wires
+IsHeldAt job (in_turn.Challenge grant pairs) = IsFixedUnder job grant (items_in pairs)
 IsHeldAt job in_turn.Verdict = Unit {0}
 IsHeldAt job in_turn.Ended = Unit {0}

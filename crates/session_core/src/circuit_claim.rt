@@ -7,18 +7,19 @@ ghost use Rattle.session_core.specs.Jobs.{InputBitsProve};
 use crate::statement::{Statement, bits_digest, elements_of};
 use bristol_reader::Circuit;
 use circuit_laws::circuit_is_statement;
-use field_program::FieldProgram;
+use field_program::{FieldProgram, SlotPlan};
 use gate_translate::translate_public;
 use mersenne_field::Fe;
 use std::alloc::{AllocError, Global};
 use std::marker::Model;
 use wire_auth::bits_make_products;
 
-/// The claim that with some public input bits some private ones make a circuit give these output bits: its program, and what a
-/// hello says of it. Contracts see the statement.
+/// The claim that with some public input bits some private ones make a circuit give these output bits: its program with a plan, and
+/// what a hello says of it. Contracts see the statement.
 #[derive(Debug, Drop)]
 pub struct CircuitClaim {
     program: FieldProgram,
+    plan: SlotPlan,
     public: Vec<Fe>,
     claims: Vec<Fe>,
     circuit: [u8; 32],
@@ -27,6 +28,7 @@ pub struct CircuitClaim {
 }
 
 impl Model for CircuitClaim {
+    ghost use Rattle.zk_model.specs.Slots.{IsPlanOf};
     ghost use Rattle.zk_model.specs.Statement.{IsStatement};
     ghost use Rattle.zk_model.specs.Statement as model;
     ghost use Rattle.session_core.specs.Jobs.{statement_of};
@@ -36,7 +38,7 @@ impl Model for CircuitClaim {
     ghost view = { λ c.
         statement_of c.program c.public.items c.claims.items c.circuit c.outputs c.public_digest };
 
-    ghost invariant = { λ c. IsStatement
+    ghost invariant = { λ c. IsPlanOf c.program c.plan × IsStatement
         (statement_of c.program c.public.items c.claims.items c.circuit c.outputs c.public_digest) };
 }
 
@@ -60,12 +62,14 @@ impl CircuitClaim {
         let _wires = circuit.wires();
         let _inputs = circuit.inputs();
         let program = translate_public(alloc, circuit, public.len() as u32)?;
+        let plan = SlotPlan::of(alloc, &program)?;
         let values = elements_of(alloc, public)?;
         let claims = elements_of(alloc, outputs)?;
         let claimed = bits_digest(alloc, outputs)?;
         let named = bits_digest(alloc, public)?;
         Ok(CircuitClaim {
             program,
+            plan,
             public: values,
             claims,
             circuit: digest,
@@ -80,6 +84,7 @@ impl CircuitClaim {
     {
         Statement::new(
             &self.program,
+            &self.plan,
             &self.public,
             &self.claims,
             self.circuit,

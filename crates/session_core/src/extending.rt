@@ -14,7 +14,7 @@ ghost use Rattle.vole_extend.specs.Rounds.{unit_code};
 ghost use Rattle.round_fan.specs.Fans.{lists_of};
 ghost use Rattle.session_core.specs.Extending.{asks_in, replies_in, asks_of};
 
-use crate::unit_rounds::ask_frames;
+use crate::round_frames::ask_frames;
 use crate::verifier_job::correlations_per_unit;
 use dealer_files::{ProverFile, VerifierFile};
 use linear_code::Columns;

@@ -3,8 +3,8 @@
 //!
 //! `statement` has what a session is about, `circuit_claim` the claim that some inputs make a circuit give outputs. `prover_job` and
 //! `verifier_job` have what either end is to do, and its turns as calls, `verifier_jobs` what a verifier is to do of several statements; `prover_core` and `verifier_core` take frames one by one
-//! and take these turns. `extending` has the asks, replies, pairs and keys of all units of a grant, `judgement` what the checks
-//! found, `fault` why a core stops.
+//! and take these turns. `extending` has the asks, replies, pairs and keys of all units of a grant, `round_frames` their frames,
+//! `workers` what several threads can share, `judgement` what the checks found, `fault` why a core stops.
 //!
 //!     let claim = CircuitClaim::new(alloc, &circuit, digest, public, outputs)?;
 //!     let statement = claim.statement();
@@ -19,22 +19,24 @@ mod fault;
 mod judgement;
 mod prover_core;
 mod prover_job;
+mod round_frames;
 mod statement;
-mod unit_rounds;
 mod verifier_core;
 mod verifier_job;
 mod verifier_jobs;
+mod workers;
 
 pub use circuit_claim::{CircuitClaim, input_bits_prove};
 pub use extending::{Replied, ask_lists, ask_units, asks_in, replies_in, reply_units};
 pub use fault::{Digests, HelloDiffers, ProverFault, VerifierFault};
 pub use judgement::Judgement;
 pub use prover_core::ProverCore;
-pub use prover_job::{Committed, Opened, ProverJob, units_of};
+pub use prover_job::{Opened, ProverJob, units_of};
+pub use round_frames::{ask_frames, reply_frames};
 pub use statement::{Statement, bits_digest, elements_of};
-pub use unit_rounds::{ask_frames, reply_frames};
 pub use verifier_core::{VerifierCore, difference};
 pub use verifier_job::{TooLarge, VerifierJob, units_for};
 pub use verifier_jobs::VerifierJobs;
 pub use wire_auth::Correlations;
+pub use workers::{Fan, OneThread, Workers};
 pub use zk_model::Verdict;

@@ -10,14 +10,14 @@ ghost use Rattle.proof_frames.specs.Frames.{frame_value};
 ghost use Rattle.proof_frames.specs.Readings.{IsShortPlace};
 ghost use Rattle.wire_auth.specs.Held.{items_in};
 ghost use Rattle.round_fan.specs.Fans.{lists_of};
-ghost use Rattle.session_core.specs.Fixing.{IsFixedUnder, IsGrowing};
+ghost use Rattle.session_core.specs.Fixing.{IsFixedUnder, IsGrowing, pairs_fixed};
 ghost use Rattle.session_core.specs.Cores.{AnswersGrant, Commits, GoesOn, ProverAnswers, ProverRefuses, StaysWithin, awaits_grant, awaits_replies, awaits_challenge, awaits_verdict, has_ended, prover_expects};
 
 use crate::extending::ask_units;
 use crate::fault::ProverFault;
 use crate::prover_job::{ProverJob, units_of};
-use crate::unit_rounds::{Fan, OneThread, Rounds};
 use crate::verifier_core::one_frame;
+use crate::workers::{Fan, OneThread, Workers};
 use mersenne_field::Pair;
 use proof_frames::{Frame, Grant};
 use std::alloc::{AllocError, Global};
@@ -26,10 +26,11 @@ use std::mem;
 use std::thread::Threads;
 use tree_messages::TreeReply;
 use vole_extend::columns_of;
-use wire_auth::{Correlations, ProverWires};
+use wire_auth::Correlations;
 use zk_model::{Expect, Kind, Params};
 
-/// What the prover waits for, with the grant, the replies that have come, unit by unit, or the pairs of all wires, which it has fixed.
+/// What the prover waits for, with the grant, the replies that have come, unit by unit, or the pairs of all correlations, which its
+/// corrections have fixed.
 #[derive(Debug, Drop)]
 pub(crate) enum Stage<'a> {
     Grant,
@@ -39,7 +40,7 @@ pub(crate) enum Stage<'a> {
     },
     Challenge {
         grant: Grant,
-        wires: ProverWires<'a>,
+        pairs: Correlations<'a, Pair>,
     },
     Verdict,
     Ended,
@@ -59,7 +60,7 @@ impl<'a> Model for ProverCore<'a> {
 
     ghost Value = { cores.ProverState };
 
-    ghost view = { λ c. record { job = c.job.now; stage = prover_stage c.stage } };
+    ghost view = { λ c. record { job = c.job.now; stage = prover_stage c.job.now c.stage } };
 
     ghost invariant = { λ c. IsHeldAt c.job.now c.stage };
 }
@@ -75,23 +76,25 @@ fn two_frames(alloc: Global, first: Frame, second: Frame) -> Result<Vec<Frame>, 
 }
 
 /// What answers a challenge: sums and openings.
-fn opened<'a>(
+fn opened<H: Workers>(
+    workers: &H,
     alloc: Global,
-    job: &ProverJob<'a>,
+    job: &ProverJob<'_>,
     grant: Grant,
-    wires: &ProverWires<'a>,
+    pairs: &[Pair],
     frame: Frame,
 ) -> Result<Vec<Frame>, AllocError>
-    requires held { IsFixedUnder job.now grant wires.now }
+    requires ready { H.is_ready workers.now }
+    requires held { IsFixedUnder job.now grant pairs.now }
     requires expected { Allows expect.Challenge (frame_value frame) }
     ensures answered { IfOk result (λ answer. ProverAnswers job.now
-        (awaits_challenge grant wires.now.dealt wires.now.pairs)
+        (awaits_challenge grant pairs.now (pairs_fixed job.now pairs.now))
         (frame_value frame) (map frame_value answer.items) awaits_verdict) }
 {
     let Frame::Challenge(challenge) = frame else {
         unreachable!();
     };
-    let opened = job.open(alloc, grant, wires, challenge)?;
+    let opened = job.open(workers, alloc, grant, pairs, challenge)?;
     let sums = Frame::Sums(opened.sums);
     two_frames(alloc, sums, Frame::Openings(opened.openings))
 }
@@ -148,7 +151,7 @@ impl<'a> ProverCore<'a> {
         self.advance(&OneThread, alloc, frame)
     }
 
-    /// Does the same, and has so many workers for the rounds of all units.
+    /// Does the same, and has so many workers for the rounds of all units and for the sums.
     ///
     /// # Errors
     ///
@@ -174,14 +177,14 @@ impl<'a> ProverCore<'a> {
         self.advance(&Fan::new(rt, workers), alloc, frame)
     }
 
-    /// Does the same, and has the rounds of all units done so.
-    fn advance<H: Rounds>(
+    /// Does the same, and has the rounds of all units and the sums done so.
+    fn advance<H: Workers>(
         &mut self,
-        rounds: &H,
+        workers: &H,
         alloc: Global,
         frame: Frame,
     ) -> Result<Vec<Frame>, ProverFault>
-        requires ready { H.is_ready rounds.now }
+        requires ready { H.is_ready workers.now }
         requires expected { IsSomeAnd (prover_expects self.old.job self.old.stage)
             (λ stage. Allows stage (frame_value frame)) }
         requires within { StaysWithin self.old.job (frame_value frame) }
@@ -194,10 +197,10 @@ impl<'a> ProverCore<'a> {
         match mem::replace(&mut self.stage, Stage::Ended) {
             Stage::Grant => self.take_grant(alloc, frame),
             Stage::Replies { grant, came } => {
-                Ok(self.take_replies(rounds, alloc, grant, came, frame)?)
+                Ok(self.take_replies(workers, alloc, grant, came, frame)?)
             }
-            Stage::Challenge { grant, wires } => {
-                Ok(self.take_challenge(alloc, grant, wires, frame)?)
+            Stage::Challenge { grant, pairs } => {
+                Ok(self.take_challenge(workers, alloc, grant, pairs, frame)?)
             }
             Stage::Verdict => Ok(Vec::new(alloc)),
             Stage::Ended => unreachable!(),
@@ -252,15 +255,15 @@ impl<'a> ProverCore<'a> {
     }
 
     /// Takes the replies for a unit; after those for the last it answers by the corrections.
-    fn take_replies<H: Rounds>(
+    fn take_replies<H: Workers>(
         &mut self,
-        rounds: &H,
+        workers: &H,
         alloc: Global,
         grant: Grant,
         came: Vec<Vec<TreeReply>>,
         frame: Frame,
     ) -> Result<Vec<Frame>, AllocError>
-        requires ready { H.is_ready rounds.now }
+        requires ready { H.is_ready workers.now }
         requires growing { IsGrowing self.old.job grant (lists_of came.items) }
         requires expected { (left : ℕ) × Allows (expect.Reply self.old.job.file.params.height
             self.old.job.file.params.trees left) (frame_value frame) }
@@ -275,18 +278,18 @@ impl<'a> ProverCore<'a> {
         };
         let mut came = came;
         came.push(trees)?;
-        self.go_on(rounds, alloc, grant, came)
+        self.go_on(workers, alloc, grant, came)
     }
 
     /// Goes on with the replies of so many units: as long as others are missing, it waits for these.
-    fn go_on<H: Rounds>(
+    fn go_on<H: Workers>(
         &mut self,
-        rounds: &H,
+        workers: &H,
         alloc: Global,
         grant: Grant,
         came: Vec<Vec<TreeReply>>,
     ) -> Result<Vec<Frame>, AllocError>
-        requires ready { H.is_ready rounds.now }
+        requires ready { H.is_ready workers.now }
         requires extended { self.old.job.file.params.kind ≡ Extended }
         requires granted { IsGrant self.old.job.file.params self.old.job.statement.program grant }
         requires bounded { vec_len came ≤ grant.count }
@@ -303,27 +306,29 @@ impl<'a> ProverCore<'a> {
         }
         let file = self.job.file();
         let columns = columns_of(alloc, &file.params(), &file.code_seed())?;
-        let pairs = rounds.pairs(alloc, file, &columns, units_of(grant), &came)?;
+        let pairs = workers.pairs(alloc, file, &columns, units_of(grant), &came)?;
         self.commit(alloc, grant, Correlations::Made(pairs))
     }
 
     /// Takes the challenge, and answers by the sums and the openings.
-    fn take_challenge(
+    fn take_challenge<H: Workers>(
         &mut self,
+        workers: &H,
         alloc: Global,
         grant: Grant,
-        wires: ProverWires<'a>,
+        pairs: Correlations<'a, Pair>,
         frame: Frame,
     ) -> Result<Vec<Frame>, AllocError>
-        requires held { IsFixedUnder self.old.job grant wires }
+        requires ready { H.is_ready workers.now }
+        requires held { IsFixedUnder self.old.job grant (items_in pairs) }
         requires expected { Allows expect.Challenge (frame_value frame) }
         ensures answered { IfOk result (λ answer. ProverAnswers self.old.job
-            (awaits_challenge grant wires.entry.dealt wires.entry.pairs)
+            (awaits_challenge grant (items_in pairs.entry) (pairs_fixed self.old.job (items_in pairs.entry)))
             (frame_value frame) (map frame_value answer.items) self.new.stage) }
         ensures ended { OnErr result (self.new.stage ≡ self.old.stage) }
         ensures job { self.new.job ≡ self.old.job }
     {
-        let answer = opened(alloc, self.job, grant, &wires, frame)?;
+        let answer = opened(workers, alloc, self.job, grant, pairs.as_slice(), frame)?;
         self.stage = Stage::Verdict;
         Ok(answer)
     }
@@ -344,12 +349,9 @@ impl<'a> ProverCore<'a> {
         ensures job { self.new.job ≡ self.old.job }
     {
         let _params = self.job.file().params();
-        let committed = self.job.commit(alloc, grant, pairs)?;
-        let answer = one_frame(alloc, Frame::Corrections(committed.corrections))?;
-        self.stage = Stage::Challenge {
-            grant,
-            wires: committed.wires,
-        };
+        let corrections = self.job.commit(alloc, grant, pairs.as_slice())?;
+        let answer = one_frame(alloc, Frame::Corrections(corrections))?;
+        self.stage = Stage::Challenge { grant, pairs };
         Ok(answer)
     }
 }

@@ -7,21 +7,20 @@ ghost use Rattle.zk_model.specs.Check.{all_sums, opened_pairs};
 ghost use Rattle.zk_model.specs.Transcript.{IsGrant, wanted_hello};
 ghost use Rattle.zk_model.specs.View.{span_of};
 ghost use Rattle.zk_model.specs.declared.Kind.TheVariants.{Direct};
-ghost use Rattle.wire_auth.specs.Held.{items_in};
 ghost use Rattle.session_core.specs.Ends.{IsFixed, masks_in};
 ghost use Rattle.session_core.specs.Jobs.{IsProverJob, Suits, prover_from};
-ghost use Rattle.session_core.specs.Fixing.{AreEnough, IsFixedUnder};
+ghost use Rattle.session_core.specs.Fixing.{AreEnough, IsFixedUnder, pairs_fixed};
 ghost use Rattle.zk_model.specs.declared.limits.TheConstants.{MAX_DEALT_UNITS, MAX_WIRES};
 
 use crate::statement::Statement;
 use crate::verifier_job::units_for;
+use crate::workers::Workers;
 use dealer_files::ProverFile;
 use mersenne_field::{Fe, Pair};
-use mult_check::prover_sums;
 use proof_frames::{Grant, Hello};
 use std::alloc::{AllocError, Global};
 use std::marker::Model;
-use wire_auth::{Correlations, ProverWires};
+use wire_auth::{ProverWalk, walk_corrections};
 use zk_model::{MAX_SECTION_LENGTH, MAX_UNITS, Span};
 
 /// What a prover is to do: its statement and its file, and the values of its private inputs.
@@ -43,13 +42,6 @@ impl<'a> Model for ProverJob<'a> {
 
     ghost invariant = { λ p. IsProverJob (prover_from p.statement.now p.inputs.now p.file.now)
         × (length p.inputs.now ≡ p.statement.now.program.inputs) };
-}
-
-/// What a prover answers by once it has all its pairs: its corrections, and the pairs of all wires, which these fix.
-#[derive(Debug, Drop)]
-pub struct Committed<'a> {
-    pub wires: ProverWires<'a>,
-    pub corrections: Vec<Fe>,
 }
 
 /// What a prover answers a challenge by.
@@ -79,17 +71,18 @@ pub fn units_of(grant: Grant) -> Span
     }
 }
 
-/// The MACs of the opened wires.
-fn opened_macs(alloc: Global, wires: &ProverWires<'_>) -> Result<Vec<Fe>, AllocError>
+/// The MACs of the opened wires, of a walk that has given its last product.
+fn opened_macs(alloc: Global, walk: &ProverWalk<'_>) -> Result<Vec<Fe>, AllocError>
+    requires done { length walk.now.side.program.products ≤ walk.now.met }
     ensures macs { IfOk result (λ macs. macs.items
-        ≡ macs_of (opened_pairs wires.now.program wires.now.pairs)) }
-    ensures one_each { IfOk result (λ macs. length macs.items ≡ length wires.now.program.opened) }
-    ensures bounded { length wires.now.program.opened ≤ MAX_WIRES }
+        ≡ macs_of (opened_pairs walk.now.side.program walk.now.side.pairs)) }
+    ensures one_each { IfOk result (λ macs. length macs.items ≡ length walk.now.side.program.opened) }
+    ensures bounded { length walk.now.side.program.opened ≤ MAX_WIRES }
 {
-    let opened = wires.program().opened();
+    let opened = walk.program().opened();
     let mut macs = Vec::with_capacity(alloc, opened.len())?;
     for o in 0..opened.len() {
-        macs.push(wires.output(o).m)?;
+        macs.push(walk.output(o).m)?;
     }
     Ok(macs)
 }
@@ -159,42 +152,45 @@ impl<'a> ProverJob<'a> {
     }
 
     /// The pairs of a session's correlations are answered by the corrections that make them those of the given values.
-    pub fn commit(
-        &self,
-        alloc: Global,
-        grant: Grant,
-        pairs: Correlations<'a, Pair>,
-    ) -> Result<Committed<'a>, AllocError>
+    ///
+    /// # Errors
+    ///
+    /// Only where memory runs out.
+    pub fn commit(&self, alloc: Global, grant: Grant, pairs: &[Pair]) -> Result<Vec<Fe>, AllocError>
         requires at_least_one { 1 ≤ grant.section_length }
-        requires enough { AreEnough self.now grant.section_length (items_in pairs) }
-        ensures fixed { IfOk result (λ c. IsFixed self.now.statement self.now.given
-            (items_in pairs.entry) c.corrections.items c.wires.pairs) }
-        ensures dealt_kept { IfOk result (λ c. c.wires.dealt ≡ items_in pairs.entry) }
-        ensures held { IfOk result (λ c. IsFixedUnder self.now grant c.wires) }
-        ensures one_each { IfOk result (λ c. length c.corrections.items
-            ≡ self.now.statement.program.givens) }
+        requires enough { AreEnough self.now grant.section_length pairs.now }
+        ensures fixed { IfOk result (λ d. IsFixed self.now.statement self.now.given
+            pairs.now d.items (pairs_fixed self.now pairs.now)) }
+        ensures one_each { IfOk result (λ d. length d.items ≡ self.now.statement.program.givens) }
     {
         let program = self.statement.program();
+        let plan = self.statement.plan();
         let public = self.statement.public();
         let _givens = program.givens();
-        let (wires, corrections) = ProverWires::run(alloc, program, public, self.inputs, pairs)?;
-        Ok(Committed { wires, corrections })
+        let corrections = walk_corrections(alloc, program, plan, public, self.inputs, pairs)?;
+        Ok(corrections)
     }
 
     /// A challenge is answered by the sums of all sections and the MACs of the opened wires.
-    pub fn open(
+    ///
+    /// # Errors
+    ///
+    /// Only where memory runs out.
+    pub fn open<H: Workers>(
         &self,
+        workers: &H,
         alloc: Global,
         grant: Grant,
-        wires: &ProverWires<'a>,
+        pairs: &[Pair],
         challenge: Fe,
     ) -> Result<Opened, AllocError>
-        requires held { IsFixedUnder self.now grant wires.now }
+        requires ready { H.is_ready workers.now }
+        requires held { IsFixedUnder self.now grant pairs.now }
         ensures sums { IfOk result (λ o. o.sums.items
-            ≡ all_sums self.now.statement.program grant.section_length challenge wires.now.pairs
-            (drop self.now.statement.program.givens wires.now.dealt)) }
+            ≡ all_sums self.now.statement.program grant.section_length challenge
+            (pairs_fixed self.now pairs.now) (drop self.now.statement.program.givens pairs.now)) }
         ensures openings { IfOk result (λ o. o.openings.items
-            ≡ macs_of (opened_pairs self.now.statement.program wires.now.pairs)) }
+            ≡ macs_of (opened_pairs self.now.statement.program (pairs_fixed self.now pairs.now))) }
         ensures sum_count { IfOk result (λ o. length o.sums.items
             ≡ section_count self.now.statement.program grant.section_length) }
         ensures opening_count { IfOk result (λ o. length o.openings.items
@@ -204,9 +200,24 @@ impl<'a> ProverJob<'a> {
         let section = u64::from(grant.section);
         let program = self.statement.program();
         let sections = program.sections(section) as usize;
-        let masks = masks_of(wires.dealt(), program.givens(), sections);
-        let sums = prover_sums(alloc, wires, section, challenge, masks)?;
-        let openings = opened_macs(alloc, wires)?;
+        let masks = masks_of(pairs, program.givens(), sections);
+        let mut walk = self.walk(alloc, pairs)?;
+        let sums = workers.sums(alloc, &mut walk, section, challenge, masks)?;
+        let openings = opened_macs(alloc, &walk)?;
         Ok(Opened { sums, openings })
+    }
+
+    /// A walk along its program with these pairs, which has given no product yet.
+    fn walk<'w>(&'w self, alloc: Global, pairs: &'w [Pair]) -> Result<ProverWalk<'w>, AllocError>
+        requires { self.now.statement.program.givens ≤ length pairs.now }
+        ensures walk { IfOk result (λ walk. (walk.side.program ≡ self.now.statement.program)
+            × (walk.side.pairs ≡ pairs_fixed self.now pairs.now) × (walk.met ≡ 0)) }
+    {
+        let program = self.statement.program();
+        let plan = self.statement.plan();
+        let public = self.statement.public();
+        let _givens = program.givens();
+        let walk = ProverWalk::new(alloc, program, plan, public, self.inputs, pairs)?;
+        Ok(walk)
     }
 }

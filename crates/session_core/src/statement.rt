@@ -3,12 +3,13 @@ ghost use Rattle.std.specs.Prelude.{◌≡◌, length, map, IfOk};
 ghost use Rattle.zk_model.specs.Bits.{digits_of, from_bit};
 ghost use Rattle.session_core.specs.Cores.{digests_of};
 ghost use Rattle.session_core.specs.Jobs.{statement_of};
+ghost use Rattle.zk_model.specs.Slots.{IsPlanOf};
 ghost use Rattle.zk_model.specs.Statement.{IsStatement};
 ghost use Rattle.zk_model.specs.Transcript.{wanted_hello, digest_sent, version_of};
 ghost use Rattle.sha2.specs.Sha256.{sha256};
 
 use crate::fault::Digests;
-use field_program::FieldProgram;
+use field_program::{FieldProgram, SlotPlan};
 use mersenne_field::Fe;
 use proof_frames::Hello;
 use sha2::{Digest, Sha256};
@@ -16,10 +17,11 @@ use std::alloc::{AllocError, Global};
 use std::marker::Model;
 
 /// What a session is to prove: a program, the values of its public wires and the claimed values of the wires that it opens;
-/// and the digests by which its hello names them.
+/// and the digests by which its hello names them. With it goes a plan of the program, along which both ends walk.
 #[derive(Debug, Drop)]
 pub struct Statement<'a> {
     program: &'a FieldProgram,
+    plan: &'a SlotPlan,
     public: &'a [Fe],
     claims: &'a [Fe],
     circuit: [u8; 32],
@@ -28,6 +30,7 @@ pub struct Statement<'a> {
 }
 
 impl<'a> Model for Statement<'a> {
+    ghost use Rattle.zk_model.specs.Slots.{IsPlanOf};
     ghost use Rattle.zk_model.specs.Statement.{IsStatement};
     ghost use Rattle.zk_model.specs.Statement as model;
     ghost use Rattle.session_core.specs.Jobs.{statement_of};
@@ -37,28 +40,31 @@ impl<'a> Model for Statement<'a> {
     ghost view = { λ s.
         statement_of s.program.now s.public.now s.claims.now s.circuit s.outputs s.public_digest };
 
-    ghost invariant = { λ s. IsStatement
+    ghost invariant = { λ s. IsPlanOf s.program.now s.plan.now × IsStatement
         (statement_of s.program.now s.public.now s.claims.now s.circuit s.outputs s.public_digest) };
 }
 
 impl<'a> Statement<'a> {
-    /// A statement of these parts: as many public values and claims as the program has public and opened wires, and the
-    /// digests of the circuit, of the claims and of the public values: of the empty text, where there are none.
+    /// A statement of these parts: a program and a plan of it, as many public values and claims as the program has public and
+    /// opened wires, and the digests of the circuit, of the claims and of the public values: of the empty text, where there are none.
     pub fn new(
         program: &'a FieldProgram,
+        plan: &'a SlotPlan,
         public: &'a [Fe],
         claims: &'a [Fe],
         circuit: [u8; 32],
         outputs: [u8; 32],
         public_digest: [u8; 32],
     ) -> Self
-        requires { IsStatement
+        requires plan { IsPlanOf program.now plan.now }
+        requires stated { IsStatement
             (statement_of program.now public.now claims.now circuit outputs public_digest) }
         ensures { result
             ≡ statement_of program.now public.now claims.now circuit outputs public_digest }
     {
         Statement {
             program,
+            plan,
             public,
             claims,
             circuit,
@@ -73,6 +79,13 @@ impl<'a> Statement<'a> {
         ensures stated { IsStatement self.now }
     {
         self.program
+    }
+
+    /// The plan of its program.
+    pub fn plan(&self) -> &'a SlotPlan
+        ensures plan { IsPlanOf self.now.program result.now }
+    {
+        self.plan
     }
 
     /// The values of its public wires.

@@ -19,9 +19,10 @@ ghost use Rattle.session_core.specs.Cores.{AnswersAsks, VerifierAnswers, Verifie
 use crate::fault::{Digests, HelloDiffers, VerifierFault};
 use crate::judgement::Judgement;
 use crate::prover_job::units_of;
+use crate::round_frames::reply_frames;
 use crate::statement::{Statement, version_of};
-use crate::unit_rounds::{Fan, OneThread, Rounds, reply_frames};
 use crate::verifier_job::VerifierJob;
+use crate::workers::{Fan, OneThread, Workers};
 use mersenne_field::Fe;
 use proof_frames::{Frame, Hello};
 use sha2::{Digest, Sha256};
@@ -260,7 +261,7 @@ impl<'a> VerifierCore<'a> {
         self.advance(&OneThread, alloc, frame)
     }
 
-    /// Does the same, and has so many workers for the rounds of all units.
+    /// Does the same, and has so many workers for the rounds of all units and for the check of products.
     ///
     /// # Errors
     ///
@@ -285,14 +286,14 @@ impl<'a> VerifierCore<'a> {
         self.advance(&Fan::new(rt, workers), alloc, frame)
     }
 
-    /// Does the same, and has the rounds of all units done so.
-    fn advance<H: Rounds>(
+    /// Does the same, and has the rounds of all units and the check of products done so.
+    fn advance<H: Workers>(
         &mut self,
-        rounds: &H,
+        workers: &H,
         alloc: Global,
         frame: Frame,
     ) -> Result<Vec<Frame>, VerifierFault>
-        requires ready { H.is_ready rounds.now }
+        requires ready { H.is_ready workers.now }
         requires expected { IsSomeAnd (verifier_expects self.old.job self.old.stage)
             (λ expect. Allows expect (frame_value frame)) }
         ensures answered { IfOk result (λ answer. VerifierAnswers self.old.job self.old.stage
@@ -304,7 +305,7 @@ impl<'a> VerifierCore<'a> {
         match mem::replace(&mut self.stage, Stage::Refused) {
             Stage::Hello => self.meet(alloc, frame),
             Stage::Asks { start, asked } => {
-                Ok(self.take_asks(rounds, alloc, start, asked, frame)?)
+                Ok(self.take_asks(workers, alloc, start, asked, frame)?)
             }
             Stage::Corrections { start, keys } => {
                 Ok(self.take_corrections(alloc, start, keys, frame)?)
@@ -319,7 +320,7 @@ impl<'a> VerifierCore<'a> {
                 keys,
                 corrections,
                 sums,
-            } => Ok(self.take_openings(alloc, start, keys, corrections, sums, frame)?),
+            } => Ok(self.take_openings(workers, alloc, start, keys, corrections, sums, frame)?),
             Stage::Grant | Stage::Judged { .. } | Stage::Refused => unreachable!(),
         }
     }
@@ -345,15 +346,15 @@ impl<'a> VerifierCore<'a> {
     }
 
     /// Takes the asks for a unit; after those for the last it answers by the replies to all.
-    fn take_asks<H: Rounds>(
+    fn take_asks<H: Workers>(
         &mut self,
-        rounds: &H,
+        workers: &H,
         alloc: Global,
         start: u64,
         asked: Vec<Vec<TreeAsk>>,
         frame: Frame,
     ) -> Result<Vec<Frame>, AllocError>
-        requires ready { H.is_ready rounds.now }
+        requires ready { H.is_ready workers.now }
         requires held { IsVerifierStage self.old.job (awaits_asks start (lists_of asked.items)) }
         requires expected { (left : ℕ) × Allows (expect.Ask self.old.job.task.file.params.height
             self.old.job.task.file.params.trees left) (frame_value frame) }
@@ -368,18 +369,18 @@ impl<'a> VerifierCore<'a> {
         };
         let mut asked = asked;
         asked.push(trees)?;
-        self.answer_asks(rounds, alloc, start, asked)
+        self.answer_asks(workers, alloc, start, asked)
     }
 
     /// Answers the asks for so many units: as long as others are missing, it waits for these.
-    fn answer_asks<H: Rounds>(
+    fn answer_asks<H: Workers>(
         &mut self,
-        rounds: &H,
+        workers: &H,
         alloc: Global,
         start: u64,
         asked: Vec<Vec<TreeAsk>>,
     ) -> Result<Vec<Frame>, AllocError>
-        requires ready { H.is_ready rounds.now }
+        requires ready { H.is_ready workers.now }
         requires extended { self.old.job.task.file.params.kind ≡ Extended }
         requires within { start + units_of_job self.old.job ≤ self.old.job.task.file.params.total }
         requires bounded { length asked.items ≤ units_of_job self.old.job }
@@ -398,7 +399,7 @@ impl<'a> VerifierCore<'a> {
         let _total = file.total();
         let columns = columns_of(alloc, &file.params(), &file.code_seed())?;
         let span = units_of(self.job.grant(start));
-        let reply = rounds.replies(alloc, file, &columns, span, &asked)?;
+        let reply = workers.replies(alloc, file, &columns, span, &asked)?;
         let answer = reply_frames(alloc, reply.replies)?;
         self.stage = Stage::Corrections {
             start,
@@ -468,8 +469,9 @@ impl<'a> VerifierCore<'a> {
     }
 
     /// Takes openings, and answers by its verdict.
-    fn take_openings(
+    fn take_openings<H: Workers>(
         &mut self,
+        workers: &H,
         alloc: Global,
         start: u64,
         keys: Correlations<'a, Fe>,
@@ -477,6 +479,7 @@ impl<'a> VerifierCore<'a> {
         sums: Vec<(Fe, Fe)>,
         frame: Frame,
     ) -> Result<Vec<Frame>, AllocError>
+        requires ready { H.is_ready workers.now }
         requires held { IsVerifierStage self.old.job (awaits_openings start corrections.items sums.items) }
         requires keys { HoldsKeys self.old.job start (items_in keys) }
         requires expected { Allows (expect.Openings (length self.old.job.task.statement.program.opened))
@@ -491,9 +494,15 @@ impl<'a> VerifierCore<'a> {
             unreachable!();
         };
         let keys = keys.as_slice();
-        let judgement = self
-            .job
-            .judge(alloc, start, keys, &corrections, &sums, &openings)?;
+        let judgement = self.job.judge(
+            workers,
+            alloc,
+            start,
+            keys,
+            &corrections,
+            &sums,
+            &openings,
+        )?;
         let verdict = one_frame(alloc, verdict_frame(&judgement))?;
         self.stage = Stage::Judged { start, judgement };
         Ok(verdict)

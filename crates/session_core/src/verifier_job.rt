@@ -4,25 +4,25 @@ ghost use Rattle.zk_model.specs.Files.{AreParams, correlations_per_unit};
 ghost use Rattle.zk_model.specs.Program.{section_count, part_count};
 ghost use Rattle.zk_model.specs.Transcript as transcript;
 ghost use Rattle.zk_model.specs.ServedVerifier.{challenge_coin};
-ghost use Rattle.zk_model.specs.View.{IsVerdictOf};
 ghost use Rattle.zk_model.specs.declared.Kind.TheVariants.{Direct};
 ghost use Rattle.mult_check.specs.Checks.{product_check, opening_check};
 ghost use Rattle.session_core.specs.Jobs.{IsVerifierJob, IsTooLarge, units_of_job, granted_from, verifier_of};
 ghost use Rattle.session_core.specs.Fixing.{HoldsKeys};
-ghost use Rattle.session_core.specs.Judgements.{HasSides, Finds, verdict_in};
+ghost use Rattle.session_core.specs.Judgements.{IsRejectedFor, Judges, Finds};
 ghost use Rattle.zk_model.specs.declared.limits.TheConstants.{MAX_DEALT_UNITS, MAX_SECTION_LENGTH, MAX_UNITS};
 
 use crate::judgement::Judgement;
 use crate::prover_job::{masks_of, units_of};
 use crate::statement::Statement;
+use crate::workers::Workers;
 use dealer_files::VerifierFile;
 use mersenne_field::Fe;
-use mult_check::{check, check_openings};
+use mult_check::{StreamFault, openings_along};
 use proof_frames::Grant;
 use std::alloc::{AllocError, Global};
 use std::marker::Model;
 use thiserror::Error;
-use wire_auth::VerifierWires;
+use wire_auth::VerifierWalk;
 use zk_model::{Kind, MAX_UNITS, Params};
 
 /// How many correlations a unit gives to a session.
@@ -87,9 +87,25 @@ impl<'a> Model for VerifierJob<'a> {
     }) };
 }
 
-/// What the checks of all sections and of all opened wires say.
-fn judgement_of(
-    wires: &VerifierWires<'_>,
+/// What is said of the sums where their check ends like this: that those of the first section that differs are refused.
+fn rejected_sum(fault: StreamFault) -> Result<Judgement, AllocError>
+    ensures { IfOk result (IsRejectedFor fault) }
+{
+    match fault {
+        StreamFault::Differs(differs) => Ok(Judgement::RejectedSum {
+            section: differs.section,
+            left: differs.left,
+            right: differs.right,
+        }),
+        StreamFault::NoMemory => Err(AllocError),
+    }
+}
+
+/// What the checks of all sections and of all opened wires say, along a walk that has given no product yet.
+fn judgement_of<H: Workers>(
+    workers: &H,
+    alloc: Global,
+    walk: &mut VerifierWalk<'_>,
     section: u64,
     challenge: Fe,
     masks: &[Fe],
@@ -97,31 +113,27 @@ fn judgement_of(
     sums: &[(Fe, Fe)],
     openings: &[Fe],
     claims: &[Fe],
-) -> Judgement
+) -> Result<Judgement, AllocError>
+    requires ready { H.is_ready workers.now }
+    requires fresh { walk.old.met ≡ 0 }
     requires at_least_one { 1 ≤ section }
-    requires masks { length masks.now ≡ section_count wires.now.program section }
+    requires masks { length masks.now ≡ section_count walk.old.side.program section }
     requires sums { length sums.now ≡ length masks.now }
-    requires openings { length openings.now ≡ length wires.now.program.opened }
-    requires claims { length claims.now ≡ length wires.now.program.opened }
-    ensures judged { IsVerdictOf (product_check wires.now section challenge masks.now key sums.now)
-        (opening_check wires.now key openings.now claims.now) (verdict_in result) }
-    ensures sides { HasSides (product_check wires.now section challenge masks.now key sums.now)
-        (opening_check wires.now key openings.now claims.now) result }
+    requires openings { length openings.now ≡ length walk.old.side.program.opened }
+    requires claims { length claims.now ≡ length walk.old.side.program.opened }
+    ensures { IfOk result (Judges (product_check walk.old.side section challenge masks.now key sums.now)
+        (opening_check walk.old.side key openings.now claims.now)) }
 {
-    if let Err(differs) = check(wires, section, challenge, masks, key, sums) {
-        return Judgement::RejectedSum {
-            section: differs.section,
-            left: differs.left,
-            right: differs.right,
-        };
+    if let Err(fault) = workers.check(alloc, walk, section, challenge, masks, key, sums) {
+        return rejected_sum(fault);
     }
-    match check_openings(wires, key, openings, claims) {
-        Err(differs) => Judgement::RejectedOpening {
+    match openings_along(walk, key, openings, claims) {
+        Err(differs) => Ok(Judgement::RejectedOpening {
             output: differs.output,
             left: differs.left,
             right: differs.right,
-        },
-        Ok(()) => Judgement::Accepted,
+        }),
+        Ok(()) => Ok(Judgement::Accepted),
     }
 }
 
@@ -229,8 +241,13 @@ impl<'a> VerifierJob<'a> {
     /// What it finds of the session whose first unit this is and whose keys these are, in which these corrections, sums and openings
     /// came: the first section whose sums do not meet its keys, else the first opened wire whose MAC does not open to the claim, else
     /// that all is well.
-    pub fn judge(
+    ///
+    /// # Errors
+    ///
+    /// Only where memory runs out.
+    pub fn judge<H: Workers>(
         &self,
+        workers: &H,
         alloc: Global,
         start: u64,
         keys: &[Fe],
@@ -238,6 +255,7 @@ impl<'a> VerifierJob<'a> {
         sums: &[(Fe, Fe)],
         openings: &[Fe],
     ) -> Result<Judgement, AllocError>
+        requires ready { H.is_ready workers.now }
         requires within { start + units_of_job self.now ≤ self.now.task.file.params.total }
         requires keys { HoldsKeys self.now start keys.now }
         requires corrections { length corrections.now ≡ self.now.task.statement.program.givens }
@@ -248,6 +266,7 @@ impl<'a> VerifierJob<'a> {
             Finds self.now start corrections.now sums.now openings.now judgement) }
     {
         let program = self.statement.program();
+        let plan = self.statement.plan();
         let section = u64::from(self.section);
         let key = self.file.key();
         let _total = self.file.total();
@@ -255,11 +274,11 @@ impl<'a> VerifierJob<'a> {
         let masks = masks_of(keys, program.givens(), sections);
         let public = self.statement.public();
         let claims = self.statement.claims();
-        let wires = VerifierWires::run(alloc, program, public, keys, key, corrections)?;
+        let mut walk = VerifierWalk::new(alloc, program, plan, public, keys, key, corrections)?;
         let challenge = self.challenge(start);
         let judgement = judgement_of(
-            &wires, section, challenge, masks, key, sums, openings, claims,
-        );
+            workers, alloc, &mut walk, section, challenge, masks, key, sums, openings, claims,
+        )?;
         Ok(judgement)
     }
 }

@@ -20,7 +20,7 @@ use mersenne_field::{Fe, Pair};
 use proof_frames::{Frame, Grant, Hello};
 use round_fan::{SESSION_WORKERS, fan_prover, fan_verifier};
 use session_core::{
-    Committed, Correlations, Opened, ProverJob, Statement, VerifierJob, ask_frames, ask_lists,
+    Correlations, Fan, Opened, ProverJob, Statement, VerifierJob, ask_frames, ask_lists,
     reply_frames, units_of,
 };
 use session_laws::{asks_are_in_range, replies_are_in_range};
@@ -87,7 +87,7 @@ pub(crate) fn run_session<R: Threads + Sync>(
     let verifier = VerifierJob::new(statement, verifier_file, section);
     let answered = answer(rt, alloc, statement, inputs, &prover_file, &verifier)?;
     drop(prover_file);
-    let exchange = judge(alloc, &verifier, answered)?;
+    let exchange = judge(rt, alloc, &verifier, answered)?;
     Ok(exchange)
 }
 
@@ -111,7 +111,7 @@ fn answer<'v, R: Threads + Sync>(
     let prover = ProverJob::new(statement, prover_file, inputs);
     let grant = verifier.grant(0);
     let established = establish(rt, alloc, &prover, verifier, grant)?;
-    let answered = open(alloc, &prover, verifier, grant, established)?;
+    let answered = open(rt, alloc, &prover, verifier, grant, established)?;
     Ok(answered)
 }
 
@@ -199,7 +199,8 @@ fn extend<'p, 'v, R: Threads + Sync>(
 }
 
 /// The turns after the rounds, up to the prover's answer to the challenge.
-fn open<'p, 'v>(
+fn open<'p, 'v, R: Threads + Sync>(
+    rt: &R,
     alloc: Global,
     prover: &ProverJob<'p>,
     verifier: &VerifierJob<'v>,
@@ -226,9 +227,11 @@ fn open<'p, 'v>(
         pairs,
         keys,
     } = established;
-    let Committed { wires, corrections } = prover.commit(alloc, grant, pairs)?;
+    let seen = pairs.as_slice();
+    let corrections = prover.commit(alloc, grant, seen)?;
     let challenge = verifier.challenge(0);
-    let opened = prover.open(alloc, grant, &wires, challenge)?;
+    let workers = Fan::new(rt, SESSION_WORKERS);
+    let opened = prover.open(&workers, alloc, grant, seen, challenge)?;
     Ok(OpenedSession {
         hello,
         grant,
@@ -242,7 +245,8 @@ fn open<'p, 'v>(
 }
 
 /// The verifier's last turn.
-fn judge<'v>(
+fn judge<'v, R: Threads + Sync>(
+    rt: &R,
     alloc: Global,
     verifier: &VerifierJob<'v>,
     answered: OpenedSession<'v>,
@@ -268,7 +272,9 @@ fn judge<'v>(
         challenge,
         opened,
     } = answered;
+    let workers = Fan::new(rt, SESSION_WORKERS);
     let judgement = verifier.judge(
+        &workers,
         alloc,
         0,
         keys.as_slice(),

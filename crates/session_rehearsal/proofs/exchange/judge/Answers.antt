@@ -22,7 +22,7 @@ use Rattle.session_rehearsal.proofs.Held.{session_is}
 use Rattle.session_rehearsal.proofs.exchange.judge.Goals as goal
 
 pub returns-clause-short : goal.returns-clause-short
-returns-clause-short c =
+returns-clause-short g c =
     let is : IsVerifierJob c.args.verifier.now = c.file.ensures.job in
     let program = c.program-program.ensures.program ∙ ap (λ (s : Statement). s.program) c.statement.ensures.statement in
     let products = ap (λ (p : Program). length p.products) program in
@@ -38,7 +38,7 @@ returns-clause-short c =
     }
 
 pub returns-clause-session : goal.returns-clause-session
-returns-clause-session c prover log stated dealt answered noted =
+returns-clause-session g c prover log stated dealt answered noted =
     let job : VerifierJob = c.args.verifier.now in
     let wanted : Hello = wanted_hello job.task.file.id job.task.statement in
     let a = c.args.answered in

@@ -1,8 +1,9 @@
-use Rattle.std.proofs.Common.{◌≡◌, take, drop, length, ap, refl, ◌∙◌, subst, arith}
+use Rattle.std.proofs.Common.{◌≡◌, take, drop, length, ap, refl, sym, ◌∙◌, subst, arith}
 use Rattle.zk_model.specs.Program.{Program, section_count}
 use Rattle.zk_model.specs.Mac.{corrected_keys}
 use Rattle.zk_model.specs.Files.{IsVerifierFile}
 use Rattle.zk_model.specs.Check.{AreKeysFor}
+use Rattle.wire_auth.specs.Walks.{VerifierWalking}
 use Rattle.session_core.specs.Jobs.{VerifierJob, units_of_job}
 use Rattle.session_core.proofs.Enough.{enough_units}
 use Rattle.session_core.proofs.Judged.{judged_taken}
@@ -10,7 +11,7 @@ use Rattle.session_core.proofs.verifier_job.VerifierJob.judge.Goals as goal
 
 -- there are keys for all given values and masks
 pub masks_of-masks-requires : goal.masks_of-masks-requires
-masks_of-masks-requires c =
+masks_of-masks-requires g c =
     let job : VerifierJob = c.args.self.now in
     let view = c.self.view_is in
     let program : c.program-program.result.now ≡ job.task.statement.program = c.program-program.ensures.program ∙ ap (λ (j : VerifierJob). j.task.statement.program) view in
@@ -23,8 +24,8 @@ masks_of-masks-requires c =
     file.params refl c.requires.keys.count in
     omega (arith, enough, sections, givens)
 
-pub run-requires-clause-keys : goal.run-requires-clause-keys
-run-requires-clause-keys c =
+pub new-requires-clause-keys : goal.new-requires-clause-keys
+new-requires-clause-keys g c =
     let job : VerifierJob = c.args.self.now in
     let view = c.self.view_is in
     let program : c.program-program.result.now ≡ job.task.statement.program = c.program-program.ensures.program ∙ ap (λ (j : VerifierJob). j.task.statement.program) view in
@@ -35,7 +36,7 @@ run-requires-clause-keys c =
     omega (arith, enough, givens)
 
 pub returns : goal.returns
-returns c =
+returns g c =
     let job : VerifierJob = c.args.self.now in
     let view = c.self.view_is in
     let program : c.program-program.result.now ≡ job.task.statement.program = c.program-program.ensures.program ∙ ap (λ (j : VerifierJob). j.task.statement.program) view in
@@ -46,13 +47,13 @@ returns c =
     let givens : c.givens.result ≡ job.task.statement.program.givens = c.givens.ensures.count ∙ ap (λ (p : Program). p.givens) program in
     let public : c.public-public.result.now ≡ job.task.statement.public = c.public-public.ensures.public ∙ ap (λ (j : VerifierJob). j.task.statement.public) view in
     let spanned = c.requires.keys.spanned in
-    λ greeting rounds. judged_taken job greeting c.args.start rounds c.args.corrections.now c.args.sums.now c.args.openings.now c.in_ok-wires.wires
-    c.from-section.result c.challenge-challenge.result c.key-key.result c.masks_of-masks.result.now c.claims-claims.result.now c.judgement_of-judgement.result
-    (c.in_ok-wires.ensures.program ∙ program)
+    λ greeting rounds. judged_taken job greeting c.args.start rounds c.args.corrections.now c.args.sums.now c.args.openings.now c.in_ok-walk.walk.side
+    c.from-section.result c.challenge-challenge.result c.key-key.result c.masks_of-masks.result.now c.claims-claims.result.now c.in_ok-judgement.judgement
+    (ap (λ (w : VerifierWalking). w.side.program) c.in_ok-walk.ensures.walk ∙ program)
     section c.challenge-challenge.ensures key
     (c.masks_of-masks.ensures.masks ∙ (λ i. take (sections i) (drop (givens i) (spanned i))))
     (c.claims-claims.ensures.claims ∙ ap (λ (j : VerifierJob). j.task.statement.claims) view)
-    (c.in_ok-wires.ensures.given ∙ (λ i. corrected_keys (key i) (spanned i) c.args.corrections.now))
-    (subst (λ (T : Type 0). T) (λ i. AreKeysFor (key i) (program i) (public i) c.in_ok-wires.wires.keys) c.in_ok-wires.ensures.carried)
-    c.judgement_of-judgement.ensures.judged
-    c.judgement_of-judgement.ensures.sides
+    (ap (λ (w : VerifierWalking). w.side.keys.given) c.in_ok-walk.ensures.walk ∙ (λ i. corrected_keys (key i) (spanned i) c.args.corrections.now))
+    (subst (λ (T : Type 0). T) (λ i. AreKeysFor (key i) (program i) (public i) (sym (ap (λ (w : VerifierWalking). w.side.keys) c.in_ok-walk.ensures.walk) i)) c.in_ok-walk.ensures.carried)
+    c.in_ok-judgement.ensures.0
+    c.in_ok-judgement.ensures.1

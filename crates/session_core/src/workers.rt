@@ -1,27 +1,32 @@
-// How the rounds of all units of a grant are done, at either end.
-ghost use Rattle.std.specs.Prelude.{◌≡◌, ◌+◌, ◌*◌, ◌≤◌, length, map, All, IfOk};
+// What several threads can share at either end: the rounds of all units of a grant, and the sums of products.
+ghost use Rattle.std.specs.Prelude.{◌≡◌, ◌+◌, ◌*◌, ◌≤◌, length, All, IfOk, IfErr, OnOk};
 ghost use Rattle.std.specs.Thread.{IsSync};
+ghost use Rattle.zk_model.specs.Check.{AllSectionsHold, all_sums};
 ghost use Rattle.zk_model.specs.Correlations.{span_keys};
 ghost use Rattle.zk_model.specs.Files.{correlations_per_unit};
 ghost use Rattle.zk_model.specs.Frames.{AreAsks, AreReplies};
-ghost use Rattle.zk_model.specs.Frames as model;
+ghost use Rattle.zk_model.specs.Program.{section_count};
 ghost use Rattle.zk_model.specs.declared.Kind.TheVariants.{Extended};
-ghost use Rattle.proof_frames.specs.Frames.{frame_value};
+ghost use Rattle.mult_check.specs.Checks.{DiffersFirst, product_check};
+ghost use Rattle.mult_check.specs.declared.fault.StreamFault.TheVariants as stream;
+ghost use Rattle.mult_check.specs.declared.sections.Differs.{Differs};
 ghost use Rattle.vole_extend.specs.Rounds.{unit_code};
 ghost use Rattle.round_fan.specs.Fans.{lists_of, ArePairsFrom, replies_from};
 
 use dealer_files::{ProverFile, VerifierFile};
 use linear_code::Columns;
-use mersenne_field::Pair;
-use proof_frames::Frame;
+use mersenne_field::{Fe, Pair};
+use mult_check::{StreamFault, check_along, stream_check, stream_sums, sums_along};
 use round_fan::{FanReply, fan_prover, fan_verifier, unit_pairs, unit_replies};
 use std::alloc::{AllocError, Global};
 use std::thread::Threads;
 use tree_messages::{TreeAsk, TreeReply};
+use wire_auth::{ProverWalk, VerifierWalk};
 use zk_model::Span;
 
-/// What does the rounds of all units of a span: the prover's pairs, and the verifier's replies and keys.
-pub(crate) trait Rounds {
+/// What does the rounds of all units of a span, the prover's pairs and the verifier's replies and keys, and the sums of products along
+/// a walk. What comes out is the same whoever does it.
+pub trait Workers {
     /// What a call needs besides: nothing on one thread, and of many that they may share what makes them.
     ghost is_ready: { Self → Type 0 };
 
@@ -66,13 +71,55 @@ pub(crate) trait Rounds {
         ensures keys { IfOk result (λ r. r.keys.items ≡ span_keys file.now span) }
         ensures count { IfOk result (λ r. length r.keys.items
             ≡ length asks.now * correlations_per_unit file.now.params) };
+
+    /// The prover's sums of all sections, of a walk that has given no product yet.
+    fn sums(
+        &self,
+        alloc: Global,
+        walk: &mut ProverWalk<'_>,
+        g: u64,
+        challenge: Fe,
+        masks: &[Pair],
+    ) -> Result<Vec<(Fe, Fe)>, AllocError>
+        requires ready { Self.is_ready self.now }
+        requires fresh { walk.old.met ≡ 0 }
+        requires at_least_one { 1 ≤ g }
+        requires masks { length masks.now ≡ section_count walk.old.side.program g }
+        ensures side { walk.new.side ≡ walk.old.side }
+        ensures met { OnOk result (length walk.old.side.program.products ≤ walk.new.met) }
+        ensures sums { IfOk result (λ v. v.items
+            ≡ all_sums walk.old.side.program g challenge walk.old.side.pairs masks.now) }
+        ensures one_each { IfOk result (λ v. length v.items ≡ length masks.now) };
+
+    /// The verifier's check of all sections, of a walk that has given no product yet.
+    fn check(
+        &self,
+        alloc: Global,
+        walk: &mut VerifierWalk<'_>,
+        g: u64,
+        challenge: Fe,
+        mask_keys: &[Fe],
+        key: Fe,
+        sums: &[(Fe, Fe)],
+    ) -> Result<(), StreamFault>
+        requires ready { Self.is_ready self.now }
+        requires fresh { walk.old.met ≡ 0 }
+        requires at_least_one { 1 ≤ g }
+        requires masks { length mask_keys.now ≡ section_count walk.old.side.program g }
+        requires sums { length sums.now ≡ length mask_keys.now }
+        ensures side { walk.new.side ≡ walk.old.side }
+        ensures met { OnOk result (length walk.old.side.program.products ≤ walk.new.met) }
+        ensures holds { IfOk result (λ _.
+            AllSectionsHold (product_check walk.old.side g challenge mask_keys.now key sums.now)) }
+        ensures differs { IfErr result (λ e. (d : Differs) → e ≡ stream.Differs d
+            → DiffersFirst (product_check walk.old.side g challenge mask_keys.now key sums.now) d) };
 }
 
 /// On the caller's own thread.
 #[derive(Clone, Copy, Debug)]
-pub(crate) struct OneThread;
+pub struct OneThread;
 
-impl Rounds for OneThread {
+impl Workers for OneThread {
     ghost is_ready = { λ _. Unit {0} };
 
     fn pairs(
@@ -96,11 +143,35 @@ impl Rounds for OneThread {
     ) -> Result<FanReply, AllocError> {
         unit_replies(alloc, file, columns, span.start, asks)
     }
+
+    fn sums(
+        &self,
+        alloc: Global,
+        walk: &mut ProverWalk<'_>,
+        g: u64,
+        challenge: Fe,
+        masks: &[Pair],
+    ) -> Result<Vec<(Fe, Fe)>, AllocError> {
+        sums_along(alloc, walk, g, challenge, masks)
+    }
+
+    fn check(
+        &self,
+        _alloc: Global,
+        walk: &mut VerifierWalk<'_>,
+        g: u64,
+        challenge: Fe,
+        mask_keys: &[Fe],
+        key: Fe,
+        sums: &[(Fe, Fe)],
+    ) -> Result<(), StreamFault> {
+        Ok(check_along(walk, g, challenge, mask_keys, key, sums)?)
+    }
 }
 
-/// By so many workers, of which each has a thread.
+/// By so many workers, of which each has a thread. A thread that cannot be made costs time alone.
 #[derive(Drop)]
-pub(crate) struct Fan<'a, R> {
+pub struct Fan<'a, R> {
     rt: &'a R,
     workers: u32,
     ghost some: { 1 ≤ workers },
@@ -109,7 +180,7 @@ pub(crate) struct Fan<'a, R> {
 
 impl<'a, R: Threads + Sync> Fan<'a, R> {
     /// A fan of 1 to 1,024 workers.
-    pub(crate) fn new(rt: &'a R, workers: u32) -> Self
+    pub fn new(rt: &'a R, workers: u32) -> Self
         requires some { 1 ≤ workers }
         requires few { workers ≤ 1024 }
     {
@@ -117,7 +188,7 @@ impl<'a, R: Threads + Sync> Fan<'a, R> {
     }
 }
 
-impl<'a, R: Threads + Sync> Rounds for Fan<'a, R> {
+impl<'a, R: Threads + Sync> Workers for Fan<'a, R> {
     ghost is_ready = { λ _. IsSync R.row };
 
     fn pairs(
@@ -141,28 +212,38 @@ impl<'a, R: Threads + Sync> Rounds for Fan<'a, R> {
     ) -> Result<FanReply, AllocError> {
         fan_verifier(self.rt, alloc, file, columns, span, asks, self.workers)
     }
-}
 
-/// A frame for each unit's asks, in order.
-pub fn ask_frames(alloc: Global, asks: Vec<Vec<TreeAsk>>) -> Result<Vec<Frame>, AllocError>
-    ensures { IfOk result (λ frames. map frame_value frames.items
-        ≡ map model.asks (lists_of asks.items)) }
-{
-    let mut frames = Vec::with_capacity(alloc, asks.len())?;
-    for trees in asks {
-        frames.push(Frame::ExtendAsk(trees))?;
+    fn sums(
+        &self,
+        alloc: Global,
+        walk: &mut ProverWalk<'_>,
+        g: u64,
+        challenge: Fe,
+        masks: &[Pair],
+    ) -> Result<Vec<(Fe, Fe)>, AllocError> {
+        stream_sums(self.rt, alloc, walk, g, challenge, masks, self.workers)
     }
-    Ok(frames)
-}
 
-/// A frame for each unit's replies, in order.
-pub fn reply_frames(alloc: Global, replies: Vec<Vec<TreeReply>>) -> Result<Vec<Frame>, AllocError>
-    ensures { IfOk result (λ frames. map frame_value frames.items
-        ≡ map model.replies (lists_of replies.items)) }
-{
-    let mut frames = Vec::with_capacity(alloc, replies.len())?;
-    for trees in replies {
-        frames.push(Frame::ExtendReply(trees))?;
+    fn check(
+        &self,
+        alloc: Global,
+        walk: &mut VerifierWalk<'_>,
+        g: u64,
+        challenge: Fe,
+        mask_keys: &[Fe],
+        key: Fe,
+        sums: &[(Fe, Fe)],
+    ) -> Result<(), StreamFault> {
+        stream_check(
+            self.rt,
+            alloc,
+            walk,
+            g,
+            challenge,
+            mask_keys,
+            key,
+            sums,
+            self.workers,
+        )
     }
-    Ok(frames)
 }

@@ -3,7 +3,7 @@ use Rattle.std.specs.Vec.Iter.{into_iter_items}
 use Rattle.proof_frames.specs.declared.frame.Frame.TheVariants.{ExtendAsk}
 use Rattle.zk_model.specs.Frames as model
 use Rattle.session_core.proofs.Rounds.{one_framed}
-use Rattle.session_core.proofs.unit_rounds.ask_frames.Goals as goal
+use Rattle.session_core.proofs.round_frames.ask_frames.Goals as goal
 
 pub loop-trees-preserved : goal.loop-trees-preserved
 loop-trees-preserved c =
