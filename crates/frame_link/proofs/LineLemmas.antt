@@ -1,9 +1,9 @@
 -- What a receive that brings nothing, or a bad byte, makes of a line.
-use Rattle.std.proofs.Common.{◌≡◌, ◌⊎◌, ℕ, ◌+◌, ◌≤◌, ◌<◌, List, [], ◌∷◌, ◌++◌, length, take, Option, Some, None, Bool, true, refl, ap, sym, ◌∙◌, subst, arith, append-nil, append_assoc, Result, Ok, Err, IfErr, OnOk, inl, inr, false, if◌then◌else◌, nat_eq, length-append, flat_map, add-one}
+use Rattle.std.proofs.Common.{◌≡◌, ◌⊎◌, ℕ, ◌+◌, ◌≤◌, ◌<◌, List, [], ◌∷◌, ◌++◌, length, take, Option, Some, None, Bool, true, refl, ap, sym, ◌∙◌, subst, arith, append-nil, append_assoc, Result, Ok, Err, IfErr, OnOk, inl, inr, false, if◌then◌else◌, nat_eq, length-append, flat_map, add-one, drop}
 use Rattle.std.specs.Result.{IsErrAnd}
-use Rattle.std.proofs.lemmas.List.{take_all, map-append, take-map}
+use Rattle.std.proofs.lemmas.List.{take_all, map-append, take-map, take-append-le, take-append-drop}
 use Rattle.std.proofs.lemmas.Option.{none-some, same_Some}
-use Rattle.zk_model.specs.Frames.{CanGoOn, IsFirstBad, frame_length, bytes_wanted, Frame, frame_spelling}
+use Rattle.zk_model.specs.Frames.{CanGoOn, IsFirstBad, frame_length, bytes_wanted, Frame, frame_spelling, Allows}
 use Rattle.proof_frames.proofs.Begun.{held_goes_on}
 use Rattle.proof_frames.proofs.Lengths.{told_within}
 use Rattle.proof_frames.proofs.Steps.{nothing_held}
@@ -92,6 +92,18 @@ frame_most expect.Grant (first ∷ bytes) = either (nat_eq first 10)
     either true = omega arith
     either false = omega arith
 frame_most place bytes = omega arith
+
+-- bytes with which a frame of the place begins are no reason to stop
+pub front_goes_on : (place : Expect) (frame : Frame) (rest more tail : List ℕ) (n : ℕ) → Allows place frame
+    → length rest ≤ length (frame_spelling frame) → rest ++ more ≡ frame_spelling frame ++ tail → n ≤ length rest → CanGoOn place (take n rest)
+front_goes_on place frame rest more tail n allowed few is within =
+    let front : take n (frame_spelling frame) ≡ take n rest =
+    sym (take-append-le n (frame_spelling frame) tail (omega (arith, within, few))) ∙ ap (take n) (sym is) ∙ take-append-le n rest more within in
+    record {
+      frame = frame;
+      allowed = allowed;
+      begun = (drop n (frame_spelling frame), sym (take-append-drop n (frame_spelling frame)) ∙ ap (λ l. l ++ drop n (frame_spelling frame)) front);
+    }
 
 -- a fault that is known
 pub fails_at : {T E : Type 0} (P : E → Type 0) (result : Result T E) (fault : E) → IsErrAnd result (λ e. e ≡ fault) → P fault → IfErr result P

@@ -1,2 +1,3 @@
 pub mod Going
-pub mod Ending
+pub mod Rows
+pub mod Rounds

@@ -1,72 +1,232 @@
--- What a prover's answers make of a session, and where they stop.
-use Rattle.std.proofs.Common.{◌≡◌, ◌⊎◌, inl, inr, ℕ, ◌+◌, ◌-◌, ◌≤◌, List, [], ◌∷◌, ◌++◌, map, flat_map, length, Some, refl, ap, sym, ◌∙◌, subst, append_assoc, append-nil, length-append, arith, ◌*◌, ◌^◌}
+-- What a prover's answers make of a session.
+use Rattle.std.proofs.Common.{◌≡◌, ℕ, zero, suc, List, [], ◌∷◌, ◌++◌, flat_map, take, length, refl, ap, sym, ◌∙◌, subst, append_assoc, append-nil, length-append, arith, inl, inr, ◌⊎◌, ◌+◌, ◌-◌, ◌≤◌, map, Some, ◌*◌, ◌^◌}
 use Rattle.std.specs.Prelude.{All}
-use Rattle.std.proofs.lemmas.Bool.{cases_lt}
-use Rattle.std.proofs.lemmas.List.Elements.{All-nil, All-push, All-cons, All-map, All-weaker}
+use Rattle.std.proofs.lemmas.List.Elements.{All-nil, All-cons, All-push, All-map, All-weaker}
+use Rattle.frame_laws.proofs.SentBytes.{sent_by-append}
+use Rattle.session_laws.proofs.Turns.{said, answered}
+use Rattle.frame_laws.proofs.Hellos.{wanted_is_hello}
+use Rattle.session_laws.proofs.Followed.{last_two}
+use Rattle.zk_model.specs.Program.{Program, section_count}
+use Rattle.zk_model.specs.Statement.{Statement}
+use Rattle.zk_model.specs.Files.{VerifierFile, rounds_of, span_pairs, AreWithinLimits, ProverFile, IsProverFile}
+use Rattle.zk_model.specs.Transcript.{Grant, TreeReply, Round, Transcript, IsGrant, IsRound, IsTreeAsk, IsTranscript, sent_by, session_turns, hello_frame, grant_frame, ask_frame, reply_frame, corrections_frame, bytes_from, challenge_frame, sums_frame, openings_frame, TreeAsk}
+use Rattle.zk_model.specs.ServedVerifier.{VerifierTask, RepliesAre, round_replies}
+use Rattle.zk_model.specs.Peers.{IsFromHonestVerifier}
+use Rattle.zk_model.specs.declared.Kind.{Kind}
+use Rattle.zk_model.specs.declared.Kind.TheVariants.{Direct, Extended}
+use Rattle.zk_model.specs.declared.Params.{Params}
+use Rattle.zk_model.specs.declared.Side.{Side}
+use Rattle.zk_model.specs.declared.Side.TheVariants.{Prover, Verifier}
+use Rattle.session_core.specs.Jobs.{ProverJob, Suits}
+use Rattle.session_prover.specs.Stages.{AreAskedRounds, greeting, fixed_log, setup_for, Claim, Fixes, IsLogAt, all_asks, granted_log, replied_log, sums_for, openings_for, ClaimedFor, AreSomeReplies, IsLogTaken, asked_log, rounds_log, challenged_log, IsSound, IsBehindGrant}
+use Rattle.session_prover.proofs.Heard.{round_count, fixed_sent, fixed_heard, greeted_sent, replied_sent, setup_is, prover_says, prover_hears, bytes_more, verifier_hears, all_pairs, asked_none, asked_round, fixed_by, committed, has_answered}
+use Rattle.zk_laws.proofs.KeysFit.{keys_fit}
+use Rattle.zk_laws.proofs.Views.{rounds_are}
 use Rattle.zk_model.specs.Mac.{Pair}
 use Rattle.zk_model.specs.Check.{WirePairs}
-use Rattle.zk_model.specs.Files.{span_pairs, AreWithinLimits, ProverFile, IsProverFile}
+use Rattle.session_core.specs.Cores.{ProverStage, awaits_grant, awaits_replies, awaits_challenge, awaits_verdict, has_ended, prover_expects, Commits, AnswersGrant, GoesOn, ProverAnswers}
+use Rattle.session_prover.specs.Notes.{IsGrantRead, IsRelated, task_of}
+use Rattle.frame_link.proofs.FramesLemmas.{some_replies, ask_length}
+use Rattle.session_driver.proofs.Rows.{row_three, row_four, nested}
+use Rattle.std.proofs.lemmas.Bool.{cases_lt}
 use Rattle.zk_model.specs.Correlations.{IsProverView}
-use Rattle.zk_model.specs.Transcript.{Grant, TreeAsk, TreeReply, Round, IsGrant, bytes_from, sent_by, ask_frame, reply_frame, corrections_frame, sums_frame, openings_frame, IsTreeAsk}
-use Rattle.zk_model.specs.Frames.{Frame, grant, asks, replies, corrections, challenge, sums, openings, refuse, AreReplies, frame_spelling, AreAsks}
+use Rattle.zk_model.specs.Frames.{Frame, grant, asks, replies, corrections, sums, openings, AreReplies, frame_spelling, AreAsks}
 use Rattle.zk_model.specs.HonestProver.{IsWitness, AreHonestBytes, round_asks}
 use Rattle.zk_model.specs.View.{span_of}
 use Rattle.zk_model.specs.declared.Expect.{Expect}
-use Rattle.zk_model.specs.declared.Expect.TheVariants as expect
-use Rattle.zk_model.specs.declared.Kind.{Kind}
-use Rattle.zk_model.specs.declared.Kind.TheVariants.{Direct, Extended}
-use Rattle.zk_model.specs.declared.Side.{Side}
-use Rattle.zk_model.specs.declared.Side.TheVariants.{Prover, Verifier}
 use Rattle.frame_link.specs.Lines.{IsUnfinished}
-use Rattle.session_core.specs.Jobs.{ProverJob}
 use Rattle.session_core.specs.Ends.{IsFixed}
 use Rattle.session_core.specs.Fixing.{AreFirstPairs}
-use Rattle.session_core.specs.Cores.{ProverStage, awaits_grant, awaits_replies, awaits_challenge, awaits_verdict, prover_expects, Commits, AnswersGrant, GoesOn, ProverAnswers}
-use Rattle.session_prover.specs.Stages.{Claim, ClaimedFor, AreAskedRounds, AreSomeReplies, IsLogAt, IsLogTaken, setup_for, all_asks, granted_log, asked_log, replied_log, rounds_log, challenged_log, sums_for, openings_for}
-use Rattle.session_prover.specs.Notes.{task_of}
-use Rattle.session_prover.specs.Proving.{IsSound}
-use Rattle.session_prover.proofs.Sides.{bytes_more, prover_says, verifier_hears}
 use Rattle.session_core.proofs.DirectViews.{pairs_seen}
 use Rattle.session_core.proofs.Rounds.{whole_view}
-use Rattle.session_prover.proofs.Heard.{all_pairs, asked_none, asked_round}
-use Rattle.session_prover.proofs.Waiting.{fixed_by, setup_is, committed, has_answered}
 use Rattle.std.proofs.lemmas.Nat.{mul-le}
 use Rattle.std.proofs.lemmas.List.{length-map}
 use Rattle.std.proofs.lemmas.List.FromFn.{length-map-range_with_len}
 use Rattle.session_laws.proofs.Shapes.{round_asks_shaped}
-use Rattle.proof_frames.proofs.TreeFrames.{asks_fit}
-use Rattle.proof_frames.proofs.TreeLemmas.{length-trees}
-use Rattle.zk_model.specs.Bytes.{element_bytes}
-use Rattle.zk_model.specs.Program.{section_count}
-use Rattle.zk_model.specs.declared.Params.{Params}
 use Rattle.proof_frames.specs.Frames.{IsShort}
 use Rattle.session_core.proofs.Enough.{parts_within}
+use Rattle.proof_frames.proofs.FrameLemmas.{length-elements, length-sums}
+use Rattle.zk_model.specs.declared.Expect.TheVariants as expect
+use Rattle.session_driver.proofs.Rounds.{BeginAlike, first_of, round_of, same_rounds, only, turns_of}
 
--- ---- frames that differ
+-- The corrections that are sent, and the keys that fit their pairs.
 
-pub same_grant : (one other : Grant) → grant one ≡ grant other → one ≡ other
-same_grant one other is = cc
+-- ---- the replies that came, where an honest verifier sent its part
 
-pub same_element : (one other : ℕ) → challenge one ≡ challenge other → one ≡ other
-same_element one other is = cc
+-- what came and what was sent, where a round was whole
+record HasRound (job : ProverJob) (given : Grant) (round : Round) (log : List (Side × ℕ)) : Type 0 where
+  came : List ℕ
+  heard : sent_by Verifier log ≡ grant_frame given ++ (flat_map reply_frame round.replies ++ came)
+  later : List ℕ
+  sent : sent_by Prover log ≡ greeting job ++ (flat_map ask_frame round.asks ++ later)
 
-pub same_trees : (one other : List TreeReply) → replies one ≡ replies other → one ≡ other
-same_trees one other is = cc
+has_round : (job : ProverJob) (given : Grant) (round : Round) (d : List ℕ) (log more : List (Side × ℕ)) → log ≡ fixed_log job given (round ∷ []) d ++ more
+    → HasRound job given round log
+has_round job given round d log more is = record {
+  came = sent_by Verifier more;
+  heard = ap (sent_by Verifier) is ∙ sent_by-append Verifier (fixed_log job given (round ∷ []) d) more
+      ∙ ap (λ l. l ++ sent_by Verifier more) (fixed_heard job given (round ∷ []) d)
+      ∙ nested (grant_frame given) (flat_map reply_frame round.replies) [] (sent_by Verifier more);
+  later = corrections_frame d ++ sent_by Prover more;
+  sent = ap (sent_by Prover) is ∙ sent_by-append Prover (fixed_log job given (round ∷ []) d) more
+      ∙ ap (λ l. l ++ sent_by Prover more) (fixed_sent job given (round ∷ []) d)
+      ∙ append_assoc (greeting job ++ (flat_map ask_frame round.asks ++ [])) (corrections_frame d) (sent_by Prover more)
+      ∙ nested (greeting job) (flat_map ask_frame round.asks) [] (corrections_frame d ++ sent_by Prover more);
+}
 
-pub no_challenge_is_grant : (element : ℕ) (given : Grant) → challenge element ≡ grant given → ⊥
-no_challenge_is_grant element given is = cc
+-- the replies of a round that is whole are an honest verifier's, where it sent its part
+one_replied : (job : ProverJob) (given : Grant) (round : Round) (file : VerifierFile) (t : Transcript) (log : List (Side × ℕ)) (turns : ℕ) → IsSound job
+    → IsGrant job.file.params job.statement.program given → IsRound job.file.params given round → job.file.params.kind ≡ Extended
+    → IsTranscript job.file.params job.statement.program t → RepliesAre file t.commitment.setup → HasRound job given round log
+    → (z : List ℕ) → answered (take turns (session_turns t)) ≡ sent_by Verifier log ++ z
+    → (w : List ℕ) → sent_by Prover log ≡ said (take turns (session_turns t)) ++ w
+    → round.replies ≡ round_replies file given round.asks
+one_replied job given round file t log zero sound granted is extended transcript served has z begun w heard =
+    absurd (omega (arith, ap length (begun ∙ ap (λ l. l ++ z) has.heard)))
+one_replied job given round file t log (suc zero) sound granted is extended transcript served has z begun w heard =
+    absurd (omega (
+      arith,
+      ap length (begun ∙ ap (λ l. l ++ z) has.heard),
+      some_replies round.replies (omega (arith, is.replies.0, granted.count)),
+      length-append (flat_map reply_frame round.replies) has.came,
+      length-append (grant_frame given ++ (flat_map reply_frame round.replies ++ has.came)) z,
+    ))
+one_replied job given round file t log (suc (suc m)) sound granted is extended transcript served has z begun w heard =
+    let found = only t.commitment.setup.rounds (transcript.commitment.setup.round_count ∙ ap rounds_of extended) in
+    let other : Round = found.0 in
+    let grant : Grant = t.commitment.setup.grant in
+    let turns = turns_of t other found.1 in
+    let alike : BeginAlike (first_of (setup_for job given []).hello given) (round_of round) (first_of t.commitment.setup.hello grant) (round_of other) = record {
+      said_here = has.later;
+      said_there = said (take m (last_two t)) ++ w;
+      same_said = sym has.sent ∙ heard ∙ ap (λ (l : List (List ℕ × List ℕ)). said (take (suc (suc m)) l) ++ w) turns
+          ∙ nested (hello_frame t.commitment.setup.hello) (flat_map ask_frame other.asks) (said (take m (last_two t))) w;
+      answered_here = has.came ++ z;
+      answered_there = answered (take m (last_two t));
+      same_answered = sym (nested (grant_frame given) (flat_map reply_frame round.replies) has.came z) ∙ ap (λ l. l ++ z) (sym has.heard) ∙ sym begun
+          ∙ ap (λ (l : List (List ℕ × List ℕ)). answered (take (suc (suc m)) l)) turns;
+    } in
+    let same = same_rounds job.file.params job.statement.program (setup_for job given []).hello t.commitment.setup.hello given grant round other sound.file.params
+    (wanted_is_hello job.file.id job.statement sound.file.id sound.stated) transcript.commitment.setup.hello granted transcript.commitment.setup.grant is
+    (subst (All (IsRound job.file.params grant)) found.1 transcript.commitment.setup.rounds 0 other (omega arith)) alike in
+    same.replies ∙ subst (All (λ (q : Round). q.replies ≡ round_replies file grant q.asks)) found.1 served 0 other (omega arith)
+    ∙ (λ i. round_replies file (sym same.grants i) (sym same.asks i))
 
-pub no_refusal_is_grant : (code : ℕ) (given : Grant) → refuse code ≡ grant given → ⊥
-no_refusal_is_grant code given is = cc
+-- all together
+pub honest_replies : (job : ProverJob) (given : Grant) (rounds : List Round) (d : List ℕ) (log more : List (Side × ℕ)) (verifier : VerifierTask) → IsSound job
+    → IsGrant job.file.params job.statement.program given → AreAskedRounds job given rounds → log ≡ fixed_log job given rounds d ++ more
+    → job.file.params ≡ verifier.file.params → job.statement ≡ verifier.statement → IsFromHonestVerifier verifier log
+    → RepliesAre verifier.file (setup_for job given rounds)
+honest_replies job given [] d log more verifier sound granted asked is params stated honest = All-nil (λ q. q.replies ≡ round_replies verifier.file given q.asks)
+honest_replies job given (round ∷ next ∷ rounds) d log more verifier sound granted asked is params stated honest =
+    absurd (too_many job.file.params.kind asked.count)
+  where
+    too_many : (kind : Kind) → length (round ∷ next ∷ rounds) ≡ rounds_of kind → ⊥
+    too_many Direct count = absurd (omega (arith, count))
+    too_many Extended count = absurd (omega (arith, count))
+honest_replies job given (round ∷ []) d log more verifier sound granted asked is params stated honest =
+    All-cons (λ q. q.replies ≡ round_replies verifier.file given q.asks) round []
+    (one_replied job given round verifier.file honest.t log honest.turns sound granted (asked.ranged 0 round (omega arith)) (is_extended job.file.params.kind asked.count)
+    (subst (λ (q : Params × Program). IsTranscript q.0 q.1 honest.t) (λ i. (sym params i, sym (ap (λ (s : Statement). s.program) stated) i))
+    honest.served.in_order.transcript)
+    honest.served.replies (has_round job given round d log more is) honest.begun.0 honest.begun.1 honest.heard.0 honest.heard.1)
+    (All-nil (λ q. q.replies ≡ round_replies verifier.file given q.asks))
+  where
+    is_extended : (kind : Kind) → length (round ∷ []) ≡ rounds_of kind → kind ≡ Extended
+    is_extended Direct count = absurd (omega (arith, count))
+    is_extended Extended count = refl
 
-pub no_refusal_is_challenge : (code element : ℕ) → refuse code ≡ challenge element → ⊥
-no_refusal_is_challenge code element is = cc
+-- ---- the grant that was read
 
-pub no_replies_is_grant : (trees : List TreeReply) (given : Grant) → replies trees ≡ grant given → ⊥
-no_replies_is_grant trees given is = cc
+-- a grant that fits suits
+pub suits_is : (params : Params) (program : Program) (given : Grant) → IsGrant params program given → Suits params program given
+suits_is params program given is =
+    record { section_some = is.section_some; section_most = is.section_most; count = is.count; count_most = is.count_most }
 
-pub no_refusal_is_replies : (code : ℕ) (trees : List TreeReply) → refuse code ≡ replies trees → ⊥
-no_refusal_is_replies code trees is = cc
+-- a log that goes on after a grant
+pub read_is : (job : ProverJob) (given : Grant) (log more : List (Side × ℕ)) → IsGrant job.file.params job.statement.program given
+    → log ≡ granted_log job given ++ more → IsGrantRead job log given
+read_is job given log more granted is = record { suits = suits_is job.file.params job.statement.program given granted; begun = (more, is) }
+
+-- the grant that a log stands on
+pub record IsUnder (job : ProverJob) (claim : Claim) (log : List (Side × ℕ)) : Type 0 where
+  pub given : Grant
+  pub claimed : ClaimedFor claim given
+  pub granted : IsGrant job.file.params job.statement.program given
+  pub more : List (Side × ℕ)
+  pub logged : log ≡ granted_log job given ++ more
+
+pub read_under : (job : ProverJob) (claim : Claim) (log : List (Side × ℕ)) → (u : IsUnder job claim log) → IsGrantRead job log u.given
+read_under job claim log u = read_is job u.given log u.more u.granted u.logged
+
+-- ---- what was sent
+
+-- where the greeting alone was sent
+pub related_greeting : (job : ProverJob) (log : List (Side × ℕ)) → sent_by Prover log ≡ greeting job → IsRelated job log
+related_greeting job log sent = inl (inl ([], sym (append-nil (sent_by Prover log) ∙ sent)))
+
+-- or a beginning of it
+pub related_part : (job : ProverJob) (done rest : List ℕ) → greeting job ≡ done ++ rest → IsRelated job (bytes_from Prover done)
+related_part job done rest is = inl (inl (rest, is ∙ ap (λ l. l ++ rest) (sym (prover_says [] done))))
+
+-- where the greeting and a beginning of the asks were
+pub related_asks : (job : ProverJob) (given : Grant) (log more : List (Side × ℕ)) (part rest : List ℕ) → job.file.params.kind ≡ Extended
+    → IsGrant job.file.params job.statement.program given → log ≡ granted_log job given ++ more
+    → sent_by Prover log ≡ greeting job ++ part → all_asks job given ≡ part ++ rest → IsRelated job log
+related_asks job given log more part rest extended granted is sent begun = inl (inr (
+  given,
+  read_is job given log more granted is,
+  extended,
+  (rest, ap (λ l. greeting job ++ l) begun ∙ sym (append_assoc (greeting job) part rest) ∙ ap (λ l. l ++ rest) (sym sent)),
+))
+
+-- where the corrections were
+pub related_fixed : (job : ProverJob) (given : Grant) (rounds : List Round) (pairs : List Pair) (d : List ℕ) (wires : WirePairs) (log more : List (Side × ℕ)) → IsSound job
+    → Fixes job given rounds pairs d wires → log ≡ fixed_log job given rounds d ++ more → IsRelated job log
+related_fixed job given rounds pairs d wires log more sound fixes is = inr (record {
+  given = given;
+  rounds = rounds;
+  pairs = pairs;
+  d = d;
+  begun = (more, is);
+  asked = fixes.asked;
+  seen = fixes.seen;
+  corrections = fixes.fixed.corrections_are;
+  keys = λ verifier file dealt replied. keys_fit job.file verifier _ pairs sound.file file dealt
+      (rounds_are job.file.params job.statement.program _ (setup_is job given rounds sound fixes.granted fixes.asked)) replied fixes.seen;
+  replied = λ verifier dealt stated honest. honest_replies job given rounds d log more verifier sound fixes.granted fixes.asked is dealt.params stated honest;
+})
+
+-- where the replies for some units have come
+pub related_replied : (job : ProverJob) (given : Grant) (came : List (List TreeReply)) (log : List (Side × ℕ)) (more : List ℕ) → job.file.params.kind ≡ Extended
+    → IsGrant job.file.params job.statement.program given → log ≡ replied_log job given came ++ bytes_from Verifier more → IsRelated job log
+related_replied job given came log more extended granted is =
+    related_asks job given log (bytes_from Prover (all_asks job given) ++ (bytes_from Verifier (flat_map reply_frame came) ++ bytes_from Verifier more)) (all_asks job given) []
+    extended granted
+    (is ∙ row_three (granted_log job given) (bytes_from Prover (all_asks job given)) (bytes_from Verifier (flat_map reply_frame came)) (bytes_from Verifier more))
+    (ap (sent_by Prover) is ∙ prover_hears (replied_log job given came) more ∙ replied_sent job given came)
+    (sym (append-nil (all_asks job given)))
+
+-- where a prover waits, and bytes have come since
+pub related_at : (job : ProverJob) (claim : Claim) (stage : ProverStage) (before : List (Side × ℕ)) (rest : List ℕ) → IsSound job
+    → IsLogAt job claim stage before → IsRelated job (before ++ bytes_from Verifier rest)
+related_at job claim awaits_grant before rest sound at =
+    related_greeting job (before ++ bytes_from Verifier rest) (prover_hears before rest ∙ ap (sent_by Prover) at.1 ∙ greeted_sent job)
+related_at job claim (awaits_replies given came) before rest sound (claimed, some, at) =
+    related_replied job given came (before ++ bytes_from Verifier rest) rest some.extended some.granted (ap (λ l. l ++ bytes_from Verifier rest) at)
+related_at job claim (awaits_challenge given pairs wires) before rest sound (rounds, d, claimed, fixes, at) =
+    related_fixed job given rounds pairs d wires (before ++ bytes_from Verifier rest) (bytes_from Verifier rest) sound fixes (ap (λ l. l ++ bytes_from Verifier rest) at)
+related_at job claim awaits_verdict before rest sound opened =
+    let challenged = bytes_from Verifier (challenge_frame opened.element) in
+    let summed = bytes_from Prover (sums_frame (sums_for job opened.given opened.pairs opened.wires opened.element)) in
+    let opening = bytes_from Prover (openings_frame (openings_for job opened.wires)) in
+    related_fixed job opened.given opened.rounds opened.pairs opened.d opened.wires (before ++ bytes_from Verifier rest)
+    (challenged ++ (summed ++ (opening ++ bytes_from Verifier rest))) sound opened.fixes
+    (ap (λ l. l ++ bytes_from Verifier rest) opened.logged
+    ∙ row_four (fixed_log job opened.given opened.rounds opened.d) challenged summed opening (bytes_from Verifier rest))
+related_at job claim has_ended before rest sound at = absurd at
+
+-- What a prover's answers make of a session, and where they stop.
 
 -- ---- the answer to a grant, by the kind
 
@@ -142,7 +302,7 @@ asks_at job claim given answer now log claimed granted extended at said next =
       record {
         granted = granted;
         extended = extended;
-        more = (let count = granted.count in omega (arith, count));
+        more = omega (arith, granted.count);
         each = All-nil (AreReplies job.file.params.height job.file.params.trees);
       },
       (λ i. at i ++ bytes_from Prover (flat_map frame_spelling (said i)))
@@ -187,25 +347,25 @@ replies_at job claim given came trees answer now log sound claimed some are at (
     (at ∙ whole_log job given (came ++ trees ∷ [])) commits
 
 -- a prover that is where it waits, after its answer
-pub answered : (job : ProverJob) (claim : Claim) (stage : ProverStage) (frame : Frame) (answer : List Frame) (now : ProverStage) (log : List (Side × ℕ)) → IsSound job
+pub answer_leads : (job : ProverJob) (claim : Claim) (stage : ProverStage) (frame : Frame) (answer : List Frame) (now : ProverStage) (log : List (Side × ℕ)) → IsSound job
     → IsLogTaken job claim stage frame log → ProverAnswers job stage frame answer now
     → IsLogAt job claim now (log ++ bytes_from Prover (flat_map frame_spelling answer))
-answered job claim awaits_grant frame answer now log sound (given, is, claimed, granted, at) (other, is_too, fits, answers) =
+answer_leads job claim awaits_grant frame answer now log sound (given, is, claimed, granted, at) (other, is_too, fits, answers) =
     of_kind_of (grant_answer job given answer now (subst (λ g. AnswersGrant job g answer now) (sym same) answers))
   where
     same : given ≡ other
-    same = same_grant given other (sym is ∙ is_too)
+    same = cc
 
     of_kind_of : IsGrantAnswer job given answer now → IsLogAt job claim now (log ++ bytes_from Prover (flat_map frame_spelling answer))
     of_kind_of (inl (direct, commits)) =
         commits_at job claim given [] (span_pairs job.file (span_of given)) answer now log claimed granted (asked_none job given direct)
         (pairs_seen job.file (setup_for job given [])) (at ∙ sym (append-nil (granted_log job given))) commits
     of_kind_of (inr (extended, said, next)) = asks_at job claim given answer now log claimed granted extended at said next
-answered job claim (awaits_replies given came) frame answer now log sound (trees, is, are, claimed, some, at) (other, is_too, goes) =
+answer_leads job claim (awaits_replies given came) frame answer now log sound (trees, is, are, claimed, some, at) (other, is_too, goes) =
     replies_at job claim given came trees answer now log sound claimed some are at
-    (subst (λ t. GoesOn job given (came ++ t ∷ []) answer now) (sym (same_trees trees other (sym is ∙ is_too))) goes)
-answered job claim (awaits_challenge given pairs wires) frame answer now log sound (element, rounds, d, is, ranged, claimed, fixes, at) (other, is_too, said, next) =
-    let same : element ≡ other = same_element element other (sym is ∙ is_too) in
+    (let same : other ≡ trees = cc in subst (λ t. GoesOn job given (came ++ t ∷ []) answer now) same goes)
+answer_leads job claim (awaits_challenge given pairs wires) frame answer now log sound (element, rounds, d, is, ranged, claimed, fixes, at) (other, is_too, said, next) =
+    let same : element ≡ other = cc in
     let u : List ℕ = sums_frame (sums_for job given pairs wires element) in
     let o : List ℕ = openings_frame (openings_for job wires) in
     subst (λ p. IsLogAt job claim p (log ++ bytes_from Prover (flat_map frame_spelling answer))) (sym next) (record {
@@ -219,43 +379,41 @@ answered job claim (awaits_challenge given pairs wires) frame answer now log sou
       element = element;
       is = ranged;
       logged = (λ i. at i ++ bytes_from Prover (flat_map frame_spelling (said i)))
-          ∙ ap (λ n. challenged_log job given rounds d element ++ bytes_from Prover (sums_frame (sums_for job given pairs wires n) ++ (openings_frame (openings_for job wires) ++ []))) (sym same)
+          ∙ ap (λ n. challenged_log job given rounds d element ++ bytes_from Prover (sums_frame (sums_for job given pairs wires n) ++ (o ++ []))) (sym same)
           ∙ ap (λ l. challenged_log job given rounds d element ++ bytes_from Prover (u ++ l)) (append-nil o)
           ∙ ap (λ l. challenged_log job given rounds d element ++ l) (bytes_more Prover u o)
           ∙ sym (append_assoc (challenged_log job given rounds d element) (bytes_from Prover u) (bytes_from Prover o));
     })
-answered job claim other frame answer now log sound taken answers = absurd taken
+answer_leads job claim other frame answer now log sound taken answers = absurd taken
 
--- where a prover waits after its answer it expects a frame
-record IsNext (job : ProverJob) (now : ProverStage) : Type 0 where
-  awaited : Expect
-  expected : prover_expects job now ≡ Some awaited
-  none_yet : IsUnfinished awaited []
+-- where a prover waits after its answer it expects a frame, of which no byte came yet
+pub record IsNext (job : ProverJob) (now : ProverStage) : Type 0 where
+  pub awaited : Expect
+  pub expected : prover_expects job now ≡ Some awaited
+  pub none_yet : IsUnfinished awaited []
 
--- a frame of replies has some bytes
-next_reply : (job : ProverJob) (given : Grant) (came : List (List TreeReply)) (now : ProverStage) → now ≡ awaits_replies given came → IsNext job now
-next_reply job given came now next = record {
+next_at : (job : ProverJob) (now stage : ProverStage) → now ≡ stage → IsBehindGrant stage → IsNext job now
+next_at job now (awaits_replies given came) is behind = record {
   awaited = expect.Reply job.file.params.height job.file.params.trees (given.count - length came);
-  expected = ap (prover_expects job) next;
+  expected = ap (prover_expects job) is;
   none_yet = inl (omega arith);
 }
+next_at job now (awaits_challenge given pairs wires) is behind =
+    record { awaited = expect.Challenge; expected = ap (prover_expects job) is; none_yet = inl (omega arith) }
+next_at job now awaits_verdict is behind =
+    record { awaited = expect.Verdict; expected = ap (prover_expects job) is; none_yet = inl (omega arith) }
+next_at job now other is behind = absurd behind
 
-next_challenge : (job : ProverJob) (given : Grant) (pairs : List Pair) (answer : List Frame) (now : ProverStage) → Commits job given pairs answer now → IsNext job now
-next_challenge job given pairs answer now (d, wires, fixed, said, next) =
-    record { awaited = expect.Challenge; expected = ap (prover_expects job) next; none_yet = inl (omega arith) }
-
-next_of : (job : ProverJob) (claim : Claim) (stage : ProverStage) (frame : Frame) (answer : List Frame) (now : ProverStage) (log : List (Side × ℕ))
+pub next_of : (job : ProverJob) (claim : Claim) (stage : ProverStage) (frame : Frame) (answer : List Frame) (now : ProverStage) (log : List (Side × ℕ))
     → IsLogTaken job claim stage frame log → ProverAnswers job stage frame answer now → IsNext job now
 next_of job claim awaits_grant frame answer now log taken (other, is_too, fits, answers) = elim (grant_answer job other answer now answers) [
-  | inl (direct, commits) ↦ next_challenge job other (span_pairs job.file (span_of other)) answer now commits
-  | inr (extended, said, next) ↦ next_reply job other [] now next
+  | inl (direct, (d, wires, fixed, said, next)) ↦ next_at job now _ next tt
+  | inr (extended, said, next) ↦ next_at job now _ next tt
 ]
-next_of job claim (awaits_replies given came) frame answer now log taken (trees, is, inl (less, said, next)) =
-    next_reply job given (came ++ trees ∷ []) now next
-next_of job claim (awaits_replies given came) frame answer now log taken (trees, is, inr (all, pairs, made, commits)) =
-    next_challenge job given pairs answer now commits
-next_of job claim (awaits_challenge given pairs wires) frame answer now log taken (other, is_too, said, next) =
-    record { awaited = expect.Verdict; expected = ap (prover_expects job) next; none_yet = inl (omega arith) }
+next_of job claim (awaits_replies given came) frame answer now log taken (trees, is, inl (less, said, next)) = next_at job now _ next tt
+next_of job claim (awaits_replies given came) frame answer now log taken (trees, is, inr (all, pairs, made, (d, wires, fixed, said, next))) =
+    next_at job now _ next tt
+next_of job claim (awaits_challenge given pairs wires) frame answer now log taken (other, is_too, said, next) = next_at job now _ next tt
 next_of job claim other frame answer now log taken answers = absurd taken
 
 -- the replies for all units have an answer
@@ -283,7 +441,7 @@ answer_exists job claim (awaits_replies given came) frame log sound (trees, is, 
     elim (cases_lt (length (came ++ trees ∷ [])) given.count) [
       | inl less ↦ ([], awaits_replies given (came ++ trees ∷ []), (trees, is, inl (less, refl, refl)))
       | inr few ↦
-          let all : length (came ++ trees ∷ []) ≡ given.count = (let less = some.more in omega (arith, few, less, length-append came (trees ∷ []))) in
+          let all : length (came ++ trees ∷ []) ≡ given.count = omega (arith, few, some.more, length-append came (trees ∷ [])) in
           let end = rounds_end job given (came ++ trees ∷ []) sound some.granted some.extended all (replied_more job given came trees some are) in
           (end.0, end.1, (trees, is, end.2))
     ]
@@ -301,45 +459,20 @@ answer_is_honest job claim stage frame answer now log inputs values sound taken 
     let next : IsNext job now = next_of job claim stage frame answer now log taken answers in
     subst (λ (q : List ℕ × List ℕ). AreHonestBytes (task_of job inputs) q.0 q.1)
     (λ i. ((ap (sent_by Verifier) (append-nil (log ++ said)) ∙ verifier_hears log bytes) i, (ap (sent_by Prover) (append-nil (log ++ said)) ∙ prover_says log bytes) i))
-    (has_answered job claim now next.awaited (log ++ said) [] inputs values sound (answered job claim stage frame answer now log sound taken answers) next.expected
+    (has_answered job claim now next.awaited (log ++ said) [] inputs values sound (answer_leads job claim stage frame answer now log sound taken answers) next.expected
     (omega arith) next.none_yet witness)
 
 -- ---- a prover's frames are short
 
-elements_length : (elements : List ℕ) → length (flat_map element_bytes elements) ≡ 8 * length elements
-elements_length [] = refl
-elements_length (x ∷ elements) =
-    let rest = elements_length elements in
-    length-append (element_bytes x) (flat_map element_bytes elements) ∙ omega (arith, rest)
-
-sums_length : (both : List (ℕ × ℕ)) → length (flat_map (λ (q : ℕ × ℕ). element_bytes q.0 ++ element_bytes q.1) both) ≡ 16 * length both
-sums_length [] = refl
-sums_length (q ∷ both) =
-    let rest = sums_length both in
-    let first = length-append (element_bytes q.0) (element_bytes q.1) in
-    length-append (element_bytes q.0 ++ element_bytes q.1) (flat_map (λ (q : ℕ × ℕ). element_bytes q.0 ++ element_bytes q.1) both) ∙ omega (arith, rest, first)
-
-corrections_short : (d : List ℕ) → length d ≤ 2 ^ 20 → IsShort (corrections d)
-corrections_short d few = let all = elements_length d in omega (arith, few, all)
-
-openings_short : (d : List ℕ) → length d ≤ 2 ^ 20 → IsShort (openings d)
-openings_short d few = let all = elements_length d in omega (arith, few, all)
-
-sums_short : (both : List (ℕ × ℕ)) → length both ≤ 2 ^ 20 → IsShort (sums both)
-sums_short both few = let all = sums_length both in omega (arith, few, all)
-
 -- ---- the asks of a unit
 
 few_asks : (params : Params) (kind : Kind) → AreWithinLimits kind params → params.trees * (params.height + 8) ≤ 2 ^ 20
-few_asks params Direct limits = let none = ap (λ n. n * (params.height + 8)) limits.1 in omega (arith, none)
-few_asks params Extended limits =
-    let most = mul-le params.trees (params.height + 8) 1024 24 limits.3 (let low = limits.1 in omega (arith, low)) in omega (arith, most)
+few_asks params Direct limits = omega (arith, ap (λ n. n * (params.height + 8)) limits.1)
+few_asks params Extended limits = omega (arith, mul-le params.trees (params.height + 8) 1024 24 limits.3 (omega (arith, limits.1)))
 
 asks_short : (params : Params) (trees : List TreeAsk) → AreWithinLimits params.kind params → AreAsks params.height params.trees trees → IsShort (asks trees)
 asks_short params trees limits are =
-    let whole = length-trees params.trees params.height 1 _ (asks_fit params.height params.trees trees are) in
-    let few = few_asks params params.kind limits in
-    omega (arith, whole, few)
+    omega (arith, ask_length params.height params.trees trees are, few_asks params params.kind limits)
 
 all_asks_short : (file : ProverFile) (given : Grant) → IsProverFile file → given.start + given.count ≤ file.params.total
     → All IsShort (map asks (round_asks file given))
@@ -355,10 +488,9 @@ commits_short : (job : ProverJob) (given : Grant) (rounds : List Round) (pairs :
     → IsGrant job.file.params job.statement.program given → AreAskedRounds job given rounds → IsProverView job.file (setup_for job given rounds) pairs
     → Commits job given pairs answer now → All IsShort answer
 commits_short job given rounds pairs answer now sound granted asked seen (d, wires, fixed, said, next) =
-    let count : length d ≡ job.statement.program.givens =
-    (committed job given rounds pairs d sound (setup_is job given rounds sound granted asked) seen fixed.corrections_are).count in
-    let few : job.statement.program.givens ≤ 2 ^ 20 = sound.givens in
-    subst (All IsShort) (sym said) (All-cons IsShort (corrections d) [] (corrections_short d (omega (arith, count, few))) (All-nil IsShort))
+    let count = (committed job given rounds pairs d sound (setup_is job given rounds sound granted asked) seen fixed.corrections_are).count in
+    subst (All IsShort) (sym said)
+    (All-cons IsShort (corrections d) [] (omega (arith, length-elements d, count, sound.givens)) (All-nil IsShort))
 
 pub answer_short : (job : ProverJob) (claim : Claim) (stage : ProverStage) (frame : Frame) (answer : List Frame) (now : ProverStage) (log : List (Side × ℕ))
     → IsSound job → IsLogTaken job claim stage frame log → ProverAnswers job stage frame answer now → All IsShort answer
@@ -372,7 +504,7 @@ answer_short job claim awaits_grant frame answer now log sound taken (given, is,
 answer_short job claim (awaits_replies given came) frame answer now log sound taken (trees, is, inl (less, said, next)) =
     subst (All IsShort) (sym said) (All-nil IsShort)
 answer_short job claim (awaits_replies given came) frame answer now log sound (trees, is, are, claimed, some, at) (other, is_too, inr (all, pairs, made, commits)) =
-    let same : trees ≡ other = same_trees trees other (sym is ∙ is_too) in
+    let same : trees ≡ other = cc in
     let whole : length (came ++ trees ∷ []) ≡ given.count = length-append came (trees ∷ []) ∙ sym (length-append came (other ∷ [])) ∙ all in
     let asked = asked_round job given (came ++ trees ∷ []) sound.file some.granted some.extended whole (replied_more job given came trees some are) in
     commits_short job given (round_with job given (came ++ trees ∷ [])) pairs answer now sound some.granted asked
@@ -381,12 +513,9 @@ answer_short job claim (awaits_replies given came) frame answer now log sound (t
 answer_short job claim (awaits_challenge given pairs wires) frame answer now log sound (element, rounds, d, is, ranged, claimed, fixes, at) (other, is_too, said, next) =
     let u : List (ℕ × ℕ) = sums_for job given pairs wires other in
     let o : List ℕ = openings_for job wires in
-    let few : section_count job.statement.program given.section_length ≤ length job.statement.program.products =
-    parts_within (length job.statement.program.products) given.section_length fixes.granted.section_some in
-    let most : length job.statement.program.products ≤ 2 ^ 20 = sound.products in
+    let few = parts_within (length job.statement.program.products) given.section_length fixes.granted.section_some in
     let count : length u ≡ section_count job.statement.program given.section_length = length-map-range_with_len _ 0 _ in
     let opened : length o ≡ length job.statement.program.opened = length-map _ _ ∙ length-map _ _ in
-    let few_opened : length job.statement.program.opened ≤ 2 ^ 20 = sound.opened in
-    subst (All IsShort) (sym said) (All-cons IsShort (sums u) (openings o ∷ []) (sums_short u (omega (arith, few, count, most)))
-    (All-cons IsShort (openings o) [] (openings_short o (omega (arith, opened, few_opened))) (All-nil IsShort)))
+    subst (All IsShort) (sym said) (All-cons IsShort (sums u) (openings o ∷ []) (omega (arith, length-sums u, few, count, sound.products))
+    (All-cons IsShort (openings o) [] (omega (arith, length-elements o, opened, sound.opened)) (All-nil IsShort)))
 answer_short job claim other frame answer now log sound taken answers = absurd taken

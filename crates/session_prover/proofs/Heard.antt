@@ -1,70 +1,168 @@
--- What stands next in what a verifier says, where a prover waits; and what an honest prover sends when it is not there.
-use Rattle.std.proofs.Common.{◌≡◌, ℕ, zero, suc, ◌+◌, ◌*◌, ◌<◌, List, [], ◌∷◌, ◌++◌, flat_map, length, replicate, slice_index_or, refl, ap, sym, ◌∙◌, subst, append_assoc, append-nil, length-append, arith, inl, ◌≤◌, ◌^◌, take, Bool, true, false, nat_lt, inr, drop}
-use Rattle.std.specs.Prelude.{All, None}
-use Rattle.std.specs.List.{AllByRecursion}
-use Rattle.std.proofs.lemmas.List.{length-replicate, length-map, take-append-drop}
+-- What a prover has sent and heard where it waits, and what an honest prover sends there.
+use Rattle.std.proofs.Common.{◌≡◌, ℕ, List, ◌++◌, ap, ◌∙◌, append-nil, ◌+◌, ◌≤◌, [], ◌∷◌, flat_map, length, refl, sym, length-append, arith, append_assoc, zero, suc, ◌*◌, ◌<◌, replicate, slice_index_or, subst, inl, ◌^◌, take, inr, drop, zip, Some}
+use Rattle.std.proofs.lemmas.List.{map-append, length-replicate, length-map, take-append-drop}
+use Rattle.frame_laws.proofs.SentBytes.{sent_by-append, own_bytes, none_of_verifier, none_of_prover, sent_by-verifier, sent_by-prover}
+use Rattle.zk_model.specs.Transcript.{bytes_from, sent_by, Grant, TreeReply, reply_frame, Hello, TreeAsk, Round, Setup, IsGrant, IsRound, IsTreeReply, ForEachTree, Transcript, IsTranscript, session_turns, grant_frame, corrections_frame, challenge_frame, sums_frame, openings_frame, verdict_frame, IsInOrder, IsSetup, IsCommitment, ask_frame, turn_bytes}
+use Rattle.zk_model.specs.declared.Side.{Side}
+use Rattle.zk_model.specs.declared.Side.TheVariants.{Prover, Verifier}
+use Rattle.zk_model.specs.Frames.{Frame, hello, frame_spelling, AreReplies, grant, replies, challenge, verdict, Allows, FitsGrant}
+use Rattle.session_prover.specs.Stages.{new_answer, answers_behind, answers_in, asked_log, replied_log, AreAskedRounds, Fixes, setup_for, greeting, sums_for, openings_for, Claim, IsLogAt, all_asks, greeted_log, granted_log, rounds_log, fixed_log, challenged_log, opened_log, IsSound}
 use Rattle.std.proofs.lemmas.Grind.{flat_map-append}
-use Rattle.std.proofs.lemmas.List.Elements.{All-nil, All-cons, All-weaker, All-replicate, recursion_from_All}
-use Rattle.std.proofs.lemmas.List.FromFn.{get_or-map-range_with_len}
+use Rattle.session_core.specs.Jobs.{ProverJob}
+use Rattle.std.specs.Prelude.{All, None}
+use Rattle.std.specs.List.{AllByRecursion, range_with_len}
+use Rattle.std.proofs.lemmas.List.Elements.{All-nil, All-cons, All-weaker, All-replicate, recursion_from_All, All-map}
+use Rattle.std.proofs.lemmas.List.FromFn.{get_or-map-range_with_len, length-map-range_with_len}
 use Rattle.frame_laws.proofs.Codes.{same_front}
 use Rattle.zk_laws.proofs.FoundPairs.{pairs_exist}
 use Rattle.session_laws.proofs.Shapes.{round_asks_shaped}
-use Rattle.session_laws.proofs.Turns.{answered, fewer_answered}
-use Rattle.proof_frames.proofs.TreeFrames.{replies_fit}
-use Rattle.proof_frames.proofs.TreeLemmas.{length-trees}
+use Rattle.session_laws.proofs.Turns.{answered, fewer_answered, said}
 use Rattle.zk_model.specs.Bytes.{LeftRight, AreBothBytes}
-use Rattle.zk_model.specs.Mac.{Pair}
+use Rattle.zk_model.specs.Mac.{Pair, pair_at, corrected_pairs}
 use Rattle.zk_model.specs.Files.{ProverFile, IsProverFile, prover_unit, rounds_of}
-use Rattle.zk_model.specs.Frames.{AreReplies, Frame, grant, replies, challenge, verdict, Allows, FitsGrant, frame_spelling}
-use Rattle.zk_model.specs.Transcript.{Hello, Grant, TreeAsk, TreeReply, Round, Setup, IsGrant, IsRound, IsTreeReply, ForEachTree, reply_frame, Transcript, IsTranscript, session_turns, grant_frame, corrections_frame, challenge_frame, sums_frame, openings_frame, verdict_frame, IsInOrder, sent_by}
 use Rattle.zk_model.specs.Correlations.{IsExtension, IsProverView}
-use Rattle.zk_model.specs.HonestProver.{honest_asks, round_asks, ProverTask, SentAfter, AreHonestBytes}
+use Rattle.zk_model.specs.HonestProver.{honest_asks, round_asks, ProverTask, SentAfter, AreHonestBytes, IsWitness, IsHonest, honest_corrections}
 use Rattle.zk_model.specs.declared.Kind.{Kind}
 use Rattle.zk_model.specs.declared.Kind.TheVariants.{Direct, Extended}
 use Rattle.zk_model.specs.declared.Params.{Params}
-use Rattle.session_core.specs.Jobs.{ProverJob}
 use Rattle.session_core.specs.Fixing.{AreFirstPairs}
 use Rattle.session_core.specs.Rounds.{round_turns}
-use Rattle.session_prover.specs.Stages.{AreAskedRounds}
-use Rattle.std.proofs.lemmas.Bool.{ltb-true, ltb-false}
+use Rattle.std.proofs.lemmas.Bool.{cases_lt}
 use Rattle.frame_laws.proofs.FrameCodes.{grant_code}
 use Rattle.session_laws.proofs.Followed.{last_two}
 use Rattle.session_laws.proofs.Sizes.{count_is}
 use Rattle.zk_model.specs.Program.{Program}
 use Rattle.zk_model.specs.declared.Expect.{Expect}
-use Rattle.zk_model.specs.declared.Expect.TheVariants as expect
 use Rattle.frame_link.specs.Lines.{longest, IsUnfinished}
 use Rattle.frame_link.proofs.LineLemmas.{frame_most}
 use Rattle.proof_frames.proofs.Unique.{one_frame}
-use Rattle.frame_laws.proofs.SentBytes.{sent_by-verifier}
 use Rattle.frame_laws.proofs.OneTranscript.{one_transcript}
-use Rattle.zk_model.specs.declared.Side.{Side}
-use Rattle.zk_model.specs.declared.Side.TheVariants.{Verifier}
 use Rattle.session_prover.specs.declared.note.ProverOutcome.{ProverOutcome}
 use Rattle.session_prover.specs.Outcomes.{verdict_outcome}
 use Rattle.session_prover.specs.Notes.{task_of, ReadsVerdict, AnswersVerdict}
-use Rattle.session_prover.specs.Proving.{IsSound}
+use Rattle.frame_link.proofs.FramesLemmas.{reply_length, replies_length}
+use Rattle.std.proofs.lemmas.Slice.Zip.{length-zip}
+use Rattle.mersenne_field.proofs.FieldLaws.{reduced}
+use Rattle.zk_laws.proofs.OnePairs.{one_pairs}
+use Rattle.zk_laws.proofs.Views.{enough_pairs, rounds_are, view_exists}
+use Rattle.session_laws.proofs.Honest.{opened_macs}
+use Rattle.frame_laws.proofs.Hellos.{wanted_is_hello}
+use Rattle.zk_model.specs.Field.{IsElement, ◌-ₚ◌}
+use Rattle.zk_model.specs.Check.{WirePairs, honest_sums, section_triples}
+use Rattle.zk_model.specs.View.{View, IsView}
+use Rattle.zk_model.specs.Peers.{IsFromHonestProver, HasEndedHonestly}
+use Rattle.session_core.specs.Cores.{ProverStage, awaits_grant, awaits_replies, awaits_challenge, awaits_verdict, has_ended, prover_expects}
+use Rattle.std.proofs.lemmas.Option.{same_Some}
+use Rattle.session_driver.proofs.Rows.{row_three, row_four}
+use Rattle.zk_model.specs.declared.Expect.TheVariants as expect
 
--- ---- the replies of a round, unit by unit: how long they are
+-- The bytes of a log side by side.
 
--- the replies for a unit
-abbrev pub unit_size : Params → ℕ
-unit_size params = 5 + params.trees * (32 * params.height + 8)
+-- a side's bytes after a log
+pub prover_says : (log : List (Side × ℕ)) (bytes : List ℕ) → sent_by Prover (log ++ bytes_from Prover bytes) ≡ sent_by Prover log ++ bytes
+prover_says log bytes = sent_by-append Prover log (bytes_from Prover bytes) ∙ ap (λ l. sent_by Prover log ++ l) (own_bytes Prover bytes)
 
-pub unit_length : (params : Params) (trees : List TreeReply) → AreReplies params.height params.trees trees
-    → length (reply_frame trees) ≡ unit_size params
-unit_length params trees are =
-    let whole = length-trees params.trees (32 * params.height) 255 _ (replies_fit params.height params.trees trees are) in omega (arith, whole)
+pub verifier_says : (log : List (Side × ℕ)) (bytes : List ℕ) → sent_by Verifier (log ++ bytes_from Verifier bytes) ≡ sent_by Verifier log ++ bytes
+verifier_says log bytes = sent_by-append Verifier log (bytes_from Verifier bytes) ∙ ap (λ l. sent_by Verifier log ++ l) (own_bytes Verifier bytes)
 
-pub units_length : (params : Params) (came : List (List TreeReply)) → AllByRecursion (AreReplies params.height params.trees) came
-    → length (flat_map reply_frame came) ≡ length came * unit_size params
-units_length params [] all = omega arith
-units_length params (trees ∷ came) all =
-    let first = unit_length params trees all.0 in
-    let rest = units_length params came all.1 in
-    length-append (reply_frame trees) (flat_map reply_frame came) ∙ omega (arith, first, rest)
+pub prover_hears : (log : List (Side × ℕ)) (bytes : List ℕ) → sent_by Prover (log ++ bytes_from Verifier bytes) ≡ sent_by Prover log
+prover_hears log bytes = sent_by-append Prover log (bytes_from Verifier bytes) ∙ ap (λ l. sent_by Prover log ++ l) (none_of_verifier bytes) ∙ append-nil (sent_by Prover log)
 
--- the replies of a round, one for each unit
+pub verifier_hears : (log : List (Side × ℕ)) (bytes : List ℕ) → sent_by Verifier (log ++ bytes_from Prover bytes) ≡ sent_by Verifier log
+verifier_hears log bytes = sent_by-append Verifier log (bytes_from Prover bytes) ∙ ap (λ l. sent_by Verifier log ++ l) (none_of_prover bytes) ∙ append-nil (sent_by Verifier log)
+
+-- bytes after bytes
+pub bytes_more : (side : Side) (a b : List ℕ) → bytes_from side (a ++ b) ≡ bytes_from side a ++ bytes_from side b
+bytes_more side a b = map-append (λ (byte : ℕ). (side, byte)) a b
+
+-- ---- how many answers of the prover's a log has
+
+no_answer : (last : Side) → new_answer last Verifier ≡ 0
+no_answer Prover = refl
+no_answer Verifier = refl
+
+-- the verifier's bytes are no answer
+none_heard : (last : Side) (bytes : List ℕ) → answers_behind last (bytes_from Verifier bytes) ≡ 0
+none_heard last [] = refl
+none_heard last (byte ∷ bytes) = let rest = none_heard Verifier bytes in let first = no_answer last in omega (arith, rest, first)
+
+-- more of the prover's bytes are none
+none_more : (bytes : List ℕ) → answers_behind Prover (bytes_from Prover bytes) ≡ 0
+none_more [] = refl
+none_more (byte ∷ bytes) = let rest = none_more bytes in omega (arith, rest)
+
+heard_behind : (last : Side) (log : List (Side × ℕ)) (bytes : List ℕ) → answers_behind last (log ++ bytes_from Verifier bytes) ≡ answers_behind last log
+heard_behind last [] bytes = none_heard last bytes
+heard_behind last (entry ∷ log) bytes = ap (λ n. new_answer last entry.0 + n) (heard_behind entry.0 log bytes)
+
+-- what the verifier says is no answer
+pub answers_heard : (log : List (Side × ℕ)) (bytes : List ℕ) → answers_in (log ++ bytes_from Verifier bytes) ≡ answers_in log
+answers_heard log bytes = heard_behind Verifier log bytes
+
+-- what the prover says after the verifier's bytes is one answer
+said_first : (bytes : List ℕ) → 1 ≤ length bytes → answers_behind Verifier (bytes_from Prover bytes) ≡ 1
+said_first [] some = absurd (omega (arith, some))
+said_first (byte ∷ bytes) some = let rest = none_more bytes in omega (arith, rest)
+
+said_behind : (last : Side) (heard said : List ℕ) → 1 ≤ length heard → 1 ≤ length said
+    → answers_behind last (bytes_from Verifier heard ++ bytes_from Prover said) ≡ 1
+said_behind last [] said some more = absurd (omega (arith, some))
+said_behind last (byte ∷ []) said some more = let rest = said_first said more in let first = no_answer last in omega (arith, rest, first)
+said_behind last (byte ∷ other ∷ heard) said some more =
+    let rest = said_behind Verifier (other ∷ heard) said (omega arith) more in let first = no_answer last in omega (arith, rest, first)
+
+more_behind : (last : Side) (log : List (Side × ℕ)) (heard said : List ℕ) → 1 ≤ length heard → 1 ≤ length said
+    → answers_behind last ((log ++ bytes_from Verifier heard) ++ bytes_from Prover said) ≡ answers_behind last log + 1
+more_behind last [] heard said some more = said_behind last heard said some more
+more_behind last (entry ∷ log) heard said some more = let rest = more_behind entry.0 log heard said some more in omega (arith, rest)
+
+-- a log that ends with what the verifier said
+pub record EndsHeard (log : List (Side × ℕ)) : Type 0 where
+  pub before : List (Side × ℕ)
+  pub heard : List ℕ
+  pub some : 1 ≤ length heard
+  pub is : log ≡ before ++ bytes_from Verifier heard
+
+pub answers_more : (log : List (Side × ℕ)) (said : List ℕ) → EndsHeard log → 1 ≤ length said
+    → answers_in (log ++ bytes_from Prover said) ≡ answers_in log + 1
+answers_more log said ends some =
+    ap (λ l. answers_in (l ++ bytes_from Prover said)) ends.is
+    ∙ more_behind Verifier ends.before ends.heard said ends.some some
+    ∙ ap (λ n. n + 1) (sym (answers_heard ends.before ends.heard) ∙ ap answers_in (sym ends.is))
+
+-- the first one
+pub answers_first : (said : List ℕ) → 1 ≤ length said → answers_in (bytes_from Prover said) ≡ 1
+answers_first said some = said_first said some
+
+-- every frame has a byte
+pub frame_is_some : (frame : Frame) → 1 ≤ length (frame_spelling frame)
+frame_is_some (hello said) = omega arith
+frame_is_some frame = omega arith
+
+pub frames_some : (frames : List Frame) → 1 ≤ length frames → 1 ≤ length (flat_map frame_spelling frames)
+frames_some [] some = absurd (omega (arith, some))
+frames_some (frame ∷ frames) some =
+    let first = frame_is_some frame in
+    let both = length-append (frame_spelling frame) (flat_map frame_spelling frames) in
+    omega (arith, first, both)
+
+-- ---- replies after replies
+
+-- the replies of one more unit are logged
+pub replied_on : (job : ProverJob) (given : Grant) (came : List (List TreeReply)) (trees : List TreeReply)
+    → replied_log job given came ++ bytes_from Verifier (reply_frame trees) ≡ replied_log job given (came ++ trees ∷ [])
+replied_on job given came trees =
+    append_assoc (asked_log job given) (bytes_from Verifier (flat_map reply_frame came)) (bytes_from Verifier (reply_frame trees))
+    ∙ ap (λ l. asked_log job given ++ l)
+    (sym (bytes_more Verifier (flat_map reply_frame came) (reply_frame trees))
+    ∙ ap (λ l. bytes_from Verifier (flat_map reply_frame came ++ l)) (sym (append-nil (reply_frame trees)))
+    ∙ ap (bytes_from Verifier) (sym (flat_map-append reply_frame came (trees ∷ []))))
+
+-- What stands next in what a verifier says, where a prover waits; and what an honest prover sends when it is not there.
+
+-- ---- the replies of a round
+
+-- one for each unit
 pub each_replied : (params : Params) (given : Grant) (came : List (List TreeReply)) → ForEachTree params given (IsTreeReply params.height) came
     → All (AreReplies params.height params.trees) came
 each_replied params given came all =
@@ -79,14 +177,17 @@ replied_each params given came count all = (
       (λ trees each. (each.counted, each.each)) came all,
 )
 
+-- how many bytes the replies for a unit have
+abbrev unit_size : Params → ℕ
+unit_size params = 5 + params.trees * (32 * params.height + 8)
+
 pub rounds_length : (params : Params) (given : Grant) (rounds : List Round) → AllByRecursion (IsRound params given) rounds
     → length (answered (round_turns rounds)) ≡ length rounds * (given.count * unit_size params)
 rounds_length params given [] all = omega arith
 rounds_length params given (round ∷ rounds) all =
-    let first = units_length params round.replies (recursion_from_All (AreReplies params.height params.trees) round.replies (each_replied params given round.replies all.0.replies)) in
-    let rest = rounds_length params given rounds all.1 in
     length-append (flat_map reply_frame round.replies) (answered (round_turns rounds))
-    ∙ (λ i. first i + rest i) ∙ ap (λ n. n * unit_size params + length rounds * (given.count * unit_size params)) all.0.replies.0
+    ∙ (λ i. replies_length params.height params.trees round.replies (each_replied params given round.replies all.0.replies) i + rounds_length params given rounds all.1 i)
+    ∙ ap (λ n. n * unit_size params + length rounds * (given.count * unit_size params)) all.0.replies.0
     ∙ omega arith
 
 -- ---- the next of some parts
@@ -246,16 +347,14 @@ honest_bytes task received sent turns answer unheard = record { turns = turns; a
   where
     most : (more : ℕ) (other : List ℕ) → SentAfter task received more other → more ≤ turns
     most zero other after = omega arith
-    most (suc n) other after = by_order (nat_lt n turns) refl
-      where
-        by_order : (b : Bool) → nat_lt n turns ≡ b → suc n ≤ turns
-        by_order true less = ltb-true n turns less
-        by_order false less = absurd (unheard (hears task received other turns n after (ltb-false n turns less)))
+    most (suc n) other after = elim (cases_lt n turns) [
+      | inl less ↦ less
+      | inr more ↦ absurd (unheard (hears task received other turns n after more))
+    ]
 
 -- a session has three turns and its rounds
 pub fewer : (task : ProverTask) (received sent : List ℕ) (n : ℕ) → SentAfter task received (suc n) sent → suc n ≤ rounds_of task.file.params.kind + 3
-fewer task received sent n (u, is, honest, within, begun, says) =
-    let count = count_is task.file.params task.statement.program u is in omega (arith, within, count)
+fewer task received sent n (u, is, honest, within, begun, says) = omega (arith, within, count_is task.file.params task.statement.program u is)
 
 -- ---- the next frame
 
@@ -317,16 +416,16 @@ next_replies task given came left u bytes more file extended granted fewer all i
         → IsNextFrame (expect.Reply task.file.params.height task.file.params.trees left) bytes
     by_rounds [] count ranged same = absurd (omega (arith, count))
     by_rounds (round ∷ rounds) count ranged same =
-        let next = next_part reply_frame (AreReplies task.file.params.height task.file.params.trees) (unit_size task.file.params) (unit_length task.file.params)
+        let next = next_part reply_frame (AreReplies task.file.params.height task.file.params.trees) (unit_size task.file.params) (reply_length task.file.params.height task.file.params.trees)
         came round.replies bytes more
         (recursion_from_All (AreReplies task.file.params.height task.file.params.trees) came all)
         (recursion_from_All (AreReplies task.file.params.height task.file.params.trees) round.replies
         (each_replied task.file.params u.commitment.setup.grant round.replies ranged.0.replies))
-        (let whole = ranged.0.replies.0 in let grants = ap (λ (g : Grant). g.count) there.same in omega (arith, fewer, whole, grants))
+        (omega (arith, fewer, ranged.0.replies.0, ap (λ (g : Grant). g.count) there.same))
         (same ∙ ap (λ l. l ++ more) (append-nil (flat_map reply_frame round.replies))) in record {
           frame = replies next.0;
           allowed = (next.0, refl, next.1);
-          long = unit_length task.file.params next.0 next.1;
+          long = reply_length task.file.params.height task.file.params.trees next.0 next.1;
           tail = next.2;
           begun = next.3;
         }
@@ -402,11 +501,6 @@ next_verdict task given rounds element u bytes more file granted count ranged is
 
 -- ---- bytes that are no whole frame are none that an honest prover answers
 
-take_rest : (n : ℕ) (l : List ℕ) → l ≡ take n l ++ drop n l
-take_rest zero l = refl
-take_rest (suc n) [] = refl
-take_rest (suc n) (x ∷ l) = ap (λ r. x ∷ r) (take_rest n l)
-
 nothing_more : (a b : List ℕ) → length (a ++ b) ≤ length a → a ++ b ≡ a
 nothing_more [] [] few = refl
 nothing_more [] (y ∷ b) few = absurd (omega (arith, few))
@@ -417,12 +511,9 @@ pub unstarted : (stage : Expect) (rest : List ℕ) (frame : Frame) (more : List 
     → length (frame_spelling frame) ≡ longest stage → length rest ≤ longest stage → IsUnfinished stage rest
     → rest ≡ frame_spelling frame ++ more → ⊥
 unstarted stage rest frame more allowed long few (inl wanting) is =
-    let whole = ap length is in
-    let all = length-append (frame_spelling frame) more in
-    let most = frame_most stage rest in
-    absurd (omega (arith, whole, all, long, most, wanting))
+    absurd (omega (arith, ap length is, length-append (frame_spelling frame) more, long, frame_most stage rest, wanting))
 unstarted stage rest frame more allowed long few (inr (n, bad)) is =
-    bad.ends (record { frame = frame; allowed = allowed; begun = (drop (n + 1) rest, sym same ∙ take_rest (n + 1) rest) })
+    bad.ends (record { frame = frame; allowed = allowed; begun = (drop (n + 1) rest, sym same ∙ sym (take-append-drop (n + 1) rest)) })
   where
     same : rest ≡ frame_spelling frame
     same = is ∙ nothing_more (frame_spelling frame) more (subst (λ (l : List ℕ). length l ≤ length (frame_spelling frame)) is (omega (arith, few, long)))
@@ -481,3 +572,424 @@ read_so job outcome log code number sound reads is t in_order =
     one_transcript job.file.params job.statement.program reads.t t sound.file.params reads.in_order.transcript in_order.transcript
     (sym reads.in_order.bytes ∙ in_order.bytes) in
     is ∙ (λ i. verdict_outcome (sym reads.code_is i) (sym reads.number_is i)) ∙ ap (λ (u : Transcript). verdict_outcome u.code u.number) same
+
+-- What an honest prover sends where it waits.
+
+-- ---- what a prover's answers make of a session: that of an honest prover
+
+-- a session in which the prover answers so
+abbrev pub made : ProverJob → Grant → List Round → List Pair → List ℕ → WirePairs → ℕ → ℕ → ℕ → Transcript
+made job given rounds pairs d wires element code number = record {
+  commitment = record { setup = setup_for job given rounds; corrections = d };
+  challenge = element;
+  sums = sums_for job given pairs wires element;
+  openings = openings_for job wires;
+  code = code;
+  number = number;
+}
+
+pub setup_is : (job : ProverJob) (given : Grant) (rounds : List Round) → IsSound job → IsGrant job.file.params job.statement.program given
+    → AreAskedRounds job given rounds → IsSetup job.file.params job.statement.program (setup_for job given rounds)
+setup_is job given rounds sound granted asked = record {
+  hello = wanted_is_hello job.file.id job.statement sound.file.id sound.stated;
+  grant = granted;
+  round_count = asked.count;
+  rounds = asked.ranged;
+}
+
+-- honest corrections are as many elements as there are given values
+pub committed : (job : ProverJob) (given : Grant) (rounds : List Round) (pairs : List Pair) (d : List ℕ) → IsSound job
+    → IsSetup job.file.params job.statement.program (setup_for job given rounds) → IsProverView job.file (setup_for job given rounds) pairs
+    → d ≡ honest_corrections job.given pairs
+    → IsCommitment job.file.params job.statement.program (record { setup = setup_for job given rounds; corrections = d })
+committed job given rounds pairs d sound set seen same =
+    let counted : length (honest_corrections job.given pairs) ≡ job.statement.program.givens =
+    length-map _ _ ∙ omega (arith, length-zip job.given pairs, sound.is.counted, enough_pairs job.file job.statement.program (setup_for job given rounds) pairs sound.file set seen) in
+    let elements : All IsElement (honest_corrections job.given pairs) =
+    All-map IsElement (λ q. q.0 -ₚ q.1.x) (zip job.given pairs) (λ n e below. reduced _) in
+    subst (λ (l : List ℕ). IsCommitment job.file.params job.statement.program (record { setup = setup_for job given rounds; corrections = l })) (sym same)
+    (record { setup = set; count = counted; elements = elements })
+
+abbrev view_of : List Pair → WirePairs → View
+view_of pairs wires = record { pairs = pairs; carried = wires }
+
+viewed : (job : ProverJob) (given : Grant) (rounds : List Round) (pairs : List Pair) (d : List ℕ) (wires : WirePairs) → Fixes job given rounds pairs d wires
+    → IsView job.file job.statement (record { setup = setup_for job given rounds; corrections = d }) (view_of pairs wires)
+viewed job given rounds pairs d wires fixes = record { pairs = fixes.seen; given = fixes.fixed.given_are; carried = fixes.fixed.carried }
+
+pub fixed_commitment : (job : ProverJob) (given : Grant) (rounds : List Round) (pairs : List Pair) (d : List ℕ) (wires : WirePairs) → IsSound job
+    → Fixes job given rounds pairs d wires
+    → IsCommitment job.file.params job.statement.program (record { setup = setup_for job given rounds; corrections = d })
+fixed_commitment job given rounds pairs d wires sound fixes =
+    committed job given rounds pairs d sound (setup_is job given rounds sound fixes.granted fixes.asked) fixes.seen fixes.fixed.corrections_are
+
+-- it is in range
+pub made_is : (job : ProverJob) (given : Grant) (rounds : List Round) (pairs : List Pair) (d : List ℕ) (wires : WirePairs) (element code number : ℕ) → IsSound job
+    → Fixes job given rounds pairs d wires → IsElement element → code ≤ 2 → number < 2 ^ 32
+    → IsTranscript job.file.params job.statement.program (made job given rounds pairs d wires element code number)
+made_is job given rounds pairs d wires element code number sound fixes is said numbered = record {
+  commitment = whole;
+  challenge = is;
+  sum_count = length-map-range_with_len _ 0 _;
+  sums = All-map (λ (both : ℕ × ℕ). IsElement both.0 × IsElement both.1)
+      (λ s. honest_sums element (section_triples job.statement.program given.section_length wires s)
+      (pair_at (drop job.statement.program.givens pairs) s))
+      (range_with_len 0 _) (λ n e below. (reduced _, reduced _));
+  opening_count = length-map _ _ ∙ length-map _ _;
+  openings = opened_macs job.file job.statement (record { setup = setup_for job given rounds; corrections = d }) (view_of pairs wires) sound.file sound.stated whole
+      (viewed job given rounds pairs d wires fixes);
+  code = said;
+  number = numbered;
+}
+  where
+    whole : IsCommitment job.file.params job.statement.program (record { setup = setup_for job given rounds; corrections = d })
+    whole = fixed_commitment job given rounds pairs d wires sound fixes
+
+-- and an honest prover's
+pub made_honest : (job : ProverJob) (given : Grant) (rounds : List Round) (pairs : List Pair) (d : List ℕ) (wires : WirePairs) (element code number : ℕ) (inputs values : List ℕ)
+    → Fixes job given rounds pairs d wires → IsWitness job.statement inputs values job.given
+    → IsHonest (task_of job inputs) (made job given rounds pairs d wires element code number)
+made_honest job given rounds pairs d wires element code number inputs values fixes witness = record {
+  hello = refl;
+  asks = fixes.asked.asks;
+  wires = values;
+  given = job.given;
+  witness = witness;
+  view = view_of pairs wires;
+  seen = viewed job given rounds pairs d wires fixes;
+  corrections = fixes.fixed.corrections_are;
+  sums = refl;
+  openings = refl;
+}
+
+-- ---- whatever was replied
+
+-- the pairs that the prover sees fix its corrections and the pairs of all wires
+pub fixed_by : (job : ProverJob) (given : Grant) (rounds : List Round) (pairs : List Pair) → IsSound job → IsGrant job.file.params job.statement.program given
+    → AreAskedRounds job given rounds → IsProverView job.file (setup_for job given rounds) pairs
+    → (d : List ℕ) × (wires : WirePairs) × Fixes job given rounds pairs d wires
+fixed_by job given rounds pairs sound granted asked seen =
+    let d : List ℕ = honest_corrections job.given pairs in
+    let view : (view : View) × IsView job.file job.statement
+    (record { setup = setup_for job given rounds; corrections = honest_corrections job.given pairs }) view =
+    view_exists job.file job.statement
+    (record { setup = setup_for job given rounds; corrections = honest_corrections job.given pairs }) sound.file sound.stated
+    (committed job given rounds pairs (honest_corrections job.given pairs) sound (setup_is job given rounds sound granted asked) seen refl) in
+    let given_are : view.0.carried.given ≡ corrected_pairs pairs (honest_corrections job.given pairs) =
+    view.1.given ∙ ap (λ l. corrected_pairs l (honest_corrections job.given pairs))
+    (one_pairs job.file (setup_for job given rounds) view.0.pairs pairs view.1.pairs seen) in (
+      d,
+      view.0.carried,
+      record { granted = granted; asked = asked; seen = seen; fixed = record { corrections_are = refl; given_are = given_are; carried = view.1.carried } },
+    )
+
+-- what is fixed under a grant and rounds, whatever was replied
+pub record IsFixable (job : ProverJob) (given : Grant) (rounds : List Round) : Type 0 where
+  pub pairs : List Pair
+  pub d : List ℕ
+  pub wires : WirePairs
+  pub fixes : Fixes job given rounds pairs d wires
+
+pub fixable : (job : ProverJob) (given : Grant) (rounds : List Round) → IsSound job → IsGrant job.file.params job.statement.program given
+    → AreAskedRounds job given rounds → IsFixable job given rounds
+fixable job given rounds sound granted asked =
+    let found : (pairs : List Pair) × IsProverView job.file (setup_for job given rounds) pairs =
+    pairs_exist job.file (setup_for job given rounds) sound.file
+    (rounds_are job.file.params job.statement.program (setup_for job given rounds) (setup_is job given rounds sound granted asked)) in
+    let fixed : (d : List ℕ) × (wires : WirePairs) × Fixes job given rounds found.0 d wires =
+    fixed_by job given rounds found.0 sound granted asked found.1 in
+    record { pairs = found.0; d = fixed.0; wires = fixed.1; fixes = fixed.2 }
+
+-- ---- what an honest prover sends after so many turns
+
+-- the turns of a session of these frames
+abbrev turns_of : ProverJob → Grant → List Round → List Pair → List ℕ → WirePairs → ℕ → ℕ → ℕ → List (List ℕ × List ℕ)
+turns_of job given rounds pairs d wires element code number = session_turns (made job given rounds pairs d wires element code number)
+
+-- as many turns as the rounds have, by the kind
+kind_turns : (job : ProverJob) (given : Grant) (rounds : List Round) → AreAskedRounds job given rounds
+    → rounds_of job.file.params.kind ≡ length (round_turns rounds)
+kind_turns job given rounds asked = sym asked.count ∙ sym (round_count rounds)
+
+turns_within : (turns : List (List ℕ × List ℕ)) (a c e : List ℕ × List ℕ) (k n : ℕ) → k ≡ length turns → n ≤ k + 2 → n < length (a ∷ (turns ++ c ∷ e ∷ []))
+turns_within turns a c e k n same few = omega (arith, length-append turns (c ∷ e ∷ []), same, few)
+
+-- the asks of all units, or the corrections where there is no round, once the grant has come
+pub asks_after : (job : ProverJob) (given : Grant) (round : Round) (inputs values rest : List ℕ) → IsSound job
+    → IsFixable job given (round ∷ []) → IsWitness job.statement inputs values job.given
+    → SentAfter (task_of job inputs) (grant_frame given ++ rest) 1 (greeting job ++ flat_map ask_frame round.asks)
+asks_after job given round inputs values rest sound can witness = (
+  made job given (round ∷ []) can.pairs can.d can.wires 0 0 0,
+  made_is job given (round ∷ []) can.pairs can.d can.wires 0 0 0 sound can.fixes (omega arith) (omega arith) (omega arith),
+  made_honest job given (round ∷ []) can.pairs can.d can.wires 0 0 0 inputs values can.fixes witness,
+  omega arith,
+  (rest, ap (λ l. l ++ rest) (sym (append-nil (grant_frame given)))),
+  ap (λ l. greeting job ++ l) (sym (append-nil (flat_map ask_frame round.asks))),
+)
+
+-- corrections, once all rounds are whole
+pub corrections_after : (job : ProverJob) (given : Grant) (rounds : List Round) (pairs : List Pair) (d : List ℕ) (wires : WirePairs) (inputs values rest : List ℕ) → IsSound job
+    → Fixes job given rounds pairs d wires → IsWitness job.statement inputs values job.given
+    → SentAfter (task_of job inputs) ((grant_frame given ++ answered (round_turns rounds)) ++ rest) (suc (rounds_of job.file.params.kind))
+    ((greeting job ++ said (round_turns rounds)) ++ corrections_frame d)
+corrections_after job given rounds pairs d wires inputs values rest sound fixes witness =
+    let turns : List (List ℕ × List ℕ) = round_turns rounds in
+    let c : List ℕ × List ℕ = (corrections_frame d, challenge_frame 0) in
+    let e : List ℕ × List ℕ = (sums_frame (sums_for job given pairs wires 0) ++ openings_frame (openings_for job wires), verdict_frame 0 0) in
+    let same : rounds_of job.file.params.kind ≡ length (round_turns rounds) = kind_turns job given rounds fixes.asked in (
+      made job given rounds pairs d wires 0 0 0,
+      made_is job given rounds pairs d wires 0 0 0 sound fixes (omega arith) (omega arith) (omega arith),
+      made_honest job given rounds pairs d wires 0 0 0 inputs values fixes witness,
+      turns_within turns (greeting job, grant_frame given) c e (rounds_of job.file.params.kind) (rounds_of job.file.params.kind) same (omega arith),
+      (
+        rest,
+        ap (λ l. (grant_frame given ++ l) ++ rest)
+            (sym (turns_before (λ (turn : List ℕ × List ℕ). turn.1) turns (c ∷ e ∷ [])) ∙ ap (λ n. answered (take n (turns ++ c ∷ e ∷ []))) (sym same)),
+      ),
+      append_assoc (greeting job) (said turns) (corrections_frame d)
+          ∙ ap (λ l. greeting job ++ l)
+          (sym (turns_to (λ (turn : List ℕ × List ℕ). turn.0) turns c (e ∷ [])) ∙ ap (λ n. said (take (suc n) (turns ++ c ∷ e ∷ []))) (sym same)),
+    )
+
+-- all that a prover sends
+abbrev pub all_sent : ProverJob → Grant → List Round → List Pair → List ℕ → WirePairs → ℕ → List ℕ
+all_sent job given rounds pairs d wires element =
+    ((greeting job ++ said (round_turns rounds)) ++ corrections_frame d) ++ sums_frame (sums_for job given pairs wires element) ++ openings_frame (openings_for job wires)
+
+-- sums and openings too, once the challenge has come
+pub openings_after : (job : ProverJob) (given : Grant) (rounds : List Round) (pairs : List Pair) (d : List ℕ) (wires : WirePairs) (element : ℕ) (inputs values rest : List ℕ) → IsSound job
+    → Fixes job given rounds pairs d wires → IsElement element → IsWitness job.statement inputs values job.given
+    → SentAfter (task_of job inputs) (((grant_frame given ++ answered (round_turns rounds)) ++ challenge_frame element) ++ rest) (suc (suc (rounds_of job.file.params.kind)))
+    (all_sent job given rounds pairs d wires element)
+openings_after job given rounds pairs d wires element inputs values rest sound fixes is witness =
+    let turns : List (List ℕ × List ℕ) = round_turns rounds in
+    let c : List ℕ × List ℕ = (corrections_frame d, challenge_frame element) in
+    let e : List ℕ × List ℕ = (sums_frame (sums_for job given pairs wires element) ++ openings_frame (openings_for job wires), verdict_frame 0 0) in
+    let same : rounds_of job.file.params.kind ≡ length (round_turns rounds) = kind_turns job given rounds fixes.asked in (
+      made job given rounds pairs d wires element 0 0,
+      made_is job given rounds pairs d wires element 0 0 sound fixes is (omega arith) (omega arith),
+      made_honest job given rounds pairs d wires element 0 0 inputs values fixes witness,
+      turns_within turns (greeting job, grant_frame given) c e (rounds_of job.file.params.kind) (suc (rounds_of job.file.params.kind)) same (omega arith),
+      (
+        rest,
+        ap (λ l. l ++ rest) (append_assoc (grant_frame given) (answered turns) (challenge_frame element)
+            ∙ ap (λ l. grant_frame given ++ l)
+            (sym (turns_to (λ (turn : List ℕ × List ℕ). turn.1) turns c (e ∷ [])) ∙ ap (λ n. answered (take (suc n) (turns ++ c ∷ e ∷ []))) (sym same))),
+      ),
+      row_four (greeting job) (said turns) (corrections_frame d) (sums_frame (sums_for job given pairs wires element)) (openings_frame (openings_for job wires))
+          ∙ ap (λ l. greeting job ++ l)
+          (sym (turns_all (λ (turn : List ℕ × List ℕ). turn.0) turns c e) ∙ ap (λ n. said (take (suc (suc n)) (turns ++ c ∷ e ∷ []))) (sym same)),
+    )
+
+-- all turns are a beginning of one more
+past_last : (turns : List (List ℕ × List ℕ)) (c e : List ℕ × List ℕ) → said (take (suc (suc (suc (length turns)))) (turns ++ c ∷ e ∷ [])) ≡ said turns ++ (c.0 ++ e.0)
+past_last [] c e = ap (λ l. c.0 ++ l) (append-nil e.0)
+past_last (turn ∷ turns) c e =
+    ap (λ l. turn.0 ++ l) (past_last turns c e) ∙ sym (append_assoc turn.0 (said turns) (c.0 ++ e.0))
+
+-- and nothing more once the verdict has come
+pub finishes : (job : ProverJob) (given : Grant) (rounds : List Round) (pairs : List Pair) (d : List ℕ) (wires : WirePairs) (element code number : ℕ) (inputs values : List ℕ) → IsSound job
+    → Fixes job given rounds pairs d wires → IsElement element → code ≤ 2 → number < 2 ^ 32 → IsWitness job.statement inputs values job.given
+    → AreHonestBytes (task_of job inputs) (((grant_frame given ++ answered (round_turns rounds)) ++ challenge_frame element) ++ verdict_frame code number)
+    (all_sent job given rounds pairs d wires element)
+finishes job given rounds pairs d wires element code number inputs values sound fixes is allowed numbered witness = record {
+  turns = suc (suc (suc (rounds_of job.file.params.kind)));
+  answer = (
+    made job given rounds pairs d wires element code number,
+    made_is job given rounds pairs d wires element code number sound fixes is allowed numbered,
+    made_honest job given rounds pairs d wires element code number inputs values fixes witness,
+    turns_within turns (greeting job, grant_frame given) c e (rounds_of job.file.params.kind) (suc (suc (rounds_of job.file.params.kind))) same (omega arith),
+    (
+      [],
+      row_three (grant_frame given) (answered turns) (challenge_frame element) (verdict_frame code number)
+          ∙ ap (λ l. grant_frame given ++ l)
+          (sym (turns_all (λ (turn : List ℕ × List ℕ). turn.1) turns c e) ∙ ap (λ n. answered (take (suc (suc n)) (turns ++ c ∷ e ∷ []))) (sym same))
+          ∙ sym (append-nil (grant_frame given ++ answered (take (suc (suc (rounds_of job.file.params.kind))) (turns ++ c ∷ e ∷ [])))),
+    ),
+    row_four (greeting job) (said turns) (corrections_frame d) (sums_frame (sums_for job given pairs wires element)) (openings_frame (openings_for job wires))
+        ∙ ap (λ l. greeting job ++ l)
+        (sym (past_last turns c e) ∙ ap (λ n. said (take (suc (suc (suc n))) (turns ++ c ∷ e ∷ []))) (sym same)),
+  );
+  most = most;
+}
+  where
+    c : List ℕ × List ℕ
+    c = (corrections_frame d, challenge_frame element)
+
+    turns : List (List ℕ × List ℕ)
+    turns = round_turns rounds
+
+    e : List ℕ × List ℕ
+    e = (sums_frame (sums_for job given pairs wires element) ++ openings_frame (openings_for job wires), verdict_frame code number)
+
+    same : rounds_of job.file.params.kind ≡ length (round_turns rounds)
+    same = kind_turns job given rounds fixes.asked
+
+    most : (more : ℕ) (other : List ℕ) → SentAfter (task_of job inputs) (((grant_frame given ++ answered (round_turns rounds)) ++ challenge_frame element) ++ verdict_frame code number) more other
+        → more ≤ suc (suc (suc (rounds_of job.file.params.kind)))
+    most zero other after = omega arith
+    most (suc n) other after =
+        omega (arith, fewer (task_of job inputs) (((grant_frame given ++ answered (round_turns rounds)) ++ challenge_frame element) ++ verdict_frame code number) other n after)
+
+pub same_stage : (some other : Expect) → Some some ≡ Some other → other ≡ some
+same_stage some other same = same_Some other some (sym same)
+
+-- ---- side by side
+
+pub greeted_sent : (job : ProverJob) → sent_by Prover (greeted_log job) ≡ greeting job
+greeted_sent job = own_bytes Prover (greeting job)
+
+pub greeted_heard : (job : ProverJob) → sent_by Verifier (greeted_log job) ≡ []
+greeted_heard job = none_of_prover (greeting job)
+
+pub granted_sent : (job : ProverJob) (given : Grant) → sent_by Prover (granted_log job given) ≡ greeting job
+granted_sent job given = prover_hears (greeted_log job) (grant_frame given) ∙ greeted_sent job
+
+pub granted_heard : (job : ProverJob) (given : Grant) → sent_by Verifier (granted_log job given) ≡ grant_frame given
+granted_heard job given = verifier_says (greeted_log job) (grant_frame given) ∙ ap (λ l. l ++ grant_frame given) (greeted_heard job)
+
+pub replied_sent : (job : ProverJob) (given : Grant) (came : List (List TreeReply)) → sent_by Prover (replied_log job given came) ≡ greeting job ++ all_asks job given
+replied_sent job given came =
+    prover_hears (asked_log job given) (flat_map reply_frame came)
+    ∙ prover_says (granted_log job given) (all_asks job given) ∙ ap (λ l. l ++ all_asks job given) (granted_sent job given)
+
+pub replied_heard : (job : ProverJob) (given : Grant) (came : List (List TreeReply))
+    → sent_by Verifier (replied_log job given came) ≡ grant_frame given ++ flat_map reply_frame came
+replied_heard job given came =
+    verifier_says (asked_log job given) (flat_map reply_frame came)
+    ∙ ap (λ l. l ++ flat_map reply_frame came) (verifier_hears (granted_log job given) (all_asks job given) ∙ granted_heard job given)
+
+rounds_sent : (job : ProverJob) (given : Grant) (rounds : List Round) → sent_by Prover (rounds_log job given rounds) ≡ greeting job ++ said (round_turns rounds)
+rounds_sent job given rounds =
+    sent_by-append Prover (granted_log job given) (turn_bytes (round_turns rounds))
+    ∙ (λ i. granted_sent job given i ++ sent_by-prover (round_turns rounds) i)
+
+rounds_heard : (job : ProverJob) (given : Grant) (rounds : List Round)
+    → sent_by Verifier (rounds_log job given rounds) ≡ grant_frame given ++ answered (round_turns rounds)
+rounds_heard job given rounds =
+    sent_by-append Verifier (granted_log job given) (turn_bytes (round_turns rounds))
+    ∙ (λ i. granted_heard job given i ++ sent_by-verifier (round_turns rounds) i)
+
+pub fixed_sent : (job : ProverJob) (given : Grant) (rounds : List Round) (d : List ℕ)
+    → sent_by Prover (fixed_log job given rounds d) ≡ (greeting job ++ said (round_turns rounds)) ++ corrections_frame d
+fixed_sent job given rounds d = prover_says (rounds_log job given rounds) (corrections_frame d) ∙ ap (λ l. l ++ corrections_frame d) (rounds_sent job given rounds)
+
+pub fixed_heard : (job : ProverJob) (given : Grant) (rounds : List Round) (d : List ℕ)
+    → sent_by Verifier (fixed_log job given rounds d) ≡ grant_frame given ++ answered (round_turns rounds)
+fixed_heard job given rounds d = verifier_hears (rounds_log job given rounds) (corrections_frame d) ∙ rounds_heard job given rounds
+
+challenged_sent : (job : ProverJob) (given : Grant) (rounds : List Round) (d : List ℕ) (element : ℕ)
+    → sent_by Prover (challenged_log job given rounds d element) ≡ (greeting job ++ said (round_turns rounds)) ++ corrections_frame d
+challenged_sent job given rounds d element = prover_hears (fixed_log job given rounds d) (challenge_frame element) ∙ fixed_sent job given rounds d
+
+challenged_heard : (job : ProverJob) (given : Grant) (rounds : List Round) (d : List ℕ) (element : ℕ)
+    → sent_by Verifier (challenged_log job given rounds d element) ≡ (grant_frame given ++ answered (round_turns rounds)) ++ challenge_frame element
+challenged_heard job given rounds d element =
+    verifier_says (fixed_log job given rounds d) (challenge_frame element) ∙ ap (λ l. l ++ challenge_frame element) (fixed_heard job given rounds d)
+
+pub opened_sent : (job : ProverJob) (given : Grant) (rounds : List Round) (pairs : List Pair) (d : List ℕ) (wires : WirePairs) (element : ℕ)
+    → sent_by Prover (opened_log job given rounds pairs d wires element) ≡ all_sent job given rounds pairs d wires element
+opened_sent job given rounds pairs d wires element =
+    let u : List ℕ = sums_frame (sums_for job given pairs wires element) in
+    let o : List ℕ = openings_frame (openings_for job wires) in
+    prover_says (challenged_log job given rounds d element ++ bytes_from Prover u) o
+    ∙ ap (λ l. l ++ o) (prover_says (challenged_log job given rounds d element) u ∙ ap (λ l. l ++ u) (challenged_sent job given rounds d element))
+
+pub opened_heard : (job : ProverJob) (given : Grant) (rounds : List Round) (pairs : List Pair) (d : List ℕ) (wires : WirePairs) (element : ℕ)
+    → sent_by Verifier (opened_log job given rounds pairs d wires element) ≡ (grant_frame given ++ answered (round_turns rounds)) ++ challenge_frame element
+opened_heard job given rounds pairs d wires element =
+    let u : List ℕ = sums_frame (sums_for job given pairs wires element) in
+    let o : List ℕ = openings_frame (openings_for job wires) in
+    verifier_hears (challenged_log job given rounds d element ++ bytes_from Prover u) o
+    ∙ verifier_hears (challenged_log job given rounds d element) u ∙ challenged_heard job given rounds d element
+
+-- ---- what comes next, and what was sent
+
+-- the turns that have come where a prover waits
+abbrev pub turns_at : ProverJob → ProverStage → ℕ
+turns_at job (awaits_replies given came) = 1
+turns_at job (awaits_challenge given pairs wires) = suc (rounds_of job.file.params.kind)
+turns_at job awaits_verdict = suc (suc (rounds_of job.file.params.kind))
+turns_at job other = 0
+
+-- where what came goes on as the turns of some session do, it goes on with a frame of the place
+pub next_frame : (job : ProverJob) (claim : Claim) (stage : ProverStage) (awaited : Expect) (before : List (Side × ℕ)) (bytes inputs : List ℕ) → IsSound job
+    → IsLogAt job claim stage before → prover_expects job stage ≡ Some awaited
+    → Hears (task_of job inputs) (sent_by Verifier before ++ bytes) (turns_at job stage) → IsNextFrame awaited bytes
+next_frame job claim awaits_grant awaited before bytes inputs sound at is heard =
+    subst (λ e. IsNextFrame e bytes) (sym (same_stage expect.Grant awaited is))
+    (next_grant job.file.params job.statement.program heard.u bytes heard.more sound.file.params.total heard.is
+    (ap (λ l. l ++ bytes) (sym (ap (sent_by Verifier) at.1 ∙ greeted_heard job)) ∙ heard.begun))
+next_frame job claim (awaits_replies given came) awaited before bytes inputs sound (claimed, some, at) is heard =
+    subst (λ e. IsNextFrame e bytes) (sym (same_stage _ awaited is))
+    (next_replies (task_of job inputs) given came _ heard.u bytes heard.more sound.file some.extended some.granted
+    (omega (arith, some.more)) some.each heard.is
+    (ap (λ l. l ++ bytes) (sym (ap (sent_by Verifier) at ∙ replied_heard job given came)) ∙ heard.begun))
+next_frame job claim (awaits_challenge given pairs wires) awaited before bytes inputs sound (rounds, d, claimed, fixes, at) is heard =
+    subst (λ e. IsNextFrame e bytes) (sym (same_stage expect.Challenge awaited is))
+    (next_challenge (task_of job inputs) given rounds heard.u bytes heard.more sound.file fixes.granted fixes.asked.count fixes.asked.ranged heard.is
+    (ap (λ l. l ++ bytes) (sym (ap (sent_by Verifier) at ∙ fixed_heard job given rounds d)) ∙ heard.begun))
+next_frame job claim awaits_verdict awaited before bytes inputs sound opened is heard =
+    subst (λ e. IsNextFrame e bytes) (sym (same_stage expect.Verdict awaited is))
+    (next_verdict (task_of job inputs) opened.given opened.rounds opened.element heard.u bytes heard.more sound.file opened.fixes.granted
+    opened.fixes.asked.count opened.fixes.asked.ranged heard.is
+    (ap (λ l. l ++ bytes) (sym (ap (sent_by Verifier) opened.logged
+    ∙ opened_heard job opened.given opened.rounds opened.pairs opened.d opened.wires opened.element)) ∙ heard.begun))
+next_frame job claim has_ended awaited before bytes inputs sound at is heard = absurd at
+
+-- what was sent where a prover waits is what an honest prover sends after as many turns
+sent_after : (job : ProverJob) (claim : Claim) (stage : ProverStage) (before : List (Side × ℕ)) (rest inputs values : List ℕ) → IsSound job
+    → IsLogAt job claim stage before → IsWitness job.statement inputs values job.given
+    → SentAfter (task_of job inputs) (sent_by Verifier before ++ rest) (turns_at job stage) (sent_by Prover before)
+sent_after job claim awaits_grant before rest inputs values sound at witness = ap (sent_by Prover) at.1 ∙ greeted_sent job
+sent_after job claim (awaits_replies given came) before rest inputs values sound (claimed, some, at) witness =
+    subst (λ (q : List ℕ × List ℕ). SentAfter (task_of job inputs) (q.0 ++ rest) 1 q.1)
+    (λ i. (sym (ap (sent_by Verifier) at ∙ replied_heard job given came) i, sym (ap (sent_by Prover) at ∙ replied_sent job given came) i))
+    (subst (λ l. SentAfter (task_of job inputs) l 1 (greeting job ++ all_asks job given)) (sym (append_assoc (grant_frame given) (flat_map reply_frame came) rest))
+    (of_rounds (some_rounds job given sound.file some.granted)))
+  where
+    of_rounds : (rounds : List Round) × AreAskedRounds job given rounds
+        → SentAfter (task_of job inputs) (grant_frame given ++ (flat_map reply_frame came ++ rest)) 1 (greeting job ++ all_asks job given)
+    of_rounds ([], asked) = absurd (omega (arith, asked.count, ap rounds_of some.extended))
+    of_rounds (round ∷ next ∷ rounds, asked) = absurd (omega (arith, asked.count, ap rounds_of some.extended))
+    of_rounds (round ∷ [], asked) =
+        subst (λ l. SentAfter (task_of job inputs) (grant_frame given ++ (flat_map reply_frame came ++ rest)) 1 (greeting job ++ l))
+        (ap (flat_map ask_frame) (asked.asks 0 round (omega arith)))
+        (asks_after job given round inputs values (flat_map reply_frame came ++ rest) sound (fixable job given (round ∷ []) sound some.granted asked) witness)
+sent_after job claim (awaits_challenge given pairs wires) before rest inputs values sound (rounds, d, claimed, fixes, at) witness =
+    subst (λ (q : List ℕ × List ℕ). SentAfter (task_of job inputs) (q.0 ++ rest) (suc (rounds_of job.file.params.kind)) q.1)
+    (λ i. (sym (ap (sent_by Verifier) at ∙ fixed_heard job given rounds d) i, sym (ap (sent_by Prover) at ∙ fixed_sent job given rounds d) i))
+    (corrections_after job given rounds pairs d wires inputs values rest sound fixes witness)
+sent_after job claim awaits_verdict before rest inputs values sound opened witness =
+    subst (λ (q : List ℕ × List ℕ). SentAfter (task_of job inputs) (q.0 ++ rest) (suc (suc (rounds_of job.file.params.kind))) q.1)
+    (λ i. (
+      sym (ap (sent_by Verifier) opened.logged ∙ opened_heard job opened.given opened.rounds opened.pairs opened.d opened.wires opened.element) i,
+      sym (ap (sent_by Prover) opened.logged ∙ opened_sent job opened.given opened.rounds opened.pairs opened.d opened.wires opened.element) i,
+    ))
+    (openings_after job opened.given opened.rounds opened.pairs opened.d opened.wires opened.element inputs values rest sound opened.fixes opened.is witness)
+sent_after job claim has_ended before rest inputs values sound at witness = absurd at
+
+-- Where a prover waits, and what came since is no whole frame, the next turn was not heard.
+pub not_heard : (job : ProverJob) (claim : Claim) (stage : ProverStage) (awaited : Expect) (before : List (Side × ℕ)) (rest : List ℕ) (inputs : List ℕ)
+    → IsSound job → IsLogAt job claim stage before → prover_expects job stage ≡ Some awaited
+    → length rest ≤ longest awaited → IsUnfinished awaited rest
+    → Hears (task_of job inputs) (sent_by Verifier before ++ rest) (turns_at job stage) → ⊥
+not_heard job claim stage awaited before rest inputs sound at is few unfinished heard =
+    let next = next_frame job claim stage awaited before rest inputs sound at is heard in
+    unstarted awaited rest next.frame next.tail next.allowed next.long few unfinished next.begun
+
+-- Where a prover waits, and what came since is no whole frame, it has sent all that an honest prover sends.
+pub has_answered : (job : ProverJob) (claim : Claim) (stage : ProverStage) (awaited : Expect) (before : List (Side × ℕ)) (rest : List ℕ) (inputs values : List ℕ)
+    → IsSound job → IsLogAt job claim stage before → prover_expects job stage ≡ Some awaited
+    → length rest ≤ longest awaited → IsUnfinished awaited rest → IsWitness job.statement inputs values job.given
+    → HasEndedHonestly (task_of job inputs) (before ++ bytes_from Verifier rest)
+has_answered job claim stage awaited before rest inputs values sound at is few unfinished witness =
+    subst (λ (q : List ℕ × List ℕ). AreHonestBytes (task_of job inputs) q.0 q.1) (λ i. (sym (verifier_says before rest) i, sym (prover_hears before rest) i))
+    (honest_bytes (task_of job inputs) (sent_by Verifier before ++ rest) (sent_by Prover before) (turns_at job stage)
+    (sent_after job claim stage before rest inputs values sound at witness)
+    (not_heard job claim stage awaited before rest inputs sound at is few unfinished))
+
+-- where it ended so, it sent a beginning of it
+pub from_ended : (job : ProverJob) (inputs : List ℕ) (log : List (Side × ℕ)) → HasEndedHonestly (task_of job inputs) log
+    → IsFromHonestProver (task_of job inputs) log
+from_ended job inputs log ended = (sent_by Prover log, ended, ([], sym (append-nil (sent_by Prover log))))

@@ -1,39 +1,48 @@
 -- From a run of a prover's end to how its session ended.
-use Rattle.std.proofs.Common.{◌≡◌, ◌⊎◌, inl, inr, ℕ, ◌+◌, ◌≤◌, List, [], ◌∷◌, ◌++◌, flat_map, length, Bool, true, false, Option, None, Some, Result, Ok, Err, MatchOption, refl, ap, sym, ◌∙◌, subst, append-nil, arith, OnOk}
+use Rattle.std.proofs.Common.{◌≡◌, ◌⊎◌, inl, inr, ℕ, ◌+◌, ◌≤◌, List, [], ◌∷◌, ◌++◌, flat_map, length, Bool, true, false, Option, None, Some, Result, Ok, Err, MatchOption, refl, ap, sym, ◌∙◌, subst, append-nil, arith, OnOk, slice_index_or, suc, ◌<◌, append_assoc, length-append}
 use Rattle.std.specs.Prelude.{All, IfOk, IsSomeAnd}
-use Rattle.zk_model.specs.Transcript.{Grant, bytes_from}
+use Rattle.zk_model.specs.Transcript.{Grant, bytes_from, Transcript, IsTranscript, sent_by, session_turns, refuse_frame}
 use Rattle.zk_model.specs.View.{span_of}
-use Rattle.zk_model.specs.Frames.{Frame, grant, verdict, Allows, frame_spelling}
+use Rattle.zk_model.specs.Frames.{Frame, grant, verdict, Allows, frame_spelling, IsFirstBad, frame_length}
 use Rattle.zk_model.specs.declared.Expect.{Expect}
-use Rattle.zk_model.specs.declared.Expect.TheVariants as expect
 use Rattle.zk_model.specs.declared.Side.{Side}
 use Rattle.zk_model.specs.declared.Side.TheVariants.{Prover, Verifier}
 use Rattle.zk_model.specs.declared.Span.{Span}
 use Rattle.claim_store.specs.declared.ClaimFault.{ClaimFault}
-use Rattle.frame_link.specs.Lines.{LineState}
+use Rattle.frame_link.specs.Lines.{LineState, LinkSnapshot}
 use Rattle.frame_link.specs.declared.fault.LineFault.{LineFault}
-use Rattle.frame_link.proofs.LineLemmas.{none_is_some}
+use Rattle.frame_link.proofs.LineLemmas.{none_is_some, frame_most}
 use Rattle.proof_frames.specs.Frames.{IsShort}
 use Rattle.session_core.specs.Jobs.{ProverJob, Suits}
-use Rattle.session_core.specs.Cores.{ProverStage, ProverState, ProverAnswers, ProverRefuses, awaits_grant, awaits_replies, awaits_challenge, awaits_verdict, has_ended, prover_expects}
+use Rattle.session_core.specs.Cores.{ProverStage, ProverState, ProverAnswers, awaits_grant, awaits_replies, awaits_challenge, awaits_verdict, has_ended, prover_expects}
 use Rattle.session_driver.specs.Runs.{Turn, said, whole_log, sends_of, sends_in, HasPassed, IsTurn, Goes, IsMissing, IsUnsent, TriesRefusal, StopsBy, IsRun}
 use Rattle.session_driver.specs.declared.drive.Outcome.{Outcome}
 use Rattle.session_driver.specs.declared.drive.Outcome.TheVariants.{Done, Refused, Cut}
-use Rattle.session_driver.proofs.Going.{whole_more, sends_more}
-use Rattle.session_driver.proofs.Ending.{goes_keeps}
+use Rattle.session_driver.proofs.Going.{whole_more, sends_more, goes_keeps}
 use Rattle.session_prover.specs.declared.note.ProverOutcome.{ProverOutcome}
 use Rattle.session_prover.specs.declared.note.ProverOutcome.TheVariants.{Accepted}
 use Rattle.session_prover.specs.Outcomes.{line_outcome}
-use Rattle.session_prover.specs.Proving.{Claims, Claimed, IsProving, Proved, AnswersClaimed, AnswersBehind, ReadsAcceptance, Stops, claim_of, greeting_frame, outcome_told, proved, proves, proving_expects, IsSound, IsToAnswer, Comes, IsGrantTaken, IsNoGrant, SendStops}
-use Rattle.session_prover.specs.Stages.{Claim, ClaimedFor, Course, IsLogAt, IsLogTaken, IsLineTaken, answers_in, greeted_log}
-use Rattle.session_prover.specs.Notes.{IsEnded, granted_of}
+use Rattle.session_prover.specs.Stages.{Claim, ClaimedFor, Course, IsLogAt, IsLogTaken, IsLineTaken, answers_in, greeted_log, Claims, Claimed, IsProving, Proved, AnswersClaimed, AnswersBehind, ReadsAcceptance, Stops, claim_of, greeting_frame, outcome_told, proved, proves, proving_expects, IsSound, IsToAnswer, Comes, SendStops}
+use Rattle.session_prover.specs.Notes.{IsEnded, granted_of, StopsBehind, IsOutcome, task_of, WaitsFor}
 use Rattle.std.proofs.lemmas.Option.{same_Some}
-use Rattle.session_prover.proofs.Waiting.{same_stage}
-use Rattle.session_prover.proofs.Answering.{answered, answer_short}
-use Rattle.session_prover.proofs.Sides.{answers_heard, answers_more, answers_first, frame_is_some, frames_some, replied_on}
-use Rattle.session_prover.proofs.Ending.{mine, well_of, comes, stops_taking, ends_accepted, ends_rejected}
-use Rattle.session_prover.proofs.Granting.{granted_is, grant_taken, ends_ungranted, ends_unclaimed, stops_greeting}
-use Rattle.session_prover.proofs.Stopping.{stops_sending, some_for, stops_answering, refuses_nothing}
+use Rattle.session_prover.proofs.Heard.{same_stage, answers_heard, answers_more, answers_first, frame_is_some, frames_some, replied_on, verifier_says, IsNextFrame, same_bytes_grant, turns_at, next_frame, greeted_heard, granted_heard}
+use Rattle.session_prover.proofs.Answering.{answer_leads, answer_short, suits_is}
+use Rattle.session_prover.proofs.Ending.{mine, well_of, comes, stops_taking, ends_accepted, ends_rejected, granted_is, grant_taken, ends_ungranted, ends_unclaimed, stops_greeting, stops_sending, some_for, stops_answering, refuses_nothing, none_bad}
+use Rattle.std.proofs.lemmas.List.{take_all}
+use Rattle.session_laws.proofs.Turns.{answered, fewer_answered}
+use Rattle.session_laws.proofs.Sizes.{count_is}
+use Rattle.zk_model.specs.Files.{rounds_of}
+use Rattle.zk_model.specs.Program.{Program}
+use Rattle.zk_model.specs.Statement.{Statement}
+use Rattle.zk_laws.specs.Completeness.{AreCounterparts}
+use Rattle.zk_model.specs.ServedVerifier.{VerifierTask}
+use Rattle.zk_model.specs.declared.Params.{Params}
+use Rattle.session_laws.specs.Sessions.{HonestVerdict}
+use Rattle.session_prover.specs.Completing.{HasSpoken, HasHonestPeer, Completes}
+use Rattle.zk_model.specs.declared.Expect.TheVariants as expect
+use Rattle.session_prover.specs.declared.note.ProverOutcome.TheVariants as outcome
+
+-- From a run of a prover's end to how its session ended.
 
 -- ---- a frame is taken
 
@@ -68,7 +77,29 @@ pub on_ok_more : {T E : Type 0} (result : Result T E) (P : T → Type 0) (Q : Ty
 on_ok_more (Ok value) P Q more holds = more value holds
 on_ok_more (Err fault) P Q more holds = tt
 
--- an answer is short, and what holds between the steps holds after it
+-- an answer is short, and leads to where the prover waits next
+record Steps (claim : Claim) (next : ProverState) (frame : Frame) (answer : List Frame) (log : List (Side × ℕ)) : Type 0 where
+  short : All IsShort answer
+  at : IsLogAt next.job claim next.stage ((log ++ bytes_from Verifier (frame_spelling frame)) ++ said Prover answer)
+
+steps_taken : (core next : ProverState) (claim : Claim) (stage : ProverStage) (frame : Frame) (answer : List Frame) (log : List (Side × ℕ)) → IsSound core.job
+    → next.job ≡ core.job → IsLogTaken core.job claim stage frame (log ++ bytes_from Verifier (frame_spelling frame))
+    → ProverAnswers core.job stage frame answer next.stage → Steps claim next frame answer log
+steps_taken core next claim stage frame answer log sound same taken answers = record {
+  short = answer_short core.job claim stage frame answer next.stage _ sound taken answers;
+  at = subst (λ j. IsLogAt j claim next.stage ((log ++ bytes_from Verifier (frame_spelling frame)) ++ said Prover answer)) (sym same)
+      (answer_leads core.job claim stage frame answer next.stage _ sound taken answers);
+}
+
+step_claimed : {C : Type 0} (claims : Claims C) (s t : Proved C) (frame : Frame) (answer : List Frame) (log : List (Side × ℕ)) → IsSound s.core.job
+    → IsLogAt s.core.job (claim_of claims s.claimant) awaits_grant log → AnswersClaimed claims s frame answer t
+    → Steps (claim_of claims t.claimant) t.core frame answer log
+step_claimed claims s t frame answer log sound at by =
+    let claim = claim_of claims t.claimant in
+    steps_taken s.core t.core claim awaits_grant frame answer log sound by.job
+    (grant_log_taken s.core.job claim frame by.given log at.1 by.is by.suits by.within (claimed_for claims by.given s.claimant t.claimant by.claimed)) by.answers
+
+-- and what holds between the steps holds after it
 pub record StepsOn {C : Type 0} (claims : Claims C) (job : ProverJob) (answer : List Frame) (new : Proved C) : Type 0 where
   pub short : All IsShort answer
   pub holds : IsProving claims job new
@@ -93,17 +124,16 @@ pub steps_there : {C : Type 0} (claims : Claims C) (job : ProverJob) (core next 
 steps_there claims job core next granted accepted claimant frame answer proving expected behind same answers =
     let claim = claim_of claims claimant in
     let waits = not_accepted accepted core (λ place. Allows place frame) expected in
-    let taken = log_taken job claim core.stage frame proving.log behind (proving.at waits.0)
-    (subst (λ (j : ProverJob). IsSomeAnd (prover_expects j core.stage) (λ place. Allows place frame)) proving.job_is waits.1) in
-    let answers_so = subst (λ (j : ProverJob). ProverAnswers j core.stage frame answer next.stage) proving.job_is answers in
+    let steps = steps_taken core next claim core.stage frame answer proving.log (subst IsSound (sym proving.job_is) proving.sound) same
+    (log_taken core.job claim core.stage frame proving.log behind (proving.at waits.0) waits.1) answers in
     record {
-      short = answer_short job claim core.stage frame answer next.stage _ proving.sound taken answers_so;
+      short = steps.short;
       holds = record {
         job_is = same ∙ proving.job_is;
         sound = proving.sound;
         total = proving.total;
         log = _;
-        at = λ _. answered job claim core.stage frame answer next.stage _ proving.sound taken answers_so;
+        at = λ _. steps.at;
       };
     }
 
@@ -114,22 +144,17 @@ pub steps_granted : {C : Type 0} (claims : Claims C) (job : ProverJob) (core nex
     → StepsOn claims job answer (proved next then accepted now)
 steps_granted claims job core next granted then accepted claimant now frame answer proving expected by =
     let accepts = (not_accepted accepted core (λ place. Allows place frame) expected).0 in
-    let claim = claim_of claims now in
-    let waited : IsLogAt job (claim_of claims claimant) awaits_grant proving.log =
-    subst (λ p. IsLogAt job (claim_of claims claimant) p proving.log) by.waits (proving.at accepts) in
-    let taken = grant_log_taken job claim frame by.given proving.log waited.1 by.is
-    (subst (λ (j : ProverJob). Suits j.file.params j.statement.program by.given) proving.job_is by.suits)
-    (subst (λ (j : ProverJob). by.given.start + by.given.count ≤ j.file.params.total) proving.job_is by.within)
-    (claimed_for claims by.given claimant now by.claimed) in
-    let answers = subst (λ (j : ProverJob). ProverAnswers j awaits_grant frame answer next.stage) proving.job_is by.answers in
+    let waited = subst (λ p. IsLogAt core.job (claim_of claims claimant) p proving.log) by.waits (proving.at accepts) in
+    let steps = step_claimed claims (proved core granted false claimant) (proved next then false now) frame answer proving.log
+    (subst IsSound (sym proving.job_is) proving.sound) waited by in
     record {
-      short = answer_short job claim awaits_grant frame answer next.stage _ proving.sound taken answers;
+      short = steps.short;
       holds = record {
         job_is = by.job ∙ proving.job_is;
         sound = proving.sound;
         total = λ none. absurd (none_is_some (sym none ∙ by.claimed.told));
         log = _;
-        at = λ _. answered job claim awaits_grant frame answer next.stage _ proving.sound taken answers;
+        at = λ _. steps.at;
       };
     }
 
@@ -157,7 +182,7 @@ IsClaimAt claims old granted now =
 
 pub record IsAt {C : Type 0} (claims : Claims C) (old : C) (job : ProverJob) (now : Proved C) (before : List Turn) : Type 0 where
   pub job_is : now.core.job ≡ job
-  pub log : IsLogOf job (claim_of claims now.claimant) now.accepted now.core.stage (whole_log Prover (greeting_frame job ∷ []) before)
+  pub log : IsLogOf now.core.job (claim_of claims now.claimant) now.accepted now.core.stage (whole_log Prover (greeting_frame job ∷ []) before)
   pub counts : answers_in (whole_log Prover (greeting_frame job ∷ []) before) ≡ sends_in (greeting_frame job ∷ []) before
   pub claim : IsClaimAt claims old now.granted now.claimant
 
@@ -197,21 +222,24 @@ module _ {C : Type 0} (claims : Claims C) (old : C) (job : ProverJob) (sound : I
     counted_on : answers_in log_on ≡ sends_in (greeting_frame job ∷ []) (before ++ turn ∷ [])
     counted_on = ap answers_in (sym more_on) ∙ counts_on log_to turn ∙ omega (arith, at.counts, sends_more (greeting_frame job ∷ []) before turn)
 
-    stood_at : (stage : ProverStage) → s.core.stage ≡ stage → IsLogAt job (claim_of claims s.claimant) stage log_to
-    stood_at stage is = subst (λ (q : Bool × ProverStage). IsLogOf job (claim_of claims s.claimant) q.0 q.1 log_to) (λ i. (accepted i, is i)) at.log
+    stood_at : (stage : ProverStage) → s.core.stage ≡ stage → IsLogAt s.core.job (claim_of claims s.claimant) stage log_to
+    stood_at stage is = subst (λ (q : Bool × ProverStage). IsLogOf s.core.job (claim_of claims s.claimant) q.0 q.1 log_to) (λ i. (accepted i, is i)) at.log
+
+    sound_there : IsSound s.core.job
+    sound_there = subst IsSound (sym at.job_is) sound
+
+    -- the answer leads on
+    log_stepped : (claim : Claim) → t.accepted ≡ false → Steps claim t.core turn.frame turn.answer log_to
+        → IsLogOf t.core.job claim t.accepted t.core.stage log_on
+    log_stepped claim none steps = subst (λ (b : Bool). IsLogOf t.core.job claim b t.core.stage log_on) (sym none)
+        (subst (IsLogAt t.core.job claim t.core.stage) more_on steps.at)
 
     claim_on : AnswersClaimed claims s turn.frame turn.answer t → IsAt claims old job t (before ++ turn ∷ [])
     claim_on by =
         let waited = stood_at awaits_grant by.waits in
-        let suits = subst (λ (j : ProverJob). Suits j.file.params j.statement.program by.given) at.job_is by.suits in
-        let within = subst (λ (j : ProverJob). by.given.start + by.given.count ≤ j.file.params.total) at.job_is by.within in
-        let taken = grant_log_taken job (claim_of claims t.claimant) turn.frame by.given log_to waited.1 by.is suits within (claimed_for claims by.given s.claimant t.claimant by.claimed) in
-        let answers = subst (λ (j : ProverJob). ProverAnswers j awaits_grant turn.frame turn.answer t.core.stage) at.job_is by.answers in
         record {
           job_is = by.job ∙ at.job_is;
-          log = subst (λ (b : Bool). IsLogOf job (claim_of claims t.claimant) b t.core.stage log_on) (sym by.accepted)
-              (subst (IsLogAt job (claim_of claims t.claimant) t.core.stage) more_on
-              (answered job (claim_of claims t.claimant) awaits_grant turn.frame turn.answer t.core.stage _ sound taken answers));
+          log = log_stepped (claim_of claims t.claimant) by.accepted (step_claimed claims s t turn.frame turn.answer log_to sound_there waited by);
           counts = counted_on;
           claim = inr (
             by.given,
@@ -224,23 +252,19 @@ module _ {C : Type 0} (claims : Claims C) (old : C) (job : ProverJob) (sound : I
       answer_on : AnswersBehind s turn.frame turn.answer t → IsAt claims old job t (before ++ turn ∷ [])
       answer_on by =
           let claim = claim_of claims s.claimant in
-          let expects = ap (λ (j : ProverJob). prover_expects j s.core.stage) (sym at.job_is) ∙ expected in
-          let taken = log_taken job claim s.core.stage turn.frame log_to by.behind (stood_at s.core.stage refl)
-          (subst (λ o. IsSomeAnd o (λ p. Allows p turn.frame)) (sym expects) allowed) in
-          let answers = subst (λ (j : ProverJob). ProverAnswers j s.core.stage turn.frame turn.answer t.core.stage) at.job_is by.answers in
           record {
             job_is = by.job ∙ at.job_is;
-            log = subst (λ (q : Bool × C). IsLogOf job (claim_of claims q.1) q.0 t.core.stage log_on) (λ i. (sym by.accepted i, sym by.claimant i))
-                (subst (IsLogAt job claim t.core.stage) more_on (answered job claim s.core.stage turn.frame turn.answer t.core.stage _ sound taken answers));
+            log = subst (λ c. IsLogOf t.core.job (claim_of claims c) t.accepted t.core.stage log_on) (sym by.claimant)
+                (log_stepped claim by.accepted (steps_taken s.core t.core claim s.core.stage turn.frame turn.answer log_to sound_there by.job
+                (log_taken s.core.job claim s.core.stage turn.frame log_to by.behind (stood_at s.core.stage refl)
+                (subst (λ o. IsSomeAnd o (λ p. Allows p turn.frame)) (sym expected) allowed)) by.answers));
             counts = counted_on;
             claim = subst (λ (q : Option Span × C). IsClaimAt claims old q.0 q.1) (λ i. (sym by.granted i, sym by.claimant i)) at.claim;
           }
 
       accept_on : ReadsAcceptance s turn.frame turn.answer t → IsAt claims old job t (before ++ turn ∷ [])
       accept_on by =
-          let verdict_place : place ≡ expect.Verdict =
-          same_stage expect.Verdict place
-          (ap (λ (q : ProverJob × ProverStage). prover_expects q.0 q.1) (λ i. (sym at.job_is i, sym by.waits i)) ∙ expected) in
+          let verdict_place : place ≡ expect.Verdict = same_stage expect.Verdict place (ap (prover_expects s.core.job) (sym by.waits) ∙ expected) in
           subst (λ (u : Proved C). IsAt claims old job u (before ++ turn ∷ [])) (sym by.becomes) (record {
             job_is = at.job_is;
             log = record {
@@ -335,27 +359,29 @@ module _ {C : Type 0} (claims : Claims C) (old : C) (once : claims.answer old �
   at : IsAt claims old job mid run.turns
   at = stands claims old job sound once mid run.turns run.went
 
+  sound_mid : IsSound mid.core.job
+  sound_mid = subst IsSound (sym at.job_is) sound
+
   -- by the claimant as it is then
   abbrev ended_at : C → Course
   ended_at claimant = record { first = mine first; claim = claim_of claims claimant }
 
   -- how the session ended on this line, and what was claimed
   record IsNoted (told : ProverOutcome) (line : LineState) : Type 0 where
-    ended : IsEnded job (ended_at new.claimant) told line
+    ended : IsEnded mid.core.job (ended_at new.claimant) told line
     claim : IsClaimTold claims old new.granted new.claimant
 
   -- nothing was claimed since
   still_noted : (told : ProverOutcome) (line : LineState) → new.claimant ≡ mid.claimant → new.granted ≡ mid.granted
-      → IsEnded job (ended_at mid.claimant) told line
-      → IsNoted told line
+      → IsEnded mid.core.job (ended_at mid.claimant) told line → IsNoted told line
   still_noted told line claimant granted ended = record {
-    ended = subst (λ c. IsEnded job (ended_at c) told line) (sym claimant) ended;
+    ended = subst (λ c. IsEnded mid.core.job (ended_at c) told line) (sym claimant) ended;
     claim = subst (λ (q : C × Option Span). IsClaimTold claims old q.1 q.0) (λ i. (sym claimant i, sym granted i))
         (claim_at claims old mid.granted mid.claimant at.claim);
   }
 
   -- where the end is as it was
-  same_noted : (told : ProverOutcome) → new ≡ mid → IsEnded job (ended_at mid.claimant) told now → IsNoted told now
+  same_noted : (told : ProverOutcome) → new ≡ mid → IsEnded mid.core.job (ended_at mid.claimant) told now → IsNoted told now
   same_noted told same ended = still_noted told now (ap (λ (s : Proved C). s.claimant) same) (ap (λ (s : Proved C). s.granted) same) ended
 
   -- ---- where a frame was expected
@@ -368,48 +394,46 @@ module _ {C : Type 0} (claims : Claims C) (old : C) (once : claims.answer old �
         by_accepted false is = is
         by_accepted true is = absurd (none_is_some (ap (λ (b : Bool). proving_expects b mid.core) (sym is) ∙ expected))
 
-    expects_so : proving_expects mid.accepted mid.core ≡ prover_expects job mid.core.stage
-    expects_so = ap (λ (q : Bool × ProverJob). proving_expects q.0 (record mid.core { job = q.1 })) (λ i. (accepted i, at.job_is i))
+    expects_so : proving_expects mid.accepted mid.core ≡ prover_expects mid.core.job mid.core.stage
+    expects_so = ap (λ (b : Bool). proving_expects b mid.core) accepted
 
-    waited_at : (stage : ProverStage) → mid.core.stage ≡ stage → IsLogAt job (claim_of claims mid.claimant) stage passed
-    waited_at stage is = subst (λ (q : Bool × ProverStage). IsLogOf job (claim_of claims mid.claimant) q.0 q.1 passed)
+    waited_at : (stage : ProverStage) → mid.core.stage ≡ stage → IsLogAt mid.core.job (claim_of claims mid.claimant) stage passed
+    waited_at stage is = subst (λ (q : Bool × ProverStage). IsLogOf mid.core.job (claim_of claims mid.claimant) q.0 q.1 passed)
         (λ i. (accepted i, is i)) at.log
 
-    waited : IsLogAt job (claim_of claims mid.claimant) mid.core.stage passed
+    waited : IsLogAt mid.core.job (claim_of claims mid.claimant) mid.core.stage passed
     waited = waited_at mid.core.stage refl
 
     missed : (f : LineFault) → IsMissing (proves claims) passed sent mid new f (mine first) now → IsNoted (line_outcome f) now
     missed f missing = same_noted (line_outcome f) missing.same
-        (stops_taking (proves claims) job (claim_of claims mid.claimant) mid.core.stage passed sent mid new f first now sound waited expects_so
+        (stops_taking (proves claims) mid.core.job (claim_of claims mid.claimant) mid.core.stage passed sent mid new f first now sound_mid waited expects_so
         (sym at.counts) missing)
 
     module _ (frame : Frame) (heard : LineState) (allowed : Allows place frame)
         (came : HasPassed (passed ++ bytes_from Verifier (frame_spelling frame)) sent (mine first) heard) where
-      allowed_at : (stage : ProverStage) (wanted : Expect) → mid.core.stage ≡ stage → prover_expects job stage ≡ Some wanted → Allows wanted frame
+      allowed_at : (stage : ProverStage) (wanted : Expect) → mid.core.stage ≡ stage → prover_expects mid.core.job stage ≡ Some wanted → Allows wanted frame
       allowed_at stage wanted is wants =
-          subst (λ p. Allows p frame) (same_Some place wanted (sym expected ∙ expects_so ∙ ap (prover_expects job) is ∙ wants)) allowed
+          subst (λ p. Allows p frame) (same_Some place wanted (sym expected ∙ expects_so ∙ ap (prover_expects mid.core.job) is ∙ wants)) allowed
 
-      comes_at : (stage : ProverStage) → mid.core.stage ≡ stage → Comes job (ended_at mid.claimant) stage frame heard
-      comes_at stage is = comes job (claim_of claims mid.claimant) stage frame passed sent first heard (waited_at stage is) (sym at.counts) came
+      comes_at : (stage : ProverStage) → mid.core.stage ≡ stage → Comes mid.core.job (ended_at mid.claimant) stage frame heard
+      comes_at stage is = comes mid.core.job (claim_of claims mid.claimant) stage frame passed sent first heard (waited_at stage is) (sym at.counts) came
 
       -- a grant whose units are claimed is to be answered
       claim_taken : (given : Grant) → mid.core.stage ≡ awaits_grant → frame ≡ grant given → Suits mid.core.job.file.params mid.core.job.statement.program given
           → given.start + given.count ≤ mid.core.job.file.params.total → Claimed claims given (Ok (span_of given)) mid.claimant new.claimant
-          → IsLineTaken job (ended_at new.claimant) awaits_grant frame heard
+          → IsLineTaken mid.core.job (ended_at new.claimant) awaits_grant frame heard
       claim_taken given waits is suits within claimed = record {
-        log = subst (IsLogTaken job (claim_of claims new.claimant) awaits_grant frame) (sym came.logged)
-            (grant_log_taken job (claim_of claims new.claimant) frame given passed (waited_at awaits_grant waits).1 is
-            (subst (λ (j : ProverJob). Suits j.file.params j.statement.program given) at.job_is suits)
-            (subst (λ (j : ProverJob). given.start + given.count ≤ j.file.params.total) at.job_is within)
+        log = subst (IsLogTaken mid.core.job (claim_of claims new.claimant) awaits_grant frame) (sym came.logged)
+            (grant_log_taken mid.core.job (claim_of claims new.claimant) frame given passed (waited_at awaits_grant waits).1 is suits within
             (claimed_for claims given mid.claimant new.claimant claimed));
         well = (comes_at awaits_grant waits).well;
       }
 
       -- so are replies, or the challenge
-      behind_taken : IsToAnswer mid.core.stage → IsLineTaken job (ended_at mid.claimant) mid.core.stage frame heard
+      behind_taken : IsToAnswer mid.core.stage → IsLineTaken mid.core.job (ended_at mid.claimant) mid.core.stage frame heard
       behind_taken behind = record {
-        log = subst (IsLogTaken job (claim_of claims mid.claimant) mid.core.stage frame) (sym came.logged)
-            (log_taken job (claim_of claims mid.claimant) mid.core.stage frame passed behind waited
+        log = subst (IsLogTaken mid.core.job (claim_of claims mid.claimant) mid.core.stage frame) (sym came.logged)
+            (log_taken mid.core.job (claim_of claims mid.claimant) mid.core.stage frame passed behind waited
             (subst (λ o. IsSomeAnd o (λ p. Allows p frame)) (sym expected ∙ expects_so) allowed));
         well = (comes_at mid.core.stage refl).well;
       }
@@ -417,7 +441,7 @@ module _ {C : Type 0} (claims : Claims C) (old : C) (once : claims.answer old �
       -- the claimant was asked
       asked_noted : (told : ProverOutcome) (line : LineState) (given : Grant) (answer : Result Span ClaimFault) → mid.core.stage ≡ awaits_grant
           → Claimed claims given answer mid.claimant new.claimant → (mid.granted ≡ None → new.granted ≡ granted_of (Some answer))
-          → IsEnded job (ended_at new.claimant) told line → IsNoted told line
+          → IsEnded mid.core.job (ended_at new.claimant) told line → IsNoted told line
       asked_noted told line given answer waits claimed granted ended =
           let none = unclaimed claims old mid.claimant mid.granted (waited_at awaits_grant waits).0 at.claim in
           record {
@@ -427,28 +451,25 @@ module _ {C : Type 0} (claims : Claims C) (old : C) (once : claims.answer old �
 
       stopped : (told : ProverOutcome) → Stops claims mid frame told new → IsNoted told heard
       stopped told (inl by) = still_noted told heard by.claimant by.granted
-          (ends_ungranted job (ended_at mid.claimant) frame told heard sound (comes_at awaits_grant by.waits)
-          (allowed_at awaits_grant expect.Grant by.waits refl) (subst (λ (j : ProverJob). IsNoGrant j frame told) at.job_is by.is))
+          (ends_ungranted mid.core.job (ended_at mid.claimant) frame told heard sound_mid (comes_at awaits_grant by.waits)
+          (allowed_at awaits_grant expect.Grant by.waits refl) by.is)
       stopped told (inr (inl by)) =
-          let taken : IsGrantTaken job (mine first) by.given heard =
-          grant_taken job (ended_at mid.claimant) frame by.given heard (comes_at awaits_grant by.waits)
-          (allowed_at awaits_grant expect.Grant by.waits refl) by.is in
           asked_noted told heard by.given (Err by.fault) by.waits by.claimed (λ none. by.granted ∙ none)
-          (subst (λ o. IsEnded job (ended_at new.claimant) o heard) (sym by.outcome_is)
-          (ends_unclaimed job (ended_at new.claimant) by.given by.fault heard sound
-          (subst (λ (j : ProverJob). Suits j.file.params j.statement.program by.given) at.job_is by.suits) taken
+          (subst (λ o. IsEnded mid.core.job (ended_at new.claimant) o heard) (sym by.outcome_is)
+          (ends_unclaimed mid.core.job (ended_at new.claimant) by.given by.fault heard sound_mid by.suits
+          (grant_taken mid.core.job (ended_at mid.claimant) frame by.given heard (comes_at awaits_grant by.waits)
+          (allowed_at awaits_grant expect.Grant by.waits refl) by.is)
           (record { asked = by.claimed.asked; answer = by.claimed.told })))
       stopped told (inr (inr (inl by))) =
           asked_noted told heard by.given (Ok (span_of by.given)) by.waits by.claimed (λ _. by.granted)
-          (subst (λ o. IsEnded job (ended_at new.claimant) o heard) (sym by.outcome_is)
-          (refuses_nothing job (ended_at new.claimant) awaits_grant frame by.fault heard sound (claim_taken by.given by.waits by.is by.suits by.within by.claimed)
-          (subst (λ (j : ProverJob). ProverRefuses j awaits_grant frame by.fault) at.job_is by.refuses)))
+          (subst (λ o. IsEnded mid.core.job (ended_at new.claimant) o heard) (sym by.outcome_is)
+          (refuses_nothing mid.core.job (ended_at new.claimant) awaits_grant frame by.fault heard sound_mid
+          (claim_taken by.given by.waits by.is by.suits by.within by.claimed) by.refuses))
       stopped told (inr (inr (inr (inl by)))) = still_noted told heard by.claimant by.granted
-          (subst (λ o. IsEnded job (ended_at mid.claimant) o heard) (sym by.outcome_is)
-          (refuses_nothing job (ended_at mid.claimant) mid.core.stage frame by.fault heard sound (behind_taken by.behind)
-          (subst (λ (j : ProverJob). ProverRefuses j mid.core.stage frame by.fault) at.job_is by.refuses)))
+          (subst (λ o. IsEnded mid.core.job (ended_at mid.claimant) o heard) (sym by.outcome_is)
+          (refuses_nothing mid.core.job (ended_at mid.claimant) mid.core.stage frame by.fault heard sound_mid (behind_taken by.behind) by.refuses))
       stopped told (inr (inr (inr (inr by)))) = still_noted told heard by.claimant by.granted
-          (ends_rejected job (ended_at mid.claimant) frame told heard sound (comes_at awaits_verdict by.waits)
+          (ends_rejected mid.core.job (ended_at mid.claimant) frame told heard sound_mid (comes_at awaits_verdict by.waits)
           (allowed_at awaits_verdict expect.Verdict by.waits refl) by.is)
 
       unanswered : (answer : List Frame) (f : LineFault) → IsUnsent None answer f heard now
@@ -456,34 +477,33 @@ module _ {C : Type 0} (claims : Claims C) (old : C) (once : claims.answer old �
           → IsNoted (line_outcome f) now
       unanswered answer f unsent (inl by) =
           asked_noted (line_outcome f) now by.given (Ok (span_of by.given)) by.waits by.claimed (λ _. by.granted)
-          (stops_answering job (ended_at new.claimant) awaits_grant frame answer new.core.stage f heard now sound
-          (claim_taken by.given by.waits by.is by.suits by.within by.claimed)
-          (subst (λ (j : ProverJob). ProverAnswers j awaits_grant frame answer new.core.stage) at.job_is by.answers)
+          (stops_answering mid.core.job (ended_at new.claimant) awaits_grant frame answer new.core.stage f heard now sound_mid
+          (claim_taken by.given by.waits by.is by.suits by.within by.claimed) by.answers
           (some_for f (length answer) unsent.at_least_one) (stops_sending answer f heard now unsent))
       unanswered answer f unsent (inr (inl by)) = still_noted (line_outcome f) now by.claimant by.granted
-          (stops_answering job (ended_at mid.claimant) mid.core.stage frame answer new.core.stage f heard now sound (behind_taken by.behind)
-          (subst (λ (j : ProverJob). ProverAnswers j mid.core.stage frame answer new.core.stage) at.job_is by.answers)
-          (some_for f (length answer) unsent.at_least_one) (stops_sending answer f heard now unsent))
+          (stops_answering mid.core.job (ended_at mid.claimant) mid.core.stage frame answer new.core.stage f heard now sound_mid (behind_taken by.behind)
+          by.answers (some_for f (length answer) unsent.at_least_one) (stops_sending answer f heard now unsent))
       unanswered answer f unsent (inr (inr by)) = absurd (omega (arith, unsent.at_least_one, ap length by.none))
 
   -- ---- a verdict was read that every check holds, and nothing more is expected
 
-  over : proving_expects mid.accepted mid.core ≡ None → HasPassed passed sent (mine first) now → IsEnded job (ended_at mid.claimant) Accepted now
+  over : proving_expects mid.accepted mid.core ≡ None → HasPassed passed sent (mine first) now → IsEnded mid.core.job (ended_at mid.claimant) Accepted now
   over none came = by_accepted mid.accepted refl
     where
       -- the prover has not ended otherwise
-      some_expected : (stage : ProverStage) → IsLogAt job (claim_of claims mid.claimant) stage passed → prover_expects job stage ≡ None → ⊥
+      some_expected : (stage : ProverStage) → IsLogAt mid.core.job (claim_of claims mid.claimant) stage passed → prover_expects mid.core.job stage ≡ None → ⊥
       some_expected has_ended waits over = waits
       some_expected other waits over = none_is_some (sym over)
 
-      by_accepted : (b : Bool) → mid.accepted ≡ b → IsEnded job (ended_at mid.claimant) Accepted now
-      by_accepted false accepted = absurd (some_expected mid.core.stage
-          (subst (λ (b : Bool). IsLogOf job (claim_of claims mid.claimant) b mid.core.stage passed) accepted at.log)
-          (ap (λ (q : Bool × ProverJob). proving_expects q.0 (record mid.core { job = q.1 })) (λ i. (sym accepted i, sym at.job_is i)) ∙ none))
+      log_as : (b : Bool) → mid.accepted ≡ b → IsLogOf mid.core.job (claim_of claims mid.claimant) b mid.core.stage passed
+      log_as b is = subst (λ (a : Bool). IsLogOf mid.core.job (claim_of claims mid.claimant) a mid.core.stage passed) is at.log
+
+      by_accepted : (b : Bool) → mid.accepted ≡ b → IsEnded mid.core.job (ended_at mid.claimant) Accepted now
+      by_accepted false accepted = absurd (some_expected mid.core.stage (log_as false accepted)
+          (ap (λ (b : Bool). proving_expects b mid.core) (sym accepted) ∙ none))
       by_accepted true accepted =
-          let read : IsRead job (claim_of claims mid.claimant) passed =
-          subst (λ (b : Bool). IsLogOf job (claim_of claims mid.claimant) b mid.core.stage passed) accepted at.log in
-          ends_accepted job (ended_at mid.claimant) read.frame read.number now sound
+          let read : IsRead mid.core.job (claim_of claims mid.claimant) passed = log_as true accepted in
+          ends_accepted mid.core.job (ended_at mid.claimant) read.frame read.number now sound_mid
           (record {
             before = read.before;
             waited = read.waited;
@@ -508,7 +528,7 @@ module _ {C : Type 0} (claims : Claims C) (old : C) (once : claims.answer old �
       let start : mid ≡ proved (record { job = job; stage = awaits_grant }) None false old =
       subst (λ (l : List Turn). Goes (proves claims) (proved (record { job = job; stage = awaits_grant }) None false old) l mid) stop.none run.went in
       same_noted (line_outcome f) stop.same
-      (subst (λ c. IsEnded job (ended_at c) (line_outcome f) now) (sym (ap (λ (s : Proved C). s.claimant) start))
+      (subst (λ (q : ProverJob × C). IsEnded q.0 (ended_at q.1) (line_outcome f) now) (λ i. (sym at.job_is i, sym (ap (λ (s : Proved C). s.claimant) start) i))
       (stops_greeting job (claim_of claims old) f first now sound once stop.fresh
       (subst (λ b. SendStops b f (mine first) now) (append-nil (frame_spelling (greeting_frame job)))
       (stops_sending (greeting_frame job ∷ []) f (mine first) now stop.unsent))))
@@ -520,8 +540,128 @@ module _ {C : Type 0} (claims : Claims C) (old : C) (once : claims.answer old �
 
   pub session_ended : IsEnded job (record { first = first; claim = claim_of claims new.claimant }) (outcome_told outcome) now
   session_ended =
-      subst (λ (f : LineState). IsEnded job (record { first = f; claim = claim_of claims new.claimant }) (outcome_told outcome) now)
-      (λ i. record first { side = sym side i }) all_noted.ended
+      subst (λ (q : ProverJob × LineState). IsEnded q.0 (record { first = q.1; claim = claim_of claims new.claimant }) (outcome_told outcome) now)
+      (λ i. (at.job_is i, record first { side = sym side i })) all_noted.ended
 
   pub claim_ended : ClaimEnds claims old new.granted new.claimant
   claim_ended = claim_ends claims old new.granted new.claimant once all_noted.claim
+
+-- With an honest verifier no other outcome is left.
+
+-- ---- what an honest verifier says
+
+-- what came is a beginning of all that a verifier says in a session
+record IsSaid (job : ProverJob) (received : List ℕ) : Type 0 where
+  t : Transcript
+  is : IsTranscript job.file.params job.statement.program t
+  more : List ℕ
+  begun : answered (session_turns t) ≡ received ++ more
+
+-- a transcript of the verifier's is one of the job's
+of_job : (job : ProverJob) (inputs : List ℕ) (verifier : VerifierTask) (t : Transcript) → AreCounterparts (task_of job inputs) verifier
+    → IsTranscript verifier.file.params verifier.statement.program t → IsTranscript job.file.params job.statement.program t
+of_job job inputs verifier t counterparts is = subst (λ (q : Params × Program). IsTranscript q.0 q.1 t)
+    (λ i. (sym counterparts.dealt.params i, sym (ap (λ (s : Statement). s.program) counterparts.statement) i)) is
+
+is_said : (job : ProverJob) (inputs : List ℕ) (verifier : VerifierTask) (result : ProverOutcome) (log : List (Side × ℕ))
+    → HasHonestPeer job inputs verifier result log → IsSaid job (sent_by Verifier log)
+is_said job inputs verifier result log peer =
+    let ts : List (List ℕ × List ℕ) = session_turns peer.honest.t in
+    let later = fewer_answered peer.honest.turns (length ts) ts peer.honest.within in
+    record {
+      t = peer.honest.t;
+      is = of_job job inputs verifier peer.honest.t peer.counterparts peer.honest.served.in_order.transcript;
+      more = peer.honest.begun.0 ++ later.0;
+      begun = ap (λ turns. answered turns) (sym (take_all (length ts) ts (omega arith))) ∙ later.1
+          ∙ ap (λ l. l ++ later.0) peer.honest.begun.1 ∙ append_assoc (sent_by Verifier log) peer.honest.begun.0 later.0;
+    }
+
+-- or all of it
+all_said : (job : ProverJob) (inputs : List ℕ) (verifier : VerifierTask) (log : List (Side × ℕ))
+    → AreCounterparts (task_of job inputs) verifier → (spoken : HasSpoken verifier log)
+    → (said : IsSaid job (sent_by Verifier log)) × (said.more ≡ [])
+all_said job inputs verifier log counterparts spoken = (
+  record {
+    t = spoken.t;
+    is = of_job job inputs verifier spoken.t counterparts spoken.served.in_order.transcript;
+    more = [];
+    begun = sym spoken.spoken ∙ sym (append-nil (sent_by Verifier log));
+  },
+  refl,
+)
+
+-- the turns that have come are not all
+few_turns : (job : ProverJob) (stage : ProverStage) → suc (turns_at job stage) ≤ rounds_of job.file.params.kind + 3
+few_turns job awaits_grant = omega arith
+few_turns job stage = omega arith
+
+-- where the prover waits, what the verifier says goes on with a frame of the place
+said_next : (job : ProverJob) (claim : Claim) (awaited : Expect) (before log : List (Side × ℕ)) (rest inputs : List ℕ) → IsSound job
+    → (said : IsSaid job (sent_by Verifier log)) → log ≡ before ++ bytes_from Verifier rest → WaitsFor job claim before awaited
+    → IsNextFrame awaited (rest ++ said.more)
+said_next job claim awaited before log rest inputs sound said logged waits =
+    let ts : List (List ℕ × List ℕ) = session_turns said.t in
+    let later = fewer_answered (suc (turns_at job waits.stage)) (length ts) ts
+    (omega (arith, few_turns job waits.stage, count_is job.file.params job.statement.program said.t said.is)) in
+    next_frame job claim waits.stage awaited before (rest ++ said.more) inputs sound waits.waited waits.expected (record {
+      u = said.t;
+      is = said.is;
+      more = later.0;
+      begun = sym (append_assoc (sent_by Verifier before) rest said.more)
+          ∙ ap (λ l. l ++ said.more) (sym (verifier_says before rest) ∙ ap (sent_by Verifier) (sym logged)) ∙ sym said.begun
+          ∙ ap (λ turns. answered turns) (sym (take_all (length ts) ts (omega arith))) ∙ later.1;
+    })
+
+-- ---- outcomes that are left out
+
+-- no byte is bad
+no_bad : (job : ProverJob) (claim : Claim) (log : List (Side × ℕ)) (n : ℕ) → IsSound job → IsSaid job (sent_by Verifier log)
+    → (stops : StopsBehind job claim log (λ awaited rest. IsFirstBad awaited rest n)) → ⊥
+no_bad job claim log n sound said stops =
+    let next = said_next job claim stops.expect stops.before log stops.rest [] sound said stops.logged stops.waits in
+    none_bad stops.expect next.frame stops.rest said.more next.tail n next.allowed (omega (arith, stops.few, next.long)) next.begun stops.cause
+
+-- and the verifier has not said all where a frame is wanted
+no_end : (job : ProverJob) (claim : Claim) (log : List (Side × ℕ)) → IsSound job → (said : IsSaid job (sent_by Verifier log)) → said.more ≡ []
+    → (stops : StopsBehind job claim log (λ awaited rest. length rest < frame_length awaited rest)) → ⊥
+no_end job claim log sound said all stops =
+    let next = said_next job claim stops.expect stops.before log stops.rest [] sound said stops.logged stops.waits in
+    absurd (omega (
+      arith,
+      ap length next.begun,
+      length-append stops.rest said.more,
+      ap length all,
+      length-append (frame_spelling next.frame) next.tail,
+      next.long,
+      frame_most stops.expect stops.rest,
+      stops.cause,
+    ))
+
+-- ---- all together
+
+pub completes : (job : ProverJob) (claim : Claim) (log : List (Side × ℕ)) (first now : LinkSnapshot) (result : ProverOutcome) → HonestVerdict
+    → IsSound job → IsOutcome job claim log first now result → Completes job claim log first now result
+completes job claim log first now outcome.Accepted law sound caused inputs verifier peer free calm = inl refl
+completes job claim log first now (outcome.Rejected code number) law sound (bad, reads) inputs verifier peer free calm =
+    let session = law (task_of job inputs) verifier reads.t log peer.counterparts peer.claims reads.in_order.transcript
+    (reads.honest inputs peer.wires peer.witness) reads.in_order.bytes peer.honest in
+    absurd (omega (arith, session.served.judged.said.code, reads.code_is, bad))
+completes job claim log first now (outcome.PeerEnded at) law sound (stops, count, ended, nothing) inputs verifier peer free calm =
+    let all = all_said job inputs verifier log peer.counterparts (peer.ended tt) in
+    absurd (no_end job claim log sound all.0 all.1 (record { behind = stops.behind; cause = stops.cause.1 }))
+completes job claim log first now (outcome.BadFrame at) law sound (n, stops) inputs verifier peer free calm =
+    absurd (no_bad job claim log n sound (is_said job inputs verifier (outcome.BadFrame at) log peer) (record { behind = stops.behind; cause = stops.cause.0 }))
+completes job claim log first now outcome.BadGrant law sound (given, fits, unsuited, logged) inputs verifier peer free calm =
+    let said = is_said job inputs verifier outcome.BadGrant log peer in
+    absurd (unsuited (suits_is job.file.params job.statement.program given
+    (same_bytes_grant job.file.params job.statement.program given said.t.commitment.setup.grant said.more _ sound.file.params.total fits said.is.commitment.setup.grant
+    (ap (λ l. l ++ said.more) (sym (ap (sent_by Verifier) logged ∙ granted_heard job given)) ∙ sym said.begun))))
+completes job claim log first now (outcome.PeerRefused code) law sound (fits, logged) inputs verifier peer free calm =
+    let said = is_said job inputs verifier (outcome.PeerRefused code) log peer in
+    let kinds : 10 ≡ 2 = ap (λ l. slice_index_or l 0 0)
+    (ap (λ l. l ++ said.more) (sym (ap (sent_by Verifier) logged ∙ verifier_says (greeted_log job) (refuse_frame code)
+    ∙ ap (λ l. l ++ refuse_frame code) (greeted_heard job))) ∙ sym said.begun) in
+    absurd (omega (arith, kinds))
+completes job claim log first now outcome.Link law sound (rose, where_failed) inputs verifier peer free calm = absurd (calm rose)
+completes job claim log first now outcome.NoMemory law sound caused inputs verifier peer free calm = inr refl
+completes job claim log first now other law sound refused inputs verifier peer free calm = absurd (free _ refused.2.answer)

@@ -1,11 +1,4 @@
-mod Sides
 mod Heard
-mod Waiting
-mod Related
-mod Ending
 mod Answering
-mod GrantPlace
-mod Stopping
-mod Granting
-mod Completed
+mod Ending
 mod Leading

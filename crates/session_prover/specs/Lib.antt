@@ -4,4 +4,3 @@ pub mod Notes
 pub mod Completing
 pub mod Stores
 pub mod Sessions
-pub mod Proving

@@ -13,7 +13,7 @@ ghost use Rattle.proof_frames.specs.Frames.{frame_value, IsShort};
 ghost use Rattle.session_core.specs.Cores.{ProverAnswers, ProverRefuses, StaysWithin, awaits_grant, prover_expects};
 ghost use Rattle.session_core.specs.Jobs.{Suits};
 ghost use Rattle.session_prover.specs.Outcomes.{session_outcome};
-ghost use Rattle.session_prover.specs.Proving.{AnswersClaimed, Claimed, IsProving, Stops, claims_of, outcome_told, proved, proves, proving_expects, frames_left, IsNoGrant, IsRejection, IsSound, IsToAnswer};
+ghost use Rattle.session_prover.specs.Stages.{AnswersClaimed, Claimed, IsProving, Stops, claims_of, outcome_told, proved, proves, proving_expects, frames_left, IsNoGrant, IsRejection, IsSound, IsToAnswer};
 
 use crate::claimant::Claimant;
 use crate::note::ProverOutcome;
@@ -158,7 +158,7 @@ fn answers(core: &ProverCore<'_>) -> bool
 
 impl<'a, C: Claimant> Party<C> for Proving<'a> {
     ghost use Rattle.std.specs.Prelude.{[], ◌∷◌, None};
-    ghost use Rattle.session_prover.specs.Proving.{IsProving, claims_of, frames_left, greeting_frame, proved, proves, proving_expects};
+    ghost use Rattle.session_prover.specs.Stages.{IsProving, claims_of, frames_left, greeting_frame, proved, proves, proving_expects};
 
     type Fault = ProverOutcome;
 

@@ -1,10 +1,6 @@
 pub mod StageLemmas
-pub mod StopLemmas
 pub mod ServeLemmas
 pub mod CourseLemmas
-pub mod ServedLemmas
 pub mod HonestLemmas
-pub mod RelatedLemmas
-pub mod ToldLemmas
 pub mod NoteOrder
 pub mod LogStores

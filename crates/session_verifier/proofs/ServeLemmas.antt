@@ -25,8 +25,7 @@ use Rattle.lease_store.specs.declared.LeaseFault.TheVariants as no_lease
 use Rattle.session_driver.specs.Runs.{Turn, said, whole_log, sends_of, answers_sent, sends_in, HasPassed, IsTurn, Goes, IsOver, IsRefusal, IsMissing, IsUnanswered, IsUnsent, StopsBy, TriesRefusal, IsRun}
 use Rattle.session_driver.specs.declared.drive.Outcome.{Outcome}
 use Rattle.session_driver.specs.declared.drive.Outcome.TheVariants.{Done, Refused, Cut}
-use Rattle.session_driver.proofs.Going.{whole_more, answers_more}
-use Rattle.session_driver.proofs.Ending.{goes_keeps}
+use Rattle.session_driver.proofs.Going.{whole_more, answers_more, goes_keeps}
 use Rattle.session_laws.specs.Rounds.{RepliesAreInRange}
 use Rattle.session_verifier.specs.Outcomes.{lease_code, line_outcome, hello_code, judgement_outcome, lease_outcome, session_outcome}
 use Rattle.session_verifier.specs.Serving.{Grants, Leases, AreUnits, Served, Met, Greeted, GrantsUnits, AnswersBehind, Answers, Refuses, RefusesHello, RefusesBehind, RefusesLease, LacksGrantFrame, IsToldAs, lack_code_at, served, serves}
@@ -35,8 +34,7 @@ use Rattle.session_verifier.specs.Notes.{HasTaken, BeginsByHello, TakesStatement
 use Rattle.session_verifier.specs.declared.note.VerifierOutcome.{VerifierOutcome}
 use Rattle.session_verifier.specs.declared.note.VerifierOutcome.TheVariants.{BadHello, NoMemory}
 use Rattle.session_verifier.proofs.CourseLemmas.{begins_before}
-use Rattle.session_verifier.proofs.StageLemmas.{one_answer, logs_on, grant_behind, answers_counted, one_answer_behind, grant_begins, stays_behind, judged_of}
-use Rattle.session_verifier.proofs.StopLemmas.{hello_in, ours, waiting_of, stops_without, stops_refused, stops_unsent, grant_unsent, refusal_tried, unmet_missing, unmet_refused}
+use Rattle.session_verifier.proofs.StageLemmas.{one_answer, logs_on, grant_behind, answers_counted, one_answer_behind, grant_begins, stays_behind, judged_of, hello_in, ours, waiting_of, stops_without, stops_refused, stops_unsent, grant_unsent, refusal_tried, unmet_missing, unmet_refused}
 
 -- ---- where it waits after so many turns
 
@@ -146,7 +144,7 @@ module _ {R : Type 0} (jobs : VerifierJobs) (grants : Grants R) (old : R) (law :
       let job = s.core.job in
       let leased = leased_as grants old job s.granted by.span s.core.stage s.grantor by.behind at.lease in
       let stays : IsLeased grants old job by.span t.core.stage s.grantor = record {
-        behind = stays_behind job by.span.start s.core.stage t.core.stage turn.frame turn.answer leased.behind by.answers;
+        behind = (stays_behind job by.span.start s.core.stage t.core.stage turn.frame turn.answer leased.behind by.answers).0;
         are = leased.are;
         leased = leased.leased;
       } in

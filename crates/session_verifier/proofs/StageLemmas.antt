@@ -1,18 +1,16 @@
--- From where a verifier waits to where it waits next: what is logged, of the asks and the replies of all units too, how many answers
--- were sent, and how long these are.
-use Rattle.std.proofs.Common.{◌≡◌, ◌⊎◌, inl, inr, ℕ, suc, ◌+◌, ◌*◌, ◌≤◌, Bool, false, List, [], ◌∷◌, ◌++◌, map, flat_map, length, replicate, slice_index_or, refl, ap, sym, ◌∙◌, subst, arith, append_assoc, length-append, ◌-◌, ◌<◌, Option, Some, None, append-nil}
+-- Where a verifier waits, and where it stops.
+use Rattle.std.proofs.Common.{◌≡◌, ◌⊎◌, inl, inr, ℕ, ◌+◌, ◌*◌, ◌≤◌, Bool, false, List, [], ◌∷◌, ◌++◌, map, flat_map, length, replicate, refl, ap, sym, ◌∙◌, subst, arith, append_assoc, length-append, ◌-◌, ◌<◌, Option, Some, None, append-nil, take, true}
 use Rattle.std.specs.Prelude.{All, IsSomeAnd}
-use Rattle.std.specs.List.{AllByRecursion, enumerate_from}
+use Rattle.std.specs.List.{enumerate_from}
 use Rattle.std.proofs.Math.Nat.{mul-le-mul}
-use Rattle.std.proofs.lemmas.List.{map-append, flat_map_more, length-replicate, length-map}
-use Rattle.std.proofs.lemmas.List.Elements.{All-nil, All-map, All-replicate, All-from_recursion, All-push}
+use Rattle.std.proofs.lemmas.List.{map-append, flat_map_more, length-replicate, length-map, take-map}
+use Rattle.std.proofs.lemmas.List.Elements.{All-nil, All-map, All-replicate, All-push, All-cons}
 use Rattle.std.proofs.lemmas.List.Folds.{flat_map-map}
 use Rattle.std.proofs.lemmas.Grind.{flat_map-append}
 use Rattle.zk_model.specs.Files.{AreWithinLimits, rounds_of}
-use Rattle.zk_model.specs.Transcript.{Grant, TreeAsk, TreeReply, Round, IsRound, IsTreeAsk, ForEachTree, ask_frame, reply_frame, bytes_from, turn_bytes, hello_frame, grant_frame, corrections_frame, challenge_frame, sums_frame, openings_frame, verdict_frame, sent_by}
-use Rattle.zk_model.specs.Frames.{asks, replies, frame_spelling, AreAsks, AreReplies, Frame, corrections, challenge, sums, openings, verdict, Allows, AreElements, AreSums}
+use Rattle.zk_model.specs.Transcript.{Grant, TreeAsk, TreeReply, Round, IsRound, IsTreeAsk, ForEachTree, ask_frame, reply_frame, bytes_from, turn_bytes, hello_frame, grant_frame, corrections_frame, challenge_frame, sums_frame, openings_frame, verdict_frame, Hello, IsHello, refuse_frame, sent_by}
+use Rattle.zk_model.specs.Frames.{asks, replies, frame_spelling, AreAsks, AreReplies, Frame, corrections, challenge, sums, openings, verdict, Allows, AreElements, AreSums, hello, IsWhole}
 use Rattle.zk_model.specs.ServedVerifier.{round_replies, challenge_coin}
-use Rattle.zk_model.specs.declared.Expect.TheVariants as places
 use Rattle.zk_model.specs.declared.Kind.{Kind}
 use Rattle.zk_model.specs.declared.Kind.TheVariants.{Direct, Extended}
 use Rattle.zk_model.specs.declared.Params.{Params}
@@ -20,26 +18,38 @@ use Rattle.zk_model.specs.declared.Side.{Side}
 use Rattle.zk_model.specs.declared.Side.TheVariants.{Prover, Verifier}
 use Rattle.session_laws.specs.Rounds.{RepliesAreInRange}
 use Rattle.proof_frames.specs.Frames.{IsShort}
-use Rattle.proof_frames.proofs.Lengths.{whole_length}
 use Rattle.session_core.specs.Rounds.{AreServedRounds, round_turns}
 use Rattle.session_core.specs.Jobs.{VerifierJob, units_of_job, granted_from}
-use Rattle.session_core.specs.Cores.{awaits_asks, awaits_corrections, behind_grant, VerifierStage, AnswersAsks, IsVerifierStage, awaits_hello, owes_grant, awaits_sums, awaits_openings, has_judged, has_refused, verifier_expects, VerifierAnswers}
-use Rattle.session_verifier.specs.Stages.{IsBehind, IsHeldJob, IsLogAt, IsStopped, first_turn, second_turn, answers_before}
+use Rattle.session_core.specs.Cores.{awaits_asks, awaits_corrections, behind_grant, VerifierStage, AnswersAsks, IsVerifierStage, awaits_hello, owes_grant, awaits_sums, awaits_openings, has_judged, has_refused, verifier_expects, VerifierAnswers, VerifierRefuses}
+use Rattle.session_verifier.specs.Stages.{IsBehind, IsHeldJob, IsLogAt, IsStopped, first_turn, second_turn, answers_before, IsRefusalTried, IsGrantUnsent, IsUnmet, IsWholeHello, RefusesHello, StopCause, LeavesFrame, IsUnsent, IsFault, CountsOutcome, IsWaiting}
 use Rattle.std.proofs.lemmas.Option.{same_Some}
 use Rattle.std.proofs.lemmas.List.FromFn.{length-enumerate_from}
 use Rattle.zk_model.specs.Program.{section_count}
 use Rattle.zk_model.specs.Replies.{unit_reply}
 use Rattle.zk_model.specs.View.{verdict_code, verdict_number}
 use Rattle.zk_model.specs.declared.Expect.{Expect}
-use Rattle.frame_laws.proofs.SentBytes.{sent_by-append, none_of_verifier}
-use Rattle.frame_link.specs.Lines.{LinkSnapshot, longest}
-use Rattle.frame_link.proofs.LineLemmas.{none_is_some}
+use Rattle.frame_link.specs.Lines.{LinkSnapshot, longest, LineState, IsSendRefused, IsSendCause, CountsFault, IsNoBadByte, IsCutShort, counted_times, snapshot_of}
+use Rattle.frame_link.proofs.LineLemmas.{none_is_some, frame_most, appended_more, one_send_more}
 use Rattle.session_core.specs.Judgements.{verdict_in}
 use Rattle.session_core.specs.declared.judgement.Judgement.{Judgement}
 use Rattle.session_core.specs.Extending.{asks_in}
-use Rattle.session_driver.specs.Runs.{sends_of}
+use Rattle.session_driver.specs.Runs.{sends_of, Moves, HasPassed, IsMissing, Lacks, TriesRefusal}
 use Rattle.session_verifier.specs.Serving.{frames_left}
 use Rattle.session_verifier.specs.declared.note.VerifierOutcome.{VerifierOutcome}
+use Rattle.frame_link.proofs.FramesLemmas.{reply_length}
+use Rattle.zk_port.specs.Logs.{appended, AppendsPart}
+use Rattle.zk_port.specs.Counts.{Rose, counted}
+use Rattle.proof_frames.proofs.Lengths.{whole_length}
+use Rattle.frame_link.specs.declared.fault.LineFault.{LineFault}
+use Rattle.session_core.specs.declared.fault.VerifierFault.{VerifierFault}
+use Rattle.session_verifier.specs.Outcomes.{line_outcome, session_outcome, hello_code}
+use Rattle.session_verifier.specs.declared.note.VerifierOutcome.TheVariants.{Link}
+use Rattle.zk_model.specs.declared.Expect.TheVariants as places
+use Rattle.frame_link.specs.declared.fault.LineFault.TheVariants as fault
+use Rattle.session_core.specs.declared.fault.VerifierFault.TheVariants as session
+
+-- From where a verifier waits to where it waits next: what is logged, of the asks and the replies of all units too, how many answers
+-- were sent, and how long these are.
 
 -- ---- kinds
 
@@ -91,12 +101,11 @@ served_round job start said law held within extended counted each =
     let asked = asks_for_each job.task.file.params grant said counted each in
     let round : Round = record { asks = said; replies = round_replies job.task.file grant said } in
     let is : IsRound job.task.file.params grant round = record { asks = asked; replies = law job.task.file grant said held.file within asked } in
-    let ranged : AllByRecursion (IsRound job.task.file.params grant) (round ∷ []) = (is, tt) in
-    let replied : AllByRecursion (λ (r : Round). r.replies ≡ round_replies job.task.file grant r.asks) (round ∷ []) = (refl, tt) in
     record {
       count = sym (ap rounds_of extended);
-      ranged = All-from_recursion (IsRound job.task.file.params grant) (round ∷ []) ranged;
-      replies = All-from_recursion (λ (r : Round). r.replies ≡ round_replies job.task.file grant r.asks) (round ∷ []) replied;
+      ranged = All-cons (IsRound job.task.file.params grant) round [] is (All-nil (IsRound job.task.file.params grant));
+      replies = All-cons (λ (r : Round). r.replies ≡ round_replies job.task.file grant r.asks) round [] refl
+          (All-nil (λ (r : Round). r.replies ≡ round_replies job.task.file grant r.asks));
     }
 
 -- no round is one of kind direct
@@ -138,27 +147,6 @@ some_rounds job start law held within =
 
 -- ---- how long frames are
 
-pub ask_length : (height trees : ℕ) (said : List TreeAsk) → AreAsks height trees said → length (ask_frame said) ≡ 5 + trees * (height + 8)
-ask_length height trees said are = whole_length (places.Ask height trees 0) (ask_frame said) (asks said) (record { allowed = (said, refl, are); spelled = refl })
-
-reply_length : (height trees : ℕ) (said : List TreeReply) → AreReplies height trees said → length (reply_frame said) ≡ 5 + trees * (32 * height + 8)
-reply_length height trees said are =
-    whole_length (places.Reply height trees 0) (reply_frame said) (replies said) (record { allowed = (said, refl, are); spelled = refl })
-
--- items of one length
-pub flat_length : {A : Type 0} (f : A → List ℕ) (per : ℕ) (items : List A) → All (λ item. length (f item) ≡ per) items
-    → length (flat_map f items) ≡ length items * per
-flat_length f per [] each = omega arith
-flat_length f per (item ∷ items) each =
-    let first : length (f item) ≡ per = each 0 item (omega arith) in
-    let rest = flat_length f per items (λ k d below. each (suc k) d (omega (arith, below))) in
-    length-append (f item) (flat_map f items) ∙ omega (arith, first, rest)
-
-pub asks_length : (height trees : ℕ) (said : List (List TreeAsk)) → All (AreAsks height trees) said
-    → length (flat_map ask_frame said) ≡ length said * (5 + trees * (height + 8))
-asks_length height trees said each =
-    flat_length ask_frame (5 + trees * (height + 8)) said (λ k d below. ask_length height trees (slice_index_or said k d) (each k d below))
-
 -- replies for a unit are a short frame
 short_reply : (height trees : ℕ) (said : List TreeReply) → height ≤ 16 → trees ≤ 1024 → AreReplies height trees said → IsShort (replies said)
 short_reply height trees said low few are =
@@ -197,15 +185,10 @@ allowed_at wanted expect frame same allowed = subst (λ p. Allows p frame) (sym 
 -- ---- logs as lists of turns
 
 behind_first : {X : Type 0} (a b c : List X) → ((a ++ []) ++ b) ++ c ≡ a ++ ((b ++ c) ++ [])
-behind_first a b c =
-    (λ i. (append-nil a i ++ b) ++ c) ∙ append_assoc a b c ∙ ap (λ l. a ++ l) (sym (append-nil (b ++ c)))
+behind_first a b c = simp (append_assoc, append-nil) refl
 
 behind_second : {X : Type 0} (a b s m v : List X) → ((a ++ ((b ++ []) ++ s)) ++ m) ++ v ≡ a ++ (b ++ (((s ++ m) ++ v) ++ []))
-behind_second a b s m v =
-    (λ i. ((a ++ (append-nil b i ++ s)) ++ m) ++ v)
-    ∙ ap (λ l. l ++ v) (append_assoc a (b ++ s) m)
-    ∙ append_assoc a ((b ++ s) ++ m) v
-    ∙ ap (λ l. a ++ l) (ap (λ l. l ++ v) (append_assoc b s m) ∙ append_assoc b (s ++ m) v ∙ ap (λ l. b ++ l) (sym (append-nil ((s ++ m) ++ v))))
+behind_second a b s m v = simp (append_assoc, append-nil) refl
 
 -- the log after a frame of the prover's and an answer
 abbrev pub log_behind : List (Side × ℕ) → Frame → List Frame → List (Side × ℕ)
@@ -343,18 +326,19 @@ some_sent (frame ∷ frames) some = refl
 asks_answered : (job : VerifierJob) (start : ℕ) (asked : List (List TreeAsk)) (trees : List TreeAsk) (answer : List Frame) (now : VerifierStage)
     → job.task.file.params.kind ≡ Extended → AnswersAsks job start (asked ++ trees ∷ []) answer now → answers_before job now ≡ 1 + sends_of answer
 asks_answered job start asked trees answer now extended (inl more) = ap (answers_before job) more.2 ∙ omega (arith, ap sends_of more.1)
-asks_answered job start asked trees answer now extended (inr all) =
-    let entries = enumerate_from start (asked ++ trees ∷ []) in
-    let replied = round_replies job.task.file (granted_from job start) (asked ++ trees ∷ []) in
-    let some : 1 ≤ length answer = omega (
-      arith,
-      ap length all.1,
-      length-map replied replies,
-      length-map entries (λ (entry : ℕ × List TreeAsk). unit_reply job.task.file entry.0 entry.1),
-      length-enumerate_from start (asked ++ trees ∷ []),
-      length-append asked (trees ∷ []),
-    ) in
-    omega (arith, ap (answers_before job) all.2, ap rounds_of extended, some_sent answer some)
+asks_answered job start asked trees answer now extended (inr all) = omega (
+  arith,
+  ap (answers_before job) all.2,
+  ap rounds_of extended,
+  some_sent answer (omega (
+    arith,
+    ap length all.1,
+    length-map (round_replies job.task.file (granted_from job start) (asked ++ trees ∷ [])) replies,
+    length-map (enumerate_from start (asked ++ trees ∷ [])) (λ (entry : ℕ × List TreeAsk). unit_reply job.task.file entry.0 entry.1),
+    length-enumerate_from start (asked ++ trees ∷ []),
+    length-append asked (trees ∷ []),
+  )),
+)
 
 -- an answer with frames is one answer more
 pub answers_counted : (job : VerifierJob) (stage now : VerifierStage) (log : List (Side × ℕ)) (frame : Frame) (answer : List Frame) → IsLogAt job stage log
@@ -373,22 +357,6 @@ one_answer_behind job start = elim (either_kind job.task.file.params.kind) [
   | inr extended ↦ ap (answers_before job) (behind_extended job start extended)
 ]
 
--- ---- how many frames come yet
-
-asks_fewer : (job : VerifierJob) (start : ℕ) (asked : List (List TreeAsk)) (trees : List TreeAsk) (answer : List Frame) (now : VerifierStage)
-    → AnswersAsks job start (asked ++ trees ∷ []) answer now → frames_left job now < frames_left job (awaits_asks start asked)
-asks_fewer job start asked trees answer now (inl more) = omega (arith, ap (frames_left job) more.2, more.0, length-append asked (trees ∷ []))
-asks_fewer job start asked trees answer now (inr all) = omega (arith, ap (frames_left job) all.2, all.0, length-append asked (trees ∷ []))
-
-pub one_frame_fewer : (job : VerifierJob) (start : ℕ) (stage now : VerifierStage) (frame : Frame) (answer : List Frame) → IsBehind start stage
-    → VerifierAnswers job stage frame answer now → frames_left job now < frames_left job stage
-one_frame_fewer job start awaits_hello now frame answer behind answers = absurd behind
-one_frame_fewer job start (awaits_asks begun asked) now frame answer behind answers = asks_fewer job begun asked answers.0 answer now answers.2
-one_frame_fewer job start (awaits_corrections begun) now frame answer behind answers = omega (arith, ap (frames_left job) answers.3)
-one_frame_fewer job start (awaits_sums begun d) now frame answer behind answers = omega (arith, ap (frames_left job) answers.3)
-one_frame_fewer job start (awaits_openings begun d both) now frame answer behind answers = omega (arith, ap (frames_left job) answers.5)
-one_frame_fewer job start other now frame answer behind answers = absurd answers
-
 -- ---- a session whose grant begins here
 
 pub grant_begins : (job : VerifierJob) (start : ℕ) → IsBehind start (behind_grant job start)
@@ -397,18 +365,20 @@ grant_begins job start = elim (either_kind job.task.file.params.kind) [
   | inr extended ↦ subst (IsBehind start) (sym (behind_extended job start extended)) refl
 ]
 
-asks_stay : (job : VerifierJob) (start begun : ℕ) (asked : List (List TreeAsk)) (answer : List Frame) (now : VerifierStage) → begun ≡ start
-    → AnswersAsks job begun asked answer now → IsBehind start now
-asks_stay job start begun asked answer now same (inl more) = subst (IsBehind start) (sym more.2) same
-asks_stay job start begun asked answer now same (inr all) = subst (IsBehind start) (sym all.2) same
-
+-- it stays one, and a frame fewer comes yet
 pub stays_behind : (job : VerifierJob) (start : ℕ) (stage now : VerifierStage) (frame : Frame) (answer : List Frame) → IsBehind start stage
-    → VerifierAnswers job stage frame answer now → IsBehind start now
+    → VerifierAnswers job stage frame answer now → IsBehind start now × (frames_left job now < frames_left job stage)
 stays_behind job start awaits_hello now frame answer behind answers = absurd behind
-stays_behind job start (awaits_asks begun asked) now frame answer behind answers = asks_stay job start begun (asked ++ answers.0 ∷ []) answer now behind answers.2
-stays_behind job start (awaits_corrections begun) now frame answer behind answers = subst (IsBehind start) (sym answers.3) behind
-stays_behind job start (awaits_sums begun d) now frame answer behind answers = subst (IsBehind start) (sym answers.3) behind
-stays_behind job start (awaits_openings begun d both) now frame answer behind answers = subst (IsBehind start) (sym answers.5) behind
+stays_behind job start (awaits_asks begun asked) now frame answer behind answers = elim answers.2 [
+  | inl more ↦ (subst (IsBehind start) (sym more.2) behind, omega (arith, ap (frames_left job) more.2, more.0, length-append asked (answers.0 ∷ [])))
+  | inr all ↦ (subst (IsBehind start) (sym all.2) behind, omega (arith, ap (frames_left job) all.2, all.0, length-append asked (answers.0 ∷ [])))
+]
+stays_behind job start (awaits_corrections begun) now frame answer behind answers =
+    (subst (IsBehind start) (sym answers.3) behind, omega (arith, ap (frames_left job) answers.3))
+stays_behind job start (awaits_sums begun d) now frame answer behind answers =
+    (subst (IsBehind start) (sym answers.3) behind, omega (arith, ap (frames_left job) answers.3))
+stays_behind job start (awaits_openings begun d both) now frame answer behind answers =
+    (subst (IsBehind start) (sym answers.5) behind, omega (arith, ap (frames_left job) answers.5))
 stays_behind job start other now frame answer behind answers = absurd answers
 
 -- where none is expected it has judged
@@ -424,7 +394,7 @@ judged_of job start other behind none = absurd (none_is_some (sym none))
 
 -- one frame that is short
 one_short : (frame : Frame) → IsShort frame → All IsShort (frame ∷ [])
-one_short frame short = let each : AllByRecursion IsShort (frame ∷ []) = (short, tt) in All-from_recursion IsShort (frame ∷ []) each
+one_short frame short = All-cons IsShort frame [] short (All-nil IsShort)
 
 -- an answer has short frames
 pub short_answers : (job : VerifierJob) (stage now : VerifierStage) (expect : Expect) (frame : Frame) (answer : List Frame)
@@ -432,21 +402,14 @@ pub short_answers : (job : VerifierJob) (stage now : VerifierStage) (expect : Ex
     → VerifierAnswers job stage frame answer now → All IsShort answer
 short_answers job awaits_hello now expect frame answer law held expects allowed at answers = subst (All IsShort) (sym answers.3) (All-nil IsShort)
 short_answers job owes_grant now expect frame answer law held expects allowed at answers = absurd answers
-short_answers job (awaits_asks start asked) now expect frame answer law held expects allowed at answers = either answers.2
-  where
-    trees : List TreeAsk
-    trees = answers.0
-
-    are : AreAsks job.task.file.params.height job.task.file.params.trees answers.0
-    are =
-        let given = allowed_at (places.Ask job.task.file.params.height job.task.file.params.trees (units_of_job job - length asked)) expect frame expects allowed in
-        subst (AreAsks job.task.file.params.height job.task.file.params.trees) (ap asks_in (sym given.1 ∙ answers.1)) given.2
-
-    either : AnswersAsks job start (asked ++ trees ∷ []) answer now → All IsShort answer
-    either (inl more) = subst (All IsShort) (sym more.1) (All-nil IsShort)
-    either (inr all) = subst (All IsShort) (sym all.1)
-        (short_replies job start (asked ++ trees ∷ []) law held at.0 at.1.extended all.0
-        (All-push (AreAsks job.task.file.params.height job.task.file.params.trees) asked trees at.1.each are))
+short_answers job (awaits_asks start asked) now expect frame answer law held expects allowed at answers =
+    let given = allowed_at (places.Ask job.task.file.params.height job.task.file.params.trees (units_of_job job - length asked)) expect frame expects allowed in
+    let are = subst (AreAsks job.task.file.params.height job.task.file.params.trees) (ap asks_in (sym given.1 ∙ answers.1)) given.2 in
+    elim answers.2 [
+      | inl more ↦ subst (All IsShort) (sym more.1) (All-nil IsShort)
+      | inr all ↦ subst (All IsShort) (sym all.1) (short_replies job start (asked ++ answers.0 ∷ []) law held at.0 at.1.extended all.0
+          (All-push (AreAsks job.task.file.params.height job.task.file.params.trees) asked answers.0 at.1.each are))
+    ]
 short_answers job (awaits_corrections start) now expect frame answer law held expects allowed at answers =
     subst (All IsShort) (sym answers.2) (one_short (challenge (challenge_coin job.task.file start)) (omega arith))
 short_answers job (awaits_sums start c) now expect frame answer law held expects allowed at answers =
@@ -467,17 +430,14 @@ short_there job stage now frame answer law held expected at answers = by_place (
 
 -- ---- the grant
 
--- the grant is after the hello
-behind_hello : {X : Type 0} (a : List X) → a ≡ (a ++ []) ++ []
-behind_hello a = sym (append-nil a) ∙ sym (append-nil (a ++ []))
-
 pub grant_behind : (job : VerifierJob) (start : ℕ) (log : List (Side × ℕ)) → start + units_of_job job ≤ job.task.file.params.total
     → IsLogAt job owes_grant log → IsLogAt job (behind_grant job start) (log ++ bytes_from Verifier (grant_frame (granted_from job start)))
 grant_behind job start log within at =
     let now : List (Side × ℕ) = log ++ bytes_from Verifier (grant_frame (granted_from job start)) in
+    let front : List (Side × ℕ) = bytes_from Prover (first_turn job at.greeting start).0 ++ bytes_from Verifier (first_turn job at.greeting start).1 in
     let spelled : log ++ bytes_from Verifier (grant_frame (granted_from job start)) ≡ turn_bytes (first_turn job at.greeting start ∷ []) ++ [] =
     ap (λ l. l ++ bytes_from Verifier (grant_frame (granted_from job start))) at.bytes
-    ∙ behind_hello (bytes_from Prover (first_turn job at.greeting start).0 ++ bytes_from Verifier (first_turn job at.greeting start).1) in
+    ∙ sym (append-nil front) ∙ sym (append-nil (front ++ [])) in
     elim (either_kind job.task.file.params.kind) [
       | inl direct ↦ subst (λ p. IsLogAt job p now) (sym (behind_direct job start direct))
           (record { within = within; greeting = at.greeting; rounds = []; served = served_none job start direct; spelled = spelled })
@@ -488,11 +448,6 @@ grant_behind job start log within at =
         spelled = spelled;
       })
     ]
-
--- what the verifier sends adds nothing to what the prover sent
-pub sent_answered : (log : List (Side × ℕ)) (answer : List ℕ) → sent_by Prover (log ++ bytes_from Verifier answer) ≡ sent_by Prover log
-sent_answered log answer =
-    sent_by-append Prover log (bytes_from Verifier answer) ∙ ap (λ l. sent_by Prover log ++ l) (none_of_verifier answer) ∙ append-nil (sent_by Prover log)
 
 -- ---- the place of a stop
 
@@ -505,3 +460,291 @@ pub few_of : (job : VerifierJob) (stage : VerifierStage) (outcome : VerifierOutc
     → (other : Expect) → verifier_expects job stage ≡ Some other → length stopped.rest ≤ longest other
 few_of job stage outcome first now stopped other also =
     subst (λ p. length stopped.rest ≤ longest p) (sym (one_expected stopped.expect other (verifier_expects job stage) stopped.expected also)) stopped.few
+
+-- From how a run of a verifier's end stopped to where its session stopped.
+
+-- a first moment of a line of the verifier's
+abbrev pub ours : LineState → LineState
+ours first = record first { side = Verifier }
+
+-- ---- where it waits
+
+pub waiting_of : (job : VerifierJob) (stage : VerifierStage) (log : List (Side × ℕ)) (sends : ℕ) (first now : LineState) → IsLogAt job stage log
+    → sends ≡ answers_before job stage → HasPassed log sends (ours first) now → IsWaiting job stage (snapshot_of first) (snapshot_of now)
+waiting_of job stage log sends first now at counts passed = record {
+  log = subst (IsLogAt job stage) (sym passed.logged) at;
+  sent = record {
+    told = passed.told ∙ ap (λ l. appended l first.told) (sym passed.logged);
+    sends = passed.sends ∙ ap (λ (k : ℕ). counted_times k first.sends) counts;
+  };
+  receives = subst (λ l. now.receives ≤ first.receives + length (sent_by Prover l)) (sym passed.logged) passed.receives;
+  faults = passed.faults;
+}
+
+-- ---- no frame came
+
+-- how often calls failed
+count_of : (broke : LineFault) (first now : LineState) → CountsFault broke (ours first) now
+    → CountsOutcome (line_outcome broke) (snapshot_of first) (snapshot_of now)
+count_of fault.Link first now count = record { later = count.later; unfailed = λ no. absurd no }
+count_of other first now count = record { later = count.later; unfailed = λ no. count.unfailed no }
+
+lacking_cause : (job : VerifierJob) (stage : VerifierStage) (place : Expect) (rest : List ℕ) (broke : LineFault) (first now : LineState)
+    → verifier_expects job stage ≡ Some place → (IsNoBadByte broke → IsCutShort place rest) → Lacks place rest broke (ours first) now
+    → StopCause job stage rest (snapshot_of first) (snapshot_of now) (line_outcome broke)
+lacking_cause job stage place rest (fault.PeerEnded at) first now expects cut lacks =
+    let begun = cut tt in
+    ((place, expects, (begun.goes_on, begun.short)), lacks.0, lacks.1, lacks.2)
+lacking_cause job stage place rest (fault.BadFrame at) first now expects cut lacks = (lacks.0, (place, expects, lacks.1), lacks.2)
+lacking_cause job stage place rest fault.Link first now expects cut lacks = lacks
+lacking_cause job stage place rest fault.NoMemory first now expects cut lacks = tt
+
+-- what is left of the frame where it did not come
+frame_left : (expect : Expect) (bytes : List ℕ) (broke : LineFault) → (IsNoBadByte broke → IsCutShort expect bytes)
+    → LeavesFrame expect bytes (line_outcome broke)
+frame_left expect bytes fault.Link cut = cut tt
+frame_left expect bytes fault.NoMemory cut = inl (cut tt)
+frame_left expect bytes other cut = tt
+
+pub stops_without : {S F : Type 0} (moves : Moves S F) (job : VerifierJob) (stage : VerifierStage) (log : List (Side × ℕ)) (sends : ℕ) (mid new : S) (broke : LineFault) (first now : LineState)
+    → moves.expects mid ≡ verifier_expects job stage → IsLogAt job stage log → sends ≡ answers_before job stage
+    → IsMissing moves log sends mid new broke (ours first) now → IsStopped job stage (line_outcome broke) (snapshot_of first) (snapshot_of now)
+stops_without moves job stage log sends mid new broke first now same at counts missing =
+    let expects = sym same ∙ missing.expected in
+    record {
+      before = log;
+      waited = at;
+      expect = missing.place;
+      expected = expects;
+      rest = missing.rest;
+      few = missing.few;
+      log = missing.logged;
+      cause = lacking_cause job stage missing.place missing.rest broke first now expects missing.cut missing.cause;
+      sends = inl (
+        record { told = missing.told; sends = missing.sends ∙ ap (λ (k : ℕ). counted_times k first.sends) counts },
+        frame_left missing.place missing.rest broke missing.cut,
+      );
+      receives = missing.receives;
+      count = count_of broke first now missing.count;
+    }
+
+-- ---- a frame came
+
+frame_few : (place : Expect) (frame : Frame) → Allows place frame → length (frame_spelling frame) ≤ longest place
+frame_few place frame allowed =
+    let whole : IsWhole place (frame_spelling frame) frame = record { allowed = allowed; spelled = refl } in
+    omega (arith, whole_length place (frame_spelling frame) frame whole, frame_most place (frame_spelling frame))
+
+abbrev pub hello_in : Hello → Frame → Hello
+hello_in other (hello x) = x
+hello_in other frame = other
+
+-- a hello that is taken is in range
+pub hello_ranged : (job : VerifierJob) (stage : VerifierStage) (place : Expect) (frame : Frame) (other : Hello) → verifier_expects job stage ≡ Some place
+    → Allows place frame → stage ≡ awaits_hello → frame ≡ hello other → IsHello other
+hello_ranged job stage place frame other expects allowed at is =
+    let given = allowed_at places.Hello place frame (sym (ap (verifier_expects job) at) ∙ expects) allowed in
+    subst IsHello (ap (hello_in other) (sym given.1 ∙ is)) given.2
+
+refusal_cause : (job : VerifierJob) (stage : VerifierStage) (place : Expect) (frame : Frame) (fault : VerifierFault) (first now : LineState)
+    → verifier_expects job stage ≡ Some place → Allows place frame → VerifierRefuses job stage frame fault
+    → StopCause job stage (frame_spelling frame) (snapshot_of first) (snapshot_of now) (session_outcome fault)
+refusal_cause job stage place frame (session.BadHello differs) first now expects allowed refuses =
+    (refuses.1, (refuses.0, hello_ranged job stage place frame refuses.0 expects allowed refuses.1 refuses.2, ap frame_spelling refuses.2, refuses.3))
+refusal_cause job stage place frame session.NoMemory first now expects allowed refuses = tt
+
+frame_whole : (place : Expect) (frame : Frame) (fault : VerifierFault) → Allows place frame → LeavesFrame place (frame_spelling frame) (session_outcome fault)
+frame_whole place frame (session.BadHello differs) allowed = tt
+frame_whole place frame session.NoMemory allowed = inr (frame, record { allowed = allowed; spelled = refl })
+
+receives_few : (log : List (Side × ℕ)) (sends : ℕ) (first now : LineState) → HasPassed log sends (ours first) now
+    → now.receives ≤ first.receives + length (sent_by Prover now.log) + 1
+receives_few log sends first now passed =
+    subst (λ l. now.receives ≤ first.receives + length (sent_by Prover l) + 1) (sym passed.logged) (omega (arith, passed.receives))
+
+-- ---- a send was refused
+
+send_cause : (job : VerifierJob) (stage : VerifierStage) (bytes : List ℕ) (broke : LineFault) (first mid now : LineState) → mid.faults ≡ first.faults
+    → IsSendCause mid now broke → StopCause job stage bytes (snapshot_of first) (snapshot_of now) (line_outcome broke)
+send_cause job stage bytes fault.Link first mid now faults cause = subst (λ n. Rose n now.faults) faults cause
+send_cause job stage bytes fault.NoMemory first mid now faults cause = tt
+send_cause job stage bytes other first mid now faults cause = absurd cause
+
+unsent_fault : (broke : LineFault) (old new : LineState) → IsSendCause old new broke → IsFault (line_outcome broke)
+unsent_fault fault.Link old new cause = tt
+unsent_fault fault.NoMemory old new cause = tt
+unsent_fault other old new cause = absurd cause
+
+-- how often calls failed
+unsent_count : (broke : LineFault) (first heard now : LineState) → heard.faults ≡ first.faults → CountsFault broke heard now
+    → CountsOutcome (line_outcome broke) (snapshot_of first) (snapshot_of now)
+unsent_count broke first heard now faults count =
+    count_of broke first now (record { later = omega (arith, faults, count.later); unfailed = λ no. count.unfailed no ∙ faults })
+
+link_rose : (broke : LineFault) (first old new : LineState) → old.faults ≡ first.faults → IsSendCause old new broke → line_outcome broke ≡ Link
+    → Rose first.faults new.faults
+link_rose (fault.PeerEnded at) first old new faults cause is = absurd cause
+link_rose (fault.BadFrame at) first old new faults cause is = absurd cause
+link_rose fault.Link first old new faults cause is = subst (λ n. Rose n new.faults) faults cause
+link_rose fault.NoMemory first old new faults cause is = cc
+
+-- what is told then
+unsent_of : (answers : ℕ) (bytes : List ℕ) (broke : LineFault) (log : List (Side × ℕ)) (first heard now : LineState) → HasPassed log answers (ours first) heard
+    → IsSendRefused bytes broke heard now → IsUnsent answers bytes (snapshot_of first) (snapshot_of now)
+unsent_of answers bytes broke log first heard now passed refused =
+    let part = bytes_from Verifier (take refused.told.count bytes) in
+    let of_side : take refused.told.count (bytes_from heard.side bytes) ≡ part =
+    ap (λ s. take refused.told.count (bytes_from s bytes)) passed.side ∙ take-map (λ (byte : ℕ). (Verifier, byte)) refused.told.count bytes in
+    record {
+      count = refused.told.count;
+      told = refused.told.part ∙ (λ i. appended (of_side i) (passed.told i))
+          ∙ appended_more log part first.told
+          ∙ ap (λ l. appended (l ++ part) first.told) (sym (refused.logged ∙ passed.logged));
+      sends = one_send_more answers first.sends now.sends (refused.sends ∙ ap (counted true) passed.sends);
+    }
+
+-- the core refused it
+pub stops_refused : (job : VerifierJob) (stage : VerifierStage) (place : Expect) (frame : Frame) (fault : VerifierFault) (log : List (Side × ℕ)) (sends : ℕ) (first heard : LineState)
+    → verifier_expects job stage ≡ Some place → Allows place frame → IsLogAt job stage log → sends ≡ answers_before job stage
+    → HasPassed (log ++ bytes_from Prover (frame_spelling frame)) sends (ours first) heard → VerifierRefuses job stage frame fault
+    → IsStopped job stage (session_outcome fault) (snapshot_of first) (snapshot_of heard)
+stops_refused job stage place frame fault log sends first heard expects allowed at counts passed refuses = record {
+  before = log;
+  waited = at;
+  expect = place;
+  expected = expects;
+  rest = frame_spelling frame;
+  few = frame_few place frame allowed;
+  log = passed.logged;
+  cause = refusal_cause job stage place frame fault first heard expects allowed refuses;
+  sends = inl (
+    record {
+      told = passed.told ∙ ap (λ l. appended l first.told) (sym passed.logged);
+      sends = passed.sends ∙ ap (λ (k : ℕ). counted_times k first.sends) counts;
+    },
+    frame_whole place frame fault allowed,
+  );
+  receives = receives_few (log ++ bytes_from Prover (frame_spelling frame)) sends first heard passed;
+  count = record { later = omega (arith, passed.faults); unfailed = λ _. passed.faults };
+}
+
+-- the send of its answer was refused
+pub stops_unsent : (job : VerifierJob) (stage next : VerifierStage) (place : Expect) (frame : Frame) (answer : List Frame) (broke : LineFault) (log : List (Side × ℕ)) (sends : ℕ)
+    (first heard now : LineState) → verifier_expects job stage ≡ Some place → Allows place frame → IsLogAt job stage log → sends ≡ answers_before job stage
+    → HasPassed (log ++ bytes_from Prover (frame_spelling frame)) sends (ours first) heard → VerifierAnswers job stage frame answer next
+    → 1 ≤ length answer → IsSendRefused (flat_map frame_spelling answer) broke heard now
+    → IsStopped job stage (line_outcome broke) (snapshot_of first) (snapshot_of now)
+stops_unsent job stage next place frame answer broke log sends first heard now expects allowed at counts passed answers some refused = record {
+  expected = expects;
+  before = log;
+  waited = at;
+  expect = place;
+  rest = frame_spelling frame;
+  few = frame_few place frame allowed;
+  log = refused.logged ∙ passed.logged;
+  cause = send_cause job stage (frame_spelling frame) broke first heard now passed.faults refused.cause;
+  sends = inr (
+    unsent_fault broke heard now refused.cause,
+    (
+      flat_map frame_spelling answer,
+      record {
+        frame = frame;
+        allowed = (place, expects, allowed);
+        came = refl;
+        frames = answer;
+        at_least_one = some;
+        next = next;
+        answers = answers;
+        answer_is = refl;
+      },
+      subst (λ (k : ℕ). IsUnsent k (flat_map frame_spelling answer) (snapshot_of first) (snapshot_of now)) counts
+          (unsent_of sends (flat_map frame_spelling answer) broke _ first heard now passed refused),
+    ),
+  );
+  receives = subst (λ n. n ≤ first.receives + length (sent_by Prover now.log) + 1) (sym refused.others.receives)
+      (subst (λ l. heard.receives ≤ first.receives + length (sent_by Prover l) + 1) (sym refused.logged)
+      (receives_few (log ++ bytes_from Prover (frame_spelling frame)) sends first heard passed));
+  count = unsent_count broke first heard now passed.faults refused.count;
+}
+
+-- the send of the grant was refused
+pub grant_unsent : (job : VerifierJob) (start : ℕ) (log : List (Side × ℕ)) (broke : LineFault) (first heard now : LineState) → IsLogAt job owes_grant log
+    → HasPassed log 0 (ours first) heard → IsSendRefused (grant_frame (granted_from job start)) broke heard now
+    → IsGrantUnsent job start (line_outcome broke) (snapshot_of first) (snapshot_of now)
+grant_unsent job start log broke first heard now at passed refused = record {
+  fault = unsent_fault broke heard now refused.cause;
+  log = subst (IsLogAt job owes_grant) (sym (refused.logged ∙ passed.logged)) at;
+  unsent = unsent_of 0 (grant_frame (granted_from job start)) broke log first heard now passed refused;
+  cause = link_rose broke first heard now passed.faults refused.cause;
+  receives = subst (λ n. n ≤ first.receives + length (sent_by Prover now.log)) (sym refused.others.receives)
+      (subst (λ l. heard.receives ≤ first.receives + length (sent_by Prover l)) (sym (refused.logged ∙ passed.logged)) passed.receives);
+  count = unsent_count broke first heard now passed.faults refused.count;
+}
+
+-- ---- refusals
+
+-- a refusal was tried in the grant's place
+pub refusal_tried : (code : ℕ) (old new : LineState) → old.side ≡ Verifier → TriesRefusal (Some code) old new
+    → IsRefusalTried code (snapshot_of old) (snapshot_of new)
+refusal_tried code old new side (inl sent) = record {
+  sent = inl (record {
+    log = sent.logged ∙ ap (λ s. old.log ++ bytes_from s (refuse_frame code)) side;
+    told = sent.told ∙ ap (λ s. appended (bytes_from s (refuse_frame code)) old.told) side;
+    faults = sent.unfailed;
+  });
+  sends = sent.sends;
+  ended = sent.others.ended;
+  to_come = sent.others.to_come;
+  receives = sent.others.receives;
+  later = omega (arith, sent.unfailed);
+}
+refusal_tried code old new side (inr (broke, fails)) = record {
+  sent = inr (record {
+    log = fails.logged;
+    told = subst (λ s. AppendsPart (bytes_from s (refuse_frame code)) old.told new.told) side fails.told;
+  });
+  sends = fails.sends;
+  ended = fails.others.ended;
+  to_come = fails.others.to_come;
+  receives = fails.others.receives;
+  later = fails.count.later;
+}
+
+-- it did not come
+hello_missing : (broke : LineFault) (bytes : List ℕ) (now : LinkSnapshot) → (IsNoBadByte broke → IsCutShort places.Hello bytes)
+    → RefusesHello bytes (line_outcome broke) now now
+hello_missing fault.NoMemory bytes now cut = inr (λ _. cut tt, refl)
+hello_missing other bytes now cut = inr (λ refuses. absurd (none_is_some refuses.1), refl)
+
+-- it came, and was refused
+hello_refused : (fault : VerifierFault) (bytes : List ℕ) (mid now : LinkSnapshot) → IsWholeHello bytes → IsRefusalTried (hello_code fault) mid now
+    → RefusesHello bytes (session_outcome fault) mid now
+hello_refused (session.BadHello differs) bytes mid now whole refused = inl (1, refl, whole, refused)
+hello_refused session.NoMemory bytes mid now whole refused = inl (4, refl, whole, refused)
+
+-- the hello did not come
+pub unmet_missing : {S F : Type 0} (moves : Moves S F) (job : VerifierJob) (log : List (Side × ℕ)) (sends : ℕ) (mid new : S) (broke : LineFault) (first now : LineState)
+    → moves.expects mid ≡ Some places.Hello → IsLogAt job awaits_hello log → sends ≡ 0
+    → IsMissing moves log sends mid new broke (ours first) now → IsUnmet job (line_outcome broke) (snapshot_of first) (snapshot_of now)
+unfolding stops_without
+unmet_missing moves job log sends mid new broke first now same at counts missing =
+    let place : missing.place ≡ places.Hello = one_expected places.Hello missing.place (Some places.Hello) refl (sym same ∙ missing.expected) in
+    record {
+      mid = snapshot_of now;
+      stopped = stops_without moves job awaits_hello log sends mid new broke first now same at counts missing;
+      refused = hello_missing broke missing.rest (snapshot_of now) (λ no. subst (λ p. IsCutShort p missing.rest) place (missing.cut no));
+    }
+
+-- the core refused it
+pub unmet_refused : (job : VerifierJob) (place : Expect) (frame : Frame) (fault : VerifierFault) (log : List (Side × ℕ)) (sends : ℕ) (first heard now : LineState)
+    → Some places.Hello ≡ Some place → Allows place frame → IsLogAt job awaits_hello log → sends ≡ 0
+    → HasPassed (log ++ bytes_from Prover (frame_spelling frame)) sends (ours first) heard → VerifierRefuses job awaits_hello frame fault
+    → IsRefusalTried (hello_code fault) (snapshot_of heard) (snapshot_of now) → IsUnmet job (session_outcome fault) (snapshot_of first) (snapshot_of now)
+unfolding stops_refused
+unmet_refused job place frame fault log sends first heard now expected allowed at counts passed refuses tried =
+    let given = allowed_at places.Hello place frame expected allowed in
+    record {
+      mid = snapshot_of heard;
+      stopped = stops_refused job awaits_hello place frame fault log sends first heard expected allowed at counts passed refuses;
+      refused = hello_refused fault (frame_spelling frame) (snapshot_of heard) (snapshot_of now) (given.0, given.2, ap frame_spelling given.1) tried;
+    }

@@ -1,13 +1,12 @@
 use Rattle.std.proofs.Common.{rules, length, ap, sym, subst, ◌^◌, ◌≤◌, ◌∙◌, []}
 use Rattle.zk_model.specs.declared.Side.TheVariants.{Prover}
 use Rattle.frame_link.specs.Lines.{LinkSnapshot, snapshot, snapshot_of}
-use Rattle.session_prover.specs.Stages.{Claim}
+use Rattle.session_prover.specs.Stages.{Claim, IsSound}
 use Rattle.session_prover.specs.Notes.{HasEnded}
-use Rattle.session_prover.specs.Proving.{IsSound}
 use Rattle.zk_model.specs.Files.{IsProverFile}
 use Rattle.zk_model.specs.Program.{Program}
 use Rattle.zk_model.specs.Statement.{Statement, IsStatement}
-use Rattle.session_prover.proofs.Completed.{completes}
+use Rattle.session_prover.proofs.Leading.{completes}
 use Rattle.session_prover.proofs.prove.prove_session.Given.{Over}
 use Rattle.session_prover.proofs.prove.prove_session.Goals as goal
 

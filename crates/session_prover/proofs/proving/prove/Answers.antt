@@ -5,14 +5,14 @@ use Rattle.session_core.specs.Jobs.{ProverJob}
 use Rattle.session_core.specs.Cores.{ProverState, awaits_grant}
 use Rattle.session_driver.specs.Runs.{IsRun, seen_as}
 use Rattle.session_driver.specs.declared.drive.Outcome.{Outcome}
-use Rattle.session_driver.proofs.Ending.{run_seen}
 use Rattle.session_prover.specs.declared.note.ProverOutcome.{ProverOutcome}
 use Rattle.session_prover.specs.declared.proving.Proving.{Proving}
 use Rattle.session_prover.specs.Notes.{IsEnded}
-use Rattle.session_prover.specs.Proving.{Claims, IsProving, Proved, claim_of, claims_of, greeting_frame, outcome_told, proved, proves, IsSound}
+use Rattle.session_prover.specs.Stages.{Claims, IsProving, Proved, claim_of, claims_of, greeting_frame, outcome_told, proved, proves, IsSound}
 use Rattle.session_prover.proofs.Leading.{ClaimEnds, proving_first, session_ended, claim_ended}
 use Rattle.session_prover.proofs.proving.prove.Given.{Over}
 use Rattle.session_prover.proofs.proving.prove.Goals as goal
+use Rattle.session_driver.proofs.Going.{run_seen}
 
 -- a prover's end and the one who claims units, as definitions see them
 abbrev claims : (g : Over) → Claims g.row.C.Denot

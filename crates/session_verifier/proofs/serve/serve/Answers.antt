@@ -4,13 +4,13 @@ use Rattle.session_core.specs.Cores.{VerifierState, awaits_hello}
 use Rattle.session_core.specs.Jobs.{VerifierJob, VerifierJobs, noted_job, units_of_job}
 use Rattle.session_driver.specs.Runs.{IsRun}
 use Rattle.session_driver.specs.declared.drive.Outcome.{Outcome}
-use Rattle.session_driver.proofs.Ending.{run_seen}
 use Rattle.session_verifier.specs.Serving.{Grants, Served, grants_of, served, serves}
 use Rattle.session_verifier.specs.declared.note.VerifierOutcome.{VerifierOutcome}
 use Rattle.session_verifier.specs.declared.serve.Serving.{Serving}
 use Rattle.session_verifier.proofs.ServeLemmas.{noted, taken_within, lease_total, lease_asked, lease_moved, done_judged}
 use Rattle.session_verifier.proofs.serve.serve.Given.{Over}
 use Rattle.session_verifier.proofs.serve.serve.Goals as goal
+use Rattle.session_driver.proofs.Going.{run_seen}
 
 -- a verifier's end and the one who leases units, as definitions see them
 abbrev grants : (g : Over) → Grants g.row.R.Denot

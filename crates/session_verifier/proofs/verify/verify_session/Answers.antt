@@ -7,11 +7,8 @@ use Rattle.frame_link.specs.Lines.{LineState, LinkSnapshot, snapshot, snapshot_o
 use Rattle.session_core.specs.Jobs.{VerifierJob, noted_job}
 use Rattle.session_verifier.specs.Notes.{TakesStatement}
 use Rattle.session_verifier.specs.Stages.{IsCourse}
-use Rattle.session_verifier.proofs.CourseLemmas.{IsKnown, answers_lease, granted_is, judges_rightly, receives_few, counts_faults, leases_behind, ends_because, is_shown}
-use Rattle.session_verifier.proofs.HonestLemmas.{AreLaws, completes}
-use Rattle.session_verifier.proofs.ServedLemmas.{sends_rightly, accepts_exactly}
-use Rattle.session_verifier.proofs.ToldLemmas.{is_told}
-use Rattle.session_verifier.proofs.RelatedLemmas.{keeps_keys}
+use Rattle.session_verifier.proofs.CourseLemmas.{IsKnown, answers_lease, granted_is, judges_rightly, receives_few, counts_faults, leases_behind, ends_because, is_shown, sends_rightly, accepts_exactly}
+use Rattle.session_verifier.proofs.HonestLemmas.{AreLaws, completes, is_told, keeps_keys}
 use Rattle.session_verifier.proofs.verify.verify_session.Given.{Over}
 use Rattle.session_verifier.proofs.verify.verify_session.Goals as goal
 

@@ -1,7 +1,7 @@
 use Rattle.std.proofs.Common.{map, refl}
 use Rattle.std.specs.Prelude.{All}
 use Rattle.proof_frames.specs.Frames.{frame_value, IsShort}
-use Rattle.session_prover.specs.Proving.{Claims, IsProving, claims_of, proved}
+use Rattle.session_prover.specs.Stages.{Claims, IsProving, claims_of, proved}
 use Rattle.session_prover.proofs.Leading.{if_ok_more, on_ok_more, steps_there, steps_granted}
 use Rattle.session_prover.proofs.proving.ProvingParty.step.Given.{Over}
 use Rattle.session_prover.proofs.proving.ProvingParty.step.Goals as goal
