@@ -92,26 +92,11 @@ none_passed first fresh = record {
   faults = refl;
 }
 
--- the same, where there is other room in the log
-pub passed_with_room : (log : List (Side × ℕ)) (sends room : ℕ) (first was : LineState) → HasPassed log sends first was
-    → HasPassed log sends first (record was { room = room })
-passed_with_room log sends room first was passed = record {
-  logged = passed.logged;
-  reading = passed.reading;
-  told = passed.told;
-  came = passed.came;
-  side = passed.side;
-  is_open = passed.is_open;
-  sends = passed.sends;
-  receives = passed.receives;
-  faults = passed.faults;
-}
-
--- a frame more that came
-pub passed_heard : (log : List (Side × ℕ)) (sends : ℕ) (first was heard : LineState) (place : Expect) (frame : Frame)
-    → HasPassed log sends first was → Arrives place frame was heard
+-- a frame more that came, whatever the room in the log
+pub passed_heard : (log : List (Side × ℕ)) (sends room : ℕ) (first was heard : LineState) (place : Expect) (frame : Frame)
+    → HasPassed log sends first was → Arrives place frame (record was { room = room }) heard
     → HasPassed (log ++ bytes_from (peer_of first.side) (frame_spelling frame)) sends first heard
-passed_heard log sends first was heard place frame passed arrives =
+passed_heard log sends room first was heard place frame passed arrives =
     let bytes = arrives.bytes in
     let more = came_more first.side log bytes in
     let counted = ap length more ∙ length-append (sent_by (peer_of first.side) log) bytes in
@@ -169,8 +154,7 @@ runs_begin moves greeting old first now fresh sent =
 pub runs_on : {S F : Type 0} (moves : Moves S F) (greeting : List Frame) (old mid new : S) (first was now : LineState)
     → Runs moves greeting old mid first was → TurnGoes moves mid new was now → Runs moves greeting old new first now
 runs_on moves greeting old mid new first was now runs goes =
-    let heard = passed_heard _ _ first (record was { room = goes.room }) goes.heard goes.is.place goes.turn.frame
-    (passed_with_room _ _ goes.room first was runs.passed) goes.arrives in
+    let heard = passed_heard _ _ goes.room first was goes.heard goes.is.place goes.turn.frame runs.passed goes.arrives in
     record {
       turns = runs.turns ++ goes.turn ∷ [];
       went = goes_more moves old mid new runs.turns goes.turn runs.went goes.is;
@@ -281,10 +265,10 @@ lacks log place bytes (BadFrame at) first was now received all same broken = (br
 lacks log place bytes Link first was now received all same broken = subst (λ n. Rose n now.faults) same broken
 lacks log place bytes NoMemory first was now received all same broken = tt
 
-missing : {S F : Type 0} (moves : Moves S F) (log : List (Side × ℕ)) (sends : ℕ) (mid new : S) (place : Expect) (fault : LineFault) (first was now : LineState)
-    → new ≡ mid → moves.expects mid ≡ Some place → HasPassed log sends first was → Fails place fault was now
+missing : {S F : Type 0} (moves : Moves S F) (log : List (Side × ℕ)) (sends room : ℕ) (mid new : S) (place : Expect) (fault : LineFault) (first was now : LineState)
+    → new ≡ mid → moves.expects mid ≡ Some place → HasPassed log sends first was → Fails place fault (record was { room = room }) now
     → IsMissing moves log sends mid new fault first now
-missing moves log sends mid new place fault first was now same expected passed fails =
+missing moves log sends room mid new place fault first was now same expected passed fails =
     let bytes = fails.bytes in
     let logged = fails.came.logged ∙ (λ i. passed.logged i ++ bytes_from (peer_of (passed.side i)) bytes) in
     let came = ap (sent_by (peer_of first.side)) logged ∙ came_more first.side log bytes in
@@ -305,7 +289,7 @@ missing moves log sends mid new place fault first was now same expected passed f
             ∙ ap (λ l. put_before l now.to_come) (sym came);
         sends = fails.came.sends ∙ passed.sends;
         receives = omega (arith, fails.receives, passed.receives, counted);
-        cause = lacks log place bytes fault first was now (ap (λ (r : Reading). r.received) passed.reading) counted passed.faults fails.broken;
+        cause = lacks log place bytes fault first (record was { room = room }) now (ap (λ (r : Reading). r.received) passed.reading) counted passed.faults fails.broken;
         count = record { later = omega (arith, fails.count.later, passed.faults); unfailed = λ no. fails.count.unfailed no ∙ passed.faults };
       };
     }
@@ -340,8 +324,7 @@ module _ {S F : Type 0} (moves : Moves S F) (greeting : List Frame) (old : S) (f
   run_refused : (mid new : S) (fault : F) (was now : LineState) → Runs moves greeting old mid first was → RefusesFrame moves mid new fault was now
       → IsRun moves greeting old new (Refused fault) first now
   run_refused mid new fault was now runs refuses =
-      let heard = passed_heard _ _ first (record was { room = refuses.room }) refuses.heard refuses.place refuses.frame
-      (passed_with_room _ _ refuses.room first was runs.passed) refuses.arrives in
+      let heard = passed_heard _ _ refuses.room first was refuses.heard refuses.place refuses.frame runs.passed refuses.arrives in
       let open_still = tried_open refuses.code refuses.heard now refuses.tried in
       record {
         turns = runs.turns;
@@ -365,8 +348,7 @@ module _ {S F : Type 0} (moves : Moves S F) (greeting : List Frame) (old : S) (f
   run_unsent : (mid new : S) (fault : LineFault) (was now : LineState) → Runs moves greeting old mid first was → LeavesUnsent moves mid new fault was now
       → IsRun moves greeting old new (Cut fault) first now
   run_unsent mid new fault was now runs leaves =
-      let heard = passed_heard _ _ first (record was { room = leaves.room }) leaves.heard leaves.is.place leaves.turn.frame
-      (passed_with_room _ _ leaves.room first was runs.passed) leaves.arrives in
+      let heard = passed_heard _ _ leaves.room first was leaves.heard leaves.is.place leaves.turn.frame runs.passed leaves.arrives in
       let open_still = unsent_open _ leaves.turn.answer fault leaves.heard now leaves.unsent in
       record {
         turns = runs.turns;
@@ -383,8 +365,8 @@ module _ {S F : Type 0} (moves : Moves S F) (greeting : List Frame) (old : S) (f
     turns = runs.turns;
     mid = mid;
     went = runs.went;
-    stops = inl (missing moves (whole_log first.side greeting runs.turns) (sends_in greeting runs.turns) mid new lacking.place fault first
-        (record was { room = lacking.room }) now lacking.same lacking.expected (passed_with_room _ _ lacking.room first was runs.passed) lacking.fails);
+    stops = inl (missing moves (whole_log first.side greeting runs.turns) (sends_in greeting runs.turns) lacking.room mid new lacking.place fault first
+        was now lacking.same lacking.expected runs.passed lacking.fails);
     side = lacking.fails.came.side ∙ runs.passed.side;
     is_open = lacking.fails.came.is_open ∙ runs.passed.is_open;
   }

@@ -19,7 +19,7 @@ use Rattle.zk_model.specs.declared.Side.{Side}
 use Rattle.zk_model.specs.declared.Side.TheVariants.{Prover, Verifier}
 use Rattle.session_core.specs.Jobs.{ProverJob, Suits}
 use Rattle.session_prover.specs.Stages.{AreAskedRounds, greeting, fixed_log, setup_for, Claim, Fixes, IsLogAt, all_asks, granted_log, replied_log, sums_for, openings_for, ClaimedFor, AreSomeReplies, IsLogTaken, asked_log, rounds_log, challenged_log, IsSound, IsBehindGrant}
-use Rattle.session_prover.proofs.Heard.{round_count, fixed_sent, fixed_heard, greeted_sent, replied_sent, setup_is, prover_says, prover_hears, bytes_more, verifier_hears, all_pairs, asked_none, asked_round, fixed_by, committed, has_answered}
+use Rattle.session_prover.proofs.Heard.{fixed_sent, fixed_heard, greeted_sent, replied_sent, setup_is, bytes_more, all_pairs, asked_none, asked_round, fixed_by, committed, has_answered}
 use Rattle.zk_laws.proofs.KeysFit.{keys_fit}
 use Rattle.zk_laws.proofs.Views.{rounds_are}
 use Rattle.zk_model.specs.Mac.{Pair}
@@ -30,7 +30,7 @@ use Rattle.frame_link.proofs.FramesLemmas.{some_replies, ask_length}
 use Rattle.session_driver.proofs.Rows.{row_three, row_four, nested}
 use Rattle.std.proofs.lemmas.Bool.{cases_lt}
 use Rattle.zk_model.specs.Correlations.{IsProverView}
-use Rattle.zk_model.specs.Frames.{Frame, grant, asks, replies, corrections, sums, openings, AreReplies, frame_spelling, AreAsks}
+use Rattle.zk_model.specs.Frames.{Frame, asks, corrections, sums, openings, AreReplies, frame_spelling, AreAsks}
 use Rattle.zk_model.specs.HonestProver.{IsWitness, AreHonestBytes, round_asks}
 use Rattle.zk_model.specs.View.{span_of}
 use Rattle.zk_model.specs.declared.Expect.{Expect}
@@ -48,6 +48,7 @@ use Rattle.session_core.proofs.Enough.{parts_within}
 use Rattle.proof_frames.proofs.FrameLemmas.{length-elements, length-sums}
 use Rattle.zk_model.specs.declared.Expect.TheVariants as expect
 use Rattle.session_driver.proofs.Rounds.{BeginAlike, first_of, round_of, same_rounds, only, turns_of}
+use Rattle.session_driver.proofs.Going.{came_more, came_same}
 
 -- The corrections that are sent, and the keys that fit their pairs.
 
@@ -167,7 +168,7 @@ related_greeting job log sent = inl (inl ([], sym (append-nil (sent_by Prover lo
 
 -- or a beginning of it
 pub related_part : (job : ProverJob) (done rest : List ℕ) → greeting job ≡ done ++ rest → IsRelated job (bytes_from Prover done)
-related_part job done rest is = inl (inl (rest, is ∙ ap (λ l. l ++ rest) (sym (prover_says [] done))))
+related_part job done rest is = inl (inl (rest, is ∙ ap (λ l. l ++ rest) (sym (came_more Verifier [] done))))
 
 -- where the greeting and a beginning of the asks were
 pub related_asks : (job : ProverJob) (given : Grant) (log more : List (Side × ℕ)) (part rest : List ℕ) → job.file.params.kind ≡ Extended
@@ -204,14 +205,14 @@ related_replied job given came log more extended granted is =
     related_asks job given log (bytes_from Prover (all_asks job given) ++ (bytes_from Verifier (flat_map reply_frame came) ++ bytes_from Verifier more)) (all_asks job given) []
     extended granted
     (is ∙ row_three (granted_log job given) (bytes_from Prover (all_asks job given)) (bytes_from Verifier (flat_map reply_frame came)) (bytes_from Verifier more))
-    (ap (sent_by Prover) is ∙ prover_hears (replied_log job given came) more ∙ replied_sent job given came)
+    (ap (sent_by Prover) is ∙ came_same Verifier (replied_log job given came) more ∙ replied_sent job given came)
     (sym (append-nil (all_asks job given)))
 
 -- where a prover waits, and bytes have come since
 pub related_at : (job : ProverJob) (claim : Claim) (stage : ProverStage) (before : List (Side × ℕ)) (rest : List ℕ) → IsSound job
     → IsLogAt job claim stage before → IsRelated job (before ++ bytes_from Verifier rest)
 related_at job claim awaits_grant before rest sound at =
-    related_greeting job (before ++ bytes_from Verifier rest) (prover_hears before rest ∙ ap (sent_by Prover) at.1 ∙ greeted_sent job)
+    related_greeting job (before ++ bytes_from Verifier rest) (came_same Verifier before rest ∙ ap (sent_by Prover) at.1 ∙ greeted_sent job)
 related_at job claim (awaits_replies given came) before rest sound (claimed, some, at) =
     related_replied job given came (before ++ bytes_from Verifier rest) rest some.extended some.granted (ap (λ l. l ++ bytes_from Verifier rest) at)
 related_at job claim (awaits_challenge given pairs wires) before rest sound (rounds, d, claimed, fixes, at) =
@@ -458,7 +459,7 @@ answer_is_honest job claim stage frame answer now log inputs values sound taken 
     let said : List (Side × ℕ) = bytes_from Prover bytes in
     let next : IsNext job now = next_of job claim stage frame answer now log taken answers in
     subst (λ (q : List ℕ × List ℕ). AreHonestBytes (task_of job inputs) q.0 q.1)
-    (λ i. ((ap (sent_by Verifier) (append-nil (log ++ said)) ∙ verifier_hears log bytes) i, (ap (sent_by Prover) (append-nil (log ++ said)) ∙ prover_says log bytes) i))
+    (λ i. ((ap (sent_by Verifier) (append-nil (log ++ said)) ∙ came_same Prover log bytes) i, (ap (sent_by Prover) (append-nil (log ++ said)) ∙ came_more Verifier log bytes) i))
     (has_answered job claim now next.awaited (log ++ said) [] inputs values sound (answer_leads job claim stage frame answer now log sound taken answers) next.expected
     (omega arith) next.none_yet witness)
 

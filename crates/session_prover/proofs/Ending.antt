@@ -1,5 +1,5 @@
 -- How a session ends for a prover, wherever it stops.
-use Rattle.std.proofs.Common.{◌≡◌, inl, inr, ℕ, ◌+◌, ◌≤◌, List, [], ◌++◌, length, Some, None, Err, refl, ap, sym, ◌∙◌, append-nil, arith, slice_index_or, ◌⊎◌, zero, suc, ◌∷◌, flat_map, take, drop, subst, append_assoc, ◌-◌, true, length-append, Option, Ok}
+use Rattle.std.proofs.Common.{◌≡◌, inl, inr, ℕ, ◌+◌, ◌≤◌, List, [], ◌++◌, length, Some, None, Err, refl, ap, sym, ◌∙◌, append-nil, arith, slice_index_or, ◌⊎◌, zero, suc, ◌∷◌, flat_map, take, drop, subst, append_assoc, true, length-append, Option, Ok}
 use Rattle.frame_laws.proofs.SentBytes.{sent_by-append, own_bytes}
 use Rattle.zk_model.specs.Transcript.{Grant, IsGrant, BeginsWith, bytes_from, sent_by, grant_frame, refuse_frame, challenge_frame, turn_bytes, reply_frame, corrections_frame, sums_frame, openings_frame, Round, spelling, verdict_frame}
 use Rattle.zk_model.specs.Frames.{Frame, grant, refuse, Allows, IsFirstBad, frame_spelling, corrections, verdict, FitsVerdict, FitsGrant, FitsRefusal}
@@ -16,7 +16,7 @@ use Rattle.session_prover.specs.declared.note.ProverOutcome.{ProverOutcome}
 use Rattle.session_prover.specs.Outcomes.{claim_outcome, line_outcome, session_outcome, verdict_outcome}
 use Rattle.session_prover.specs.Stages.{Claim, ClaimedFor, greeted_log, granted_log, IsLogAt, IsLogTaken, replied_log, fixed_log, answers_in, Course, GoesWell, IsLineTaken, all_asks, sums_for, openings_for, IsOpenedLog, opened_log, RefusedFor, greeting, IsSound, SendStops, IsBehindGrant, Comes, IsRejection, IsGrantTaken, IsNoGrant}
 use Rattle.session_prover.specs.Notes.{AnswersGrantPlace, IsClaimRefused, IsRelated, task_of, IsGrantRead, IsAskedRight, SendsOnceClaimed, IsAnswerDue, IsOutcome, CountsOutcome, SendsHonestly, SendsEach, AnswersVerdict, IsEnded, ComesBehind, IsLogged, ReadsVerdict}
-use Rattle.session_prover.proofs.Heard.{verifier_says, same_bytes_grant, greeted_heard, granted_heard, prover_says, verifier_hears, frame_is_some, granted_sent, turns_at, next_frame, IsUnheard, unread, Hears, read_so, prover_hears, answers_heard, bytes_more, same_stage, greeted_sent, not_heard, has_answered, from_ended, opened_sent, opened_heard, made, made_is, made_honest, finishes, all_sent, honest_bytes, one_grant}
+use Rattle.session_prover.proofs.Heard.{same_bytes_grant, greeted_heard, granted_heard, frame_is_some, granted_sent, turns_at, next_frame, IsUnheard, unread, Hears, read_so, answers_heard, bytes_more, same_stage, greeted_sent, not_heard, has_answered, from_ended, opened_sent, opened_heard, made, made_is, made_honest, finishes, all_sent, honest_bytes, one_grant}
 use Rattle.session_prover.proofs.Answering.{suits_is, related_greeting, related_asks, related_replied, related_fixed, related_at, read_is, IsUnder, IsGrantAnswer, grant_answer, spelled_asks, answer_leads, answer_exists, answer_is_honest, read_under, related_part, next_of}
 use Rattle.std.proofs.lemmas.Grind.{flat_map-append}
 use Rattle.std.proofs.lemmas.List.{take-append-drop, take-map}
@@ -38,7 +38,7 @@ use Rattle.session_laws.proofs.Turns.{answered}
 use Rattle.frame_laws.proofs.Hellos.{wanted_fits}
 use Rattle.zk_model.specs.Check.{WirePairs}
 use Rattle.std.proofs.lemmas.Bool.{cases_lt}
-use Rattle.session_driver.proofs.Going.{none_passed}
+use Rattle.session_driver.proofs.Going.{none_passed, came_more, came_same}
 use Rattle.zk_model.specs.declared.Expect.TheVariants as expect
 use Rattle.session_prover.specs.declared.note.ProverOutcome.TheVariants as outcome
 use Rattle.frame_link.specs.declared.fault.LineFault.TheVariants as fault
@@ -52,7 +52,7 @@ use Rattle.claim_store.specs.declared.ClaimFault.TheVariants as refusal
 -- ---- frames in the grant's place
 
 refused_heard : (job : ProverJob) (code : ℕ) → sent_by Verifier (greeted_log job ++ bytes_from Verifier (refuse_frame code)) ≡ refuse_frame code
-refused_heard job code = verifier_says (greeted_log job) (refuse_frame code) ∙ ap (λ l. l ++ refuse_frame code) (greeted_heard job)
+refused_heard job code = came_more Prover (greeted_log job) (refuse_frame code) ∙ ap (λ l. l ++ refuse_frame code) (greeted_heard job)
 
 -- bytes that a frame of the place begins with have none that is bad
 pub none_bad : (stage : Expect) (frame : Frame) (rest more tail : List ℕ) (n : ℕ) → Allows stage frame
@@ -91,7 +91,7 @@ module _ (job : ProverJob) (claim : Claim) (frame : Frame) (log : List (Side × 
       })
     where
       verifier_heard : (f : Frame) → sent_by Verifier (greeted_log job ++ bytes_from Verifier (frame_spelling f)) ≡ frame_spelling f
-      verifier_heard f = verifier_says (greeted_log job) (frame_spelling f) ∙ ap (λ l. l ++ frame_spelling f) (greeted_heard job)
+      verifier_heard f = came_more Prover (greeted_log job) (frame_spelling f) ∙ ap (λ l. l ++ frame_spelling f) (greeted_heard job)
 
   pub answers_frame : (result : ProverOutcome)
       → ((fault : ClaimFault) → claim.answer ≡ Some (Err fault) → (result ≡ claim_outcome fault) × IsClaimRefused job claim log fault)
@@ -182,7 +182,7 @@ related_answer job claim awaits_grant frame answer now log n sound (given, is, c
     of_answer (inr (extended, said, next)) =
         related_asks job given (log ++ bytes_from Prover part) (bytes_from Prover part) part (flat_map frame_spelling (drop n answer)) extended granted
         (ap (λ l. l ++ bytes_from Prover part) at)
-        (prover_says log part ∙ ap (λ l. l ++ part) (ap (sent_by Prover) at ∙ granted_sent job given))
+        (came_more Verifier log part ∙ ap (λ l. l ++ part) (ap (sent_by Prover) at ∙ granted_sent job given))
         (sym (spelled_asks (round_asks job.file given)) ∙ ap (flat_map frame_spelling) (sym said ∙ sym (take-append-drop n answer))
         ∙ flat_map-append frame_spelling (take n answer) (drop n answer))
 related_answer job claim (awaits_replies given came) frame answer now log n sound taken (trees, is, inl (less, said, next)) =
@@ -245,11 +245,10 @@ pub record IsDue (job : ProverJob) (claim : Claim) (log : List (Side × ℕ)) (b
   pub claimed : (more rest : List ℕ) → bytes ≡ more ++ rest → SendsOnceClaimed job claim (log ++ bytes_from Prover more)
   pub answers : (outcome : ProverOutcome) → AnswersGrantPlace job claim outcome log
 
-counts_send : (f : LineFault) (old new : LineState) → lines.IsSendCause old new f → (first : ℕ) → old.faults ≡ first → lines.CountsFault f old new
-    → CountsOutcome (line_outcome f) first new.faults
-counts_send fault.Link old new cause first same count = record { later = omega (arith, same, count.later); unfailed = λ no. absurd no }
-counts_send fault.NoMemory old new cause first same count = record { later = omega (arith, same, count.later); unfailed = λ no. count.unfailed tt ∙ same }
-counts_send other old new cause first same count = absurd cause
+-- counts of a line's fault
+counts_line : (f : LineFault) (first new : LineState) → CountsFault f first new → CountsOutcome (line_outcome f) first.faults new.faults
+counts_line fault.Link first new count = record { later = count.later; unfailed = λ no. absurd no }
+counts_line other first new count = record { later = count.later; unfailed = λ no. count.unfailed tt }
 
 -- how many frames an answer has at the least whose send fails so
 abbrev pub least_for : LineFault → ℕ
@@ -267,7 +266,7 @@ pub stops_sending_at : (job : ProverJob) (course : Course) (bytes : List ℕ) (f
 stops_sending_at job course bytes f old new well due owed stops related unheard = record {
   outcome_is = caused f stops.cause owed stops.sends;
   asked = subst (λ l. IsAskedRight job course.claim l) (append-nil old.log ∙ sym stops.logged) (due.asked []);
-  honest = sent f stops.cause;
+  honest = (at_fault f stops.cause).0;
   claimed = subst (λ l. SendsOnceClaimed job course.claim l) (append-nil old.log ∙ sym stops.logged) (due.claimed [] bytes refl);
   related = subst (IsRelated job) (sym stops.logged) related;
   answers = subst (AnswersGrantPlace job course.claim (line_outcome f)) (sym stops.logged) (due.answers (line_outcome f));
@@ -277,14 +276,15 @@ stops_sending_at job course bytes f old new well due owed stops related unheard 
     part = stops.part;
     told = stops.told ∙ (λ i. appended (bytes_from (well.side i) stops.part) (well.told i))
         ∙ appended_more old.log (bytes_from Prover stops.part) course.first.told ∙ ap (λ l. appended (l ++ bytes_from Prover stops.part) course.first.told) (sym stops.logged);
-    none = none f stops.cause;
+    none = (at_fault f stops.cause).2;
     honest = λ inputs wires witness. subst (λ l. IsFromHonestProver (task_of job inputs) (l ++ bytes_from Prover stops.part)) (sym stops.logged)
         (from_due inputs wires witness stops.part stops.begun.0 stops.begun.1);
     claimed = subst (λ l. SendsOnceClaimed job course.claim (l ++ bytes_from Prover stops.part)) (sym stops.logged) (due.claimed stops.part stops.begun.0 stops.begun.1);
   };
   came = well.came ∙ (λ i. put_before (sym heard i) (sym stops.others.to_come i));
   receives = omega (arith, stops.others.receives, well.receives, ap length heard);
-  count = counts_send f old new stops.cause course.first.faults well.faults stops.count;
+  count = counts_line f course.first new
+      (record { later = omega (arith, well.faults, stops.count.later); unfailed = λ no. stops.count.unfailed no ∙ well.faults });
 }
   where
     heard : sent_by Verifier new.log ≡ sent_by Verifier old.log
@@ -294,13 +294,19 @@ stops_sending_at job course bytes f old new well due owed stops related unheard 
         → IsFromHonestProver (task_of job inputs) (old.log ++ bytes_from Prover more)
     from_due inputs wires witness more rest is = (
       sent_by Prover old.log ++ bytes,
-      subst (λ l. AreHonestBytes (task_of job inputs) l (sent_by Prover old.log ++ bytes)) (sym (verifier_hears old.log more)) (due.honest inputs wires witness),
-      (rest, ap (λ l. sent_by Prover old.log ++ l) is ∙ sym (append_assoc (sent_by Prover old.log) more rest) ∙ ap (λ l. l ++ rest) (sym (prover_says old.log more))),
+      subst (λ l. AreHonestBytes (task_of job inputs) l (sent_by Prover old.log ++ bytes)) (sym (came_same Prover old.log more)) (due.honest inputs wires witness),
+      (rest, ap (λ l. sent_by Prover old.log ++ l) is ∙ sym (append_assoc (sent_by Prover old.log) more rest) ∙ ap (λ l. l ++ rest) (sym (came_more Verifier old.log more))),
     )
 
     from_log : (inputs wires : List ℕ) → IsWitness job.statement inputs wires job.given → IsFromHonestProver (task_of job inputs) new.log
     from_log inputs wires witness = subst (λ l. IsFromHonestProver (task_of job inputs) l) (append-nil old.log ∙ sym stops.logged)
         (from_due inputs wires witness [] bytes refl)
+
+    at_fault : (f : LineFault) → lines.IsSendCause old new f
+        → SendsHonestly job new.log (line_outcome f) × notes.IsFault (line_outcome f) × (notes.IsNoFault (line_outcome f) → stops.part ≡ [])
+    at_fault fault.Link cause = (from_log, tt, λ fine. absurd fine)
+    at_fault fault.NoMemory cause = (from_log, tt, λ fine. absurd fine)
+    at_fault other cause = absurd cause
 
     one_more : new.sends ≡ counted true old.sends → new.sends ≡ counted_times (answers_in new.log + 1) course.first.sends
     one_more one = one_send_more (answers_in old.log) course.first.sends new.sends (one ∙ ap (counted true) well.sends)
@@ -309,12 +315,7 @@ stops_sending_at job course bytes f old new well due owed stops related unheard 
     sent_each : (((f ≡ fault.NoMemory) × (stops.part ≡ []) × (new.sends ≡ old.sends)) ⊎ (new.sends ≡ counted true old.sends))
         → SendsEach (line_outcome f) new.log course.first.sends new.sends
     sent_each (inl none) = inl (none.2 ∙ well.sends ∙ ap (λ (l : List (Side × ℕ)). counted_times (answers_in l) course.first.sends) (sym stops.logged))
-    sent_each (inr one) = inr (send_fault f stops.cause, one_more one)
-      where
-        send_fault : (f : LineFault) → lines.IsSendCause old new f → notes.IsFault (line_outcome f)
-        send_fault fault.Link cause = tt
-        send_fault fault.NoMemory cause = tt
-        send_fault other cause = absurd cause
+    sent_each (inr one) = inr ((at_fault f stops.cause).1, one_more one)
 
     no_link : fault.Link ≡ fault.NoMemory → ⊥
     no_link same = subst lines.IsNoLink (sym same) tt
@@ -330,37 +331,27 @@ stops_sending_at job course bytes f old new well due owed stops related unheard 
     caused fault.NoMemory cause owed sends = inr (inl (owes 0 owed))
     caused other cause owed sends = absurd cause
 
-    sent : (f : LineFault) → lines.IsSendCause old new f → SendsHonestly job new.log (line_outcome f)
-    sent fault.Link cause = from_log
-    sent fault.NoMemory cause = from_log
-    sent other cause = absurd cause
-
-    none : (f : LineFault) → lines.IsSendCause old new f → notes.IsNoFault (line_outcome f) → stops.part ≡ []
-    none fault.Link cause fine = absurd fine
-    none fault.NoMemory cause fine = absurd fine
-    none other cause fine = absurd cause
-
 -- ---- answers over a line
 
 -- the grant that an answer stands on
+under_by : (job : ProverJob) (claim : Claim) (given : Grant) (more log : List (Side × ℕ)) → ClaimedFor claim given
+    → IsGrant job.file.params job.statement.program given → log ≡ granted_log job given ++ more → IsUnder job claim log
+under_by job claim given more log claimed granted logged =
+    record { given = given; claimed = claimed; granted = granted; more = more; logged = logged }
+
 under : (job : ProverJob) (claim : Claim) (stage : ProverStage) (frame : Frame) (log : List (Side × ℕ)) → IsLogTaken job claim stage frame log
     → IsUnder job claim log
 under job claim awaits_grant frame log (given, is, claimed, granted, at) =
-    record { given = given; claimed = claimed; granted = granted; more = []; logged = at ∙ sym (append-nil (granted_log job given)) }
-under job claim (awaits_replies given came) frame log (trees, is, are, claimed, some, at) = record {
-  given = given;
-  claimed = claimed;
-  granted = some.granted;
-  more = bytes_from Prover (all_asks job given) ++ bytes_from Verifier (flat_map reply_frame (came ++ trees ∷ []));
-  logged = at ∙ append_assoc (granted_log job given) (bytes_from Prover (all_asks job given)) (bytes_from Verifier (flat_map reply_frame (came ++ trees ∷ [])));
-}
-under job claim (awaits_challenge given pairs wires) frame log (element, rounds, d, is, ranged, claimed, fixes, at) = record {
-  given = given;
-  claimed = claimed;
-  granted = fixes.granted;
-  more = turn_bytes (round_turns rounds) ++ (bytes_from Prover (corrections_frame d) ++ bytes_from Verifier (challenge_frame element));
-  logged = at ∙ row_three (granted_log job given) (turn_bytes (round_turns rounds)) (bytes_from Prover (corrections_frame d)) (bytes_from Verifier (challenge_frame element));
-}
+    under_by job claim given [] log claimed granted (at ∙ sym (append-nil (granted_log job given)))
+under job claim (awaits_replies given came) frame log (trees, is, are, claimed, some, at) =
+    let a = bytes_from Prover (all_asks job given) in
+    let r = bytes_from Verifier (flat_map reply_frame (came ++ trees ∷ [])) in
+    under_by job claim given (a ++ r) log claimed some.granted (at ∙ append_assoc (granted_log job given) a r)
+under job claim (awaits_challenge given pairs wires) frame log (element, rounds, d, is, ranged, claimed, fixes, at) =
+    let r = turn_bytes (round_turns rounds) in
+    let c = bytes_from Prover (corrections_frame d) in
+    let b = bytes_from Verifier (challenge_frame element) in
+    under_by job claim given (r ++ (c ++ b)) log claimed fixes.granted (at ∙ row_three (granted_log job given) r c b)
 under job claim other frame log taken = absurd taken
 
 -- an answer is due
@@ -378,7 +369,7 @@ answer_due job claim stage frame answer now log sound taken answers = record {
     u = under job claim stage frame log taken
 
     read : (more : List (Side × ℕ)) → IsGrantRead job (log ++ more) u.given
-    read more = read_is job u.given (log ++ more) (u.more ++ more) u.granted 
+    read more = read_is job u.given (log ++ more) (u.more ++ more) u.granted
         (ap (λ l. l ++ more) u.logged ∙ append_assoc (granted_log job u.given) u.more more)
 
 -- where a frame is to be answered, what comes after it was not heard
@@ -394,7 +385,7 @@ taken_unheard job claim stage frame log sound taken =
       unheard = λ heard.
           let coming = next_frame job claim found.1 next.awaited (log ++ bytes_from Prover bytes) [] [] sound at next.expected
           (subst (λ l. Hears (task_of job []) l (turns_at job found.1))
-          (sym (append-nil (sent_by Verifier (log ++ bytes_from Prover bytes)) ∙ verifier_hears log bytes)) heard) in
+          (sym (append-nil (sent_by Verifier (log ++ bytes_from Prover bytes)) ∙ came_same Prover log bytes)) heard) in
           omega (arith, frame_is_some coming.frame, ap length coming.begun, length-append (frame_spelling coming.frame) coming.tail);
     }
 
@@ -446,35 +437,24 @@ refuses_nothing job course stage frame session.NoMemory line sound taken refused
 -- the grant that a log stands on where the prover waits after it
 under_at : (job : ProverJob) (claim : Claim) (stage : ProverStage) (before more : List (Side × ℕ)) → IsBehindGrant stage → IsLogAt job claim stage before
     → IsUnder job claim (before ++ more)
-under_at job claim (awaits_replies given came) before more behind (claimed, some, at) = record {
-  given = given;
-  claimed = claimed;
-  granted = some.granted;
-  more = bytes_from Prover (all_asks job given) ++ (bytes_from Verifier (flat_map reply_frame came) ++ more);
-  logged = ap (λ l. l ++ more) at
-      ∙ row_three (granted_log job given) (bytes_from Prover (all_asks job given)) (bytes_from Verifier (flat_map reply_frame came)) more;
-}
-under_at job claim (awaits_challenge given pairs wires) before more behind (rounds, d, claimed, fixes, at) = record {
-  given = given;
-  claimed = claimed;
-  granted = fixes.granted;
-  more = turn_bytes (round_turns rounds) ++ (bytes_from Prover (corrections_frame d) ++ more);
-  logged = ap (λ l. l ++ more) at
-      ∙ row_three (granted_log job given) (turn_bytes (round_turns rounds)) (bytes_from Prover (corrections_frame d)) more;
-}
+under_at job claim (awaits_replies given came) before more behind (claimed, some, at) =
+    let a = bytes_from Prover (all_asks job given) in
+    let r = bytes_from Verifier (flat_map reply_frame came) in
+    under_by job claim given (a ++ (r ++ more)) (before ++ more) claimed some.granted
+    (ap (λ l. l ++ more) at ∙ row_three (granted_log job given) a r more)
+under_at job claim (awaits_challenge given pairs wires) before more behind (rounds, d, claimed, fixes, at) =
+    let r = turn_bytes (round_turns rounds) in
+    let c = bytes_from Prover (corrections_frame d) in
+    under_by job claim given (r ++ (c ++ more)) (before ++ more) claimed fixes.granted
+    (ap (λ l. l ++ more) at ∙ row_three (granted_log job given) r c more)
 under_at job claim awaits_verdict before more behind opened =
     let r = turn_bytes (round_turns opened.rounds) in
     let c = bytes_from Prover (corrections_frame opened.d) in
     let b = bytes_from Verifier (challenge_frame opened.element) in
     let s = bytes_from Prover (sums_frame (sums_for job opened.given opened.pairs opened.wires opened.element)) in
     let o = bytes_from Prover (openings_frame (openings_for job opened.wires)) in
-    record {
-      given = opened.given;
-      claimed = opened.claimed;
-      granted = opened.fixes.granted;
-      more = r ++ (c ++ (b ++ (s ++ (o ++ more))));
-      logged = ap (λ l. l ++ more) opened.logged ∙ row_six (granted_log job opened.given) r c b s o more;
-    }
+    under_by job claim opened.given (r ++ (c ++ (b ++ (s ++ (o ++ more))))) (before ++ more) opened.claimed opened.fixes.granted
+    (ap (λ l. l ++ more) opened.logged ∙ row_six (granted_log job opened.given) r c b s o more)
 under_at job claim other before more behind at = absurd behind
 
 read_at : (job : ProverJob) (claim : Claim) (stage : ProverStage) (before more : List (Side × ℕ)) → IsLogAt job claim stage before
@@ -498,7 +478,7 @@ once_claimed job claim stage before rest at = elim (read_at job claim stage befo
   | inl none ↦ inl (
     [],
     sym (append-nil (sent_by Prover (before ++ bytes_from Verifier rest))
-        ∙ prover_hears before rest ∙ ap (sent_by Prover) none.1 ∙ greeted_sent job),
+        ∙ came_same Verifier before rest ∙ ap (sent_by Prover) none.1 ∙ greeted_sent job),
   )
   | inr u ↦ inr (u.given, read_under job claim (before ++ bytes_from Verifier rest) u, u.claimed)
 ]
@@ -517,7 +497,7 @@ pub answers_at : (job : ProverJob) (claim : Claim) (stage : ProverStage) (awaite
 answers_at job claim awaits_grant awaited before bytes outcome sound at expected unfinished =
     answers_unread job claim outcome (before ++ bytes_from Verifier bytes) at.0
     (λ frame allowed is. whole_is_finished expect.Grant frame bytes allowed
-    (ap (λ l. l ++ bytes) (sym (ap (sent_by Verifier) at.1 ∙ greeted_heard job)) ∙ sym (verifier_says before bytes) ∙ is)
+    (ap (λ l. l ++ bytes) (sym (ap (sent_by Verifier) at.1 ∙ greeted_heard job)) ∙ sym (came_more Prover before bytes) ∙ is)
     (subst (λ (e : Expect). IsUnfinished e bytes) (same_stage expect.Grant awaited expected) unfinished))
 answers_at job claim has_ended awaited before bytes outcome sound at expected unfinished = absurd at
 answers_at job claim stage awaited before bytes outcome sound at expected unfinished =
@@ -587,11 +567,6 @@ comes job claim stage frame log number first now at counts passed = record {
   well = well_of (log ++ bytes_from Verifier (frame_spelling frame)) number first now (counts ∙ sym (answers_heard log (frame_spelling frame))) passed;
 }
 
--- counts of a line's fault
-counts_line : (f : LineFault) (first new : LineState) → CountsFault f first new → CountsOutcome (line_outcome f) first.faults new.faults
-counts_line fault.Link first new count = record { later = count.later; unfailed = λ no. absurd no }
-counts_line other first new count = record { later = count.later; unfailed = λ no. count.unfailed tt }
-
 -- what was sent is for an honest prover, whatever the fault
 sent_line : (f : LineFault) (job : ProverJob) (log : List (Side × ℕ))
     → ((inputs wires : List ℕ) → IsWitness job.statement inputs wires job.given → HasEndedHonestly (task_of job inputs) log)
@@ -615,7 +590,7 @@ stops_taking moves job claim stage log number mid other f first now sound at sam
   verdict = unread job (line_outcome f) now.log (record {
     turn = turns_at job stage;
     unheard = λ heard. not_heard job claim stage missing.place log missing.rest [] sound at expected missing.few missing.unfinished
-        (subst (λ l. Hears (task_of job []) l (turns_at job stage)) (ap (sent_by Verifier) missing.logged ∙ verifier_says log missing.rest) heard);
+        (subst (λ l. Hears (task_of job []) l (turns_at job stage)) (ap (sent_by Verifier) missing.logged ∙ came_more Prover log missing.rest) heard);
   });
   sends = inl sends;
   logged = logged_whole job claim (line_outcome f) now.log first.told now.told missing.told
@@ -692,11 +667,11 @@ is_read job course frame code number line sound come fits is =
     come.logged ∙ (λ i. opened.logged i ++ bytes_from Verifier (frame_spelling (is i))) in
     let heard : sent_by Verifier line.log ≡
     ((grant_frame opened.given ++ answered (round_turns opened.rounds)) ++ challenge_frame opened.element) ++ verdict_frame code number =
-    ap (sent_by Verifier) logged ∙ verifier_says (opened_log job opened.given opened.rounds opened.pairs opened.d opened.wires opened.element)
+    ap (sent_by Verifier) logged ∙ came_more Prover (opened_log job opened.given opened.rounds opened.pairs opened.d opened.wires opened.element)
     (verdict_frame code number)
     ∙ ap (λ l. l ++ verdict_frame code number) (opened_heard job opened.given opened.rounds opened.pairs opened.d opened.wires opened.element) in
     let sent : sent_by Prover line.log ≡ all_sent job opened.given opened.rounds opened.pairs opened.d opened.wires opened.element =
-    ap (sent_by Prover) logged ∙ prover_hears (opened_log job opened.given opened.rounds opened.pairs opened.d opened.wires opened.element)
+    ap (sent_by Prover) logged ∙ came_same Verifier (opened_log job opened.given opened.rounds opened.pairs opened.d opened.wires opened.element)
     (verdict_frame code number)
     ∙ opened_sent job opened.given opened.rounds opened.pairs opened.d opened.wires opened.element in
     record {
@@ -811,10 +786,10 @@ ends_unmet job course result bytes new well unasked logged unmet honest answers 
     (honest (λ inputs wires witness. (ended inputs, sent))) (λ inputs wires witness. from_ended job inputs new.log (ended inputs))
   where
     sent : sent_by Prover new.log ≡ greeting job
-    sent = ap (sent_by Prover) logged ∙ prover_hears (greeted_log job) bytes ∙ greeted_sent job
+    sent = ap (sent_by Prover) logged ∙ came_same Verifier (greeted_log job) bytes ∙ greeted_sent job
 
     heard : sent_by Verifier new.log ≡ bytes
-    heard = ap (sent_by Verifier) logged ∙ verifier_says (greeted_log job) bytes ∙ ap (λ l. l ++ bytes) (greeted_heard job)
+    heard = ap (sent_by Verifier) logged ∙ came_more Prover (greeted_log job) bytes ∙ ap (λ l. l ++ bytes) (greeted_heard job)
 
     ended : (inputs : List ℕ) → HasEndedHonestly (task_of job inputs) new.log
     ended inputs = subst (λ (q : List ℕ × List ℕ). AreHonestBytes (task_of job inputs) q.0 q.1) (λ i. (sym heard i, sym sent i))
@@ -914,8 +889,7 @@ ends_unclaimed job course given f line sound suits taken refused =
           let other : Claim = record { asked = Some (given.start, given.count); answer = Some (Ok (span_of given)) } in
           let taken_by : IsLogTaken job other awaits_grant (grant given) line.log =
           (given, refl, record { asked = refl; answer = refl }, granted_is job given suits within, taken.log) in
-          let found = answer_exists job other awaits_grant (grant given) line.log sound taken_by in
-          (
+          let found = answer_exists job other awaits_grant (grant given) line.log sound taken_by in (
             taken_unheard job other awaits_grant (grant given) line.log sound taken_by,
             λ inputs wires witness. (
               sent_by Prover line.log ++ flat_map frame_spelling found.0,

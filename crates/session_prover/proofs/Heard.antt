@@ -1,7 +1,7 @@
 -- What a prover has sent and heard where it waits, and what an honest prover sends there.
 use Rattle.std.proofs.Common.{◌≡◌, ℕ, List, ◌++◌, ap, ◌∙◌, append-nil, ◌+◌, ◌≤◌, [], ◌∷◌, flat_map, length, refl, sym, length-append, arith, append_assoc, zero, suc, ◌*◌, ◌<◌, replicate, slice_index_or, subst, inl, ◌^◌, take, inr, drop, zip, Some}
 use Rattle.std.proofs.lemmas.List.{map-append, length-replicate, length-map, take-append-drop}
-use Rattle.frame_laws.proofs.SentBytes.{sent_by-append, own_bytes, none_of_verifier, none_of_prover, sent_by-verifier, sent_by-prover}
+use Rattle.frame_laws.proofs.SentBytes.{sent_by-append, own_bytes, none_of_prover, sent_by-verifier, sent_by-prover}
 use Rattle.zk_model.specs.Transcript.{bytes_from, sent_by, Grant, TreeReply, reply_frame, Hello, TreeAsk, Round, Setup, IsGrant, IsRound, IsTreeReply, ForEachTree, Transcript, IsTranscript, session_turns, grant_frame, corrections_frame, challenge_frame, sums_frame, openings_frame, verdict_frame, IsInOrder, IsSetup, IsCommitment, ask_frame, turn_bytes}
 use Rattle.zk_model.specs.declared.Side.{Side}
 use Rattle.zk_model.specs.declared.Side.TheVariants.{Prover, Verifier}
@@ -55,21 +55,9 @@ use Rattle.session_core.specs.Cores.{ProverStage, awaits_grant, awaits_replies, 
 use Rattle.std.proofs.lemmas.Option.{same_Some}
 use Rattle.session_driver.proofs.Rows.{row_three, row_four}
 use Rattle.zk_model.specs.declared.Expect.TheVariants as expect
+use Rattle.session_driver.proofs.Going.{came_more, came_same}
 
 -- The bytes of a log side by side.
-
--- a side's bytes after a log
-pub prover_says : (log : List (Side × ℕ)) (bytes : List ℕ) → sent_by Prover (log ++ bytes_from Prover bytes) ≡ sent_by Prover log ++ bytes
-prover_says log bytes = sent_by-append Prover log (bytes_from Prover bytes) ∙ ap (λ l. sent_by Prover log ++ l) (own_bytes Prover bytes)
-
-pub verifier_says : (log : List (Side × ℕ)) (bytes : List ℕ) → sent_by Verifier (log ++ bytes_from Verifier bytes) ≡ sent_by Verifier log ++ bytes
-verifier_says log bytes = sent_by-append Verifier log (bytes_from Verifier bytes) ∙ ap (λ l. sent_by Verifier log ++ l) (own_bytes Verifier bytes)
-
-pub prover_hears : (log : List (Side × ℕ)) (bytes : List ℕ) → sent_by Prover (log ++ bytes_from Verifier bytes) ≡ sent_by Prover log
-prover_hears log bytes = sent_by-append Prover log (bytes_from Verifier bytes) ∙ ap (λ l. sent_by Prover log ++ l) (none_of_verifier bytes) ∙ append-nil (sent_by Prover log)
-
-pub verifier_hears : (log : List (Side × ℕ)) (bytes : List ℕ) → sent_by Verifier (log ++ bytes_from Prover bytes) ≡ sent_by Verifier log
-verifier_hears log bytes = sent_by-append Verifier log (bytes_from Prover bytes) ∙ ap (λ l. sent_by Verifier log ++ l) (none_of_prover bytes) ∙ append-nil (sent_by Verifier log)
 
 -- bytes after bytes
 pub bytes_more : (side : Side) (a b : List ℕ) → bytes_from side (a ++ b) ≡ bytes_from side a ++ bytes_from side b
@@ -100,7 +88,7 @@ pub answers_heard : (log : List (Side × ℕ)) (bytes : List ℕ) → answers_in
 answers_heard log bytes = heard_behind Verifier log bytes
 
 -- what the prover says after the verifier's bytes is one answer
-said_first : (bytes : List ℕ) → 1 ≤ length bytes → answers_behind Verifier (bytes_from Prover bytes) ≡ 1
+pub said_first : (bytes : List ℕ) → 1 ≤ length bytes → answers_behind Verifier (bytes_from Prover bytes) ≡ 1
 said_first [] some = absurd (omega (arith, some))
 said_first (byte ∷ bytes) some = let rest = none_more bytes in omega (arith, rest)
 
@@ -111,40 +99,15 @@ said_behind last (byte ∷ []) said some more = let rest = said_first said more 
 said_behind last (byte ∷ other ∷ heard) said some more =
     let rest = said_behind Verifier (other ∷ heard) said (omega arith) more in let first = no_answer last in omega (arith, rest, first)
 
-more_behind : (last : Side) (log : List (Side × ℕ)) (heard said : List ℕ) → 1 ≤ length heard → 1 ≤ length said
+pub more_behind : (last : Side) (log : List (Side × ℕ)) (heard said : List ℕ) → 1 ≤ length heard → 1 ≤ length said
     → answers_behind last ((log ++ bytes_from Verifier heard) ++ bytes_from Prover said) ≡ answers_behind last log + 1
 more_behind last [] heard said some more = said_behind last heard said some more
 more_behind last (entry ∷ log) heard said some more = let rest = more_behind entry.0 log heard said some more in omega (arith, rest)
-
--- a log that ends with what the verifier said
-pub record EndsHeard (log : List (Side × ℕ)) : Type 0 where
-  pub before : List (Side × ℕ)
-  pub heard : List ℕ
-  pub some : 1 ≤ length heard
-  pub is : log ≡ before ++ bytes_from Verifier heard
-
-pub answers_more : (log : List (Side × ℕ)) (said : List ℕ) → EndsHeard log → 1 ≤ length said
-    → answers_in (log ++ bytes_from Prover said) ≡ answers_in log + 1
-answers_more log said ends some =
-    ap (λ l. answers_in (l ++ bytes_from Prover said)) ends.is
-    ∙ more_behind Verifier ends.before ends.heard said ends.some some
-    ∙ ap (λ n. n + 1) (sym (answers_heard ends.before ends.heard) ∙ ap answers_in (sym ends.is))
-
--- the first one
-pub answers_first : (said : List ℕ) → 1 ≤ length said → answers_in (bytes_from Prover said) ≡ 1
-answers_first said some = said_first said some
 
 -- every frame has a byte
 pub frame_is_some : (frame : Frame) → 1 ≤ length (frame_spelling frame)
 frame_is_some (hello said) = omega arith
 frame_is_some frame = omega arith
-
-pub frames_some : (frames : List Frame) → 1 ≤ length frames → 1 ≤ length (flat_map frame_spelling frames)
-frames_some [] some = absurd (omega (arith, some))
-frames_some (frame ∷ frames) some =
-    let first = frame_is_some frame in
-    let both = length-append (frame_spelling frame) (flat_map frame_spelling frames) in
-    omega (arith, first, both)
 
 -- ---- replies after replies
 
@@ -843,21 +806,21 @@ pub greeted_heard : (job : ProverJob) → sent_by Verifier (greeted_log job) ≡
 greeted_heard job = none_of_prover (greeting job)
 
 pub granted_sent : (job : ProverJob) (given : Grant) → sent_by Prover (granted_log job given) ≡ greeting job
-granted_sent job given = prover_hears (greeted_log job) (grant_frame given) ∙ greeted_sent job
+granted_sent job given = came_same Verifier (greeted_log job) (grant_frame given) ∙ greeted_sent job
 
 pub granted_heard : (job : ProverJob) (given : Grant) → sent_by Verifier (granted_log job given) ≡ grant_frame given
-granted_heard job given = verifier_says (greeted_log job) (grant_frame given) ∙ ap (λ l. l ++ grant_frame given) (greeted_heard job)
+granted_heard job given = came_more Prover (greeted_log job) (grant_frame given) ∙ ap (λ l. l ++ grant_frame given) (greeted_heard job)
 
 pub replied_sent : (job : ProverJob) (given : Grant) (came : List (List TreeReply)) → sent_by Prover (replied_log job given came) ≡ greeting job ++ all_asks job given
 replied_sent job given came =
-    prover_hears (asked_log job given) (flat_map reply_frame came)
-    ∙ prover_says (granted_log job given) (all_asks job given) ∙ ap (λ l. l ++ all_asks job given) (granted_sent job given)
+    came_same Verifier (asked_log job given) (flat_map reply_frame came)
+    ∙ came_more Verifier (granted_log job given) (all_asks job given) ∙ ap (λ l. l ++ all_asks job given) (granted_sent job given)
 
 pub replied_heard : (job : ProverJob) (given : Grant) (came : List (List TreeReply))
     → sent_by Verifier (replied_log job given came) ≡ grant_frame given ++ flat_map reply_frame came
 replied_heard job given came =
-    verifier_says (asked_log job given) (flat_map reply_frame came)
-    ∙ ap (λ l. l ++ flat_map reply_frame came) (verifier_hears (granted_log job given) (all_asks job given) ∙ granted_heard job given)
+    came_more Prover (asked_log job given) (flat_map reply_frame came)
+    ∙ ap (λ l. l ++ flat_map reply_frame came) (came_same Prover (granted_log job given) (all_asks job given) ∙ granted_heard job given)
 
 rounds_sent : (job : ProverJob) (given : Grant) (rounds : List Round) → sent_by Prover (rounds_log job given rounds) ≡ greeting job ++ said (round_turns rounds)
 rounds_sent job given rounds =
@@ -872,36 +835,36 @@ rounds_heard job given rounds =
 
 pub fixed_sent : (job : ProverJob) (given : Grant) (rounds : List Round) (d : List ℕ)
     → sent_by Prover (fixed_log job given rounds d) ≡ (greeting job ++ said (round_turns rounds)) ++ corrections_frame d
-fixed_sent job given rounds d = prover_says (rounds_log job given rounds) (corrections_frame d) ∙ ap (λ l. l ++ corrections_frame d) (rounds_sent job given rounds)
+fixed_sent job given rounds d = came_more Verifier (rounds_log job given rounds) (corrections_frame d) ∙ ap (λ l. l ++ corrections_frame d) (rounds_sent job given rounds)
 
 pub fixed_heard : (job : ProverJob) (given : Grant) (rounds : List Round) (d : List ℕ)
     → sent_by Verifier (fixed_log job given rounds d) ≡ grant_frame given ++ answered (round_turns rounds)
-fixed_heard job given rounds d = verifier_hears (rounds_log job given rounds) (corrections_frame d) ∙ rounds_heard job given rounds
+fixed_heard job given rounds d = came_same Prover (rounds_log job given rounds) (corrections_frame d) ∙ rounds_heard job given rounds
 
 challenged_sent : (job : ProverJob) (given : Grant) (rounds : List Round) (d : List ℕ) (element : ℕ)
     → sent_by Prover (challenged_log job given rounds d element) ≡ (greeting job ++ said (round_turns rounds)) ++ corrections_frame d
-challenged_sent job given rounds d element = prover_hears (fixed_log job given rounds d) (challenge_frame element) ∙ fixed_sent job given rounds d
+challenged_sent job given rounds d element = came_same Verifier (fixed_log job given rounds d) (challenge_frame element) ∙ fixed_sent job given rounds d
 
 challenged_heard : (job : ProverJob) (given : Grant) (rounds : List Round) (d : List ℕ) (element : ℕ)
     → sent_by Verifier (challenged_log job given rounds d element) ≡ (grant_frame given ++ answered (round_turns rounds)) ++ challenge_frame element
 challenged_heard job given rounds d element =
-    verifier_says (fixed_log job given rounds d) (challenge_frame element) ∙ ap (λ l. l ++ challenge_frame element) (fixed_heard job given rounds d)
+    came_more Prover (fixed_log job given rounds d) (challenge_frame element) ∙ ap (λ l. l ++ challenge_frame element) (fixed_heard job given rounds d)
 
 pub opened_sent : (job : ProverJob) (given : Grant) (rounds : List Round) (pairs : List Pair) (d : List ℕ) (wires : WirePairs) (element : ℕ)
     → sent_by Prover (opened_log job given rounds pairs d wires element) ≡ all_sent job given rounds pairs d wires element
 opened_sent job given rounds pairs d wires element =
     let u : List ℕ = sums_frame (sums_for job given pairs wires element) in
     let o : List ℕ = openings_frame (openings_for job wires) in
-    prover_says (challenged_log job given rounds d element ++ bytes_from Prover u) o
-    ∙ ap (λ l. l ++ o) (prover_says (challenged_log job given rounds d element) u ∙ ap (λ l. l ++ u) (challenged_sent job given rounds d element))
+    came_more Verifier (challenged_log job given rounds d element ++ bytes_from Prover u) o
+    ∙ ap (λ l. l ++ o) (came_more Verifier (challenged_log job given rounds d element) u ∙ ap (λ l. l ++ u) (challenged_sent job given rounds d element))
 
 pub opened_heard : (job : ProverJob) (given : Grant) (rounds : List Round) (pairs : List Pair) (d : List ℕ) (wires : WirePairs) (element : ℕ)
     → sent_by Verifier (opened_log job given rounds pairs d wires element) ≡ (grant_frame given ++ answered (round_turns rounds)) ++ challenge_frame element
 opened_heard job given rounds pairs d wires element =
     let u : List ℕ = sums_frame (sums_for job given pairs wires element) in
     let o : List ℕ = openings_frame (openings_for job wires) in
-    verifier_hears (challenged_log job given rounds d element ++ bytes_from Prover u) o
-    ∙ verifier_hears (challenged_log job given rounds d element) u ∙ challenged_heard job given rounds d element
+    came_same Prover (challenged_log job given rounds d element ++ bytes_from Prover u) o
+    ∙ came_same Prover (challenged_log job given rounds d element) u ∙ challenged_heard job given rounds d element
 
 -- ---- what comes next, and what was sent
 
@@ -984,7 +947,7 @@ pub has_answered : (job : ProverJob) (claim : Claim) (stage : ProverStage) (awai
     → length rest ≤ longest awaited → IsUnfinished awaited rest → IsWitness job.statement inputs values job.given
     → HasEndedHonestly (task_of job inputs) (before ++ bytes_from Verifier rest)
 has_answered job claim stage awaited before rest inputs values sound at is few unfinished witness =
-    subst (λ (q : List ℕ × List ℕ). AreHonestBytes (task_of job inputs) q.0 q.1) (λ i. (sym (verifier_says before rest) i, sym (prover_hears before rest) i))
+    subst (λ (q : List ℕ × List ℕ). AreHonestBytes (task_of job inputs) q.0 q.1) (λ i. (sym (came_more Prover before rest) i, sym (came_same Verifier before rest) i))
     (honest_bytes (task_of job inputs) (sent_by Verifier before ++ rest) (sent_by Prover before) (turns_at job stage)
     (sent_after job claim stage before rest inputs values sound at witness)
     (not_heard job claim stage awaited before rest inputs sound at is few unfinished))

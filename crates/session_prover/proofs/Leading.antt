@@ -18,14 +18,14 @@ use Rattle.session_core.specs.Cores.{ProverStage, ProverState, ProverAnswers, aw
 use Rattle.session_driver.specs.Runs.{Turn, said, whole_log, sends_of, sends_in, HasPassed, IsTurn, Goes, IsMissing, IsUnsent, TriesRefusal, StopsBy, IsRun}
 use Rattle.session_driver.specs.declared.drive.Outcome.{Outcome}
 use Rattle.session_driver.specs.declared.drive.Outcome.TheVariants.{Done, Refused, Cut}
-use Rattle.session_driver.proofs.Going.{whole_more, sends_more, goes_keeps}
+use Rattle.session_driver.proofs.Going.{whole_more, sends_more, goes_keeps, came_more}
 use Rattle.session_prover.specs.declared.note.ProverOutcome.{ProverOutcome}
 use Rattle.session_prover.specs.declared.note.ProverOutcome.TheVariants.{Accepted}
 use Rattle.session_prover.specs.Outcomes.{line_outcome}
 use Rattle.session_prover.specs.Stages.{Claim, ClaimedFor, Course, IsLogAt, IsLogTaken, IsLineTaken, answers_in, greeted_log, Claims, Claimed, IsProving, Proved, AnswersClaimed, AnswersBehind, ReadsAcceptance, Stops, claim_of, greeting_frame, outcome_told, proved, proves, proving_expects, IsSound, IsToAnswer, Comes, SendStops}
 use Rattle.session_prover.specs.Notes.{IsEnded, granted_of, StopsBehind, IsOutcome, task_of, WaitsFor}
 use Rattle.std.proofs.lemmas.Option.{same_Some}
-use Rattle.session_prover.proofs.Heard.{same_stage, answers_heard, answers_more, answers_first, frame_is_some, frames_some, replied_on, verifier_says, IsNextFrame, same_bytes_grant, turns_at, next_frame, greeted_heard, granted_heard}
+use Rattle.session_prover.proofs.Heard.{same_stage, answers_heard, more_behind, said_first, frame_is_some, replied_on, IsNextFrame, same_bytes_grant, turns_at, next_frame, greeted_heard, granted_heard}
 use Rattle.session_prover.proofs.Answering.{answer_leads, answer_short, suits_is}
 use Rattle.session_prover.proofs.Ending.{mine, well_of, comes, stops_taking, ends_accepted, ends_rejected, granted_is, grant_taken, ends_ungranted, ends_unclaimed, stops_greeting, stops_sending, some_for, stops_answering, refuses_nothing, none_bad}
 use Rattle.std.proofs.lemmas.List.{take_all}
@@ -196,10 +196,8 @@ counts_on log turn = by_answer turn.answer
 
     by_answer : (answer : List Frame) → answers_in (front ++ said Prover answer) ≡ answers_in log + sends_of answer
     by_answer [] = ap answers_in (append-nil front) ∙ answers_heard log (frame_spelling turn.frame) ∙ omega arith
-    by_answer (frame ∷ frames) =
-        answers_more front (flat_map frame_spelling (frame ∷ frames))
-        (record { before = log; heard = frame_spelling turn.frame; some = frame_is_some turn.frame; is = refl }) (frames_some (frame ∷ frames) (omega arith))
-        ∙ ap (λ n. n + 1) (answers_heard log (frame_spelling turn.frame))
+    by_answer (frame ∷ frames) = more_behind Verifier log (frame_spelling turn.frame) (flat_map frame_spelling (frame ∷ frames)) (frame_is_some turn.frame)
+        (omega (arith, frame_is_some frame, length-append (frame_spelling frame) (flat_map frame_spelling frames)))
 
 -- the claimant is asked where a grant is awaited, for the first time
 unclaimed : {C : Type 0} (claims : Claims C) (old now : C) (granted : Option Span) → claims.answer now ≡ None → IsClaimAt claims old granted now
@@ -304,7 +302,7 @@ module _ {C : Type 0} (claims : Claims C) (old : C) (job : ProverJob) (sound : I
       (record {
         job_is = refl;
         log = (once, greeted);
-        counts = ap answers_in greeted ∙ answers_first (frame_spelling (greeting_frame job)) (frame_is_some (greeting_frame job)) ∙ omega arith;
+        counts = ap answers_in greeted ∙ said_first (frame_spelling (greeting_frame job)) (frame_is_some (greeting_frame job)) ∙ omega arith;
         claim = inl (refl, refl);
       }) went
     where
@@ -608,7 +606,7 @@ said_next job claim awaited before log rest inputs sound said logged waits =
       is = said.is;
       more = later.0;
       begun = sym (append_assoc (sent_by Verifier before) rest said.more)
-          ∙ ap (λ l. l ++ said.more) (sym (verifier_says before rest) ∙ ap (sent_by Verifier) (sym logged)) ∙ sym said.begun
+          ∙ ap (λ l. l ++ said.more) (sym (came_more Prover before rest) ∙ ap (sent_by Verifier) (sym logged)) ∙ sym said.begun
           ∙ ap (λ turns. answered turns) (sym (take_all (length ts) ts (omega arith))) ∙ later.1;
     })
 
@@ -659,7 +657,7 @@ completes job claim log first now outcome.BadGrant law sound (given, fits, unsui
 completes job claim log first now (outcome.PeerRefused code) law sound (fits, logged) inputs verifier peer free calm =
     let said = is_said job inputs verifier (outcome.PeerRefused code) log peer in
     let kinds : 10 ≡ 2 = ap (λ l. slice_index_or l 0 0)
-    (ap (λ l. l ++ said.more) (sym (ap (sent_by Verifier) logged ∙ verifier_says (greeted_log job) (refuse_frame code)
+    (ap (λ l. l ++ said.more) (sym (ap (sent_by Verifier) logged ∙ came_more Prover (greeted_log job) (refuse_frame code)
     ∙ ap (λ l. l ++ refuse_frame code) (greeted_heard job))) ∙ sym said.begun) in
     absurd (omega (arith, kinds))
 completes job claim log first now outcome.Link law sound (rose, where_failed) inputs verifier peer free calm = absurd (calm rose)
