@@ -20,6 +20,7 @@ use Rattle.frame_link.specs.declared.fault.LineFault.TheVariants.{NoMemory, Peer
 use Rattle.session_driver.specs.declared.drive.Outcome.TheVariants.{Cut, Done, Refused}
 use Rattle.session_driver.specs.declared.drive.Outcome.{Outcome}
 use Rattle.zk_model.specs.declared.Expect.TheVariants as places
+use Rattle.std.proofs.lemmas.List.{map-append, flat_map_more}
 
 -- A session goes on by one turn.
 
@@ -41,6 +42,16 @@ pub came_same : (side : Side) (log : List (Side × ℕ)) (bytes : List ℕ)
 came_same side log bytes =
     sent_by-append (peer_of side) log (bytes_from side bytes)
     ∙ ap (λ l. sent_by (peer_of side) log ++ l) (none_of_own side bytes) ∙ append-nil (sent_by (peer_of side) log)
+
+-- bytes after bytes, and those of one item more
+pub bytes_more : (side : Side) (a b : List ℕ) → bytes_from side (a ++ b) ≡ bytes_from side a ++ bytes_from side b
+bytes_more side a b = map-append (λ (byte : ℕ). (side, byte)) a b
+
+pub one_more : {A : Type 0} (side : Side) (spell : A → List ℕ) (front : List (Side × ℕ)) (items : List A) (item : A)
+    → (front ++ bytes_from side (flat_map spell items)) ++ bytes_from side (spell item) ≡ front ++ bytes_from side (flat_map spell (items ++ item ∷ []))
+one_more side spell front items item =
+    append_assoc front (bytes_from side (flat_map spell items)) (bytes_from side (spell item))
+    ∙ ap (λ l. front ++ l) (sym (bytes_more side (flat_map spell items) (spell item)) ∙ ap (bytes_from side) (flat_map_more spell [] items item))
 
 -- one turn more
 pub whole_more : (side : Side) (greeting : List Frame) (turns : List Turn) (turn : Turn)

@@ -19,7 +19,7 @@ use Rattle.zk_model.specs.declared.Side.{Side}
 use Rattle.zk_model.specs.declared.Side.TheVariants.{Prover, Verifier}
 use Rattle.session_core.specs.Jobs.{ProverJob, Suits}
 use Rattle.session_prover.specs.Stages.{AreAskedRounds, greeting, fixed_log, setup_for, Claim, Fixes, IsLogAt, all_asks, granted_log, replied_log, sums_for, openings_for, ClaimedFor, AreSomeReplies, IsLogTaken, asked_log, rounds_log, challenged_log, IsSound, IsBehindGrant}
-use Rattle.session_prover.proofs.Heard.{fixed_sent, fixed_heard, greeted_sent, replied_sent, setup_is, bytes_more, all_pairs, asked_none, asked_round, fixed_by, committed, has_answered}
+use Rattle.session_prover.proofs.Heard.{fixed_sent, fixed_heard, greeted_sent, replied_sent, setup_is, all_pairs, asked_none, asked_round, fixed_by, committed, has_answered}
 use Rattle.zk_laws.proofs.KeysFit.{keys_fit}
 use Rattle.zk_laws.proofs.Views.{rounds_are}
 use Rattle.zk_model.specs.Mac.{Pair}
@@ -48,7 +48,7 @@ use Rattle.session_core.proofs.Enough.{parts_within}
 use Rattle.proof_frames.proofs.FrameLemmas.{length-elements, length-sums}
 use Rattle.zk_model.specs.declared.Expect.TheVariants as expect
 use Rattle.session_driver.proofs.Rounds.{BeginAlike, first_of, round_of, same_rounds, only, turns_of}
-use Rattle.session_driver.proofs.Going.{came_more, came_same}
+use Rattle.session_driver.proofs.Going.{came_more, came_same, bytes_more}
 
 -- The corrections that are sent, and the keys that fit their pairs.
 

@@ -16,7 +16,7 @@ use Rattle.session_prover.specs.declared.note.ProverOutcome.{ProverOutcome}
 use Rattle.session_prover.specs.Outcomes.{claim_outcome, line_outcome, session_outcome, verdict_outcome}
 use Rattle.session_prover.specs.Stages.{Claim, ClaimedFor, greeted_log, granted_log, IsLogAt, IsLogTaken, replied_log, fixed_log, answers_in, Course, GoesWell, IsLineTaken, all_asks, sums_for, openings_for, IsOpenedLog, opened_log, RefusedFor, greeting, IsSound, SendStops, IsBehindGrant, Comes, IsRejection, IsGrantTaken, IsNoGrant}
 use Rattle.session_prover.specs.Notes.{AnswersGrantPlace, IsClaimRefused, IsRelated, task_of, IsGrantRead, IsAskedRight, SendsOnceClaimed, IsAnswerDue, IsOutcome, CountsOutcome, SendsHonestly, SendsEach, AnswersVerdict, IsEnded, ComesBehind, IsLogged, ReadsVerdict}
-use Rattle.session_prover.proofs.Heard.{same_bytes_grant, greeted_heard, granted_heard, frame_is_some, granted_sent, turns_at, next_frame, IsUnheard, unread, Hears, read_so, answers_heard, bytes_more, same_stage, greeted_sent, not_heard, has_answered, from_ended, opened_sent, opened_heard, made, made_is, made_honest, finishes, all_sent, honest_bytes, one_grant}
+use Rattle.session_prover.proofs.Heard.{same_bytes_grant, greeted_heard, granted_heard, frame_is_some, granted_sent, turns_at, next_frame, IsUnheard, unread, Hears, read_so, answers_heard, same_stage, greeted_sent, not_heard, has_answered, from_ended, opened_sent, opened_heard, made, made_is, made_honest, finishes, all_sent, honest_bytes, one_grant}
 use Rattle.session_prover.proofs.Answering.{suits_is, related_greeting, related_asks, related_replied, related_fixed, related_at, read_is, IsUnder, IsGrantAnswer, grant_answer, spelled_asks, answer_leads, answer_exists, answer_is_honest, read_under, related_part, next_of}
 use Rattle.std.proofs.lemmas.Grind.{flat_map-append}
 use Rattle.std.proofs.lemmas.List.{take-append-drop, take-map}
@@ -38,7 +38,7 @@ use Rattle.session_laws.proofs.Turns.{answered}
 use Rattle.frame_laws.proofs.Hellos.{wanted_fits}
 use Rattle.zk_model.specs.Check.{WirePairs}
 use Rattle.std.proofs.lemmas.Bool.{cases_lt}
-use Rattle.session_driver.proofs.Going.{none_passed, came_more, came_same}
+use Rattle.session_driver.proofs.Going.{none_passed, came_more, came_same, bytes_more}
 use Rattle.zk_model.specs.declared.Expect.TheVariants as expect
 use Rattle.session_prover.specs.declared.note.ProverOutcome.TheVariants as outcome
 use Rattle.frame_link.specs.declared.fault.LineFault.TheVariants as fault

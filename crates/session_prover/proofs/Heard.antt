@@ -1,6 +1,6 @@
 -- What a prover has sent and heard where it waits, and what an honest prover sends there.
 use Rattle.std.proofs.Common.{◌≡◌, ℕ, List, ◌++◌, ap, ◌∙◌, append-nil, ◌+◌, ◌≤◌, [], ◌∷◌, flat_map, length, refl, sym, length-append, arith, append_assoc, zero, suc, ◌*◌, ◌<◌, replicate, slice_index_or, subst, inl, ◌^◌, take, inr, drop, zip, Some}
-use Rattle.std.proofs.lemmas.List.{map-append, length-replicate, length-map, take-append-drop}
+use Rattle.std.proofs.lemmas.List.{length-replicate, length-map, take-append-drop}
 use Rattle.frame_laws.proofs.SentBytes.{sent_by-append, own_bytes, none_of_prover, sent_by-verifier, sent_by-prover}
 use Rattle.zk_model.specs.Transcript.{bytes_from, sent_by, Grant, TreeReply, reply_frame, Hello, TreeAsk, Round, Setup, IsGrant, IsRound, IsTreeReply, ForEachTree, Transcript, IsTranscript, session_turns, grant_frame, corrections_frame, challenge_frame, sums_frame, openings_frame, verdict_frame, IsInOrder, IsSetup, IsCommitment, ask_frame, turn_bytes}
 use Rattle.zk_model.specs.declared.Side.{Side}
@@ -59,10 +59,6 @@ use Rattle.session_driver.proofs.Going.{came_more, came_same}
 
 -- The bytes of a log side by side.
 
--- bytes after bytes
-pub bytes_more : (side : Side) (a b : List ℕ) → bytes_from side (a ++ b) ≡ bytes_from side a ++ bytes_from side b
-bytes_more side a b = map-append (λ (byte : ℕ). (side, byte)) a b
-
 -- ---- how many answers of the prover's a log has
 
 no_answer : (last : Side) → new_answer last Verifier ≡ 0
@@ -108,18 +104,6 @@ more_behind last (entry ∷ log) heard said some more = let rest = more_behind e
 pub frame_is_some : (frame : Frame) → 1 ≤ length (frame_spelling frame)
 frame_is_some (hello said) = omega arith
 frame_is_some frame = omega arith
-
--- ---- replies after replies
-
--- the replies of one more unit are logged
-pub replied_on : (job : ProverJob) (given : Grant) (came : List (List TreeReply)) (trees : List TreeReply)
-    → replied_log job given came ++ bytes_from Verifier (reply_frame trees) ≡ replied_log job given (came ++ trees ∷ [])
-replied_on job given came trees =
-    append_assoc (asked_log job given) (bytes_from Verifier (flat_map reply_frame came)) (bytes_from Verifier (reply_frame trees))
-    ∙ ap (λ l. asked_log job given ++ l)
-    (sym (bytes_more Verifier (flat_map reply_frame came) (reply_frame trees))
-    ∙ ap (λ l. bytes_from Verifier (flat_map reply_frame came ++ l)) (sym (append-nil (reply_frame trees)))
-    ∙ ap (bytes_from Verifier) (sym (flat_map-append reply_frame came (trees ∷ []))))
 
 -- What stands next in what a verifier says, where a prover waits; and what an honest prover sends when it is not there.
 

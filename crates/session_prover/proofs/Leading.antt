@@ -1,7 +1,7 @@
 -- From a run of a prover's end to how its session ended.
 use Rattle.std.proofs.Common.{◌≡◌, ◌⊎◌, inl, inr, ℕ, ◌+◌, ◌≤◌, List, [], ◌∷◌, ◌++◌, flat_map, length, Bool, true, false, Option, None, Some, Result, Ok, Err, MatchOption, refl, ap, sym, ◌∙◌, subst, append-nil, arith, OnOk, slice_index_or, suc, ◌<◌, append_assoc, length-append}
 use Rattle.std.specs.Prelude.{All, IfOk, IsSomeAnd}
-use Rattle.zk_model.specs.Transcript.{Grant, bytes_from, Transcript, IsTranscript, sent_by, session_turns, refuse_frame}
+use Rattle.zk_model.specs.Transcript.{Grant, bytes_from, Transcript, IsTranscript, sent_by, session_turns, refuse_frame, reply_frame}
 use Rattle.zk_model.specs.View.{span_of}
 use Rattle.zk_model.specs.Frames.{Frame, grant, verdict, Allows, frame_spelling, IsFirstBad, frame_length}
 use Rattle.zk_model.specs.declared.Expect.{Expect}
@@ -18,14 +18,14 @@ use Rattle.session_core.specs.Cores.{ProverStage, ProverState, ProverAnswers, aw
 use Rattle.session_driver.specs.Runs.{Turn, said, whole_log, sends_of, sends_in, HasPassed, IsTurn, Goes, IsMissing, IsUnsent, TriesRefusal, StopsBy, IsRun}
 use Rattle.session_driver.specs.declared.drive.Outcome.{Outcome}
 use Rattle.session_driver.specs.declared.drive.Outcome.TheVariants.{Done, Refused, Cut}
-use Rattle.session_driver.proofs.Going.{whole_more, sends_more, goes_keeps, came_more}
+use Rattle.session_driver.proofs.Going.{whole_more, sends_more, goes_keeps, came_more, one_more}
 use Rattle.session_prover.specs.declared.note.ProverOutcome.{ProverOutcome}
 use Rattle.session_prover.specs.declared.note.ProverOutcome.TheVariants.{Accepted}
 use Rattle.session_prover.specs.Outcomes.{line_outcome}
-use Rattle.session_prover.specs.Stages.{Claim, ClaimedFor, Course, IsLogAt, IsLogTaken, IsLineTaken, answers_in, greeted_log, Claims, Claimed, IsProving, Proved, AnswersClaimed, AnswersBehind, ReadsAcceptance, Stops, claim_of, greeting_frame, outcome_told, proved, proves, proving_expects, IsSound, IsToAnswer, Comes, SendStops}
+use Rattle.session_prover.specs.Stages.{Claim, ClaimedFor, Course, IsLogAt, IsLogTaken, IsLineTaken, answers_in, greeted_log, Claims, Claimed, IsProving, Proved, AnswersClaimed, AnswersBehind, ReadsAcceptance, Stops, claim_of, greeting_frame, outcome_told, proved, proves, proving_expects, IsSound, IsToAnswer, Comes, SendStops, asked_log}
 use Rattle.session_prover.specs.Notes.{IsEnded, granted_of, StopsBehind, IsOutcome, task_of, WaitsFor}
 use Rattle.std.proofs.lemmas.Option.{same_Some}
-use Rattle.session_prover.proofs.Heard.{same_stage, answers_heard, more_behind, said_first, frame_is_some, replied_on, IsNextFrame, same_bytes_grant, turns_at, next_frame, greeted_heard, granted_heard}
+use Rattle.session_prover.proofs.Heard.{same_stage, answers_heard, more_behind, said_first, frame_is_some, IsNextFrame, same_bytes_grant, turns_at, next_frame, greeted_heard, granted_heard}
 use Rattle.session_prover.proofs.Answering.{answer_leads, answer_short, suits_is}
 use Rattle.session_prover.proofs.Ending.{mine, well_of, comes, stops_taking, ends_accepted, ends_rejected, granted_is, grant_taken, ends_ungranted, ends_unclaimed, stops_greeting, stops_sending, some_for, stops_answering, refuses_nothing, none_bad}
 use Rattle.std.proofs.lemmas.List.{take_all}
@@ -51,7 +51,7 @@ pub log_taken : (job : ProverJob) (claim : Claim) (stage : ProverStage) (frame :
     → IsLogAt job claim stage before → IsSomeAnd (prover_expects job stage) (λ place. Allows place frame)
     → IsLogTaken job claim stage frame (before ++ bytes_from Verifier (frame_spelling frame))
 log_taken job claim (awaits_replies given came) frame before answers at (trees, is, are) =
-    (trees, is, are, at.0, at.1, (λ i. at.2 i ++ bytes_from Verifier (frame_spelling (is i))) ∙ replied_on job given came trees)
+    (trees, is, are, at.0, at.1, (λ i. at.2 i ++ bytes_from Verifier (frame_spelling (is i))) ∙ one_more Verifier reply_frame (asked_log job given) came trees)
 log_taken job claim (awaits_challenge given pairs wires) frame before answers at (element, is, ranged) =
     (element, at.0, at.1, is, ranged, at.2, at.3, λ i. at.4 i ++ bytes_from Verifier (frame_spelling (is i)))
 log_taken job claim other frame before answers at allowed = absurd answers

@@ -34,10 +34,10 @@ use Rattle.session_pool.specs.Notes.{granted_by}
 use Rattle.session_verifier.specs.Notes.{IsJudgedSession, JudgesRightly, IsShown, HasJudged, LacksMemory, RefusesNoLease, EndsBecause, LeasesBehindHello, CountsFaults, ReceivesFew, HasTaken, Completes, CompletesForEach, IsUngranted, SendsRightly, AcceptsExactly}
 use Rattle.session_verifier.specs.declared.note.VerifierOutcome.{VerifierOutcome}
 use Rattle.session_verifier.specs.declared.note.VerifierOutcome.TheVariants.{Accepted, RejectedSum, RejectedOpening, PeerEnded, BadFrame, BadHello, Exhausted, Device, Broken, Link, NoMemory}
-use Rattle.session_driver.proofs.Going.{came_same, came_more}
+use Rattle.session_driver.proofs.Going.{came_same, came_more, bytes_more}
 use Rattle.session_driver.proofs.Rows.{row_three}
 use Rattle.std.proofs.Math.Nat.{mul-le-mul_right}
-use Rattle.std.proofs.lemmas.List.{map-append, get_or-replicate, length-replicate, length-map, take_at, get_or_at}
+use Rattle.std.proofs.lemmas.List.{get_or-replicate, length-replicate, length-map, take_at, get_or_at}
 use Rattle.session_laws.specs.Serving.{ServedSessionExists, HasServedSession}
 use Rattle.session_laws.specs.Cuts.{CutIsNotAccepted, VerdictIsSaid}
 use Rattle.session_laws.specs.Rounds.{RepliesAreInRange}
@@ -763,7 +763,7 @@ cut_in_asks job greeting start asked rest log (round ∷ rounds) law known withi
     (sym (turns_are job greeting start (round ∷ rounds) (replicate givens 0) s)) (omega arith)
     (asks_fit job start asked rest round rounds served so few)
     (is ∙ append_assoc front (bytes_from Prover (flat_map ask_frame asked)) (bytes_from Prover rest)
-    ∙ ap (λ l. front ++ l) (sym (map-append (λ (byte : ℕ). (Prover, byte)) (flat_map ask_frame asked) rest)))
+    ∙ ap (λ l. front ++ l) (sym (bytes_more Prover (flat_map ask_frame asked) rest)))
 
 pub cut_asks : (job : VerifierJob) (start : ℕ) (asked : List (List TreeAsk)) (rest : List ℕ) (log : List (Side × ℕ)) → RepliesAreInRange → ServedSessionExists
     → IsKnown job → IsCutAt job (awaits_asks start asked) rest log → IsCutOf job start 1 (flat_map ask_frame asked ++ rest) log
@@ -847,7 +847,7 @@ cut_openings job start d both rest log law known stopped =
     ))
     (stopped.logged ∙ ap (λ l. l ++ bytes_from Prover rest) at.spelled
     ∙ apart (turn_bytes front) (turn_bytes (second ∷ [])) (bytes_from Prover (sums_frame both)) (bytes_from Prover rest)
-    ∙ (λ i. sym (turns_append front (second ∷ [])) i ++ sym (map-append (λ (byte : ℕ). (Prover, byte)) (sums_frame both) rest) i))
+    ∙ (λ i. sym (turns_append front (second ∷ [])) i ++ sym (bytes_more Prover (sums_frame both) rest) i))
 
 -- some turns are whole, and these bytes came of the next
 pub record IsSomeCut (job : VerifierJob) (start : ℕ) (log : List (Side × ℕ)) : Type 0 where

@@ -1,7 +1,7 @@
 -- What is told and kept of a session, and that one with an honest peer does not stop.
 use Rattle.std.proofs.Common.{◌≡◌, inl, inr, ℕ, ◌+◌, ◌≤◌, List, [], ◌++◌, flat_map, take, drop, length, Option, Some, None, Result, Ok, Err, refl, ap, sym, ◌∙◌, subst, arith, append-nil, append_assoc, ◌⊎◌, zero, suc, ◌<◌, ◌∷◌, slice_index_or, length-append, ◌-◌, ◌*◌, get_or, length-take-le}
 use Rattle.std.proofs.lemmas.Option.{same_Some}
-use Rattle.std.proofs.lemmas.List.{map-append, take-append-drop, take-map, nil_from_length, drop_at, length-map}
+use Rattle.std.proofs.lemmas.List.{take-append-drop, take-map, nil_from_length, drop_at, length-map}
 use Rattle.zk_model.specs.Files.{rounds_of}
 use Rattle.zk_model.specs.Transcript.{BeginsWith, hello_frame, grant_frame, refuse_frame, bytes_from, turn_bytes, session_turns, spelling, Hello, Grant, Round, Setup, Transcript, IsHello, IsRound, IsSetup, IsTranscript, ask_frame, reply_frame, corrections_frame, challenge_frame, sums_frame, openings_frame, verdict_frame, setup_turns, sent_by, TreeAsk, Commitment, IsHelloFor, wanted_hello}
 use Rattle.zk_model.specs.Frames.{Frame, frame_spelling, hello, asks, corrections, sums, openings, frame_length, Allows, AreAsks, AreElements, AreSums, CanGoOn}
@@ -57,7 +57,7 @@ use Rattle.session_core.specs.declared.fault.HelloDiffers.{HelloDiffers}
 use Rattle.zk_model.specs.declared.Expect.TheVariants as expect
 use Rattle.session_core.specs.Rounds.{round_turns}
 use Rattle.session_driver.proofs.Rounds.{BeginAlike, first_of, round_of, same_rounds, only, turns_of, setup_turns_of}
-use Rattle.session_driver.proofs.Going.{came_same}
+use Rattle.session_driver.proofs.Going.{came_same, bytes_more}
 
 -- What the link tells after the log: a part of the one answer whose send was refused.
 
@@ -70,7 +70,7 @@ part_begins whole log answer count begun =
     let front = bytes_from Verifier (take count answer) in
     let back = bytes_from Verifier (drop count answer) in
     let parts : bytes_from Verifier answer ≡ front ++ back =
-    ap (bytes_from Verifier) (sym (take-append-drop count answer)) ∙ map-append (λ (byte : ℕ). (Verifier, byte)) (take count answer) (drop count answer) in (
+    ap (bytes_from Verifier) (sym (take-append-drop count answer)) ∙ bytes_more Verifier (take count answer) (drop count answer) in (
       back ++ begun.0,
       begun.1 ∙ ap (λ l. (log ++ l) ++ begun.0) parts ∙ ap (λ l. l ++ begun.0) (sym (append_assoc log front back)) ∙ append_assoc (log ++ front) back begun.0,
     )

@@ -3,7 +3,7 @@ use Rattle.std.proofs.Common.{◌≡◌, ◌⊎◌, inl, inr, ℕ, ◌+◌, ◌*
 use Rattle.std.specs.Prelude.{All, IsSomeAnd}
 use Rattle.std.specs.List.{enumerate_from}
 use Rattle.std.proofs.Math.Nat.{mul-le-mul}
-use Rattle.std.proofs.lemmas.List.{map-append, flat_map_more, length-replicate, length-map, take-map}
+use Rattle.std.proofs.lemmas.List.{length-replicate, length-map, take-map}
 use Rattle.std.proofs.lemmas.List.Elements.{All-nil, All-map, All-replicate, All-push, All-cons}
 use Rattle.std.proofs.lemmas.List.Folds.{flat_map-map}
 use Rattle.std.proofs.lemmas.Grind.{flat_map-append}
@@ -47,6 +47,7 @@ use Rattle.session_verifier.specs.declared.note.VerifierOutcome.TheVariants.{Lin
 use Rattle.zk_model.specs.declared.Expect.TheVariants as places
 use Rattle.frame_link.specs.declared.fault.LineFault.TheVariants as fault
 use Rattle.session_core.specs.declared.fault.VerifierFault.TheVariants as session
+use Rattle.session_driver.proofs.Going.{one_more, bytes_more}
 
 -- From where a verifier waits to where it waits next: what is logged, of the asks and the replies of all units too, how many answers
 -- were sent, and how long these are.
@@ -70,15 +71,6 @@ behind_extended job start is =
 
 pub turns_append : (first more : List (List ℕ × List ℕ)) → turn_bytes (first ++ more) ≡ turn_bytes first ++ turn_bytes more
 turns_append first more = flat_map-append (λ turn. bytes_from Prover turn.0 ++ bytes_from Verifier turn.1) first more
-
--- asks of one unit more are logged
-pub one_ask_more : (front : List (Side × ℕ)) (asked : List (List TreeAsk)) (trees : List TreeAsk)
-    → (front ++ bytes_from Prover (flat_map ask_frame asked)) ++ bytes_from Prover (ask_frame trees)
-    ≡ front ++ bytes_from Prover (flat_map ask_frame (asked ++ trees ∷ []))
-one_ask_more front asked trees =
-    append_assoc front (bytes_from Prover (flat_map ask_frame asked)) (bytes_from Prover (ask_frame trees))
-    ∙ ap (λ l. front ++ l) (sym (map-append (λ (byte : ℕ). (Prover, byte)) (flat_map ask_frame asked) (ask_frame trees))
-    ∙ ap (bytes_from Prover) (flat_map_more ask_frame [] asked trees))
 
 -- the replies of all units in frames
 pub replies_spelled : (all : List (List TreeReply)) → flat_map frame_spelling (map replies all) ≡ flat_map reply_frame all
@@ -215,7 +207,7 @@ asks_on job start asked trees now log frame answer law held at are is (inl more)
       greeting = at.greeting;
       spelled = (λ i. log_behind (at.spelled i) (is i) (more.1 i))
           ∙ append-nil ((front ++ bytes_from Prover (flat_map ask_frame asked)) ++ bytes_from Prover (ask_frame trees))
-          ∙ one_ask_more front asked trees;
+          ∙ one_more Prover ask_frame front asked trees;
     })
 asks_on job start asked trees now log frame answer law held at are is (inr all) =
     let front = turn_bytes (first_turn job at.greeting start ∷ []) in
@@ -228,7 +220,7 @@ asks_on job start asked trees now log frame answer law held at are is (inr all) 
       served = served_round job start all_asked law held at.within at.so_far.extended all.0
           (All-push (AreAsks job.task.file.params.height job.task.file.params.trees) asked trees at.so_far.each are);
       spelled = (λ i. log_behind (at.spelled i) (is i) (all.1 i))
-          ∙ (λ i. one_ask_more front asked trees i ++ bytes_from Verifier (replies_spelled replied i))
+          ∙ (λ i. one_more Prover ask_frame front asked trees i ++ bytes_from Verifier (replies_spelled replied i))
           ∙ behind_first (bytes_from Prover (first_turn job at.greeting start).0 ++ bytes_from Verifier (first_turn job at.greeting start).1)
           (bytes_from Prover (flat_map ask_frame all_asked)) (bytes_from Verifier (flat_map reply_frame replied))
           ∙ sym (append-nil (turn_bytes (first_turn job at.greeting start ∷ (flat_map ask_frame all_asked, flat_map reply_frame replied) ∷ [])));
@@ -310,7 +302,7 @@ logs_on job (awaits_openings start d both) now log expect frame answer law held 
       spelled = (λ i. log_behind (at.2.spelled i) (answers.2 i) (answers.4 i))
           ∙ ap (λ l. ((front ++ ((second ++ []) ++ bytes_from Prover (sums_frame both))) ++ bytes_from Prover (openings_frame macs)) ++ l) (one_answer (verdict code number))
           ∙ behind_second front second (bytes_from Prover (sums_frame both)) (bytes_from Prover (openings_frame macs)) last
-          ∙ ap (λ l. front ++ (second ++ ((l ++ last) ++ []))) (sym (map-append (λ (byte : ℕ). (Prover, byte)) (sums_frame both) (openings_frame macs)))
+          ∙ ap (λ l. front ++ (second ++ ((l ++ last) ++ []))) (sym (bytes_more Prover (sums_frame both) (openings_frame macs)))
           ∙ sym (turns_append (first_turn job at.2.greeting start ∷ round_turns at.2.rounds)
           (second_turn job start d ∷ (sums_frame both ++ openings_frame macs, verdict_frame code number) ∷ []));
     })
