@@ -102,6 +102,19 @@ HasFactor term = IsElement term.factor
 small : (place factor : ℕ) → factor < prime → HasFactor (record { factor = factor; place = place })
 small place factor below = below
 
+-- a step that adds one wire, and no given value
+one_read : (program : Program) (n out constant : ℕ) (term : Term) → Reads program n term → HasFactor term → IsElement constant
+    → out < program.wires → ¬ IsSet program n out
+    → IsStep program n (record { out = out; wires = term ∷ []; given = []; constant = constant })
+one_read program n out constant term reads factor element within unset = record {
+  reads = only (Reads program n) term reads;
+  takes = none (Takes program);
+  factors = (only HasFactor term factor, none HasFactor);
+  constant = element;
+  within = within;
+  once = unset;
+}
+
 -- the step of a gate whose wires are set and whose given value is given
 step_is : (program : Program) (c n : ℕ) (gate : GateRow) → All (IsSet program n) (wires_read gate) → c + products_in gate ≤ program.givens
     → wire_set gate < program.wires → ¬ IsSet program n (wire_set gate) → IsStep program n (gate_step c gate)
@@ -121,22 +134,10 @@ step_is program c n (Xor a b out) reads given within unset = let fits : c < prog
   within = within;
   once = unset;
 }
-step_is program c n (Inv a out) reads given within unset = record {
-  reads = only (Reads program n) (less_once a) (reads 0 0 (lit< tt));
-  takes = none (Takes program);
-  factors = (only HasFactor (less_once a) (small a (prime - 1) (lit< tt)), none HasFactor);
-  constant = lit< tt;
-  within = within;
-  once = unset;
-}
-step_is program c n (Eqw a out) reads given within unset = record {
-  reads = only (Reads program n) (once a) (reads 0 0 (lit< tt));
-  takes = none (Takes program);
-  factors = (only HasFactor (once a) (small a 1 (lit< tt)), none HasFactor);
-  constant = lit< tt;
-  within = within;
-  once = unset;
-}
+step_is program c n (Inv a out) reads given within unset =
+    one_read program n out 1 (less_once a) (reads 0 0 (lit< tt)) (small a (prime - 1) (lit< tt)) (lit< tt) within unset
+step_is program c n (Eqw a out) reads given within unset =
+    one_read program n out 0 (once a) (reads 0 0 (lit< tt)) (small a 1 (lit< tt)) (lit< tt) within unset
 step_is program c n (Eq bit out) reads given within unset = record {
   reads = none (Reads program n);
   takes = none (Takes program);

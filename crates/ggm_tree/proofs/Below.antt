@@ -14,6 +14,22 @@ pow_more (suc height) some =
     let next = pow-suc 2 height in let less : suc height - 1 ≡ height = omega arith in
     let same = ap (λ n. 2 ^ n) less in omega (arith, next, same)
 
+pub pow_twice : (height : ℕ) → height ≢ 0 → height ≢ 1 → 2 ^ height ≡ 4 * 2 ^ (height - 2)
+pow_twice zero some more = absurd (some refl)
+pow_twice (suc zero) some more = absurd (more refl)
+pow_twice (suc (suc height)) some more =
+    let next = pow-suc 2 (suc height) in let last = pow-suc 2 height in let less : suc (suc height) - 2 ≡ height = omega arith in
+    let same = ap (λ n. 2 ^ n) less in omega (arith, next, last, same)
+
+-- of two levels or more one is less than all
+one_less : (height : ℕ) → height ≢ 0 → height ≢ 1 → height - 1 ≢ 0
+one_less zero some more = absurd (some refl)
+one_less (suc zero) some more = absurd (more refl)
+one_less (suc (suc height)) some more = λ none. omega (arith, none)
+
+fewer : (height : ℕ) → height - 2 ≡ height - 1 - 1
+fewer height = omega arith
+
 -- ---- nodes
 
 -- the children of two rows, one after the other
@@ -49,6 +65,17 @@ pub leaves_more : (row children : List (List ℕ)) (height : ℕ) (leaves : List
     → leaves ≡ leaves_below children (height - 1) → leaves ≡ leaves_below row height
 leaves_more row children height leaves some is are =
     are ∙ ap (map leaf_value) (ap (λ r. nodes_below r (height - 1)) is ∙ sym (below_more row height some))
+
+pub leaves_once : (row children : List (List ℕ)) (height : ℕ) (leaves : List ℕ) → height ≡ 1 → children ≡ children_of row
+    → leaves ≡ map leaf_value children → leaves ≡ leaves_below row height
+leaves_once row children height leaves one is are =
+    leaves_more row children height leaves (λ none. omega (arith, one, none)) is (leaves_none children (height - 1) leaves (omega (arith, one)) are)
+
+pub leaves_twice : (row children nodes : List (List ℕ)) (height : ℕ) (leaves : List ℕ) → height ≢ 0 → height ≢ 1 → children ≡ children_of row
+    → nodes ≡ children_of children → leaves ≡ leaves_below nodes (height - 2) → leaves ≡ leaves_below row height
+leaves_twice row children nodes height leaves some more is next are =
+    leaves_more row children height leaves some is
+    (leaves_more children nodes (height - 1) leaves (one_less height some more) next (are ∙ ap (leaves_below nodes) (fewer height)))
 
 pub leaves_two : (row first last : List (List ℕ)) (height : ℕ) (front back : List ℕ) → height ≢ 0 → first ++ last ≡ children_of row
     → front ≡ leaves_below first (height - 1) → back ≡ leaves_below last (height - 1) → front ++ back ≡ leaves_below row height
@@ -104,6 +131,26 @@ added_more row children height sums (first ∷ []) back after here none whole on
     subst (λ (list : List LeftRight). AreAdded row height list (here ∷ after)) (sym whole)
     (added_first row height first here back after is
     (subst (λ (nodes : List (List ℕ)). AreAdded nodes (height - 1) back after) same so_far) some)
+
+-- one level alone
+pub added_once : (row children : List (List ℕ)) (height : ℕ) (sums front back : List LeftRight) (here none : LeftRight)
+    → sums ≡ front ++ back → length front ≡ 1 → here ≡ sums_with (get_or front 0 none) row → children ≡ children_of row → height ≡ 1
+    → AreAdded row height sums (set front 0 here ++ back)
+added_once row children height sums front back here none whole one is same last =
+    added_more row children height sums front back back here none whole one is same (λ none. omega (arith, last, none)) (record {
+      added = λ level below. absurd (omega (arith, below, last));
+      kept = λ level below. refl;
+    })
+
+-- two levels, and what is added below them
+pub added_twice : (row children nodes : List (List ℕ)) (height : ℕ) (sums front back next rest after : List LeftRight) (here there none other : LeftRight)
+    → sums ≡ front ++ back → length front ≡ 1 → here ≡ sums_with (get_or front 0 none) row → children ≡ children_of row
+    → back ≡ next ++ rest → length next ≡ 1 → there ≡ sums_with (get_or next 0 other) children → nodes ≡ children_of children
+    → height ≢ 0 → height ≢ 1 → AreAdded nodes (height - 2) rest after → AreAdded row height sums (set front 0 here ++ (set next 0 there ++ after))
+added_twice row children nodes height sums front back next rest after here there none other whole one is same behind single at below some more so_far =
+    added_more row children height sums front back (set next 0 there ++ after) here none whole one is same some
+    (added_more children nodes (height - 1) back next rest after there other behind single at below (one_less height some more)
+    (subst (λ (n : ℕ). AreAdded nodes n rest after) (fewer height) so_far))
 
 -- ---- four nodes
 

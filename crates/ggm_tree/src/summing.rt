@@ -25,32 +25,16 @@ pub(crate) fn sum_one<L: Ledger>(
     ensures steps { steps.new + 1 ≡ steps.old + 2 ^ height }
 {
     if height == 0 {
-        sum_of(&[*node])
-    } else {
-        let (here, below) = sums.split_at_mut(1);
-        let children = below_one(node, &mut here[0], steps);
-        sum_two(&children, height - 1, below, steps)
+        return sum_of(&[*node]);
     }
-}
-
-/// The sum of the leaves below two nodes.
-fn sum_two<L: Ledger>(
-    nodes: &[[u8; 16]; 2],
-    height: u32,
-    sums: &mut [LevelSums],
-    steps: &mut Steps<L>,
-) -> Fe
-    requires levels { height ≤ length sums.old }
-    ensures leaves { result ≡ sum (leaves_below nodes.now height) % prime }
-    ensures sums { AreAdded nodes.now height sums.old sums.new }
-    ensures steps { steps.new + 2 ≡ steps.old + 2 * 2 ^ height }
-{
-    if height == 0 {
-        sum_of(nodes)
+    let (here, below) = sums.split_at_mut(1);
+    let children = below_one(node, &mut here[0], steps);
+    if height == 1 {
+        sum_of(&children)
     } else {
-        let (here, below) = sums.split_at_mut(1);
-        let children = below_two(nodes, &mut here[0], steps);
-        sum_four(&children, height - 1, below, steps)
+        let (next, rest) = below.split_at_mut(1);
+        let nodes = below_two(&children, &mut next[0], steps);
+        sum_four(&nodes, height - 2, rest, steps)
     }
 }
 

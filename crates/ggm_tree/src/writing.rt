@@ -26,33 +26,16 @@ pub(crate) fn write_one<L: Ledger>(
 {
     if height == 0 {
         put_leaves(&[*node], leaves);
-    } else {
-        let (here, below) = sums.split_at_mut(1);
-        let children = below_one(node, &mut here[0], steps);
-        write_two(&children, height - 1, below, leaves, steps);
+        return;
     }
-}
-
-/// Writes the leaves below two nodes.
-fn write_two<L: Ledger>(
-    nodes: &[[u8; 16]; 2],
-    height: u32,
-    sums: &mut [LevelSums],
-    leaves: &mut [Fe],
-    steps: &mut Steps<L>,
-)
-    requires levels { height ≤ length sums.old }
-    requires places { length leaves.old ≡ 2 * 2 ^ height }
-    ensures leaves { leaves.new ≡ leaves_below nodes.now height }
-    ensures sums { AreAdded nodes.now height sums.old sums.new }
-    ensures steps { steps.new + 2 ≡ steps.old + 2 * 2 ^ height }
-{
-    if height == 0 {
-        put_leaves(nodes, leaves);
+    let (here, below) = sums.split_at_mut(1);
+    let children = below_one(node, &mut here[0], steps);
+    if height == 1 {
+        put_leaves(&children, leaves);
     } else {
-        let (here, below) = sums.split_at_mut(1);
-        let children = below_two(nodes, &mut here[0], steps);
-        write_four(&children, height - 1, below, leaves, steps);
+        let (next, rest) = below.split_at_mut(1);
+        let nodes = below_two(&children, &mut next[0], steps);
+        write_four(&nodes, height - 2, rest, leaves, steps);
     }
 }
 

@@ -114,14 +114,27 @@ fn big_sigma1(x: u32x4) -> u32x4
     turned(x, 6, 5, 14)
 }
 
+/// A word turned by `first` bits, by `second` more, and shifted by `lost`, added without carries.
+#[inline(always)]
+fn turned_and_shifted(x: u32x4, first: u32, second: u32, lost: u32) -> u32x4
+    requires at_least_one { (0 < first) × (0 < second) }
+    requires bounded { first + second < 32 }
+    requires lost { lost < 32 }
+    ensures { (j : ℕ) → j < 4 → slice_index result j
+        ≡ bit_xor (bit_xor (rotate_right w32 (slice_index x j) first)
+        (rotate_right w32 (slice_index x j) (first + second))) (slice_index x j / 2 ^ lost) }
+{
+    let inner = xor(x, rotate_right(x, second));
+    let rotated = rotate_right(inner, first);
+    xor(rotated, shift_right(x, lost))
+}
+
 /// The lower case sigma 0.
 #[inline(always)]
 pub(crate) fn small_sigma0(x: u32x4) -> u32x4
     ensures { (j : ℕ) → j < 4 → slice_index result j ≡ small_sigma0 (slice_index x j) }
 {
-    let inner = xor(x, rotate_right(x, 11));
-    let rotated = rotate_right(inner, 7);
-    xor(rotated, shift_right(x, 3))
+    turned_and_shifted(x, 7, 11, 3)
 }
 
 /// The lower case sigma 1.
@@ -129,9 +142,7 @@ pub(crate) fn small_sigma0(x: u32x4) -> u32x4
 pub(crate) fn small_sigma1(x: u32x4) -> u32x4
     ensures { (j : ℕ) → j < 4 → slice_index result j ≡ small_sigma1 (slice_index x j) }
 {
-    let inner = xor(x, rotate_right(x, 2));
-    let rotated = rotate_right(inner, 17);
-    xor(rotated, shift_right(x, 10))
+    turned_and_shifted(x, 17, 2, 10)
 }
 
 /// The working variables after one more round (6.2.2, step 3), by its constant and its word of the schedule.

@@ -143,24 +143,16 @@ AreReplies params round = (length round.replies ≡ params.trees) × All (IsTree
 tree_noise : (params : Params) (unit : ProverUnit) (round : UnitRound) (t : ℕ) → IsProverUnit params unit → AreReplies params round
     → t < params.trees → (entries : List Pair) × IsNoiseOf (tree_view params unit round t) entries
 tree_noise params unit round t is are below =
-    noise_exists (tree_view params unit round t) (sums_bytes params.height (slice_index_or unit.trees t []) ask reply (record {
-      dealt = dealt.0;
-      pads = dealt.1;
-      replied = replied.count;
-      messages = replied.messages;
-    }))
+    noise_exists (tree_view params unit round t)
+    (sums_bytes params.height (slice_index_or unit.trees t []) (slice_index_or round.asks t (record { flips = []; base_correction = 0 }))
+    (slice_index_or round.replies t (record { messages = []; leaf_offset = 0 }))
+    (record { dealt = dealt.0; pads = dealt.1; replied = replied.count; messages = replied.messages }))
   where
-    ask : TreeAsk
-    ask = slice_index_or round.asks t (record { flips = []; base_correction = 0 })
-
-    reply : TreeReply
-    reply = slice_index_or round.replies t (record { messages = []; leaf_offset = 0 })
-
     dealt : (length (slice_index_or unit.trees t []) ≡ params.height)
         × All (λ (transfer : Transfer). AreBytes 16 transfer.pad) (slice_index_or unit.trees t [])
     dealt = is.trees.1 t [] (omega (arith, is.trees.0, below))
 
-    replied : IsTreeReply params.height reply
+    replied : IsTreeReply params.height (slice_index_or round.replies t (record { messages = []; leaf_offset = 0 }))
     replied = are.1 t (record { messages = []; leaf_offset = 0 }) (omega (arith, are.0, below))
 
 -- a unit has pairs, whatever its kind

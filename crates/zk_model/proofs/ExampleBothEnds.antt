@@ -1,12 +1,12 @@
 -- The session of kind direct is one of an honest prover and a verifier.
 use Rattle.std.proofs.Common.{◌≡◌, ℕ, zero, suc, ◌≤◌, List, [], ◌∷◌, ◌++◌, take, drop, inl, inr, refl, sym, ap, subst, ◌∙◌, arith, lit<, lit≤}
 use Rattle.sha2.specs.Sha256.{sha256, digest_bytes, hash_after, compress, rounds, schedule, first_words}
-use Rattle.zk_model.proofs.ExampleTools.{same_count}
+use Rattle.zk_model.proofs.ExampleTools.{whole_answer}
 use Rattle.zk_model.proofs.ExampleFiles.{direct}
 use Rattle.zk_model.proofs.ExamplePrograms.{and_program, and_solved}
 use Rattle.zk_model.proofs.ExampleSession.{prover, verifier, statement, commitment, session, the_challenge, transcript, in_order, view, viewed, keys, carried, sections_hold, openings_hold, checked}
 use Rattle.zk_model.specs.Transcript.{spelling, sent_by, bytes_from, turn_bytes, session_turns, hello_frame, grant_frame, corrections_frame, challenge_frame, sums_frame, openings_frame, verdict_frame}
-use Rattle.zk_model.specs.HonestProver.{ProverTask, IsHonest, AreHonestBytes, SentAfter}
+use Rattle.zk_model.specs.HonestProver.{ProverTask, IsHonest, SentAfter}
 use Rattle.zk_model.specs.ServedVerifier.{VerifierTask, IsServed, IsAccepted, ServesWith}
 use Rattle.zk_model.specs.BothEnds.{IsHonestSession}
 use Rattle.zk_model.specs.declared.Side.TheVariants.{Prover, Verifier}
@@ -51,22 +51,10 @@ received = grant_frame commitment.setup.grant ++ challenge_frame session.challen
 sent : List ℕ
 sent = hello_frame commitment.setup.hello ++ corrections_frame commitment.corrections ++ sums_frame session.sums ++ openings_frame session.openings
 
-at_most_three : (more : ℕ) (other : List ℕ) → SentAfter prover_task received more other → more ≤ 3
-at_most_three zero other after = omega arith
-at_most_three (suc n) other after = let three = same_count direct and_program after.0 after.1 in omega (arith, three, after.3)
-
 -- after the grant, the challenge and the verdict the prover has sent all it has to say
-sent_all : AreHonestBytes prover_task received sent
+sent_all : SentAfter prover_task received 3 sent × (sent_by Verifier (spelling session) ≡ received) × (sent_by Prover (spelling session) ≡ sent)
 unfolding received sent sha256 digest_bytes hash_after compress rounds schedule first_words
-sent_all = record { turns = 3; answer = (session, transcript, honest, lit< tt, ([], refl), refl); most = at_most_three }
-
-sent_by_prover : sent_by Prover (spelling session) ≡ sent
-unfolding sent sha256 digest_bytes hash_after compress rounds schedule first_words
-sent_by_prover = refl
-
-sent_by_verifier : sent_by Verifier (spelling session) ≡ received
-unfolding received sha256 digest_bytes hash_after compress rounds schedule first_words
-sent_by_verifier = refl
+sent_all = ((session, transcript, honest, lit< tt, ([], refl), refl), refl, refl)
 
 whole : IsHonestSession prover_task verifier_task commitment.setup.grant session Accepted (spelling session)
 unfolding received
@@ -75,9 +63,8 @@ whole = record {
   granted = refl;
   checks = checked;
   honest = honest;
-  honest_bytes = subst (λ (bytes : List ℕ). AreHonestBytes prover_task bytes (sent_by Prover (spelling session))) (sym sent_by_verifier)
-      (subst (λ (bytes : List ℕ). AreHonestBytes prover_task received bytes) (sym sent_by_prover) sent_all);
-  served_bytes = sent_by_verifier ∙ ap (λ coin. grant_frame commitment.setup.grant ++ challenge_frame coin ++ verdict_frame 0 0) (sym the_challenge);
+  honest_bytes = whole_answer prover_task (spelling session) received sent 3 refl sent_all.0 sent_all.1 sent_all.2;
+  served_bytes = sent_all.1 ∙ ap (λ coin. grant_frame commitment.setup.grant ++ challenge_frame coin ++ verdict_frame 0 0) (sym the_challenge);
 }
 
 -- ---- sessions that end early

@@ -6,7 +6,7 @@ use Rattle.std.proofs.lemmas.List.Elements.{All-from_recursion}
 use Rattle.sha2.specs.Sha256.{sha256, digest_bytes, hash_after, compress, rounds, schedule, first_words}
 use Rattle.rand_chacha.specs.Block.{block_word, double_rounds, column_round, diagonal_round, quarter_round}
 use Rattle.rand_core.specs.Steps.{u32_at}
-use Rattle.zk_model.proofs.ExampleTools.{one_only, bytes_of, bytes_by_test, same_count}
+use Rattle.zk_model.proofs.ExampleTools.{one_only, bytes_of, bytes_by_test, whole_answer}
 use Rattle.zk_model.proofs.ExamplePrograms.{and_program, and_solved}
 use Rattle.zk_model.proofs.ExampleSession.{statement, stated, session_of, hello_fits, greets, transcript_of}
 use Rattle.zk_model.proofs.ExampleRound.{params, prover, verifier, grant, first_ask, second_ask, first_messages, first_reply, second_messages, second_reply, round, asked, replied}
@@ -20,7 +20,7 @@ use Rattle.zk_model.specs.Program.{MeetsStep}
 use Rattle.zk_model.specs.Transcript.{TreeAsk, TreeReply, Setup, Commitment, Transcript, IsTreeAsk, IsTreeReply, IsRound, IsTranscript, wanted_hello, hello_frame, grant_frame, ask_frame, reply_frame, corrections_frame, challenge_frame, sums_frame, openings_frame, verdict_frame, spelling, sent_by}
 use Rattle.zk_model.specs.Check.{WireKeys, section_left, section_keys, SectionHolds, AllSectionsHold, OpeningHolds, AllOpeningsHold}
 use Rattle.zk_model.specs.View.{View, IsView, session_keys, AreSessionKeys, session_products, session_openings}
-use Rattle.zk_model.specs.HonestProver.{ProverTask, IsHonest, SentAfter, AreHonestBytes, round_asks}
+use Rattle.zk_model.specs.HonestProver.{ProverTask, IsHonest, SentAfter, round_asks}
 use Rattle.zk_model.specs.ServedVerifier.{VerifierTask, challenge_coin, round_replies, IsServed}
 use Rattle.zk_model.specs.BothEnds.{IsHonestSession}
 use Rattle.zk_model.specs.declared.Side.TheVariants.{Prover, Verifier}
@@ -163,21 +163,9 @@ received = grant_frame grant ++ flat_map reply_frame round.replies ++ challenge_
 sent : List ℕ
 sent = hello_frame setup.hello ++ flat_map ask_frame round.asks ++ corrections_frame commitment.corrections ++ sums_frame session.sums ++ openings_frame session.openings
 
-at_most_four : (more : ℕ) (other : List ℕ) → SentAfter prover_task received more other → more ≤ 4
-at_most_four zero other after = omega arith
-at_most_four (suc n) other after = let four = same_count params and_program after.0 after.1 in omega (arith, four, after.3)
-
-sent_all : AreHonestBytes prover_task received sent
+sent_all : SentAfter prover_task received 4 sent × (sent_by Verifier (spelling session) ≡ received) × (sent_by Prover (spelling session) ≡ sent)
 unfolding received sent sha256 digest_bytes hash_after compress rounds schedule first_words
-sent_all = record { turns = 4; answer = (session, transcript, honest, lit< tt, ([], refl), refl); most = at_most_four }
-
-sent_by_prover : sent_by Prover (spelling session) ≡ sent
-unfolding sent sha256 digest_bytes hash_after compress rounds schedule first_words
-sent_by_prover = refl
-
-sent_by_verifier : sent_by Verifier (spelling session) ≡ received
-unfolding received sha256 digest_bytes hash_after compress rounds schedule first_words
-sent_by_verifier = refl
+sent_all = ((session, transcript, honest, lit< tt, ([], refl), refl), refl, refl)
 
 whole : IsHonestSession prover_task verifier_task grant session Accepted (spelling session)
 unfolding received
@@ -186,8 +174,7 @@ whole = record {
   granted = refl;
   checks = record { keys = keys; carried = carried; sections = sections_hold; openings = openings_hold };
   honest = honest;
-  honest_bytes = subst (λ (bytes : List ℕ). AreHonestBytes prover_task bytes (sent_by Prover (spelling session))) (sym sent_by_verifier)
-      (subst (λ (bytes : List ℕ). AreHonestBytes prover_task received bytes) (sym sent_by_prover) sent_all);
-  served_bytes = sent_by_verifier
+  honest_bytes = whole_answer prover_task (spelling session) received sent 4 refl sent_all.0 sent_all.1 sent_all.2;
+  served_bytes = sent_all.1
       ∙ ap (λ coin. grant_frame grant ++ flat_map reply_frame round.replies ++ challenge_frame coin ++ verdict_frame 0 0) (sym the_challenge);
 }

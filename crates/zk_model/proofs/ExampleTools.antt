@@ -1,5 +1,5 @@
 -- What the examples are proved with.
-use Rattle.std.proofs.Common.{◌≡◌, ℕ, zero, suc, ◌+◌, ◌<◌, ◌≤◌, true, List, [], ◌∷◌, map, flat_map, length, replicate, length-append, refl, ◌∙◌, ap, subst, inl, inr, arith}
+use Rattle.std.proofs.Common.{◌≡◌, ℕ, zero, suc, ◌+◌, ◌<◌, ◌≤◌, true, List, [], ◌∷◌, map, flat_map, length, replicate, length-append, refl, sym, ◌∙◌, ap, subst, inl, inr, arith}
 use Rattle.std.specs.Prelude.{Some, slice_get, nat_lt}
 use Rattle.std.specs.List.{list_all}
 use Rattle.std.proofs.lemmas.List.{length-map, length-replicate}
@@ -10,9 +10,12 @@ use Rattle.sha2.specs.Sha256.{sha256, digest_bytes, hash_after, compress, rounds
 use Rattle.zk_model.specs.Bytes.{AreBytes}
 use Rattle.zk_model.specs.Program.{Program, IsSet, IsMadeOnce}
 use Rattle.zk_model.specs.Files.{rounds_of}
-use Rattle.zk_model.specs.Transcript.{Transcript, IsTranscript, ask_frame, reply_frame, session_turns}
+use Rattle.zk_model.specs.Transcript.{Transcript, IsTranscript, ask_frame, reply_frame, sent_by, session_turns}
+use Rattle.zk_model.specs.HonestProver.{AreHonestBytes, ProverTask, SentAfter}
 use Rattle.zk_model.specs.declared.Params.{Params}
 use Rattle.zk_model.specs.declared.Product.{Product}
+use Rattle.zk_model.specs.declared.Side.{Side}
+use Rattle.zk_model.specs.declared.Side.TheVariants.{Prover, Verifier}
 
 -- ---- items of a list
 
@@ -85,3 +88,17 @@ same_count params program t is =
     let each = map (λ round. (flat_map ask_frame round.asks, flat_map reply_frame round.replies)) rounds in
     ap suc (length-append each _
     ∙ ap (λ n. n + 2) (length-map rounds (λ round. (flat_map ask_frame round.asks, flat_map reply_frame round.replies)) ∙ is.commitment.setup.round_count))
+
+-- where an honest prover has answered all turns of a session, what it sends in the session's log answers what the log has of the verifier
+pub whole_answer : (task : ProverTask) (log : List (Side × ℕ)) (received sent : List ℕ) (turns : ℕ) → turns ≡ rounds_of task.file.params.kind + 3
+    → SentAfter task received turns sent → sent_by Verifier log ≡ received → sent_by Prover log ≡ sent
+    → AreHonestBytes task (sent_by Verifier log) (sent_by Prover log)
+whole_answer task log received sent turns all after by_verifier by_prover =
+    subst (λ (bytes : List ℕ). AreHonestBytes task bytes (sent_by Prover log)) (sym by_verifier)
+    (subst (λ (bytes : List ℕ). AreHonestBytes task received bytes) (sym by_prover) (record { turns = turns; answer = after; most = most }))
+  where
+    most : (more : ℕ) (other : List ℕ) → SentAfter task received more other → more ≤ turns
+    most zero other after = omega arith
+    most (suc n) other after =
+        let count = same_count task.file.params task.statement.program after.0 after.1 in
+        omega (arith, count, after.3, all)
