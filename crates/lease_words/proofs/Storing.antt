@@ -212,8 +212,10 @@ pub gate_sync_is_event : GateSyncIsEvent
 gate_sync_is_event b next shown ceiling views slots m p mir = (
   and_from m.up (nat_eq m.stage 3) mir.up (eq-eqb m.stage 3 p.moments_are),
   still b next shown views m (after m (Put GateSync)) mir refl refl refl refl refl refl refl refl,
-  record { moments_are = refl; ceiling_is = p.ceiling_is; slots_are = ap (λ (xs : List ℕ). xs ++ m.ceiling ∷ []) p.slots_are ∙ ap (λ (c : ℕ). slots ++ c ∷ []) p.ceiling_is },
-  last_of_push m.slots m.ceiling ∙ p.ceiling_is,
+  (
+    record { moments_are = refl; ceiling_is = p.ceiling_is; slots_are = ap (λ (xs : List ℕ). xs ++ m.ceiling ∷ []) p.slots_are ∙ ap (λ (c : ℕ). slots ++ c ∷ []) p.ceiling_is },
+    last_of_push m.slots m.ceiling ∙ p.ceiling_is,
+  ),
 )
 
 pub put_stays : PutStays

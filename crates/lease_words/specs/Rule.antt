@@ -1,7 +1,7 @@
 -- The rule of the lease table: a fact about its three words and about what all seats know. Word 0 is the unit after
 -- the last one drawn, word 1 the ceiling shown, word 2 the journal's mark. It is spelled by sums over all seats;
 -- `Leased.antt` has what it says.
-use Rattle.std.specs.Prelude.{◌≡◌, ℕ, ◌+◌, ◌*◌, ◌^◌, ◌<◌, ◌≤◌, ◌⊎◌, true, false, cond, List, length, slice_index, All}
+use Rattle.std.specs.Prelude.{◌≡◌, ℕ, ◌+◌, ◌*◌, ◌<◌, ◌≤◌, ◌⊎◌, true, false, cond, List, length, slice_index, All}
 use Rattle.std.specs.List.{sum_by}
 use mathlib.Core.Option.{some}
 use lib.ListN.{get_elem?}

@@ -3,6 +3,7 @@ use Rattle.std.specs.Prelude.{◌≡◌, ◌≢◌, ℕ, ◌<◌, ◌≤◌, tru
 use Rattle.lease_core.specs.Spans.{has_span, EndBy}
 use Rattle.lease_core.specs.Machine.{Machine, durable, ceiling_for, is_possible, after}
 use Rattle.lease_core.specs.Kept.{IsReached}
+use Rattle.lease_core.specs.declared.event.Moment.{Moment}
 use Rattle.lease_core.specs.declared.event.Moment.TheVariants.{Body, BodySync, Gate, GateSync}
 use Rattle.lease_core.specs.declared.event.Event.{Event}
 use Rattle.lease_core.specs.declared.event.Event.TheVariants.{Begin, Draw, Look, Put, Raise, Spend, Claim, Crash}
@@ -59,18 +60,23 @@ StaysUnspent =
     → IsNoSpendOf (own v).number event
     → IsUnspent (after m event) v.entries e
 
--- a grant of the newest entry is the event Spend, where it ends at or below the ceiling that the pass knows
-abbrev pub SpendIsEvent : Type 0
-SpendIsEvent =
+-- for each pass that sits at kept words, and its newest entry, which the machine has not spent
+abbrev pub ForNewest : (Bounds → ℕ → ℕ → List View → View → Entry → Machine → Type 0) → Type 0
+ForNewest Holds =
     (b : Bounds) (next shown mark : ℕ) (views : List View) (seat : ℕ) (v : View) (e : Entry) (m : Machine)
     → IsKept b next shown mark views
     → Sits views seat v
     → IsPassView v
     → IsUnspent m v.entries e
-    → end_of e ≤ (own v).known
+    → Holds b next shown views v e m
+
+-- a grant of the newest entry is the event Spend, where it ends at or below the ceiling that the pass knows
+abbrev pub SpendIsEvent : Type 0
+SpendIsEvent = ForNewest (λ b next shown views v e m.
+    end_of e ≤ (own v).known
     → Mirrors b next shown views m
     → (is_possible m (Spend (own v).number (span_of e)) ≡ true)
-    × Mirrors b next shown views (after m (Spend (own v).number (span_of e)))
+    × Mirrors b next shown views (after m (Spend (own v).number (span_of e))))
 
 -- ---- puts
 
@@ -83,50 +89,38 @@ pub record IsPutAt (moments ceiling : ℕ) (slots : List ℕ) (m : Machine) : Ty
 -- writing a slot's body is the event Body of a pass whose newest entry is unspent and ends above the ceiling shown, where no
 -- put is under way; the body's ceiling is the entry's end, rounded up
 abbrev pub BodyIsEvent : Type 0
-BodyIsEvent =
-    (b : Bounds) (next shown mark : ℕ) (views : List View) (seat : ℕ) (v : View) (e : Entry) (m : Machine)
-    → IsKept b next shown mark views
-    → Sits views seat v
-    → IsPassView v
-    → IsUnspent m v.entries e
-    → shown < end_of e
+BodyIsEvent = ForNewest (λ b next shown views v e m.
+    shown < end_of e
     → end_of e ≤ b.total
     → m.stage ≡ 0
     → Mirrors b next shown views m
     → (is_possible m (Put (Body (own v).number)) ≡ true)
     × Mirrors b next shown views (after m (Put (Body (own v).number)))
-    × IsPutAt 1 (ceiling_for b.total (end_of e)) m.slots (after m (Put (Body (own v).number)))
+    × IsPutAt 1 (ceiling_for b.total (end_of e)) m.slots (after m (Put (Body (own v).number))))
 
--- syncing it is the event BodySync
-abbrev pub BodySyncIsEvent : Type 0
-BodySyncIsEvent =
+-- the next call of a put, so many moments of which are over, is this event, and then holds this of the put's ceiling, of the ceilings
+-- that were in the slots, and of the machine
+abbrev pub IsNextOf : ℕ → Moment → (ℕ → List ℕ → Machine → Type 0) → Type 0
+IsNextOf moments call Then =
     (b : Bounds) (next shown ceiling : ℕ) (views : List View) (slots : List ℕ) (m : Machine)
-    → IsPutAt 1 ceiling slots m
+    → IsPutAt moments ceiling slots m
     → Mirrors b next shown views m
-    → (is_possible m (Put BodySync) ≡ true)
-    × Mirrors b next shown views (after m (Put BodySync))
-    × IsPutAt 2 ceiling slots (after m (Put BodySync))
+    → (is_possible m (Put call) ≡ true)
+    × Mirrors b next shown views (after m (Put call))
+    × Then ceiling slots (after m (Put call))
+
+-- syncing the body is the event BodySync
+abbrev pub BodySyncIsEvent : Type 0
+BodySyncIsEvent = IsNextOf 1 BodySync (IsPutAt 2)
 
 -- writing the slot's gate is the event Gate
 abbrev pub GateIsEvent : Type 0
-GateIsEvent =
-    (b : Bounds) (next shown ceiling : ℕ) (views : List View) (slots : List ℕ) (m : Machine)
-    → IsPutAt 2 ceiling slots m
-    → Mirrors b next shown views m
-    → (is_possible m (Put Gate) ≡ true)
-    × Mirrors b next shown views (after m (Put Gate))
-    × IsPutAt 3 ceiling slots (after m (Put Gate))
+GateIsEvent = IsNextOf 2 Gate (IsPutAt 3)
 
 -- syncing it is the event GateSync: the ceiling is in the slots, and is what `RaiseIsEvent` asks for
 abbrev pub GateSyncIsEvent : Type 0
 GateSyncIsEvent =
-    (b : Bounds) (next shown ceiling : ℕ) (views : List View) (slots : List ℕ) (m : Machine)
-    → IsPutAt 3 ceiling slots m
-    → Mirrors b next shown views m
-    → (is_possible m (Put GateSync) ≡ true)
-    × Mirrors b next shown views (after m (Put GateSync))
-    × IsPutAt 4 ceiling (slots ++ ceiling ∷ []) (after m (Put GateSync))
-    × (durable (after m (Put GateSync)) ≡ ceiling)
+    IsNextOf 3 GateSync (λ ceiling slots m. IsPutAt 4 ceiling (slots ++ ceiling ∷ []) m × (durable m ≡ ceiling))
 
 -- an event of a pass, or a claim
 abbrev pub IsBesidePut : Event → Type 0

@@ -71,32 +71,14 @@ first_view b = journal_at b.base b.total 0
 
 -- what is left of a pass that was taken in
 abbrev pub spent_view : View
-spent_view = record {
-  journal = false;
-  total = 0;
-  ceiling = 0;
-  made = 0;
-  own_mark = 0;
-  looks = 0;
-  reports = [];
-  entries = [];
-}
+spent_view = record (journal_at 0 0 0) { journal = false }
 
 -- the journal's seat makes one pass more, which has the next number and knows the ceiling
 abbrev pub after_make : View → View
 after_make v = record v { made = v.made + 1 }
 
 abbrev pub new_pass : View → View
-new_pass v = record {
-  journal = false;
-  total = v.total;
-  ceiling = 0;
-  made = 0;
-  own_mark = 0;
-  looks = 0;
-  reports = report v.made v.ceiling 0 ∷ [];
-  entries = [];
-}
+new_pass v = record spent_view { total = v.total; reports = report v.made v.ceiling 0 ∷ [] }
 
 -- a pass drew `count` units from `start` on
 abbrev pub after_draw : View → ℕ → ℕ → View
