@@ -1,13 +1,13 @@
 -- An audit of the session of `ExampleSession`: its frames and their places, what is found in its log, a log that ends early, and
 -- one of a wrong hello.
-use Rattle.std.proofs.Common.{◌≡◌, ℕ, List, true, [], ◌∷◌, ◌++◌, inr, refl, sym, ◌∙◌, ap, replicate, take, map, arith, lit<}
+use Rattle.std.proofs.Common.{◌≡◌, true, [], ◌∷◌, inr, refl, sym, ◌∙◌, ap, replicate, take, map, arith, lit<}
 use Rattle.std.proofs.lemmas.List.{append-nil}
 use Rattle.sha2.specs.Sha256.{sha256, digest_bytes, hash_after, compress, rounds, schedule, first_words}
 use Rattle.zk_model.proofs.ExampleTools.{each_item}
 use Rattle.std.specs.Prelude.{Some, None}
 use Rattle.zk_model.proofs.ExampleFiles.{direct}
 use Rattle.zk_model.proofs.ExamplePrograms.{and_circuit, and_program}
-use Rattle.zk_model.proofs.ExampleSession.{prover, verifier, statement, hello_fits, greets, session, in_order, the_challenge, keys, carried, sections_hold, openings_hold, found}
+use Rattle.zk_model.proofs.ExampleSession.{prover, verifier, statement, hello_fits, session, in_order, the_challenge, keys, carried, sections_hold, openings_hold, found}
 use Rattle.zk_model.specs.Circuit.{MeetsGate}
 use Rattle.zk_model.specs.Transcript.{Hello, wanted_hello, spelling}
 use Rattle.zk_model.specs.Frames.{hello, frame_spelling}

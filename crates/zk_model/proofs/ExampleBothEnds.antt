@@ -1,9 +1,8 @@
 -- The session of kind direct is one of an honest prover and a verifier.
-use Rattle.std.proofs.Common.{◌≡◌, ℕ, zero, suc, ◌≤◌, List, [], ◌∷◌, ◌++◌, take, drop, inl, inr, refl, sym, ap, subst, ◌∙◌, arith, lit<, lit≤}
+use Rattle.std.proofs.Common.{◌≡◌, ℕ, List, [], ◌∷◌, ◌++◌, take, drop, inl, inr, refl, sym, ap, ◌∙◌, arith, lit<, lit≤}
 use Rattle.sha2.specs.Sha256.{sha256, digest_bytes, hash_after, compress, rounds, schedule, first_words}
-use Rattle.zk_model.proofs.ExampleTools.{whole_answer}
-use Rattle.zk_model.proofs.ExampleFiles.{direct}
-use Rattle.zk_model.proofs.ExamplePrograms.{and_program, and_solved}
+use Rattle.zk_model.proofs.ExampleTools.{honest_by, whole_answer}
+use Rattle.zk_model.proofs.ExamplePrograms.{and_solved}
 use Rattle.zk_model.proofs.ExampleSession.{prover, verifier, statement, commitment, session, the_challenge, transcript, in_order, view, viewed, keys, carried, sections_hold, openings_hold, checked}
 use Rattle.zk_model.specs.Transcript.{spelling, sent_by, bytes_from, turn_bytes, session_turns, hello_frame, grant_frame, corrections_frame, challenge_frame, sums_frame, openings_frame, verdict_frame}
 use Rattle.zk_model.specs.HonestProver.{ProverTask, IsHonest, SentAfter}
@@ -19,18 +18,9 @@ abbrev verifier_task : VerifierTask
 verifier_task = record { file = verifier; statement = statement }
 
 honest : IsHonest prover_task session
-honest = record {
-  hello = refl;
-  asks = λ k d below. absurd (omega arith);
-  wires = 1 ∷ 1 ∷ 1 ∷ [];
-  given = 1 ∷ 1 ∷ 1 ∷ [];
-  witness = record { solves = and_solved; inputs_are = refl };
-  view = view;
-  seen = viewed;
-  corrections = refl;
-  sums = refl;
-  openings = refl;
-}
+honest =
+    honest_by prover_task session (1 ∷ 1 ∷ 1 ∷ []) (1 ∷ 1 ∷ 1 ∷ []) view refl (λ k d below. absurd (omega arith))
+    (record { solves = and_solved; inputs_are = refl }) viewed refl refl refl
 
 served : IsServed verifier_task session Accepted (spelling session)
 served = record {

@@ -1,12 +1,12 @@
 -- A whole session of kind extended about the circuit of one AND, with all hashes and coins: in order, served by the verifier,
 -- and of an honest prover.
-use Rattle.std.proofs.Common.{◌≡◌, ℕ, zero, suc, ◌≤◌, List, [], ◌∷◌, ◌++◌, length, flat_map, slice_index, drop, refl, sym, ap, subst, ◌∙◌, replicate, arith, lit<, lit≤}
+use Rattle.std.proofs.Common.{◌≡◌, ℕ, List, [], ◌∷◌, ◌++◌, length, flat_map, slice_index, drop, refl, sym, ap, ◌∙◌, replicate, lit<, lit≤}
 use Rattle.std.specs.Prelude.{All}
 use Rattle.std.proofs.lemmas.List.Elements.{All-from_recursion}
 use Rattle.sha2.specs.Sha256.{sha256, digest_bytes, hash_after, compress, rounds, schedule, first_words}
 use Rattle.rand_chacha.specs.Block.{block_word, double_rounds, column_round, diagonal_round, quarter_round}
 use Rattle.rand_core.specs.Steps.{u32_at}
-use Rattle.zk_model.proofs.ExampleTools.{one_only, bytes_of, bytes_by_test, whole_answer}
+use Rattle.zk_model.proofs.ExampleTools.{one_only, bytes_by_test, honest_by, whole_answer}
 use Rattle.zk_model.proofs.ExamplePrograms.{and_program, and_solved}
 use Rattle.zk_model.proofs.ExampleSession.{statement, stated, session_of, hello_fits, greets, transcript_of}
 use Rattle.zk_model.proofs.ExampleRound.{params, prover, verifier, grant, first_ask, second_ask, first_messages, first_reply, second_messages, second_reply, round, asked, replied}
@@ -103,18 +103,9 @@ abbrev prover_task : ProverTask
 prover_task = record { file = prover; statement = statement; inputs = 1 ∷ 1 ∷ [] }
 
 honest : IsHonest prover_task session
-honest = record {
-  hello = refl;
-  asks = All-from_recursion (λ r. r.asks ≡ round_asks prover grant) setup.rounds (asked, tt);
-  wires = 1 ∷ 1 ∷ 1 ∷ [];
-  given = 1 ∷ 1 ∷ 1 ∷ [];
-  witness = record { solves = and_solved; inputs_are = refl };
-  view = view;
-  seen = viewed;
-  corrections = refl;
-  sums = refl;
-  openings = refl;
-}
+honest =
+    honest_by prover_task session (1 ∷ 1 ∷ 1 ∷ []) (1 ∷ 1 ∷ 1 ∷ []) view refl (All-from_recursion (λ r. r.asks ≡ round_asks prover grant) setup.rounds (asked, tt))
+    (record { solves = and_solved; inputs_are = refl }) viewed refl refl refl
 
 -- ---- the verifier
 

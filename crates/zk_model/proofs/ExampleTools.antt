@@ -1,6 +1,6 @@
 -- What the examples are proved with.
 use Rattle.std.proofs.Common.{◌≡◌, ℕ, zero, suc, ◌+◌, ◌<◌, ◌≤◌, true, List, [], ◌∷◌, map, flat_map, length, replicate, length-append, refl, sym, ◌∙◌, ap, subst, inl, inr, arith}
-use Rattle.std.specs.Prelude.{Some, slice_get, nat_lt}
+use Rattle.std.specs.Prelude.{All, Some, slice_get, nat_lt}
 use Rattle.std.specs.List.{list_all}
 use Rattle.std.proofs.lemmas.List.{length-map, length-replicate}
 use Rattle.std.proofs.lemmas.List.Elements.{All-replicate}
@@ -10,8 +10,11 @@ use Rattle.sha2.specs.Sha256.{sha256, digest_bytes, hash_after, compress, rounds
 use Rattle.zk_model.specs.Bytes.{AreBytes}
 use Rattle.zk_model.specs.Program.{Program, IsSet, IsMadeOnce}
 use Rattle.zk_model.specs.Files.{rounds_of}
-use Rattle.zk_model.specs.Transcript.{Transcript, IsTranscript, ask_frame, reply_frame, sent_by, session_turns}
-use Rattle.zk_model.specs.HonestProver.{AreHonestBytes, ProverTask, SentAfter}
+use Rattle.zk_model.specs.Check.{all_sums, opened_pairs}
+use Rattle.zk_model.specs.Mac.{macs_of}
+use Rattle.zk_model.specs.Transcript.{Round, Transcript, IsTranscript, ask_frame, reply_frame, sent_by, session_turns, wanted_hello}
+use Rattle.zk_model.specs.HonestProver.{AreHonestBytes, IsHonest, IsWitness, ProverTask, SentAfter, honest_corrections, round_asks}
+use Rattle.zk_model.specs.View.{View, IsView, view_masks}
 use Rattle.zk_model.specs.declared.Params.{Params}
 use Rattle.zk_model.specs.declared.Product.{Product}
 use Rattle.zk_model.specs.declared.Side.{Side}
@@ -88,6 +91,28 @@ same_count params program t is =
     let each = map (λ round. (flat_map ask_frame round.asks, flat_map reply_frame round.replies)) rounds in
     ap suc (length-append each _
     ∙ ap (λ n. n + 2) (length-map rounds (λ round. (flat_map ask_frame round.asks, flat_map reply_frame round.replies)) ∙ is.commitment.setup.round_count))
+
+-- ---- honest provers
+
+-- a prover is honest whose hello, asks, corrections, sums and openings are those of its witness and its view
+pub honest_by : (task : ProverTask) (t : Transcript) (wires given : List ℕ) (view : View) → t.commitment.setup.hello ≡ wanted_hello task.file.id task.statement
+    → All (λ (round : Round). round.asks ≡ round_asks task.file t.commitment.setup.grant) t.commitment.setup.rounds
+    → IsWitness task.statement task.inputs wires given → IsView task.file task.statement t.commitment view
+    → t.commitment.corrections ≡ honest_corrections given view.pairs
+    → t.sums ≡ all_sums task.statement.program t.commitment.setup.grant.section_length t.challenge view.carried (view_masks task.statement.program view)
+    → t.openings ≡ macs_of (opened_pairs task.statement.program view.carried) → IsHonest task t
+honest_by task t wires given view hello asks witness seen corrections sums openings = record {
+  hello = hello;
+  asks = asks;
+  wires = wires;
+  given = given;
+  witness = witness;
+  view = view;
+  seen = seen;
+  corrections = corrections;
+  sums = sums;
+  openings = openings;
+}
 
 -- where an honest prover has answered all turns of a session, what it sends in the session's log answers what the log has of the verifier
 pub whole_answer : (task : ProverTask) (log : List (Side × ℕ)) (received sent : List ℕ) (turns : ℕ) → turns ≡ rounds_of task.file.params.kind + 3
