@@ -3,26 +3,22 @@ ghost use Rattle.std.specs.Prelude.{◌≡◌};
 ghost use Rattle.zk_model.specs.Field.{from_word};
 ghost use Rattle.proof_frames.specs.Readings.{IsShortPlace};
 
-use crate::dealing_tests::{DIRECT, EXTENDED};
-use crate::vectors::FILE_ID;
 use bool_eval::{eval, eval_wires};
 use bristol_reader::{Circuit, read};
-use dealer_files::{FileFault, NotDealt, Pads, deal, dealt, decode_prover, decode_verifier};
-use field_program::Step;
+use check_findings::{Finding, opening_finding, section_finding};
+use field_program::{FieldProgram, Step};
 use gate_translate::translate;
 use mersenne_field::{Fe, Pair};
 use mult_check::{check_openings, section_left, section_sums};
 use pad_transfer::Masked;
-use proof_audit::{Finding, opening_finding, section_finding};
 use proof_frames::{
     BadFrame, Decoder, Expect, Frame, encode_asks, encode_elements, encode_replies,
 };
-use std::alloc::{AllocError, Global};
+use std::alloc::Global;
 use std::test::Fail;
 use tree_messages::{TreeAsk, TreeReply};
 use wire_auth::{Correlations, KeyTriple, ProverWires, Triple, VerifierWires};
-use zk_coins::CoinBox;
-use zk_model::{FrameKind, Params, Span};
+use zk_model::FrameKind;
 
 /// The element of a small number.
 fn small(number: u64) -> Fe
@@ -47,6 +43,13 @@ fn circuit_of(alloc: Global, text: &[u8]) -> Result<Circuit, Fail> {
         return Err(Fail::new("no circuit"));
     };
     Ok(circuit)
+}
+
+/// The program of a circuit's text.
+fn program_of(alloc: Global, text: &[u8]) -> Result<FieldProgram, Fail> {
+    let circuit = circuit_of(alloc, text)?;
+    let program = translate(alloc, &circuit)?;
+    Ok(program)
 }
 
 /// The coefficients of a polynomial.
@@ -148,8 +151,7 @@ fn an_opened_wire_with_a_fitting_mac_has_the_key_as_a_root(rt: HostRuntime) -> R
 #[test]
 fn a_correction_changes_the_value_and_the_key(rt: HostRuntime) -> Result<(), Fail> {
     let alloc = rt.alloc();
-    let circuit = circuit_of(alloc, b"0 1 1 1 1 1")?;
-    let program = translate(alloc, &circuit)?;
+    let program = program_of(alloc, b"0 1 1 1 1 1")?;
     let key = small(5);
     let pairs = [small_pair(3, 4)];
     let keys = [small(19)];
@@ -194,12 +196,13 @@ fn a_circuit_gives_its_outputs(rt: HostRuntime) -> Result<(), Fail> {
 #[test]
 fn values_of_products_are_those_of_the_bits(rt: HostRuntime) -> Result<(), Fail> {
     let alloc = rt.alloc();
-    let circuit = circuit_of(alloc, b"1 3\n2 1 1\n1 1\n\n2 1 0 1 2 AND\n")?;
-    let program = translate(alloc, &circuit)?;
+    let text = b"1 3\n2 1 1\n1 1\n\n2 1 0 1 2 AND\n";
+    let circuit = circuit_of(alloc, text)?;
     let Ok(bits) = eval_wires(alloc, &circuit, &[true, false]) else {
         return Err(Fail::new("no bits"));
     };
     assert_eq!(rt; bits.as_slice(), [true, false, false].as_slice());
+    let program = program_of(alloc, text)?;
     let pairs = [small_pair(0, 10), small_pair(0, 20), small_pair(0, 30)];
     if program.public() != 0 || program.inputs() != 2 {
         return Err(Fail::new("other inputs"));
@@ -232,104 +235,6 @@ fn values_of_products_are_those_of_the_bits(rt: HostRuntime) -> Result<(), Fail>
         }
     );
     Ok(())
-}
-
-/// Files of kind extended with two units.
-const TWO_UNITS: Params = Params {
-    total: 2,
-    ..EXTENDED
-};
-
-#[test]
-fn files_are_those_of_the_seed(rt: HostRuntime) -> Result<(), Fail> {
-    let (prover, verifier) = deal(rt.alloc(), &DIRECT, &[7; 32])?;
-    assert_eq!(rt; prover.id(), FILE_ID);
-    assert_eq!(rt; verifier.id(), FILE_ID);
-    assert_eq!(rt; verifier.key().value(), 0x0915_3ca4_4e32_ed06);
-    assert_eq!(rt; verifier.challenge(0).value(), 0x01bc_6ff4_e472_2734);
-    let whole = Span { start: 0, end: 1 };
-    let pairs = prover.pairs(whole);
-    let keys = verifier.keys(whole);
-    for (place, x, m, key) in [
-        (
-            0,
-            0x1c18_09bd_908f_f370,
-            0x1edc_cb76_5d6d_b1d9,
-            0x1af3_3887_b838_1960,
-        ),
-        (
-            1,
-            0x00fb_8ca3_403d_19bf,
-            0x1f7b_50c8_6eab_3d5f,
-            0x0928_91b6_a2ba_966d,
-        ),
-        (
-            63,
-            0x15ea_0783_fee7_1fbb,
-            0x196b_5f81_6bea_35f6,
-            0x005e_7969_eb96_b0ad,
-        ),
-    ] {
-        assert_eq!(rt; pairs.get(place), Some(&small_pair(x, m)), "{place}");
-        assert_eq!(rt; keys.get(place), Some(&small(key)), "{place}");
-    }
-    assert_eq!(rt; pairs.len(), 64);
-    assert_eq!(rt; keys.len(), 64);
-    Ok(())
-}
-
-#[test]
-fn files_of_one_dealing_are_told_from_others(rt: HostRuntime) -> Result<(), Fail> {
-    let alloc = rt.alloc();
-    let (prover, verifier) = deal(alloc, &TWO_UNITS, &[7; 32])?;
-    assert_eq!(rt; prover.params(), verifier.params());
-    assert_eq!(rt; prover.pairs(Span { start: 1, end: 2 }).len(), 11);
-    let pads: &[Pads] = verifier.pads(1);
-    assert_eq!(rt; prover.transfers(0).len(), pads.len());
-    assert_eq!(rt; prover.encode(alloc)?.len(), 353 + 193);
-    assert_eq!(rt; verifier.encode(alloc)?.len(), 288 + 120);
-    assert_eq!(rt; dealt(&prover, &verifier), Ok(()));
-    let (other, _) = deal(alloc, &TWO_UNITS, &[8; 32])?;
-    assert_eq!(rt; dealt(&other, &verifier), Err(NotDealt { unit: 0 }));
-    Ok(())
-}
-
-/// Whether files as bytes are read by their own side alone, and not with a byte after them.
-fn are_read_back(alloc: Global, prover: &[u8], verifier: &[u8]) -> Result<bool, AllocError> {
-    let mut longer = prover.to_vec(alloc)?;
-    longer.push(0)?;
-    Ok(
-        decode_prover(alloc, prover).is_ok()
-            && decode_verifier(alloc, verifier).is_ok()
-            && matches!(decode_prover(alloc, verifier), Err(FileFault::BadKind))
-            && matches!(decode_verifier(alloc, prover), Err(FileFault::BadKind))
-            && matches!(decode_prover(alloc, &longer), Err(FileFault::Length { .. })),
-    )
-}
-
-#[test]
-fn files_are_read_back(rt: HostRuntime) -> Result<(), Fail> {
-    let alloc = rt.alloc();
-    let (prover, verifier) = deal(alloc, &DIRECT, &[7; 32])?;
-    let left = prover.encode(alloc)?;
-    let right = verifier.encode(alloc)?;
-    assert_eq!(rt; (left.len(), right.len()), (1184, 680));
-    assert!(rt; are_read_back(alloc, &left, &right)?);
-    let (prover, verifier) = deal(alloc, &TWO_UNITS, &[7; 32])?;
-    let left = prover.encode(alloc)?;
-    let right = verifier.encode(alloc)?;
-    assert!(rt; are_read_back(alloc, &left, &right)?);
-    Ok(())
-}
-
-#[test]
-fn words_of_coins_stand_low_byte_first(rt: HostRuntime) {
-    let coins = CoinBox::new(&[7; 32]);
-    let id = coins.bytes(0);
-    assert_eq!(rt; id, FILE_ID);
-    assert_eq!(rt; coins.seed16(0, 0).as_slice(), &FILE_ID[..16]);
-    assert_eq!(rt; coins.seed16(0, 1).as_slice(), &FILE_ID[16..]);
-    assert_eq!(rt; coins.word(0, 0), 0x41f6_aa57_7892_00f4);
 }
 
 #[test]

@@ -3,7 +3,7 @@
 //!
 //! `run_tests` has a rehearsal that is handed back and words that are long, `log_tests` a session's log byte for byte, and `serve_tests`
 //! services whose gate holds sessions or counts what it is told, with peers that are honest over whichever units they are granted.
-//! `party_tests` has both ends in one process, over a connection, and `port_tests` real files and connections. `given` has dealt files and journals, `vectors` bytes that the program
+//! `party_tests` has both ends in one process, over a connection. `given` has dealt files and journals, `vectors` bytes that the program
 //! did not make.
 #![tactic(auto)]
 
@@ -15,8 +15,6 @@ mod log_tests;
 mod party_tests;
 #[cfg(test)]
 mod peers;
-#[cfg(test)]
-mod port_tests;
 #[cfg(test)]
 mod run_tests;
 #[cfg(test)]

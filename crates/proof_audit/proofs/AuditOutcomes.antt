@@ -16,8 +16,8 @@ use Rattle.proof_audit.specs.Audits.{AuditCause}
 use Rattle.proof_audit.specs.Laws.{AcceptedLogsAreRight, OneAnswer}
 use Rattle.proof_audit.specs.declared.fault.AuditFault.{AuditFault}
 use Rattle.proof_audit.specs.declared.fault.AuditFault.TheVariants as fault
-use Rattle.proof_audit.specs.declared.finding.Finding.{Finding}
-use Rattle.proof_audit.specs.declared.finding.Finding.TheVariants.{Inputs, ChallengeRoot, KeyRoot, NotAccepted}
+use Rattle.check_findings.specs.declared.finding.Finding.{Finding}
+use Rattle.check_findings.specs.declared.finding.Finding.TheVariants.{Inputs, ChallengeRoot, KeyRoot, NotAccepted}
 use Rattle.command_words.specs.Words.{AuditAsk}
 use Rattle.proof_audit.specs.AuditRuns.{AreFiles, audit_refusal, Audits, AuditLines, AuditMeans, AuditStop, FindsIn, HasAudit, IsAuditable, IsAuditName, LacksProver, LacksVerifier, LacksLog, finding_status, found_status, finding_line}
 use Rattle.file_commands.specs.Effects.{ShelfChange, Effects, OnlyLoads, HasFailed, IsName, SomeFailed}

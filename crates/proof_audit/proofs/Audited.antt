@@ -25,13 +25,13 @@ use Rattle.zk_laws.proofs.Views.{rounds_are, enough_pairs, given_count}
 use Rattle.zk_laws.proofs.WholePairs.{pairs_are_whole}
 use Rattle.zk_laws.specs.SeenPairs.{AreSessionPairs}
 use Rattle.proof_audit.specs.Audits.{IsAudited, AreBitsOf, Gives}
-use Rattle.proof_audit.specs.Findings.{ShowsOpening}
+use Rattle.check_findings.specs.Findings.{ShowsOpening}
 use Rattle.proof_audit.specs.Seen.{HasRounds, ArePairsBy, AreSeenPairs}
 use Rattle.proof_audit.specs.SeenWires.{SeenSide}
 use Rattle.proof_audit.specs.Searches.{SectionsMeet, OpeningsMeet, NoErrorsBefore, AreAsClaimedBefore, ShowsFirstSection}
 use Rattle.proof_audit.specs.Stages.{rounds_read, setup_read, commitment_read, transcript_read}
-use Rattle.proof_audit.specs.declared.finding.Finding.{Finding}
-use Rattle.proof_audit.specs.declared.finding.Finding.TheVariants.{Inputs, ChallengeRoot, KeyRoot, NotAccepted}
+use Rattle.check_findings.specs.declared.finding.Finding.{Finding}
+use Rattle.check_findings.specs.declared.finding.Finding.TheVariants.{Inputs, ChallengeRoot, KeyRoot, NotAccepted}
 use Rattle.proof_audit.specs.declared.session.Session.{Session}
 
 -- ---- the session

@@ -17,8 +17,8 @@ use Rattle.zk_laws.proofs.OneFinding.{one_finding}
 use Rattle.session_laws.proofs.OutputsShown.{extracted_shows_outputs}
 use Rattle.proof_audit.specs.Audits.{IsAudited, Gives, Finds, audit_task}
 use Rattle.proof_audit.specs.Stages.{transcript_read}
-use Rattle.proof_audit.specs.declared.finding.Finding.{Finding}
-use Rattle.proof_audit.specs.declared.finding.Finding.TheVariants.{Inputs, ChallengeRoot, KeyRoot, NotAccepted}
+use Rattle.check_findings.specs.declared.finding.Finding.{Finding}
+use Rattle.check_findings.specs.declared.finding.Finding.TheVariants.{Inputs, ChallengeRoot, KeyRoot, NotAccepted}
 use Rattle.proof_audit.specs.declared.session.Session.{Session}
 
 -- ---- the one finding, and what it says

@@ -1,4 +1,3 @@
-pub mod Roots
 pub mod Fed
 pub mod Steps
 pub mod OneVerdict

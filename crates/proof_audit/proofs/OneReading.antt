@@ -1,5 +1,5 @@
 -- The bytes of faultless frames have one reading.
-use Rattle.std.proofs.Common.{◌≡◌, ℕ, zero, suc, ◌+◌, ◌-◌, ◌<◌, ◌≤◌, ◌⊎◌, inl, inr, Some, None, List, [], ◌∷◌, ◌++◌, take, drop, length, refl, sym, ◌∙◌, ap, subst, arith, append_assoc, append-nil}
+use Rattle.std.proofs.Common.{◌≡◌, ℕ, zero, suc, ◌+◌, ◌-◌, ◌<◌, ◌≤◌, ◌⊎◌, inl, inr, Option, Some, None, List, [], ◌∷◌, ◌++◌, take, drop, length, refl, sym, ◌∙◌, ap, subst, arith, append_assoc, append-nil}
 use Rattle.std.proofs.lemmas.List.{append_cancel_left, take-append-le, take-append-drop}
 use Rattle.std.proofs.Math.Seq.{take-append-add}
 use Rattle.zk_model.specs.Transcript.{BeginsWith}
@@ -12,8 +12,8 @@ use Rattle.proof_audit.specs.Laws.{WholeLogsAreRight}
 
 -- ---- one frame
 
-one_place : (some other : Expect) → Some some ≡ Some other → some ≡ other
-one_place some other same = cc
+one_place : (place : Option Expect) (some other : Expect) → place ≡ Some some → place ≡ Some other → some ≡ other
+one_place place some other left right = let same = sym left ∙ right in cc
 
 -- of two lists that begin a third, one begins the other
 either_begins : (xs ys ms ns : List ℕ) → xs ++ ms ≡ ys ++ ns → BeginsWith xs ys ⊎ BeginsWith ys xs
@@ -83,15 +83,9 @@ one_reading task before (f ∷ frames) (o ∷ others) rest some whole none same 
     right : IsRight task before o
     right = whole before o others refl
 
-    at : Some right.place ≡ Some left.place
-    at = sym right.placed.place_is ∙ left.placed.place_is
-
-    place : right.place ≡ left.place
-    place = one_place right.place left.place at
-
     found : (f ≡ o) × (frames_spelling frames ++ rest ≡ frames_spelling others)
     found = one_frame left.place f o (frames_spelling frames ++ rest) (frames_spelling others) left.placed.allowed
-        (subst (λ p. Allows p o) place right.placed.allowed)
+        (subst (λ p. Allows p o) (one_place _ right.place left.place right.placed.place_is left.placed.place_is) right.placed.allowed)
         (sym (append_assoc (frame_spelling f) (frames_spelling frames) rest) ∙ same)
 
     regrouped : before ++ o ∷ others ≡ (before ++ f ∷ []) ++ others
@@ -156,15 +150,10 @@ no_fault_in task others frames (m ∷ more) rest n whole none is bytes (inr wron
     right : IsRight task frames m
     right = whole frames m more is
 
-    at : Some right.place ≡ Some wrong.place
-    at = sym right.placed.place_is ∙ wrong.placed.place_is
-
-    place : right.place ≡ wrong.place
-    place = one_place right.place wrong.place at
-
     found : (wrong.frame ≡ m) × (wrong.spelled.0 ≡ frames_spelling more)
     found = one_frame wrong.place wrong.frame m wrong.spelled.0 (frames_spelling more) wrong.placed.allowed
-        (subst (λ p. Allows p m) place right.placed.allowed) (sym wrong.spelled.1 ∙ bytes)
+        (subst (λ p. Allows p m) (one_place _ right.place wrong.place right.placed.place_is wrong.placed.place_is) right.placed.allowed)
+        (sym wrong.spelled.1 ∙ bytes)
 
 -- nor does it end early
 not_early_in : (task : VerifierTask) (others frames more : List Frame) (rest : List ℕ) (place : Expect) → AreFaultless task others
@@ -183,14 +172,8 @@ not_early_in task others frames (m ∷ more) rest place whole none is bytes at b
     right : IsRight task frames m
     right = whole frames m more is
 
-    both : Some right.place ≡ Some place
-    both = sym right.placed.place_is ∙ at
-
-    here : right.place ≡ place
-    here = one_place right.place place both
-
     allowed : Allows place m
-    allowed = subst (λ p. Allows p m) here right.placed.allowed
+    allowed = subst (λ p. Allows p m) (one_place _ right.place place right.placed.place_is at) right.placed.allowed
 
 -- ---- the law
 

@@ -7,8 +7,8 @@ use Rattle.zk_model.specs.Check.{IsFirstFailure}
 use Rattle.zk_model.specs.Program.{section_count}
 use Rattle.proof_audit.specs.SeenWires.{SeenSide}
 use Rattle.proof_audit.specs.Searches.{NoErrorsBefore, ShowsSectionAt, ShowsFirstSection, errors_at}
-use Rattle.proof_audit.specs.declared.finding.Finding.{Finding}
-use Rattle.proof_audit.specs.declared.finding.Finding.TheVariants.{Inputs, ChallengeRoot, KeyRoot, NotAccepted}
+use Rattle.check_findings.specs.declared.finding.Finding.{Finding}
+use Rattle.check_findings.specs.declared.finding.Finding.TheVariants.{Inputs, ChallengeRoot, KeyRoot, NotAccepted}
 use Rattle.proof_audit.specs.declared.session.Session.{Session}
 
 pub shows_first : (side : SeenSide) (pairs : List Pair) (s : Session) (i : ℕ) (shown : Finding) → ShowsSectionAt i side pairs s shown

@@ -17,8 +17,8 @@ use Rattle.dealer_files.specs.Faults.{IsDealtFile}
 use Rattle.proof_audit.specs.Audits.{Finds, AuditCause}
 use Rattle.proof_audit.specs.declared.fault.AuditFault.{AuditFault}
 use Rattle.proof_audit.specs.declared.fault.AuditFault.TheVariants as fault
-use Rattle.proof_audit.specs.declared.finding.Finding.{Finding}
-use Rattle.proof_audit.specs.declared.finding.Finding.TheVariants.{Inputs, ChallengeRoot, KeyRoot, NotAccepted}
+use Rattle.check_findings.specs.declared.finding.Finding.{Finding}
+use Rattle.check_findings.specs.declared.finding.Finding.TheVariants.{Inputs, ChallengeRoot, KeyRoot, NotAccepted}
 use Rattle.file_commands.specs.Effects.{ShelfChange, Effects, OnlyLoads, HasFailed}
 use Rattle.file_commands.specs.Stops.{PrintsMade, WritesAll, SaysStop, IsOfStop, IsLoaded, HasText, HasCircuit, IsClaim, ClaimStop, FileStop, LoadStop, IsProverFileAt, IsVerifierFileAt}
 use Rattle.proof_audit.specs.declared.audit_command.AuditWords.{AuditWords}

@@ -14,8 +14,8 @@ use Rattle.dealer_files.specs.Dealt.{IsFirstApart}
 use Rattle.proof_audit.specs.Stages.{KeepsKeys, transcript_read}
 use Rattle.proof_audit.specs.declared.fault.AuditFault.{AuditFault}
 use Rattle.proof_audit.specs.declared.fault.AuditFault.TheVariants.{NotDealt, LogFault, NoMemory}
-use Rattle.proof_audit.specs.declared.finding.Finding.{Finding}
-use Rattle.proof_audit.specs.declared.finding.Finding.TheVariants.{Inputs, ChallengeRoot, KeyRoot, NotAccepted}
+use Rattle.check_findings.specs.declared.finding.Finding.{Finding}
+use Rattle.check_findings.specs.declared.finding.Finding.TheVariants.{Inputs, ChallengeRoot, KeyRoot, NotAccepted}
 use Rattle.proof_audit.specs.declared.session.Session.{Session}
 
 -- ---- a session

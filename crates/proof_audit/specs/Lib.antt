@@ -1,4 +1,3 @@
-pub mod Findings
 pub mod Reading
 pub mod Stages
 pub mod Sessions

@@ -9,11 +9,11 @@ use Rattle.zk_model.specs.Transcript.{Hello}
 use Rattle.zk_model.specs.View.{View}
 use Rattle.zk_model.specs.ServedVerifier.{VerifierTask}
 use Rattle.zk_model.specs.Finding.{IsSectionRoot, IsChallengeRoot}
-use Rattle.proof_audit.specs.Findings.{SectionMeets, OpeningMeets, ShowsOpening, IsErrorRoot, IsSumRoot}
+use Rattle.check_findings.specs.Findings.{SectionMeets, OpeningMeets, ShowsOpening, IsErrorRoot, IsSumRoot}
 use Rattle.proof_audit.specs.SeenWires.{SeenSide}
 use Rattle.proof_audit.specs.Stages.{transcript_read}
-use Rattle.proof_audit.specs.declared.finding.Finding.{Finding}
-use Rattle.proof_audit.specs.declared.finding.Finding.TheVariants.{Inputs, ChallengeRoot, KeyRoot, NotAccepted}
+use Rattle.check_findings.specs.declared.finding.Finding.{Finding}
+use Rattle.check_findings.specs.declared.finding.Finding.TheVariants.{Inputs, ChallengeRoot, KeyRoot, NotAccepted}
 use Rattle.proof_audit.specs.declared.session.Session.{Session}
 
 -- the pairs of a session, and those of its wires

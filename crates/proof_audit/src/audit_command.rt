@@ -10,9 +10,9 @@ ghost use Rattle.file_commands.specs.Stops.{PrintsMade};
 
 use crate::auditing::audit;
 use crate::fault::AuditFault;
-use crate::finding::Finding;
 use crate::laws::{accepted_logs_are_right, one_answer};
 use bristol_reader::one_circuit;
+use check_findings::Finding;
 use command_words::write_bits;
 use dealer_files::{ProverFile, VerifierFile};
 use file_commands::{

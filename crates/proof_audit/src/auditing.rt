@@ -8,7 +8,6 @@ ghost use Rattle.proof_audit.specs.Stages.{transcript_read};
 ghost use Rattle.proof_audit.specs.declared.fault.AuditFault.TheVariants as causes;
 
 use crate::fault::AuditFault;
-use crate::finding::Finding;
 use crate::judge::Judge;
 use crate::log::read_session;
 use crate::pairs::seen_pairs;
@@ -16,6 +15,7 @@ use crate::search::{first_wrong_output, first_wrong_section};
 use crate::seen::SeenWires;
 use crate::session::Session;
 use bristol_reader::Circuit;
+use check_findings::Finding;
 use dealer_files::{NotDealt, ProverFile, VerifierFile, dealt};
 use session_core::{CircuitClaim, Statement};
 use std::alloc::{AllocError, Global};

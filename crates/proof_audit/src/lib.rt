@@ -1,10 +1,10 @@
 //! What the log of a session proves, given both dealt files (Weng, Yang, Katz and Wang, Wolverine, IEEE S&P 2021; Yang, Sarkar,
 //! Weng and Wang, QuickSilver, ACM CCS 2021).
 //!
-//! `auditing` has `audit`; `finding` has `Finding`, and what one section or one opened wire shows; `fault` has why there is none. `reading`
-//! reads frames from a log's bytes, `judge` says which of them are given, and `log` reads a `session` with both. `pairs` has the pairs that
-//! the prover's file and a session fix, `seen` those of all wires, and `search` the first section or opened wire that shows something.
-//! `laws` says what a log can be at once, and `audit_command` has the command `audit`.
+//! `auditing` has `audit`, and `fault` why there is no finding. `reading` reads frames from a log's bytes, `judge` says which of them
+//! are given, and `log` reads a `session` with both. `pairs` has the pairs that the prover's file and a session fix, `seen` those of all
+//! wires, and `search` the first section or opened wire that shows something. `laws` says what a log can be at once, and
+//! `audit_command` has the command `audit`.
 //!
 //!     let finding = audit(alloc, &circuit, digest, &public, &outputs, &prover, &verifier, &log)?;
 #![tactic(auto)]
@@ -12,7 +12,6 @@
 mod audit_command;
 mod auditing;
 mod fault;
-mod finding;
 mod judge;
 mod laws;
 mod log;
@@ -25,6 +24,6 @@ mod values;
 
 pub use audit_command::{AuditWords, run_audit};
 pub use auditing::audit;
+pub use check_findings::Finding;
 pub use fault::AuditFault;
-pub use finding::{Finding, opening_finding, section_finding};
 pub use laws::{accepted_logs_are_right, found_shows_outputs, one_answer, whole_logs_are_right};

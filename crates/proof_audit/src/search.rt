@@ -5,13 +5,13 @@ ghost use Rattle.zk_model.specs.Check.{opened_pairs, section_triples, IsFirstFai
 ghost use Rattle.zk_model.specs.Mac.{Pair as model, pair_at};
 ghost use Rattle.zk_model.specs.Polynomial.{IsZero};
 ghost use Rattle.zk_model.specs.Program.{section_count};
-ghost use Rattle.proof_audit.specs.Findings.{ShowsSection, ShowsOpening};
+ghost use Rattle.check_findings.specs.Findings.{ShowsSection, ShowsOpening};
 ghost use Rattle.proof_audit.specs.SeenWires.{SeenSide};
 ghost use Rattle.proof_audit.specs.Searches.{SectionsMeet, OpeningsMeet, NoErrorsBefore, AreAsClaimedBefore, ShowsSectionAt, ShowsWrongSection, ShowsFirstSection, ShowsFirstOpening, errors_at};
 
-use crate::finding::{Finding, opening_finding, section_finding};
 use crate::seen::SeenWires;
 use crate::session::Session;
+use check_findings::{Finding, opening_finding, section_finding};
 use mersenne_field::Pair;
 use std::alloc::{AllocError, Global};
 

@@ -3,8 +3,8 @@ use Rattle.std.proofs.lemmas.Bool.{false≢true}
 use Rattle.zk_model.specs.Field.{◌-ₚ◌}
 use Rattle.zk_model.specs.Polynomial.{IsZero, value_at}
 use Rattle.zk_model.specs.Check.{error_polynomial}
-use Rattle.proof_audit.proofs.Roots.{sum_root}
-use Rattle.proof_audit.proofs.finding.section_finding.Goals as goal
+use Rattle.check_findings.proofs.Roots.{sum_root}
+use Rattle.check_findings.proofs.finding.section_finding.Goals as goal
 
 pub returns-then-is_zero_poly-clause-none : goal.returns-then-is_zero_poly-clause-none
 returns-then-is_zero_poly-clause-none c =

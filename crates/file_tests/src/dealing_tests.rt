@@ -3,18 +3,20 @@ use crate::vectors::{FILE_ID, FILES, JOURNALS};
 use dealer_files::FileFault::{
     BadDigest, BadElement, BadKind, BadMagic, BadParam, Length, ZeroKey,
 };
-use dealer_files::{FileFault, deal, decode_prover, decode_verifier};
+use dealer_files::{FileFault, NotDealt, Pads, deal, dealt, decode_prover, decode_verifier};
 use lease_journal::{JournalKind, blank, ceiling_slots, claim_slots};
+use mersenne_field::{Fe, Pair};
 use sha2::{Digest, Sha256};
 use std::alloc::{AllocError, Global};
 use std::test::Fail;
-use zk_model::{Kind, Params, Side};
+use zk_coins::CoinBox;
+use zk_model::{Kind, Params, Side, Span};
 
 /// The seed of all files.
 const SEED: [u8; 32] = [7; 32];
 
 /// Files of kind direct with one unit.
-pub const DIRECT: Params = Params {
+const DIRECT: Params = Params {
     kind: Kind::Direct,
     height: 0,
     trees: 0,
@@ -23,7 +25,7 @@ pub const DIRECT: Params = Params {
 };
 
 /// Files of kind extended with one unit: one tree of height 1, and base pairs for one round.
-pub const EXTENDED: Params = Params {
+const EXTENDED: Params = Params {
     kind: Kind::Extended,
     height: 1,
     trees: 1,
@@ -356,4 +358,106 @@ fn the_first_fault_is_told(rt: HostRuntime) -> Result<(), Fail> {
         assert_eq!(rt; told, Some(fault), "{length}");
     }
     Ok(())
+}
+
+/// Files of kind extended with two units.
+const TWO_UNITS: Params = Params {
+    total: 2,
+    ..EXTENDED
+};
+
+#[test]
+fn files_are_those_of_the_seed(rt: HostRuntime) -> Result<(), Fail> {
+    let (prover, verifier) = deal(rt.alloc(), &DIRECT, &[7; 32])?;
+    assert_eq!(rt; prover.id(), FILE_ID);
+    assert_eq!(rt; verifier.id(), FILE_ID);
+    assert_eq!(rt; verifier.key().value(), 0x0915_3ca4_4e32_ed06);
+    assert_eq!(rt; verifier.challenge(0).value(), 0x01bc_6ff4_e472_2734);
+    let whole = Span { start: 0, end: 1 };
+    let pairs = prover.pairs(whole);
+    let keys = verifier.keys(whole);
+    for (place, x, m, key) in [
+        (
+            0,
+            0x1c18_09bd_908f_f370,
+            0x1edc_cb76_5d6d_b1d9,
+            0x1af3_3887_b838_1960,
+        ),
+        (
+            1,
+            0x00fb_8ca3_403d_19bf,
+            0x1f7b_50c8_6eab_3d5f,
+            0x0928_91b6_a2ba_966d,
+        ),
+        (
+            63,
+            0x15ea_0783_fee7_1fbb,
+            0x196b_5f81_6bea_35f6,
+            0x005e_7969_eb96_b0ad,
+        ),
+    ] {
+        let pair = Pair {
+            x: Fe::from_word(x),
+            m: Fe::from_word(m),
+        };
+        assert_eq!(rt; pairs.get(place), Some(&pair), "{place}");
+        assert_eq!(rt; keys.get(place), Some(&Fe::from_word(key)), "{place}");
+    }
+    assert_eq!(rt; pairs.len(), 64);
+    assert_eq!(rt; keys.len(), 64);
+    Ok(())
+}
+
+#[test]
+fn files_of_one_dealing_are_told_from_others(rt: HostRuntime) -> Result<(), Fail> {
+    let alloc = rt.alloc();
+    let (prover, verifier) = deal(alloc, &TWO_UNITS, &[7; 32])?;
+    assert_eq!(rt; prover.params(), verifier.params());
+    assert_eq!(rt; prover.pairs(Span { start: 1, end: 2 }).len(), 11);
+    let pads: &[Pads] = verifier.pads(1);
+    assert_eq!(rt; prover.transfers(0).len(), pads.len());
+    assert_eq!(rt; prover.encode(alloc)?.len(), 353 + 193);
+    assert_eq!(rt; verifier.encode(alloc)?.len(), 288 + 120);
+    assert_eq!(rt; dealt(&prover, &verifier), Ok(()));
+    let (other, _) = deal(alloc, &TWO_UNITS, &[8; 32])?;
+    assert_eq!(rt; dealt(&other, &verifier), Err(NotDealt { unit: 0 }));
+    Ok(())
+}
+
+/// Whether files as bytes are read by their own side alone, and not with a byte after them.
+fn are_read_back(alloc: Global, prover: &[u8], verifier: &[u8]) -> Result<bool, AllocError> {
+    let mut longer = prover.to_vec(alloc)?;
+    longer.push(0)?;
+    Ok(
+        decode_prover(alloc, prover).is_ok()
+            && decode_verifier(alloc, verifier).is_ok()
+            && matches!(decode_prover(alloc, verifier), Err(FileFault::BadKind))
+            && matches!(decode_verifier(alloc, prover), Err(FileFault::BadKind))
+            && matches!(decode_prover(alloc, &longer), Err(FileFault::Length { .. })),
+    )
+}
+
+#[test]
+fn files_are_read_back(rt: HostRuntime) -> Result<(), Fail> {
+    let alloc = rt.alloc();
+    let (prover, verifier) = deal(alloc, &DIRECT, &[7; 32])?;
+    let left = prover.encode(alloc)?;
+    let right = verifier.encode(alloc)?;
+    assert_eq!(rt; (left.len(), right.len()), (1184, 680));
+    assert!(rt; are_read_back(alloc, &left, &right)?);
+    let (prover, verifier) = deal(alloc, &TWO_UNITS, &[7; 32])?;
+    let left = prover.encode(alloc)?;
+    let right = verifier.encode(alloc)?;
+    assert!(rt; are_read_back(alloc, &left, &right)?);
+    Ok(())
+}
+
+#[test]
+fn words_of_coins_stand_low_byte_first(rt: HostRuntime) {
+    let coins = CoinBox::new(&[7; 32]);
+    let id = coins.bytes(0);
+    assert_eq!(rt; id, FILE_ID);
+    assert_eq!(rt; coins.seed16(0, 0).as_slice(), &FILE_ID[..16]);
+    assert_eq!(rt; coins.seed16(0, 1).as_slice(), &FILE_ID[16..]);
+    assert_eq!(rt; coins.word(0, 0), 0x41f6_aa57_7892_00f4);
 }

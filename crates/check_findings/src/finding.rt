@@ -4,7 +4,7 @@ ghost use Rattle.zk_model.specs.Bits.{from_bit};
 ghost use Rattle.zk_model.specs.Field.{IsElement};
 ghost use Rattle.zk_model.specs.Polynomial.{IsZero};
 ghost use Rattle.zk_model.specs.Check.{error_polynomial, key_polynomial, opening_polynomial};
-ghost use Rattle.proof_audit.specs.Findings.{SectionMeets, OpeningMeets, ShowsSection, ShowsOpening};
+ghost use Rattle.check_findings.specs.Findings.{SectionMeets, OpeningMeets, ShowsSection, ShowsOpening};
 
 use mersenne_field::{Fe, Pair};
 use mult_check::section_sums;

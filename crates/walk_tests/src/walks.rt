@@ -1,5 +1,5 @@
 // Walks over trees and along programs, the slots they take and the sums over parts of their products.
-ghost use Rattle.std.specs.Prelude.{◌≡◌, ◌≤◌, ◌<◌};
+ghost use Rattle.std.specs.Prelude.{◌≡◌, ◌≤◌, ◌<◌, length, IfOk};
 ghost use Rattle.zk_model.specs.Field.{from_word};
 ghost use Rattle.zk_model.specs.declared.limits.TheConstants.{MAX_HEIGHT};
 
@@ -34,6 +34,21 @@ fn small_pair(x: u64, m: u64) -> Pair {
     }
 }
 
+/// A node as a number.
+fn number(node: [u8; 16]) -> u128 {
+    u128::from_be_bytes(node)
+}
+
+/// The pairs of a product's factors and of its value.
+fn triple(a: Pair, b: Pair, c: Pair) -> Triple {
+    Triple { a, b, c }
+}
+
+/// Their keys.
+fn key_triple(a: Fe, b: Fe, c: Fe) -> KeyTriple {
+    KeyTriple { a, b, c }
+}
+
 /// The sums of the tree that grows from the zero node.
 fn sums_of_zero(height: u32) -> WalkSums
     requires { height ≤ MAX_HEIGHT }
@@ -61,6 +76,24 @@ fn program_of(alloc: Global, text: &str) -> Result<FieldProgram, Fail> {
     Ok(program)
 }
 
+/// The program of one AND gate.
+fn and_program(alloc: Global) -> Result<FieldProgram, Fail>
+    ensures public { IfOk result (λ program. program.public ≡ 0) }
+    ensures inputs { IfOk result (λ program. program.inputs ≡ 2) }
+    ensures givens { IfOk result (λ program. program.givens ≡ 3) }
+    ensures products { IfOk result (λ program. length program.products ≡ 3) }
+    ensures opened { IfOk result (λ program. length program.opened ≡ 1) }
+{
+    let program = program_of(alloc, AND)?;
+    if program.public() != 0 || program.inputs() != 2 || program.givens() != 3 {
+        return Err(Fail::new("other values"));
+    }
+    if program.products() != 3 || program.opened().len() != 1 {
+        return Err(Fail::new("another program"));
+    }
+    Ok(program)
+}
+
 /// The slots of a circuit's text.
 fn slots_of(alloc: Global, text: &str) -> Result<usize, Fail> {
     let program = program_of(alloc, text)?;
@@ -78,27 +111,28 @@ fn long_chain(alloc: Global) -> Result<String, Fail> {
     Ok(text)
 }
 
-// Sums and leaves of hashlib's SHA-256.
+/// The sums of the last level, the left ones and the right ones, of the trees of height 1 and 3. They are made of hashlib's SHA-256, as
+/// the sums and the values of leaves below are.
+const LAST_LEVELS: [(u128, u128); 2] = [
+    (
+        0x3747_08ff_f771_9dd5_979e_c875_d56c_d228,
+        0x6f6d_3cf7_ec31_7a3b_2563_2aab_28ec_37bb,
+    ),
+    (
+        0x29f9_b3d5_4985_f935_7cf2_b51d_bc5c_69d1,
+        0x3502_b1b2_84c8_9b64_0f04_be2a_558b_cf9a,
+    ),
+];
+
 #[test]
 fn sums_of_the_tree_of_zero_are_those_of_its_digests(rt: HostRuntime) {
     let one = sums_of_zero(1);
-    assert_eq!(rt;
-        u128::from_be_bytes(one.left[0]),
-        0x3747_08ff_f771_9dd5_979e_c875_d56c_d228
-    );
-    assert_eq!(rt;
-        u128::from_be_bytes(one.right[0]),
-        0x6f6d_3cf7_ec31_7a3b_2563_2aab_28ec_37bb
-    );
+    assert_eq!(rt; (number(one.left[0]), number(one.right[0])), LAST_LEVELS[0]);
     assert_eq!(rt; one.leaf_sum.value(), 1_231_633_226_888_688_807);
     let three = sums_of_zero(3);
     assert_eq!(rt;
-        u128::from_be_bytes(three.left[2]),
-        0x29f9_b3d5_4985_f935_7cf2_b51d_bc5c_69d1
-    );
-    assert_eq!(rt;
-        u128::from_be_bytes(three.right[2]),
-        0x3502_b1b2_84c8_9b64_0f04_be2a_558b_cf9a
+        (number(three.left[2]), number(three.right[2])),
+        LAST_LEVELS[1]
     );
     assert_eq!(rt; three.leaf_sum.value(), 1_314_346_922_713_974_866);
 }
@@ -138,109 +172,40 @@ fn slots_are_as_many_as_wires_that_are_live_at_once(rt: HostRuntime) -> Result<(
     Ok(())
 }
 
-/// The pairs of the products of the AND gate at 1 and 0: both inputs by themselves, and the gate's.
-fn and_triples() -> [Triple; 3] {
-    let (one, other, value) = (small_pair(1, 10), small_pair(0, 20), small_pair(0, 30));
-    [
-        Triple {
-            a: one,
-            b: one,
-            c: one,
-        },
-        Triple {
-            a: other,
-            b: other,
-            c: other,
-        },
-        Triple {
-            a: one,
-            b: other,
-            c: value,
-        },
-    ]
-}
-
 #[test]
-fn pairs_of_products_come_in_order(rt: HostRuntime) -> Result<(), Fail> {
+fn products_come_in_order_at_both_ends(rt: HostRuntime) -> Result<(), Fail> {
     let alloc = rt.alloc();
-    let program = program_of(alloc, AND)?;
+    let program = and_program(alloc)?;
     let plan = SlotPlan::of(alloc, &program)?;
-    if program.public() != 0 || program.inputs() != 2 || program.givens() != 3 {
-        return Err(Fail::new("other values"));
-    }
-    if program.products() != 3 || program.opened().len() != 1 {
-        return Err(Fail::new("another program"));
-    }
     let inputs = [small(1), small(0)];
     let dealt = [small_pair(0, 10), small_pair(0, 20), small_pair(0, 30)];
     let mut walk = ProverWalk::new(alloc, &program, &plan, &[], &inputs, &dealt)?;
-    let [first, second, third] = and_triples();
-    assert_eq!(rt; walk.next(), Some(first));
-    assert_eq!(rt; walk.next(), Some(second));
-    assert_eq!(rt; walk.next(), Some(third));
+    let (one, other, value) = (small_pair(1, 10), small_pair(0, 20), small_pair(0, 30));
+    assert_eq!(rt; walk.next(), Some(triple(one, one, one)));
+    assert_eq!(rt; walk.next(), Some(triple(other, other, other)));
+    assert_eq!(rt; walk.next(), Some(triple(one, other, value)));
     assert_eq!(rt; walk.next(), None);
-    assert_eq!(rt; walk.output(0), small_pair(0, 30));
-    Ok(())
-}
-
-/// Their keys under the key 5: each MAC and 5 times its value.
-fn and_key_triples() -> [KeyTriple; 3] {
-    let (one, other, value) = (small(15), small(20), small(30));
-    [
-        KeyTriple {
-            a: one,
-            b: one,
-            c: one,
-        },
-        KeyTriple {
-            a: other,
-            b: other,
-            c: other,
-        },
-        KeyTriple {
-            a: one,
-            b: other,
-            c: value,
-        },
-    ]
-}
-
-#[test]
-fn keys_of_products_come_in_order(rt: HostRuntime) -> Result<(), Fail> {
-    let alloc = rt.alloc();
-    let program = program_of(alloc, AND)?;
-    let plan = SlotPlan::of(alloc, &program)?;
-    if program.public() != 0 || program.inputs() != 2 || program.givens() != 3 {
-        return Err(Fail::new("other values"));
-    }
-    if program.products() != 3 || program.opened().len() != 1 {
-        return Err(Fail::new("another program"));
-    }
-    let keys = [small(10), small(20), small(30)];
-    let corrections = [small(1), small(0), small(0)];
+    assert_eq!(rt; walk.output(0), value);
+    // Under the key 5: each MAC and 5 times its value.
+    let (keys, corrections) = (
+        [small(10), small(20), small(30)],
+        [small(1), small(0), small(0)],
+    );
     let mut walk = VerifierWalk::new(alloc, &program, &plan, &[], &keys, small(5), &corrections)?;
-    let [first, second, third] = and_key_triples();
-    assert_eq!(rt; walk.next(), Some(first));
-    assert_eq!(rt; walk.next(), Some(second));
-    assert_eq!(rt; walk.next(), Some(third));
+    let (one, other, value) = (small(15), small(20), small(30));
+    assert_eq!(rt; walk.next(), Some(key_triple(one, one, one)));
+    assert_eq!(rt; walk.next(), Some(key_triple(other, other, other)));
+    assert_eq!(rt; walk.next(), Some(key_triple(one, other, value)));
     assert_eq!(rt; walk.next(), None);
-    assert_eq!(rt; walk.output(0), small(30));
+    assert_eq!(rt; walk.output(0), value);
     Ok(())
 }
 
 #[test]
 fn parts_join_to_the_sums_of_all(rt: HostRuntime) {
     let (first, second) = (
-        Triple {
-            a: small_pair(1, 10),
-            b: small_pair(1, 20),
-            c: small_pair(1, 7),
-        },
-        Triple {
-            a: small_pair(1, 10),
-            b: small_pair(0, 20),
-            c: small_pair(0, 30),
-        },
+        triple(small_pair(1, 10), small_pair(1, 20), small_pair(1, 7)),
+        triple(small_pair(1, 10), small_pair(0, 20), small_pair(0, 30)),
     );
     let part = ProverPart::new(small(2));
     let (mut whole, mut one, mut other) = (part, part, part);
@@ -256,21 +221,12 @@ fn parts_join_to_the_sums_of_all(rt: HostRuntime) {
 #[test]
 fn parts_of_keys_join_to_the_sum_of_all(rt: HostRuntime) {
     let (first, second) = (
-        KeyTriple {
-            a: small(15),
-            b: small(25),
-            c: small(12),
-        },
-        KeyTriple {
-            a: small(15),
-            b: small(20),
-            c: small(30),
-        },
+        key_triple(small(15), small(25), small(12)),
+        key_triple(small(15), small(20), small(30)),
     );
     let part = VerifierPart::new(small(2), small(5));
     let (mut whole, mut one, mut other) = (part, part, part);
-    whole.push(first);
-    whole.push(second);
+    whole.extend(&[first, second]);
     one.push(first);
     other.push(second);
     let mask = small(29);

@@ -3,8 +3,8 @@ use Rattle.std.specs.Prelude.{◌≡◌, ℕ, List, map}
 use Rattle.zk_model.specs.Polynomial.{IsNonzero, IsRoot}
 use Rattle.zk_model.specs.Mac.{Pair, fitting_key}
 use Rattle.zk_model.specs.Check.{Triple, KeyTriple, section_left, section_right, opening_right, error_polynomial, key_polynomial, opening_polynomial}
-use Rattle.proof_audit.specs.declared.finding.Finding.{Finding}
-use Rattle.proof_audit.specs.declared.finding.Finding.TheVariants.{Inputs, ChallengeRoot, KeyRoot, NotAccepted}
+use Rattle.check_findings.specs.declared.finding.Finding.{Finding}
+use Rattle.check_findings.specs.declared.finding.Finding.TheVariants.{Inputs, ChallengeRoot, KeyRoot, NotAccepted}
 
 -- ---- the equations
 

@@ -3,9 +3,9 @@ use Rattle.std.proofs.lemmas.Bool.{false≢true}
 use Rattle.zk_model.specs.Bits.{from_bit}
 use Rattle.zk_model.specs.Field.{IsElement, ◌-ₚ◌}
 use Rattle.zk_model.specs.Mac.{Pair}
-use Rattle.proof_audit.specs.Findings.{IsMacRoot}
-use Rattle.proof_audit.proofs.Roots.{mac_root, bit_element}
-use Rattle.proof_audit.proofs.finding.opening_finding.Goals as goal
+use Rattle.check_findings.specs.Findings.{IsMacRoot}
+use Rattle.check_findings.proofs.Roots.{mac_root, bit_element}
+use Rattle.check_findings.proofs.finding.opening_finding.Goals as goal
 
 pub returns-clause-some : goal.returns-clause-some
 returns-clause-some c =

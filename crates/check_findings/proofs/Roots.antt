@@ -7,7 +7,7 @@ use Rattle.zk_model.specs.Polynomial.{IsNonzero, IsRoot}
 use Rattle.zk_model.specs.Mac.{Pair}
 use Rattle.zk_model.specs.Check.{Triple, error_polynomial, key_polynomial, opening_polynomial}
 use Rattle.zk_laws.proofs.Sections.{key_is_root, key_is_opening_root}
-use Rattle.proof_audit.specs.Findings.{IsSumRoot, IsMacRoot}
+use Rattle.check_findings.specs.Findings.{IsSumRoot, IsMacRoot}
 
 pub sum_root : (challenge : ℕ) (triples : List Triple) (mask : Pair) (sent : ℕ × ℕ) (polynomial : List ℕ)
     → ¬ IsRoot (error_polynomial triples) challenge → polynomial ≡ key_polynomial challenge triples mask sent
