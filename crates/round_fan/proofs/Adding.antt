@@ -1,8 +1,11 @@
--- What units make, added one unit after another.
-use Rattle.std.proofs.Common.{◌≡◌, ℕ, suc, ◌+◌, ◌-◌, ◌<◌, List, [], ◌∷◌, ◌++◌, length, take, drop, get_or, refl, ap, sym, ◌∙◌, subst, arith, append_assoc, append-nil, length-append}
+-- What blocks of units make, added one block after another.
+use Rattle.std.proofs.Common.{◌≡◌, ℕ, suc, ◌+◌, ◌-◌, ◌*◌, ◌/◌, ◌%◌, ◌<◌, ◌≤◌, min, List, [], ◌∷◌, ◌++◌, length, take, drop, get_or, refl, ap, sym, ◌∙◌, subst, arith, append_assoc, append-nil, length-append}
 use Rattle.std.specs.Prelude.{Result, Ok, IfOk}
+use Rattle.std.proofs.Math.Nat.{mul-le-mul_right}
 use Rattle.std.proofs.Math.Seq.{take-add}
-use Rattle.std.proofs.lemmas.List.{take_more, take_all, length-drop, length-take-le, get_or-drop, drop-drop}
+use Rattle.std.proofs.lemmas.List.{take_all, length-drop, length-take-le, get_or-drop, drop-drop}
+use Rattle.std.proofs.lemmas.Grind.{div_ceil_times}
+use Rattle.std.specs.Fork.{slice_chunk}
 use Rattle.round_fan.specs.Fans.{AreMade}
 
 -- ---- of lists
@@ -14,39 +17,66 @@ some_behind items i more = ap (λ n. take i items ++ take n (drop i items)) coun
     count : i + more - i ≡ more
     count = omega arith
 
--- ---- what was made
-
--- the first have been added, and these are left
-abbrev pub IsSoFar : {X M F : Type 0} → (ℕ → List X → M → Type 0) → ℕ → List X → List X → List (Result M F) → List (Result M F) → M → Type 0
-IsSoFar Makes start first came made left all = (k : ℕ) × (left ≡ drop k made) × Makes start (first ++ take k came) all
-
--- none yet
-pub none_added : {X M F : Type 0} (Makes : ℕ → List X → M → Type 0) (start : ℕ) (first came : List X) (made left : List (Result M F)) (all : M) → left ≡ made
-    → Makes start first all → IsSoFar Makes start first came made left all
-none_added Makes start first came made left all is begun = (0, is ∙ sym (whole made), subst (λ l. Makes start l all) (sym (append-nil first) ∙ ap (λ l. first ++ l) (sym (nothing came))) begun)
+-- no chunk yet
+no_chunk : {X : Type 0} (items : List X) (size : ℕ) → take (0 * size) items ≡ []
+no_chunk items size = ap (λ n. take n items) none_of ∙ nothing items
   where
+    none_of : 0 * size ≡ 0
+    none_of = omega arith
+
     nothing : {X : Type 0} (l : List X) → take 0 l ≡ []
     nothing [] = refl
     nothing (x ∷ l) = refl
 
+-- one chunk more
+one_chunk : {X : Type 0} (items : List X) (size i : ℕ) → take (i * size) items ++ take size (drop (i * size) items) ≡ take ((i + 1) * size) items
+one_chunk items size i = sym (ap (λ n. take n items) next ∙ take-add (i * size) size items)
+  where
+    next : (i + 1) * size ≡ i * size + size
+    next = omega arith
+
+-- ---- what was made
+
+-- what is made of each chunk is made of all that came
+pub chunks_made : {X M F : Type 0} (Makes : ℕ → List X → M → Type 0) (from start size : ℕ) (first came : List X) (made : List (Result M F))
+    → start ≡ from + length first → 0 < size → length made ≡ length came / size + min 1 (length came % size)
+    → ((i : ℕ) (other : Result M F) → i < length made → (chunk : List X) × (chunk ≡ slice_chunk came size i) × (i * size ≤ length came) × IfOk (get_or made i other) (Makes (start + i * size) chunk))
+    → AreMade Makes (from + length first) size came made
+chunks_made Makes from start size first came made place some count each = subst (λ n. AreMade Makes n size came made) place (record {
+  all = subst (λ n. length came ≤ n * size) (sym count) (div_ceil_times (length came) size some).0;
+  each = λ i other below. let (chunk, is, inside, one) = each i other below in (
+    inside,
+    subst (λ l. IfOk (get_or made i other) (Makes (start + i * size) l)) is one,
+  );
+})
+
+-- the first blocks have been added, and these are left
+abbrev pub IsSoFar : {X M F : Type 0} → (ℕ → List X → M → Type 0) → ℕ → ℕ → List X → List X → List (Result M F) → List (Result M F) → M → Type 0
+IsSoFar Makes start size first came made left all = (k : ℕ) × (left ≡ drop k made) × Makes start (first ++ take (k * size) came) all
+
+-- none yet
+pub none_added : {X M F : Type 0} (Makes : ℕ → List X → M → Type 0) (start size : ℕ) (first came : List X) (made left : List (Result M F)) (all : M) → left ≡ made
+    → Makes start first all → IsSoFar Makes start size first came made left all
+none_added Makes start size first came made left all is begun = (
+  0,
+  is ∙ sym (whole made),
+  subst (λ l. Makes start l all) (sym (append-nil first) ∙ ap (λ l. first ++ l) (sym (no_chunk came size))) begun,
+)
+  where
     whole : {X : Type 0} (l : List X) → drop 0 l ≡ l
     whole [] = refl
     whole (x ∷ l) = refl
 
-some_item : {X : Type 0} (l : List X) (n : ℕ) → n < length l → X
-some_item [] n below = absurd (omega arith)
-some_item (x ∷ l) n below = x
-
 -- one more
-pub one_added : {X M F : Type 0} (Makes : ℕ → List X → M → Type 0) (start : ℕ) (first came : List X) (made left behind : List (Result M F)) (one all now : M)
+pub one_added : {X M F : Type 0} (Makes : ℕ → List X → M → Type 0) (start size : ℕ) (first came : List X) (made left behind : List (Result M F)) (one all now : M)
     → ((start : ℕ) (first rest : List X) → Makes start first all → Makes (start + length first) rest one → Makes start (first ++ rest) now)
-    → left ≡ Ok one ∷ behind → AreMade Makes (start + length first) came made
-    → IsSoFar Makes start first came made left all → IsSoFar Makes start first came made behind now
-one_added {X = X} Makes start first came made left behind one all now adds next are (k, cut, far) = (
+    → left ≡ Ok one ∷ behind → AreMade Makes (start + length first) size came made
+    → IsSoFar Makes start size first came made left all → IsSoFar Makes start size first came made behind now
+one_added Makes start size first came made left behind one all now adds next are (k, cut, far) = (
   k + 1,
   ap (λ l. drop 1 l) (sym next ∙ cut) ∙ drop-drop 1 k made,
-  subst (λ l. Makes start l now) (append_assoc first (take k came) (x ∷ []) ∙ ap (λ l. first ++ l) (sym (take_more came k (some_item came k there) there)))
-      (adds start (first ++ take k came) (x ∷ []) far (subst (λ n. Makes n (x ∷ []) one) place own)),
+  subst (λ l. Makes start l now) (append_assoc first (take (k * size) came) (slice_chunk came size k) ∙ ap (λ l. first ++ l) (one_chunk came size k))
+      (adds start (first ++ take (k * size) came) (slice_chunk came size k) far (subst (λ n. Makes n (slice_chunk came size k) one) place own)),
 )
   where
     long : suc (length behind) ≡ length made - k
@@ -55,25 +85,19 @@ one_added {X = X} Makes start first came made left behind one all now adds next 
     below : k < length made
     below = omega (arith, long)
 
-    there : k < length came
-    there = omega (arith, below, are.one_each)
-
-    x : X
-    x = get_or came k (some_item came k there)
-
-    own : Makes (start + length first + k) (x ∷ []) one
-    own = subst (λ r. IfOk r (Makes (start + length first + k) (x ∷ [])))
+    own : Makes (start + length first + k * size) (slice_chunk came size k) one
+    own = subst (λ r. IfOk r (Makes (start + length first + k * size) (slice_chunk came size k)))
         (sym (get_or-drop k made 0 (Ok one) ∙ ap (λ n. get_or made n (Ok one)) (omega arith)) ∙ ap (λ l. get_or l 0 (Ok one)) (sym cut ∙ next))
-        (are.each k (some_item came k there) (Ok one) there)
+        (are.each k (Ok one) below).1
 
-    place : start + length first + k ≡ start + length (first ++ take k came)
-    place = omega (arith, length-append first (take k came), length-take-le k came (omega (arith, there)))
+    place : start + length first + k * size ≡ start + length (first ++ take (k * size) came)
+    place = omega (arith, length-append first (take (k * size) came), length-take-le (k * size) came (are.each k (Ok one) below).0)
 
 -- all of them
-pub all_added : {X M F : Type 0} (Makes : ℕ → List X → M → Type 0) (start : ℕ) (first came : List X) (made left : List (Result M F)) (all : M)
-    → left ≡ [] → length made ≡ length came → IsSoFar Makes start first came made left all → Makes start (first ++ came) all
-all_added Makes start first came made left all none one_each (k, cut, far) =
-    subst (λ l. Makes start (first ++ l) all) (take_all k came (omega (arith, one_each, ended))) far
+pub all_added : {X M F : Type 0} (Makes : ℕ → List X → M → Type 0) (start size : ℕ) (first came : List X) (made left : List (Result M F)) (all : M)
+    → length left ≡ 0 → length came ≤ length made * size → IsSoFar Makes start size first came made left all → Makes start (first ++ came) all
+all_added Makes start size first came made left all none enough (k, cut, far) =
+    subst (λ l. Makes start (first ++ l) all) (take_all (k * size) came (omega (arith, enough, mul-le-mul_right size ended))) far
   where
-    ended : 0 ≡ length made - k
-    ended = ap length (sym none ∙ cut) ∙ length-drop k made
+    ended : length made ≤ k
+    ended = omega (arith, none, ap length cut ∙ length-drop k made)

@@ -1,6 +1,7 @@
 -- What rounds over neighbouring units make, unit by unit.
-use Rattle.std.specs.Prelude.{◌≡◌, ℕ, ◌+◌, ◌*◌, ◌<◌, List, [], ◌∷◌, map, flat_map, length, slice_index_or, IfOk, Result, Vec}
+use Rattle.std.specs.Prelude.{◌≡◌, ℕ, ◌+◌, ◌*◌, ◌<◌, ◌≤◌, List, [], map, flat_map, length, slice_index_or, IfOk, Result, Vec}
 use Rattle.std.specs.Global.{Global}
+use Rattle.std.specs.Fork.{slice_chunk}
 use Rattle.std.specs.List.{enumerate_from, range_with_len}
 use Rattle.zk_model.specs.Mac.{Pair}
 use Rattle.zk_model.specs.Files.{ProverFile, VerifierFile, prover_unit, correlations_per_unit}
@@ -49,10 +50,10 @@ keys_from file start count = flat_map (unit_keys file) (range_with_len start cou
 
 -- ---- rounds
 
--- every unit's round made something, of which this holds by the unit's number and what came for it
-pub record AreMade {X M F : Type 0} (Makes : ℕ → List X → M → Type 0) (start : ℕ) (came : List X) (made : List (Result M F)) : Type 0 where
-  pub one_each : length made ≡ length came
-  pub each : (i : ℕ) (x : X) (other : Result M F) → i < length came → IfOk (slice_index_or made i other) (Makes (start + i) (slice_index_or came i x ∷ []))
+-- every block of so many units made something, of which this holds by the number of its first unit and what came for its units
+pub record AreMade {X M F : Type 0} (Makes : ℕ → List X → M → Type 0) (start size : ℕ) (came : List X) (made : List (Result M F)) : Type 0 where
+  pub all : length came ≤ length made * size
+  pub each : (i : ℕ) (other : Result M F) → i < length made → (i * size ≤ length came) × IfOk (slice_index_or made i other) (Makes (start + i * size) (slice_chunk came size i))
 
 -- what came for each of the units from this one on fits the unit
 abbrev pub DoFit : {X : Type 0} → (ℕ → X → Type 0) → ℕ → List X → Type 0

@@ -6,7 +6,7 @@ ghost use Rattle.zk_model.specs.declared.Kind.TheVariants.{Extended};
 ghost use Rattle.vole_extend.specs.Rounds.{unit_code};
 ghost use Rattle.round_fan.specs.Fans.{lists_of, ArePairsFrom};
 
-use crate::room::room_of;
+use crate::room::{room_of, wave_of};
 use crate::rounds::{Rounds, one_by_one, some_at_a_time};
 use dealer_files::ProverFile;
 use linear_code::Columns;
@@ -32,6 +32,10 @@ impl<'a> Rounds<Vec<TreeReply>, Vec<Pair>> for ProverRounds<'a> {
         Fit AreReplies rounds.file.now.params rounds.file.now.code_seed rounds.columns.now unit came.items };
 
     ghost Makes = { λ rounds start replies pairs. ArePairs rounds.file.now start replies pairs.items };
+
+    fn none(&self, alloc: Global) -> Vec<Pair> {
+        Vec::new(alloc)
+    }
 
     fn make(
         &self,
@@ -106,6 +110,7 @@ pub fn fan_prover<R: Threads + Sync>(
     let _total = file.total();
     let mut pairs = Vec::with_capacity(alloc, room_of(&file.params(), replies.len()))?;
     let rounds = ProverRounds { file, columns };
-    some_at_a_time(rt, alloc, &rounds, span.start, replies, workers, &mut pairs)?;
+    let wave = wave_of(&file.params(), replies.len(), workers);
+    some_at_a_time(rt, alloc, &rounds, span.start, replies, wave, &mut pairs)?;
     Ok(pairs)
 }

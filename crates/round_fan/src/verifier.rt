@@ -7,7 +7,7 @@ ghost use Rattle.zk_model.specs.declared.Kind.TheVariants.{Extended};
 ghost use Rattle.vole_extend.specs.Rounds.{unit_code};
 ghost use Rattle.round_fan.specs.Fans.{lists_of, replies_from, keys_from};
 
-use crate::room::room_of;
+use crate::room::{room_of, wave_of};
 use crate::rounds::{Rounds, one_by_one, some_at_a_time};
 use dealer_files::VerifierFile;
 use linear_code::Columns;
@@ -41,6 +41,13 @@ impl<'a> Rounds<Vec<TreeAsk>, FanReply> for VerifierRounds<'a> {
 
     ghost Makes = { λ rounds start asks all.
         AreReplied rounds.file.now start asks all.replies.items all.keys.items };
+
+    fn none(&self, alloc: Global) -> FanReply {
+        FanReply {
+            replies: Vec::new(alloc),
+            keys: Vec::new(alloc),
+        }
+    }
 
     fn make(&self, alloc: Global, unit: u64, came: &Vec<TreeAsk>) -> Result<FanReply, AllocError> {
         let reply = VerifierRound::new(self.file, unit).reply(alloc, self.columns, came)?;
@@ -134,6 +141,7 @@ pub fn fan_verifier<R: Threads + Sync>(
     let _total = file.total();
     let mut all = none_yet(alloc, &file.params(), asks.len())?;
     let rounds = VerifierRounds { file, columns };
-    some_at_a_time(rt, alloc, &rounds, span.start, asks, workers, &mut all)?;
+    let wave = wave_of(&file.params(), asks.len(), workers);
+    some_at_a_time(rt, alloc, &rounds, span.start, asks, wave, &mut all)?;
     Ok(all)
 }

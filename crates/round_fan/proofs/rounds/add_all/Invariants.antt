@@ -4,7 +4,7 @@ use Rattle.round_fan.specs.Fans.{AreMade}
 use Rattle.round_fan.proofs.Adding.{IsSoFar}
 use Rattle.round_fan.proofs.rounds.add_all.Given as goal
 
-abbrev pub invariant-loop-one : goal.invariant-loop-one
-invariant-loop-one g l = (start : ℕ) (first came : List g.row.X.Denot) → g.U.Rounds.Makes l.fn.rounds start first l.initial.all
-    → AreMade (g.U.Rounds.Makes l.fn.rounds) (start + length first) came l.fn.made.items
-    → IsSoFar (g.U.Rounds.Makes l.fn.rounds) start first came l.fn.made.items (into_iter_items l.one-iterator) l.all
+abbrev pub invariant-loop-block : goal.invariant-loop-block
+invariant-loop-block g l = (start size : ℕ) (first came : List g.row.X.Denot) → g.U.Rounds.Makes l.fn.rounds start first l.initial.all
+    → AreMade (g.U.Rounds.Makes l.fn.rounds) (start + length first) size came l.fn.made.items
+    → IsSoFar (g.U.Rounds.Makes l.fn.rounds) start size first came l.fn.made.items (into_iter_items l.block-iterator) l.all
