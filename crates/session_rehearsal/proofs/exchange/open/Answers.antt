@@ -1,5 +1,5 @@
-use Rattle.std.proofs.Common.{List, ◌≡◌, ◌≤◌, ap, ◌∙◌, subst, sym, length, drop}
-use Rattle.zk_model.specs.Files.{AreParams, IsVerifierFile}
+use Rattle.std.proofs.Common.{List, ◌≡◌, ◌≤◌, ◌*◌, ap, ◌∙◌, subst, sym, length, drop}
+use Rattle.zk_model.specs.Files.{AreParams, IsVerifierFile, correlations_per_unit}
 use Rattle.zk_model.specs.Statement.{Statement}
 use Rattle.zk_model.specs.Transcript.{Grant, units_for}
 use Rattle.zk_model.specs.Program.{section_count, correlations_needed}
@@ -7,31 +7,35 @@ use Rattle.zk_model.specs.Check.{all_sums, opened_pairs}
 use Rattle.zk_model.specs.Mac.{Pair, macs_of}
 use Rattle.session_core.specs.Ends.{IsFixed}
 use Rattle.session_core.specs.Fixing.{AreEnough, pairs_fixed}
-use Rattle.session_core.specs.Jobs.{VerifierJob}
+use Rattle.session_core.specs.Jobs.{ProverJob, VerifierJob, granted_from}
 use Rattle.wire_auth.specs.Held.{items_in}
 use Rattle.session_core.proofs.Enough.{enough_units}
 use Rattle.session_rehearsal.proofs.exchange.open.Goals as goal
-use Rattle.session_rehearsal.proofs.exchange.open.Given.{Over}
 
--- the pairs are enough for the prover's job
-enough : (g : Over) (c : goal.After-as_slice-seen g) → AreEnough c.args.prover.now c.args.grant.section_length c.as_slice-seen.result.now
-enough g c =
-    let job : VerifierJob = c.args.verifier.now in
-    let file : IsVerifierFile job.task.file = subst IsVerifierFile c.file.ensures.file c.total-total.ensures.file in
-    let counted : c.args.grant.count ≡ units_for c.args.prover.now.file.params (correlations_needed c.args.prover.now.statement.program c.args.grant.section_length) =
-    ap (λ (g : Grant). g.count) c.requires.grant
-    ∙ (λ i. units_for (sym c.requires.dealt.params i) (correlations_needed (sym c.requires.stated i).program (sym c.requires.grant i).section_length)) in
-    subst (AreEnough c.args.prover.now c.args.grant.section_length) (sym c.as_slice-seen.ensures)
-    (enough_units c.args.prover.now.file.params c.args.prover.now.statement.program c.args.grant.section_length c.args.grant.count
-    (length (items_in c.args.established.pairs)) (subst AreParams (sym c.requires.dealt.params) file.params) counted c.requires.pairs)
+-- pairs of all units of the verifier's grant are enough for the prover's job
+enough : (prover : ProverJob) (job : VerifierJob) (grant : Grant) (pairs seen : List Pair) → prover.file.params ≡ job.task.file.params
+    → prover.statement ≡ job.task.statement → grant ≡ granted_from job 0 → IsVerifierFile job.task.file
+    → length pairs ≡ grant.count * correlations_per_unit prover.file.params → seen ≡ pairs → AreEnough prover grant.section_length seen
+enough prover job grant pairs seen params stated is file counted same =
+    let needed : grant.count ≡ units_for prover.file.params (correlations_needed prover.statement.program grant.section_length) =
+    ap (λ (g : Grant). g.count) is
+    ∙ (λ i. units_for (sym params i) (correlations_needed (sym stated i).program (sym is i).section_length)) in
+    subst (AreEnough prover grant.section_length) (sym same)
+    (enough_units prover.file.params prover.statement.program grant.section_length grant.count (length pairs)
+    (subst AreParams (sym params) file.params) needed counted)
 
 pub commit-requires-clause-enough : goal.commit-requires-clause-enough
-commit-requires-clause-enough g c = enough g c
+commit-requires-clause-enough g c =
+    enough c.args.prover.now c.args.verifier.now c.args.grant (items_in c.args.established.pairs) c.as_slice-seen.result.now
+    c.requires.dealt.params c.requires.stated c.requires.grant (subst IsVerifierFile c.file.ensures.file c.total-total.ensures.file)
+    c.requires.pairs c.as_slice-seen.ensures
 
 pub open-requires-clause-held : goal.open-requires-clause-held
 open-requires-clause-held g c = record {
   some = subst (λ (g : Grant). 1 ≤ g.section_length) (sym c.requires.grant) c.file.ensures.job.section_some;
-  enough = enough g c;
+  enough = enough c.args.prover.now c.args.verifier.now c.args.grant (items_in c.args.established.pairs) c.as_slice-seen.result.now
+      c.requires.dealt.params c.requires.stated c.requires.grant (subst IsVerifierFile c.file.ensures.file c.total-total.ensures.file)
+      c.requires.pairs c.as_slice-seen.ensures;
 }
 
 pub returns-clause-answered : goal.returns-clause-answered

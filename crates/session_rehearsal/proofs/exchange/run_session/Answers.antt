@@ -27,7 +27,7 @@ answer-requires-clause-within g c κs inside =
     within _ _ (omega (arith, units, ap (λ (p : Params). p.total) c.requires.dealt.params)) c.new-verifier.ensures
 
 pub judge-requires-clause-within : goal.judge-requires-clause-within
-judge-requires-clause-within g c =
+judge-requires-clause-within g c κs inside =
     let units = units_of_pair c.args.prover_file.params c.args.verifier_file.now.params c.args.statement.now.program c.args.prover_file.params.total c.args.section
     c.requires.dealt.params c.requires.granted in
     within _ _ (omega (arith, units, ap (λ (p : Params). p.total) c.requires.dealt.params)) c.new-verifier.ensures
