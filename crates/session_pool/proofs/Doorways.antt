@@ -73,22 +73,43 @@ none_of false false false false h = (refl, refl, refl, refl)
 fewer : (taken sessions : ℕ) → nat_eq taken sessions ≡ false → taken ≤ sessions → taken < sessions
 fewer taken sessions other most = grind (arith, nat_tests)
 
-module _ (first old new : DoorState) (wanted total taken sessions : ℕ) (emptied door_failed memory_failed : Bool)
-    (w : IsDoorway first wanted old total taken sessions emptied door_failed memory_failed) (going : is_done taken sessions emptied door_failed memory_failed ≡ false) where
+-- nor was a worker starved
+calls : (taken sessions : ℕ) (emptied door_failed memory_failed starved : Bool) → is_done taken sessions emptied door_failed (memory_failed || starved) ≡ false
+    → (is_done taken sessions emptied door_failed memory_failed ≡ false) × (starved ≡ false)
+calls taken sessions emptied door_failed true starved going = let f = (none_of (nat_eq taken sessions) emptied door_failed true going).3 in absurd (cc)
+calls taken sessions emptied door_failed false starved going =
+    let calm = (none_of (nat_eq taken sessions) emptied door_failed starved going).3 in
+    (subst (λ b. is_done taken sessions emptied door_failed b ≡ false) calm going, calm)
+
+-- so links are still wanted
+pub some_wanted : (taken sessions : ℕ) (emptied door_failed memory_failed starved : Bool) → is_done taken sessions emptied door_failed (memory_failed || starved) ≡ false → taken ≤ sessions
+    → taken < sessions
+some_wanted taken sessions emptied door_failed memory_failed starved going most =
+    fewer taken sessions (none_of (nat_eq taken sessions) emptied door_failed (memory_failed || starved) going).0 most
+
+-- who is not starved has no room to want
+not_starved : (starved : Bool) (taken sessions : ℕ) → starved ≡ false → starved ≡ true → taken < sessions
+not_starved starved taken sessions calm is = absurd (cc)
+
+module _ (first old new : DoorState) (wanted total taken sessions : ℕ) (emptied door_failed memory_failed starved : Bool)
+    (w : IsDoorway first wanted old total taken sessions emptied door_failed memory_failed) (going : is_done taken sessions emptied door_failed (memory_failed || starved) ≡ false) where
+  still : (is_done taken sessions emptied door_failed memory_failed ≡ false) × (starved ≡ false)
+  still = calls taken sessions emptied door_failed memory_failed starved going
+
   pub gives_now : (total_now : ℕ) → total_now ≡ total + 1 → old.left ≡ new.left + 1 → OnlyTakes old new → new.next_faults ≡ old.next_faults
-      → IsDoorway first wanted new total_now (taken + 1) sessions emptied door_failed memory_failed
+      → IsDoorway first wanted new total_now (taken + 1) sessions emptied door_failed memory_failed × (starved ≡ true → taken + 1 < sessions)
   gives_now total_now total_is takes only calm =
-      let f = none_of (nat_eq taken sessions) emptied door_failed memory_failed going in
-      rw (f.1, f.2, f.3) (gives first old new wanted total taken sessions (rw (f.1, f.2, f.3) at w) total_now total_is (fewer taken sessions f.0 w.most) takes only calm)
+      let f = none_of (nat_eq taken sessions) emptied door_failed memory_failed still.0 in
+      (rw (f.1, f.2, f.3) (gives first old new wanted total taken sessions (rw (f.1, f.2, f.3) at w) total_now total_is (fewer taken sessions f.0 w.most) takes only calm), not_starved starved (taken + 1) sessions still.1)
 
   pub fails_now : new ≡ after_refused_next new.next_faults old → Rose old.next_faults new.next_faults → old.next_faults ≤ new.next_faults
-      → IsDoorway first wanted new total taken sessions emptied true memory_failed
+      → IsDoorway first wanted new total taken sessions emptied true memory_failed × (starved ≡ true → taken < sessions)
   fails_now is rose more =
-      let f = none_of (nat_eq taken sessions) emptied door_failed memory_failed going in
-      rw (f.1, f.3) (fails first old new wanted total taken sessions (rw (f.1, f.2, f.3) at w) (fewer taken sessions f.0 w.most) is rose more)
+      let f = none_of (nat_eq taken sessions) emptied door_failed memory_failed still.0 in
+      (rw (f.1, f.3) (fails first old new wanted total taken sessions (rw (f.1, f.2, f.3) at w) (fewer taken sessions f.0 w.most) is rose more), not_starved starved taken sessions still.1)
 
   pub is_unserved_now : new ≡ after_refused_next new.next_faults old → new.next_faults ≡ old.next_faults
-      → IsDoorway first wanted new total taken sessions emptied door_failed true
+      → IsDoorway first wanted new total taken sessions emptied door_failed true × (starved ≡ true → taken < sessions)
   is_unserved_now is calm =
-      let f = none_of (nat_eq taken sessions) emptied door_failed memory_failed going in
-      rw (f.1, f.2) (is_unserved first old new wanted total taken sessions (rw (f.1, f.2, f.3) at w) (fewer taken sessions f.0 w.most) is calm)
+      let f = none_of (nat_eq taken sessions) emptied door_failed memory_failed still.0 in
+      (rw (f.1, f.2) (is_unserved first old new wanted total taken sessions (rw (f.1, f.2, f.3) at w) (fewer taken sessions f.0 w.most) is calm), not_starved starved taken sessions still.1)

@@ -4,10 +4,11 @@ use Rattle.zk_port.specs.Counts.{Rose}
 use Rattle.zk_port.specs.Doors.{DoorState}
 use Rattle.session_pool.specs.Doors.{called}
 
--- how many links are still wanted, and whether the door is not asked again
+-- how many links are still wanted, whether the door is not asked again, and whether a worker found no room for a note
 pub record DoorwayState : Type 0 where
   pub wanted : ℕ
   pub is_done : Bool
+  pub starved : Bool
 
 abbrev pub is_done : ℕ → ℕ → Bool → Bool → Bool → Bool
 is_done taken sessions emptied door_failed memory_failed =

@@ -1,5 +1,5 @@
 -- What notes are to the entries of the passes by which they were served.
-use Rattle.std.specs.Prelude.{◌≡◌, ℕ, ◌+◌, ◌<◌, ◌≤◌, ◌⊎◌, max, Bool, List, [], ◌∷◌, length, All, Contains, Option, None, Some, IfSome, Result}
+use Rattle.std.specs.Prelude.{◌≡◌, ℕ, ◌+◌, ◌<◌, ◌≤◌, ◌⊎◌, max, List, [], ◌∷◌, length, All, Contains, Option, None, Some, IfSome, Result}
 use Rattle.std.specs.List.{sum_by}
 use Rattle.atomic_table.specs.Seated.{TableId}
 use Rattle.zk_model.specs.declared.Span.{Span}
@@ -85,10 +85,6 @@ pub record IsWorker {M : Type 0} (granted : M → Option Span) (refused : M → 
   pub counted : amount ≡ length notes
   pub work : IsWork granted refused is_note fresh size total (entries_of pass) (known_of pass) (AllowsMark pass) notes
   pub kept : IsKept fresh size total notes pass
-
--- what contracts see of a worker
-pub record WorkerState : Type 0 where
-  pub starved : Bool
 
 -- the greatest ceiling that one of these passes knows
 abbrev pub most_known : List Pass → ℕ

@@ -1,5 +1,5 @@
 // The sessions with all peers that call.
-ghost use Rattle.std.specs.Prelude.{◌≡◌, ◌+◌, ◌<◌, ◌≤◌, ◌⊎◌, ℕ, List, true, [], Some, IfSome, All, AllPairs, length, vec_len, vec_capacity};
+ghost use Rattle.std.specs.Prelude.{◌≡◌, ◌+◌, ◌<◌, ◌≤◌, ℕ, List, true, [], Some, IfSome, All, AllPairs, length, vec_len, vec_capacity};
 ghost use Rattle.std.specs.Thread.{IsSync};
 ghost use Rattle.zk_model.specs.Journals.{HasHeader};
 ghost use Rattle.zk_model.specs.declared.JournalKind.TheVariants as kind;
@@ -103,7 +103,7 @@ fn take_all_back<M: Drop, N: LeaseName, W: Shift<M>, D: Door>(
     }
 }
 
-/// Goes on with one worker, where no other thread serves, until the door is done or memory is missing.
+/// Goes on with one worker, where no other thread serves, until the door is done.
 fn serve_rest<M, L, S, N, W, D, B, G, R>(
     rt: &R,
     alloc: Global,
@@ -124,7 +124,7 @@ where
     R: Threads + Wait + Sync,
     requires { IsShiftOf W.is_note W.granted W.refused W.size N.total
         (S.is_note session.now) S.granted S.refused (S.size session.now) (S.total session.now) }
-    ensures { (worker.new.starved ≡ true) ⊎ (doorway.new.is_done ≡ true) }
+    ensures { doorway.new.is_done ≡ true }
 {
     'rest: while !doorway.is_done() {
         if !worker.serve_alone(rt, alloc, session, store, doorway, gate) {

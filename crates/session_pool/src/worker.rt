@@ -1,5 +1,5 @@
 // Who serves.
-ghost use Rattle.std.specs.Prelude.{◌≡◌, ◌+◌, ◌⊎◌, true, MatchBool};
+ghost use Rattle.std.specs.Prelude.{◌≡◌, ◌+◌, true, MatchBool};
 ghost use Rattle.lease_store.specs.Leases.{IsPassAt};
 ghost use Rattle.session_pool.specs.Notes.{IsUnused};
 ghost use Rattle.session_pool.specs.Works.{IsShiftOf};
@@ -17,22 +17,21 @@ use std::sync::{Mutex, Wait};
 use std::thread::Threads;
 use zk_port::{Disk, Door, Gate, Link};
 
-/// Serves one peer after another: with a pass and a share of its own, and the notes so far. Contracts see whether it wanted memory.
+/// Serves one peer after another: with a pass and a share of its own, and the notes so far.
 #[derive(Drop)]
 pub(crate) struct Worker<M, N: LeaseName, W: Shift<M>> {
     pub(crate) pass: Pass,
     pub(crate) share: Share<W>,
     pub(crate) notes: Vec<M>,
-    pub(crate) starved: bool,
     pub(crate) store: PhantomData<N>,
 }
 
 impl<M, N: LeaseName, W: Shift<M>> Model for Worker<M, N, W> {
     ghost use Rattle.session_pool.specs.Works as works;
 
-    ghost Value = { works.WorkerState };
+    ghost Value = { Unit {0} };
 
-    ghost view = { λ w. record { starved = w.starved } };
+    ghost view = { λ w. tt };
 
     ghost invariant = { λ w. works.IsWorker W.granted W.refused W.is_note W.fresh W.size
         N.table N.total w.pass w.share.parts w.share.amount w.notes.items };
@@ -50,7 +49,6 @@ impl<M, N: LeaseName, W: Shift<M>> Worker<M, N, W> {
             pass,
             share,
             notes: Vec::new(alloc),
-            starved: false,
             store: PhantomData,
         }
     }
@@ -75,11 +73,7 @@ impl<M, N: LeaseName, W: Shift<M>> Worker<M, N, W> {
         requires { IsShiftOf W.is_note W.granted W.refused W.size N.total
             (S.is_note session.now) S.granted S.refused (S.size session.now) (S.total session.now) }
     {
-        if self.notes.reserve(1).is_err() {
-            self.starved = true;
-            return false;
-        }
-        let Some(link) = take_next(rt, alloc, doorway, &mut self.share) else {
+        let Some(link) = take_next(rt, alloc, doorway, &mut self.share, &mut self.notes) else {
             return false;
         };
         let note = serve_one(rt, alloc, session, store, &mut self.pass, link, gate);
@@ -135,13 +129,9 @@ impl<M, N: LeaseName, W: Shift<M>> Worker<M, N, W> {
         requires { IsShiftOf W.is_note W.granted W.refused W.size N.total
             (S.is_note session.now) S.granted S.refused (S.size session.now) (S.total session.now) }
         ensures { MatchBool result (doorway.new.wanted + 1 ≡ doorway.old.wanted)
-            ((self.new.starved ≡ true) ⊎ (doorway.new.is_done ≡ true)) }
+            (doorway.new.is_done ≡ true) }
     {
-        if self.notes.reserve(1).is_err() {
-            self.starved = true;
-            return false;
-        }
-        let Some(link) = doorway.take(alloc, &mut self.share) else {
+        let Some(link) = doorway.take(alloc, &mut self.share, &mut self.notes) else {
             return false;
         };
         let note = serve_one(rt, alloc, session, store, &mut self.pass, link, gate);
