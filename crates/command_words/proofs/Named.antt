@@ -1,5 +1,5 @@
 -- Words that begin with a command's name.
-use Rattle.std.proofs.Common.{◌≡◌, ◌∙◌, ◌≤◌, ℕ, List, [], ◌∷◌, Bool, true, false, Some, None, Option, refl, ap, sym, codes, drop, length, get_or, arith, string_bytes, String}
+use Rattle.std.proofs.Common.{◌≡◌, ◌≢◌, ◌∙◌, ◌≤◌, ℕ, List, [], ◌∷◌, Bool, true, false, Some, None, Option, refl, ap, sym, codes, drop, length, get_or, arith, string_bytes, String}
 use Rattle.std.specs.Option.{option_and_then, option_map}
 use Rattle.std.specs.Prelude.{IfOk, IfSome, Result}
 use Rattle.std.specs.Str.{bytes_eq}
@@ -9,6 +9,9 @@ use Rattle.command_words.specs.Arguments.{Parts, Word, arranged}
 use Rattle.command_words.specs.Commands.{ask_of}
 use Rattle.command_words.specs.Found.{Form, IsReadBy, read_by}
 use Rattle.command_words.specs.Forms.{IsReadAs, form_named}
+use Rattle.command_words.specs.Names.{meant_by}
+use Rattle.command_words.specs.declared.names.Name.{Name}
+use Rattle.command_words.specs.declared.names.Name.TheVariants.{Rehearse, Eval, Deal, Serve, ServeMany, Prove, Audit}
 use Rattle.command_words.specs.Words.{Ask, IsRead, asked, texts}
 use Rattle.command_words.specs.declared.words.Command.{Command}
 use Rattle.command_words.proofs.Inversions.{none_gives}
@@ -69,17 +72,16 @@ always_none None = refl
 always_none (Some parts) = refl
 
 -- no command has this name
-pub nothing_read : (words : List (List ℕ)) (name : List ℕ) → words ≡ name ∷ drop 1 words → (name ≡ codes "rehearse" → ⊥) → (name ≡ codes "eval" → ⊥) → (name ≡ codes "deal" → ⊥)
-    → (name ≡ codes "serve" → ⊥) → (name ≡ codes "serve-many" → ⊥) → (name ≡ codes "prove" → ⊥) → (name ≡ codes "audit" → ⊥) → IsRead words None
-nothing_read words name begins a b c d e f g =
-    let a' = differs name (codes "rehearse") a in
-    let b' = differs name (codes "eval") b in
-    let c' = differs name (codes "deal") c in
-    let d' = differs name (codes "serve") d in
-    let e' = differs name (codes "serve-many") e in
-    let f' = differs name (codes "prove") f in
-    let g' = differs name (codes "audit") g in
-    let none : asked (name ∷ drop 1 words) ≡ None = rw (a', b', c', d', e', f', g') (always_none (arranged (drop 1 words))) in
+pub nothing_read : (words : List (List ℕ)) (first : List ℕ) → words ≡ first ∷ drop 1 words → ((name : Name) → first ≢ (meant_by name).text) → IsRead words None
+nothing_read words first begins other =
+    let a = differs first (codes "rehearse") (other Rehearse) in
+    let b = differs first (codes "eval") (other Eval) in
+    let c = differs first (codes "deal") (other Deal) in
+    let d = differs first (codes "serve") (other Serve) in
+    let e = differs first (codes "serve-many") (other ServeMany) in
+    let f = differs first (codes "prove") (other Prove) in
+    let g = differs first (codes "audit") (other Audit) in
+    let none : asked (first ∷ drop 1 words) ≡ None = rw (a, b, c, d, e, f, g) (always_none (arranged (drop 1 words))) in
     record {
       valid = λ {ask} h. none_gives (sym none ∙ sym (ap asked begins) ∙ h);
       other = λ {ask} h. none_gives h;

@@ -1,15 +1,21 @@
 -- The forms of the commands' words, as clap knows them.
-use Rattle.std.proofs.Common.{◌≡◌, ◌∙◌, List, [], ◌∷◌, Bool, true, false, ◌||◌, drop, Some, None, refl, sym, subst, codes, arith, true≢false}
+use Rattle.std.proofs.Common.{◌≡◌, ◌∙◌, ◌+◌, ◌<◌, ℕ, List, [], ◌∷◌, ◌++◌, Bool, true, false, not, ◌&&◌, ◌||◌, drop, length, map, Some, None, refl, sym, subst, codes, arith, true≢false}
+use Rattle.std.specs.List.{list_all}
 use Rattle.std.specs.Str.{bytes_eq}
 use Rattle.clap.specs.Lexer.{long_of}
-use Rattle.clap.specs.Walk.{Text, arg_by_id, arg_by_long}
-use Rattle.clap.specs.Simple.{Shape, built}
+use Rattle.clap.specs.Walk.{Row, Rule, Text, arg_by_id, arg_by_long, is_empty}
+use Rattle.clap.specs.Faults.{is_simple_and_free}
+use Rattle.clap.specs.Takes.{default_passes, is_valid}
+use Rattle.clap.specs.Simple.{Shape, built, is_simple}
 use Rattle.command_words.specs.Arguments.{Flag, Valued, is_flag, kind_of}
 use Rattle.command_words.specs.Found.{Form, names_of, told}
 use Rattle.command_words.specs.Forms.{audit_form, deal_form, eval_form, prove_form, rehearse_form, serve_form, serve_many_form}
+use Rattle.command_words.specs.Names.{meant_by}
+use Rattle.command_words.specs.declared.names.Name.{Name}
+use Rattle.command_words.specs.declared.names.Name.TheVariants.{Rehearse, Eval, Deal, Serve, ServeMany, Prove, Audit}
 use Rattle.command_words.proofs.Rows.{same_text}
 use Rattle.command_words.proofs.Steps.{flag, place, valued}
-use Rattle.command_words.proofs.Walks.{KnowsName, KnowsNames, is_among, is_apart}
+use Rattle.command_words.proofs.Walks.{KnowsName, KnowsNames, KnowsPlaces, are_apart, is_among, is_apart}
 use Rattle.command_words.proofs.Taking.{IsForm}
 use Rattle.command_words.proofs.Writing.{AreNames}
 
@@ -49,233 +55,58 @@ known_flag s places name dashed kind is long dashes by_long by_id apart = record
 abbrev pub IsKnownForm : Form → Type 0
 IsKnownForm form = IsForm (told form) form.places (names_of form) form.valued form.flags
 
--- ---- `eval`
+-- the rules of these places, of which the first has this number
+abbrev placed : ℕ → List Text → List Rule
+placed n [] = []
+placed n (id ∷ ids) = place n id ∷ placed (n + 1) ids
 
-abbrev pub eval_places : List Text
-eval_places = eval_form.places
-
-abbrev pub eval_names : List Text
-eval_names = names_of eval_form
-
-pub eval_known : IsKnownForm eval_form
-eval_known = record {
-  simple = refl;
-  free = refl;
-  alone = refl;
-  named_first = refl;
-  fixed = place 1 (codes "CIRCUIT") ∷ place 2 (codes "BITS") ∷ [];
-  rules = refl;
-  no_defaults = refl;
-  defaults = refl;
-  valid = λ rows. refl;
-  knows = record {
-    in_places = (refl, refl, (refl, refl, tt));
-    apart = refl;
-    few = omega arith;
-    by_name = all_known (built (told eval_form)).top eval_form.places (names_of eval_form) tt;
-  };
-  flags_apart = refl;
-  valued_apart = refl;
-  valued_named = refl;
+-- a form is known by what is computed of it, and option by option
+known_form : (form : Form) → is_simple (told form) ≡ true → is_simple_and_free (told form) ≡ true → (built (told form)).subs ≡ [] → (told form).top.no_binary_name ≡ false
+    → (built (told form)).top.rules ≡ (placed 1 form.places ++ map valued form.valued) ++ map flag form.flags
+    → list_all (λ r. is_empty r.defaults) (placed 1 form.places ++ map valued form.valued) ≡ true
+    → list_all default_passes (built (told form)).top.rules ≡ true → ((rows : List Row) → is_valid (built (told form)).top rows false ≡ true)
+    → KnowsPlaces (built (told form)).top 1 form.places → are_apart form.places ≡ true → length form.places < 90 → EachKnown (built (told form)).top form.places (names_of form)
+    → list_all (λ id. is_apart id form.flags) form.places ≡ true → list_all (λ name. is_flag name || is_apart (drop 2 name) form.flags) (names_of form) ≡ true
+    → list_all (λ id. is_among (names_of form) (45 ∷ 45 ∷ id) && not (is_flag (45 ∷ 45 ∷ id))) form.valued ≡ true → IsKnownForm form
+known_form form simple free alone named_first rules no_defaults defaults valid in_places apart few each flags_apart valued_apart valued_named = record {
+  simple = simple;
+  free = free;
+  alone = alone;
+  named_first = named_first;
+  fixed = placed 1 form.places ++ map valued form.valued;
+  rules = rules;
+  no_defaults = no_defaults;
+  defaults = defaults;
+  valid = valid;
+  knows = record { in_places = in_places; apart = apart; few = few; by_name = all_known (built (told form)).top form.places (names_of form) each };
+  flags_apart = flags_apart;
+  valued_apart = valued_apart;
+  valued_named = valued_named;
 }
 
-pub eval_are_names : AreNames (names_of eval_form) eval_form.valued
-eval_are_names = record { kinds = tt; apart = refl; covered = refl }
+-- the form of each command is known
+pub known_of : (name : Name) → IsKnownForm (meant_by name).form
+known_of Rehearse = known_form rehearse_form refl refl refl refl refl refl refl (λ rows. refl) (refl, refl, (refl, refl, tt)) refl (omega arith)
+    (known_valued _ _ (codes "--section") refl refl refl refl refl refl refl refl, (known_valued _ _ (codes "--public") refl refl refl refl refl refl refl refl, (known_valued _ _ (codes "--gates") refl refl refl refl refl refl refl refl, (known_valued _ _ (codes "--number") refl refl refl refl refl refl refl refl, (known_flag _ _ (codes "--extended") refl refl refl refl refl refl refl refl, tt))))) refl refl refl
+known_of Eval = known_form eval_form refl refl refl refl refl refl refl (λ rows. refl) (refl, refl, (refl, refl, tt)) refl (omega arith)
+    tt refl refl refl
+known_of Deal = known_form deal_form refl refl refl refl refl refl refl (λ rows. refl) (refl, refl, tt) refl (omega arith)
+    (known_valued _ _ (codes "--units") refl refl refl refl refl refl refl refl, (known_valued _ _ (codes "--trees") refl refl refl refl refl refl refl refl, (known_valued _ _ (codes "--height") refl refl refl refl refl refl refl refl, (known_valued _ _ (codes "--base") refl refl refl refl refl refl refl refl, tt)))) refl refl refl
+known_of Serve = known_form serve_form refl refl refl refl refl refl refl (λ rows. refl) (refl, refl, (refl, refl, (refl, refl, (refl, refl, tt)))) refl (omega arith)
+    (known_valued _ _ (codes "--sessions") refl refl refl refl refl refl refl refl, (known_valued _ _ (codes "--workers") refl refl refl refl refl refl refl refl, (known_valued _ _ (codes "--section") refl refl refl refl refl refl refl refl, (known_valued _ _ (codes "--logs") refl refl refl refl refl refl refl refl, (known_valued _ _ (codes "--public") refl refl refl refl refl refl refl refl, tt))))) refl refl refl
+known_of ServeMany = known_form serve_many_form refl refl refl refl refl refl refl (λ rows. refl) (refl, refl, (refl, refl, (refl, refl, tt))) refl (omega arith)
+    (known_valued _ _ (codes "--sessions") refl refl refl refl refl refl refl refl, (known_valued _ _ (codes "--workers") refl refl refl refl refl refl refl refl, (known_valued _ _ (codes "--section") refl refl refl refl refl refl refl refl, (known_valued _ _ (codes "--logs") refl refl refl refl refl refl refl refl, tt)))) refl refl refl
+known_of Prove = known_form prove_form refl refl refl refl refl refl refl (λ rows. refl) (refl, refl, (refl, refl, (refl, refl, (refl, refl, (refl, refl, tt))))) refl (omega arith)
+    (known_valued _ _ (codes "--public") refl refl refl refl refl refl refl refl, tt) refl refl refl
+known_of Audit = known_form audit_form refl refl refl refl refl refl refl (λ rows. refl) (refl, refl, (refl, refl, (refl, refl, (refl, refl, (refl, refl, tt))))) refl (omega arith)
+    (known_valued _ _ (codes "--public") refl refl refl refl refl refl refl refl, tt) refl refl refl
 
--- ---- `rehearse`
-
-abbrev pub rehearse_places : List Text
-rehearse_places = rehearse_form.places
-
-abbrev pub rehearse_names : List Text
-rehearse_names = names_of rehearse_form
-
-pub rehearse_known : IsKnownForm rehearse_form
-rehearse_known = record {
-  simple = refl;
-  free = refl;
-  alone = refl;
-  named_first = refl;
-  fixed = place 1 (codes "CIRCUIT") ∷ place 2 (codes "BITS") ∷ valued (codes "section") ∷ valued (codes "public") ∷ valued (codes "gates") ∷ valued (codes "number") ∷ [];
-  rules = refl;
-  no_defaults = refl;
-  defaults = refl;
-  valid = λ rows. refl;
-  knows = record {
-    in_places = (refl, refl, (refl, refl, tt));
-    apart = refl;
-    few = omega arith;
-    by_name = all_known (built (told rehearse_form)).top rehearse_form.places (names_of rehearse_form) (known_valued (built (told rehearse_form)).top rehearse_form.places (codes "--section") refl refl refl refl refl refl refl refl, (known_valued (built (told rehearse_form)).top rehearse_form.places (codes "--public") refl refl refl refl refl refl refl refl, (known_valued (built (told rehearse_form)).top rehearse_form.places (codes "--gates") refl refl refl refl refl refl refl refl, (known_valued (built (told rehearse_form)).top rehearse_form.places (codes "--number") refl refl refl refl refl refl refl refl, (known_flag (built (told rehearse_form)).top rehearse_form.places (codes "--extended") refl refl refl refl refl refl refl refl, tt)))));
-  };
-  flags_apart = refl;
-  valued_apart = refl;
-  valued_named = refl;
-}
-
-pub rehearse_are_names : AreNames (names_of rehearse_form) rehearse_form.valued
-rehearse_are_names = record { kinds = (refl, (refl, (refl, (refl, (refl, tt))))); apart = refl; covered = refl }
-
--- ---- `deal`
-
-abbrev pub deal_places : List Text
-deal_places = deal_form.places
-
-abbrev pub deal_names : List Text
-deal_names = names_of deal_form
-
-pub deal_known : IsKnownForm deal_form
-deal_known = record {
-  simple = refl;
-  free = refl;
-  alone = refl;
-  named_first = refl;
-  fixed = place 1 (codes "NAME") ∷ valued (codes "units") ∷ valued (codes "trees") ∷ valued (codes "height") ∷ valued (codes "base") ∷ [];
-  rules = refl;
-  no_defaults = refl;
-  defaults = refl;
-  valid = λ rows. refl;
-  knows = record {
-    in_places = (refl, refl, tt);
-    apart = refl;
-    few = omega arith;
-    by_name = all_known (built (told deal_form)).top deal_form.places (names_of deal_form) (known_valued (built (told deal_form)).top deal_form.places (codes "--units") refl refl refl refl refl refl refl refl, (known_valued (built (told deal_form)).top deal_form.places (codes "--trees") refl refl refl refl refl refl refl refl, (known_valued (built (told deal_form)).top deal_form.places (codes "--height") refl refl refl refl refl refl refl refl, (known_valued (built (told deal_form)).top deal_form.places (codes "--base") refl refl refl refl refl refl refl refl, tt))));
-  };
-  flags_apart = refl;
-  valued_apart = refl;
-  valued_named = refl;
-}
-
-pub deal_are_names : AreNames (names_of deal_form) deal_form.valued
-deal_are_names = record { kinds = (refl, (refl, (refl, (refl, tt)))); apart = refl; covered = refl }
-
--- ---- `serve`
-
-abbrev pub serve_places : List Text
-serve_places = serve_form.places
-
-abbrev pub serve_names : List Text
-serve_names = names_of serve_form
-
-pub serve_known : IsKnownForm serve_form
-serve_known = record {
-  simple = refl;
-  free = refl;
-  alone = refl;
-  named_first = refl;
-  fixed = place 1 (codes "ADDRESS") ∷ place 2 (codes "FILE") ∷ place 3 (codes "CIRCUIT") ∷ place 4 (codes "OUTPUTS") ∷ valued (codes "sessions") ∷ valued (codes "workers") ∷ valued (codes "section") ∷ valued (codes "logs") ∷ valued (codes "public") ∷ [];
-  rules = refl;
-  no_defaults = refl;
-  defaults = refl;
-  valid = λ rows. refl;
-  knows = record {
-    in_places = (refl, refl, (refl, refl, (refl, refl, (refl, refl, tt))));
-    apart = refl;
-    few = omega arith;
-    by_name = all_known (built (told serve_form)).top serve_form.places (names_of serve_form) (known_valued (built (told serve_form)).top serve_form.places (codes "--sessions") refl refl refl refl refl refl refl refl, (known_valued (built (told serve_form)).top serve_form.places (codes "--workers") refl refl refl refl refl refl refl refl, (known_valued (built (told serve_form)).top serve_form.places (codes "--section") refl refl refl refl refl refl refl refl, (known_valued (built (told serve_form)).top serve_form.places (codes "--logs") refl refl refl refl refl refl refl refl, (known_valued (built (told serve_form)).top serve_form.places (codes "--public") refl refl refl refl refl refl refl refl, tt)))));
-  };
-  flags_apart = refl;
-  valued_apart = refl;
-  valued_named = refl;
-}
-
-pub serve_are_names : AreNames (names_of serve_form) serve_form.valued
-serve_are_names = record { kinds = (refl, (refl, (refl, (refl, (refl, tt))))); apart = refl; covered = refl }
-
--- ---- `serve-many`
-
-abbrev pub serve_many_places : List Text
-serve_many_places = serve_many_form.places
-
-abbrev pub serve_many_names : List Text
-serve_many_names = names_of serve_many_form
-
-pub serve_many_known : IsKnownForm serve_many_form
-serve_many_known = record {
-  simple = refl;
-  free = refl;
-  alone = refl;
-  named_first = refl;
-  fixed = place 1 (codes "ADDRESS") ∷ place 2 (codes "FILE") ∷ place 3 (codes "STATEMENTS") ∷ valued (codes "sessions") ∷ valued (codes "workers") ∷ valued (codes "section") ∷ valued (codes "logs") ∷ [];
-  rules = refl;
-  no_defaults = refl;
-  defaults = refl;
-  valid = λ rows. refl;
-  knows = record {
-    in_places = (refl, refl, (refl, refl, (refl, refl, tt)));
-    apart = refl;
-    few = omega arith;
-    by_name = all_known (built (told serve_many_form)).top serve_many_form.places (names_of serve_many_form) (known_valued (built (told serve_many_form)).top serve_many_form.places (codes "--sessions") refl refl refl refl refl refl refl refl, (known_valued (built (told serve_many_form)).top serve_many_form.places (codes "--workers") refl refl refl refl refl refl refl refl, (known_valued (built (told serve_many_form)).top serve_many_form.places (codes "--section") refl refl refl refl refl refl refl refl, (known_valued (built (told serve_many_form)).top serve_many_form.places (codes "--logs") refl refl refl refl refl refl refl refl, tt))));
-  };
-  flags_apart = refl;
-  valued_apart = refl;
-  valued_named = refl;
-}
-
-pub serve_many_are_names : AreNames (names_of serve_many_form) serve_many_form.valued
-serve_many_are_names = record { kinds = (refl, (refl, (refl, (refl, tt)))); apart = refl; covered = refl }
-
--- ---- `prove`
-
-abbrev pub prove_places : List Text
-prove_places = prove_form.places
-
-abbrev pub prove_names : List Text
-prove_names = names_of prove_form
-
-pub prove_known : IsKnownForm prove_form
-prove_known = record {
-  simple = refl;
-  free = refl;
-  alone = refl;
-  named_first = refl;
-  fixed = place 1 (codes "ADDRESS") ∷ place 2 (codes "FILE") ∷ place 3 (codes "CIRCUIT") ∷ place 4 (codes "BITS") ∷ place 5 (codes "OUTPUTS") ∷ valued (codes "public") ∷ [];
-  rules = refl;
-  no_defaults = refl;
-  defaults = refl;
-  valid = λ rows. refl;
-  knows = record {
-    in_places = (refl, refl, (refl, refl, (refl, refl, (refl, refl, (refl, refl, tt)))));
-    apart = refl;
-    few = omega arith;
-    by_name = all_known (built (told prove_form)).top prove_form.places (names_of prove_form) (known_valued (built (told prove_form)).top prove_form.places (codes "--public") refl refl refl refl refl refl refl refl, tt);
-  };
-  flags_apart = refl;
-  valued_apart = refl;
-  valued_named = refl;
-}
-
-pub prove_are_names : AreNames (names_of prove_form) prove_form.valued
-prove_are_names = record { kinds = (refl, tt); apart = refl; covered = refl }
-
--- ---- `audit`
-
-abbrev pub audit_places : List Text
-audit_places = audit_form.places
-
-abbrev pub audit_names : List Text
-audit_names = names_of audit_form
-
-pub audit_known : IsKnownForm audit_form
-audit_known = record {
-  simple = refl;
-  free = refl;
-  alone = refl;
-  named_first = refl;
-  fixed = place 1 (codes "CIRCUIT") ∷ place 2 (codes "OUTPUTS") ∷ place 3 (codes "PROVERFILE") ∷ place 4 (codes "VERIFIERFILE") ∷ place 5 (codes "LOG") ∷ valued (codes "public") ∷ [];
-  rules = refl;
-  no_defaults = refl;
-  defaults = refl;
-  valid = λ rows. refl;
-  knows = record {
-    in_places = (refl, refl, (refl, refl, (refl, refl, (refl, refl, (refl, refl, tt)))));
-    apart = refl;
-    few = omega arith;
-    by_name = all_known (built (told audit_form)).top audit_form.places (names_of audit_form) (known_valued (built (told audit_form)).top audit_form.places (codes "--public") refl refl refl refl refl refl refl refl, tt);
-  };
-  flags_apart = refl;
-  valued_apart = refl;
-  valued_named = refl;
-}
-
-pub audit_are_names : AreNames (names_of audit_form) audit_form.valued
-audit_are_names = record { kinds = (refl, tt); apart = refl; covered = refl }
+-- and so are the names of its options
+pub are_names_of : (name : Name) → AreNames (names_of (meant_by name).form) (meant_by name).form.valued
+are_names_of Rehearse = record { kinds = (refl, (refl, (refl, (refl, (refl, tt))))); apart = refl; covered = refl }
+are_names_of Eval = record { kinds = tt; apart = refl; covered = refl }
+are_names_of Deal = record { kinds = (refl, (refl, (refl, (refl, tt)))); apart = refl; covered = refl }
+are_names_of Serve = record { kinds = (refl, (refl, (refl, (refl, (refl, tt))))); apart = refl; covered = refl }
+are_names_of ServeMany = record { kinds = (refl, (refl, (refl, (refl, tt)))); apart = refl; covered = refl }
+are_names_of Prove = record { kinds = (refl, tt); apart = refl; covered = refl }
+are_names_of Audit = record { kinds = (refl, tt); apart = refl; covered = refl }

@@ -2,12 +2,17 @@
 use Rattle.std.proofs.Common.{◌≡◌, ◌∙◌, ◌≤◌, ℕ, List, [], ◌∷◌, true, length, Some, None, Option, refl, ap, sym, codes, arith, if◌then◌else◌, true≢false}
 use Rattle.std.specs.Option.{option_map}
 use Rattle.command_words.specs.Arguments.{Word, option_named}
+use Rattle.command_words.specs.Found.{names_of, read_by}
+use Rattle.command_words.specs.Forms.{audit_form, deal_form, eval_form, form_named, prove_form, serve_form, serve_many_form}
+use Rattle.command_words.specs.Names.{meant_by}
+use Rattle.command_words.specs.declared.names.Name.{Name}
+use Rattle.command_words.specs.declared.names.Name.TheVariants.{Rehearse, Eval, Deal, Serve, ServeMany, Prove, Audit}
 use Rattle.command_words.specs.Given.{Given, audit_given, deal_given, eval_given, params_given, prove_given, serve_given, serve_many_given, service_given}
-use Rattle.command_words.specs.Words.{Ask, audit_of, deal_of, deal_options, eval_of, generate_of, generate_options, length_of, params_of, prove_of, public_option, rehearse_of, rehearse_options, section_of, serve_many_of, serve_many_options, serve_of, serve_options_of, served_options, service_of, stand_once_among}
+use Rattle.command_words.specs.Words.{Ask, asked, audit_of, deal_of, deal_options, eval_of, generate_of, generate_options, length_of, params_of, prove_of, public_option, rehearse_of, rehearse_options, section_of, serve_many_of, serve_many_options, serve_of, serve_options_of, served_options, service_of, stand_once_among}
 use Rattle.command_words.proofs.Walks.{IsSaid}
 use Rattle.command_words.proofs.Inversions.{if_gives, if_some, none_gives, step_gives}
 use Rattle.command_words.proofs.ReadBy.{Reads}
-use Rattle.command_words.proofs.TheForms.{audit_names, audit_places, deal_names, deal_places, eval_names, eval_places, prove_names, prove_places, serve_many_names, serve_many_places, serve_names, serve_places}
+use Rattle.command_words.proofs.RehearseReading.{rehearse_reads}
 
 -- the same value where options that stand once are chosen
 if_once : {X : Type 0} (names : List (List ℕ)) (options : List Word) (o : Option X) → stand_once_among names options ≡ true → o ≡ (if stand_once_among names options then o else None)
@@ -38,7 +43,7 @@ eval_once (circuit ∷ []) (option ∷ options) ask e = none_gives e
 eval_once (circuit ∷ bits ∷ []) (option ∷ options) ask e = none_gives e
 eval_once (circuit ∷ bits ∷ word ∷ positional) (option ∷ options) ask e = none_gives e
 
-pub eval_reads : Reads eval_places eval_names (λ given. eval_given) eval_of
+pub eval_reads : Reads eval_form.places (names_of eval_form) (λ given. eval_given) eval_of
 eval_reads = record {
   same = λ given positional options said. eval_same positional ∙ ap (eval_of positional) (sym (no_options options said.once));
   few = eval_few;
@@ -47,7 +52,7 @@ eval_reads = record {
 
 -- ---- `deal`
 
-params_same : (given : Given) (options : List Word) → IsSaid given deal_names options → params_given given ≡ params_of options
+params_same : (given : Given) (options : List Word) → IsSaid given (names_of deal_form) options → params_given given ≡ params_of options
 params_same given options said =
     let units : option_named (codes "--units") options ≡ given (codes "units") = said.named (codes "--units") refl in
     let trees : option_named (codes "--trees") options ≡ given (codes "trees") = said.named (codes "--trees") refl in
@@ -55,7 +60,7 @@ params_same given options said =
     let base : option_named (codes "--base") options ≡ given (codes "base") = said.named (codes "--base") refl in
     rw (units, trees, height, base) refl
 
-deal_same : (given : Given) (positional : List (List ℕ)) (options : List Word) → IsSaid given deal_names options → deal_given given positional ≡ deal_of positional options
+deal_same : (given : Given) (positional : List (List ℕ)) (options : List Word) → IsSaid given (names_of deal_form) options → deal_given given positional ≡ deal_of positional options
 deal_same given [] options said = refl
 deal_same given (name ∷ []) options said =
     ap (option_map (λ params. Rattle.command_words.specs.Words.deal (Rattle.command_words.specs.Words.deal_ask name params))) (params_same given options said)
@@ -67,12 +72,12 @@ deal_few [] options ask e = omega arith
 deal_few (name ∷ []) options ask e = omega arith
 deal_few (name ∷ word ∷ positional) options ask e = none_gives e
 
-deal_once : (positional : List (List ℕ)) (options : List Word) (ask : Ask) → deal_of positional options ≡ Some ask → stand_once_among deal_names options ≡ true
+deal_once : (positional : List (List ℕ)) (options : List Word) (ask : Ask) → deal_of positional options ≡ Some ask → stand_once_among (names_of deal_form) options ≡ true
 deal_once [] options ask e = none_gives e
 deal_once (name ∷ []) options ask e = if_gives (stand_once_among deal_options options) _ ask e
 deal_once (name ∷ word ∷ positional) options ask e = none_gives e
 
-pub deal_reads : Reads deal_places deal_names deal_given deal_of
+pub deal_reads : Reads deal_form.places (names_of deal_form) deal_given deal_of
 deal_reads = record { same = deal_same; few = deal_few; once = deal_once }
 
 -- ---- `serve` and `serve-many`
@@ -81,7 +86,7 @@ service_same : (given : Given) (options : List Word) → option_named (codes "--
     → option_named (codes "--section") options ≡ given (codes "section") → option_named (codes "--logs") options ≡ given (codes "logs") → service_given given ≡ service_of options
 service_same given options sessions workers section logs = rw (sessions, workers, section, logs) refl
 
-serve_same : (given : Given) (positional : List (List ℕ)) (options : List Word) → IsSaid given serve_names options → serve_given given positional ≡ serve_of positional options
+serve_same : (given : Given) (positional : List (List ℕ)) (options : List Word) → IsSaid given (names_of serve_form) options → serve_given given positional ≡ serve_of positional options
 serve_same given [] options said = refl
 serve_same given (address ∷ []) options said = refl
 serve_same given (address ∷ file ∷ []) options said = refl
@@ -102,7 +107,7 @@ serve_few (address ∷ file ∷ circuit ∷ []) options ask e = omega arith
 serve_few (address ∷ file ∷ circuit ∷ outputs ∷ []) options ask e = omega arith
 serve_few (address ∷ file ∷ circuit ∷ outputs ∷ word ∷ positional) options ask e = none_gives e
 
-serve_once : (positional : List (List ℕ)) (options : List Word) (ask : Ask) → serve_of positional options ≡ Some ask → stand_once_among serve_names options ≡ true
+serve_once : (positional : List (List ℕ)) (options : List Word) (ask : Ask) → serve_of positional options ≡ Some ask → stand_once_among (names_of serve_form) options ≡ true
 serve_once [] options ask e = none_gives e
 serve_once (address ∷ []) options ask e = none_gives e
 serve_once (address ∷ file ∷ []) options ask e = none_gives e
@@ -111,10 +116,10 @@ serve_once (address ∷ file ∷ circuit ∷ outputs ∷ []) options ask e =
     if_some (stand_once_among served_options options) (service_of options) (step_gives _ (serve_options_of options) ask e)
 serve_once (address ∷ file ∷ circuit ∷ outputs ∷ word ∷ positional) options ask e = none_gives e
 
-pub serve_reads : Reads serve_places serve_names serve_given serve_of
+pub serve_reads : Reads serve_form.places (names_of serve_form) serve_given serve_of
 serve_reads = record { same = serve_same; few = serve_few; once = serve_once }
 
-serve_many_same : (given : Given) (positional : List (List ℕ)) (options : List Word) → IsSaid given serve_many_names options → serve_many_given given positional ≡ serve_many_of positional options
+serve_many_same : (given : Given) (positional : List (List ℕ)) (options : List Word) → IsSaid given (names_of serve_many_form) options → serve_many_given given positional ≡ serve_many_of positional options
 serve_many_same given [] options said = refl
 serve_many_same given (address ∷ []) options said = refl
 serve_many_same given (address ∷ file ∷ []) options said = refl
@@ -131,19 +136,19 @@ serve_many_few (address ∷ file ∷ []) options ask e = omega arith
 serve_many_few (address ∷ file ∷ statements ∷ []) options ask e = omega arith
 serve_many_few (address ∷ file ∷ statements ∷ word ∷ positional) options ask e = none_gives e
 
-serve_many_once : (positional : List (List ℕ)) (options : List Word) (ask : Ask) → serve_many_of positional options ≡ Some ask → stand_once_among serve_many_names options ≡ true
+serve_many_once : (positional : List (List ℕ)) (options : List Word) (ask : Ask) → serve_many_of positional options ≡ Some ask → stand_once_among (names_of serve_many_form) options ≡ true
 serve_many_once [] options ask e = none_gives e
 serve_many_once (address ∷ []) options ask e = none_gives e
 serve_many_once (address ∷ file ∷ []) options ask e = none_gives e
 serve_many_once (address ∷ file ∷ statements ∷ []) options ask e = if_gives (stand_once_among serve_many_options options) _ ask e
 serve_many_once (address ∷ file ∷ statements ∷ word ∷ positional) options ask e = none_gives e
 
-pub serve_many_reads : Reads serve_many_places serve_many_names serve_many_given serve_many_of
+pub serve_many_reads : Reads serve_many_form.places (names_of serve_many_form) serve_many_given serve_many_of
 serve_many_reads = record { same = serve_many_same; few = serve_many_few; once = serve_many_once }
 
 -- ---- `prove`
 
-prove_same : (given : Given) (positional : List (List ℕ)) (options : List Word) → IsSaid given prove_names options → prove_given given positional ≡ prove_of positional options
+prove_same : (given : Given) (positional : List (List ℕ)) (options : List Word) → IsSaid given (names_of prove_form) options → prove_given given positional ≡ prove_of positional options
 prove_same given [] options said = refl
 prove_same given (address ∷ []) options said = refl
 prove_same given (address ∷ file ∷ []) options said = refl
@@ -164,7 +169,7 @@ prove_few (address ∷ file ∷ circuit ∷ bits ∷ []) options ask e = omega a
 prove_few (address ∷ file ∷ circuit ∷ bits ∷ outputs ∷ []) options ask e = omega arith
 prove_few (address ∷ file ∷ circuit ∷ bits ∷ outputs ∷ word ∷ positional) options ask e = none_gives e
 
-prove_once : (positional : List (List ℕ)) (options : List Word) (ask : Ask) → prove_of positional options ≡ Some ask → stand_once_among prove_names options ≡ true
+prove_once : (positional : List (List ℕ)) (options : List Word) (ask : Ask) → prove_of positional options ≡ Some ask → stand_once_among (names_of prove_form) options ≡ true
 prove_once [] options ask e = none_gives e
 prove_once (address ∷ []) options ask e = none_gives e
 prove_once (address ∷ file ∷ []) options ask e = none_gives e
@@ -173,12 +178,12 @@ prove_once (address ∷ file ∷ circuit ∷ bits ∷ []) options ask e = none_g
 prove_once (address ∷ file ∷ circuit ∷ bits ∷ outputs ∷ []) options ask e = if_gives (stand_once_among public_option options) _ ask e
 prove_once (address ∷ file ∷ circuit ∷ bits ∷ outputs ∷ word ∷ positional) options ask e = none_gives e
 
-pub prove_reads : Reads prove_places prove_names prove_given prove_of
+pub prove_reads : Reads prove_form.places (names_of prove_form) prove_given prove_of
 prove_reads = record { same = prove_same; few = prove_few; once = prove_once }
 
 -- ---- `audit`
 
-audit_same : (given : Given) (positional : List (List ℕ)) (options : List Word) → IsSaid given audit_names options → audit_given given positional ≡ audit_of positional options
+audit_same : (given : Given) (positional : List (List ℕ)) (options : List Word) → IsSaid given (names_of audit_form) options → audit_given given positional ≡ audit_of positional options
 audit_same given [] options said = refl
 audit_same given (circuit ∷ []) options said = refl
 audit_same given (circuit ∷ outputs ∷ []) options said = refl
@@ -199,7 +204,7 @@ audit_few (circuit ∷ outputs ∷ prover ∷ verifier ∷ []) options ask e = o
 audit_few (circuit ∷ outputs ∷ prover ∷ verifier ∷ log ∷ []) options ask e = omega arith
 audit_few (circuit ∷ outputs ∷ prover ∷ verifier ∷ log ∷ word ∷ positional) options ask e = none_gives e
 
-audit_once : (positional : List (List ℕ)) (options : List Word) (ask : Ask) → audit_of positional options ≡ Some ask → stand_once_among audit_names options ≡ true
+audit_once : (positional : List (List ℕ)) (options : List Word) (ask : Ask) → audit_of positional options ≡ Some ask → stand_once_among (names_of audit_form) options ≡ true
 audit_once [] options ask e = none_gives e
 audit_once (circuit ∷ []) options ask e = none_gives e
 audit_once (circuit ∷ outputs ∷ []) options ask e = none_gives e
@@ -208,5 +213,22 @@ audit_once (circuit ∷ outputs ∷ prover ∷ verifier ∷ []) options ask e = 
 audit_once (circuit ∷ outputs ∷ prover ∷ verifier ∷ log ∷ []) options ask e = if_gives (stand_once_among public_option options) _ ask e
 audit_once (circuit ∷ outputs ∷ prover ∷ verifier ∷ log ∷ word ∷ positional) options ask e = none_gives e
 
-pub audit_reads : Reads audit_places audit_names audit_given audit_of
+pub audit_reads : Reads audit_form.places (names_of audit_form) audit_given audit_of
 audit_reads = record { same = audit_same; few = audit_few; once = audit_once }
+
+-- ---- by name
+
+-- a command's words are read so, and its name stands for that
+pub record IsReadSo (name : Name) : Type 0 where
+  pub reads : Reads (meant_by name).form.places (names_of (meant_by name).form) (meant_by name).given (meant_by name).reads
+  pub asks : (others : List (List ℕ)) → asked ((meant_by name).text ∷ others) ≡ read_by (meant_by name).reads others
+  pub form : form_named (meant_by name).text ≡ Some (meant_by name).form
+
+pub by_name : (name : Name) → IsReadSo name
+by_name Rehearse = record { reads = rehearse_reads; asks = λ others. refl; form = refl }
+by_name Eval = record { reads = eval_reads; asks = λ others. refl; form = refl }
+by_name Deal = record { reads = deal_reads; asks = λ others. refl; form = refl }
+by_name Serve = record { reads = serve_reads; asks = λ others. refl; form = refl }
+by_name ServeMany = record { reads = serve_many_reads; asks = λ others. refl; form = refl }
+by_name Prove = record { reads = prove_reads; asks = λ others. refl; form = refl }
+by_name Audit = record { reads = audit_reads; asks = λ others. refl; form = refl }

@@ -5,6 +5,7 @@ pub mod Forms
 pub mod Found
 pub mod Given
 pub mod Help
+pub mod Names
 pub mod Numbers
 pub mod Orders
 pub mod Words

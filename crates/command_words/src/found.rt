@@ -1,6 +1,6 @@
 // What clap finds in the words of a command.
 ghost use Rattle.std.specs.Option.{option_map};
-ghost use Rattle.std.specs.Prelude.{◌≡◌, ◌++◌, map, string_bytes, IfOk, IfSome, IsNone, true, false};
+ghost use Rattle.std.specs.Prelude.{◌≡◌, ◌++◌, [], map, string_bytes, IfOk, IfSome, IsNone, true, false};
 ghost use Rattle.clap.specs.Simple.{app_of, is_simple};
 ghost use Rattle.command_words.specs.Found.{told, form_at, given_by, are_plain, is_plain, places_in, IsFound};
 ghost use Rattle.command_words.specs.Words.{texts};
@@ -10,24 +10,42 @@ use clap::error::ErrorKind;
 use clap::{Arg, ArgAction, ArgMatches, Command};
 use std::alloc::{AllocError, Global};
 
-/// A command that takes words in these places, options that a value follows, and options that stand by themselves.
-fn clap_command<'a>(
-    alloc: Global,
-    places: &[&'a str],
-    valued: &[&'a str],
-    flags: &[&'a str],
-) -> Result<Command<'a>, AllocError>
+/// Which words a command takes: those in places, the options that a value follows, and those that stand by themselves, by their ids.
+#[derive(Clone, Copy)]
+pub struct Form<'a> {
+    pub places: &'a [&'a str],
+    pub valued: &'a [&'a str],
+    pub flags: &'a [&'a str],
+}
+
+impl<'a> Form<'a> {
+    /// One where no option stands by itself.
+    pub fn plain(places: &'a [&'a str], valued: &'a [&'a str]) -> Self
+        ensures places { result.places ≡ places.entry }
+        ensures valued { result.valued ≡ valued.entry }
+        ensures flags { result.flags.now ≡ [] }
+    {
+        Form {
+            places,
+            valued,
+            flags: &[],
+        }
+    }
+}
+
+/// A command that takes such words.
+fn clap_command<'a>(alloc: Global, form: &Form<'a>) -> Result<Command<'a>, AllocError>
     ensures { IfOk result (λ command. app_of command
-        ≡ told (form_at places.entry.now valued.entry.now flags.entry.now)) }
+        ≡ told (form_at form.entry.now.places.now form.entry.now.valued.now form.entry.now.flags.now)) }
 {
     let mut command = Command::new(alloc, "zk").disable_help_flag(true);
-    for id in places {
+    for id in form.places {
         command = command.arg(Arg::new(alloc, id))?;
     }
-    for id in valued {
+    for id in form.valued {
         command = command.arg(Arg::new(alloc, id).long(id))?;
     }
-    for id in flags {
+    for id in form.flags {
         let flag = Arg::new(alloc, id).long(id).action(ArgAction::SetTrue);
         command = command.arg(flag)?;
     }
@@ -66,19 +84,18 @@ pub struct Arguments<'a> {
 pub fn find_words<'a>(
     alloc: Global,
     words: &'a [String],
-    places: &[&'a str],
-    valued: &[&'a str],
-    flags: &[&'a str],
+    form: &Form<'a>,
 ) -> Result<Option<Arguments<'a>>, AllocError>
-    ensures found { IfOk result (λ found. IsFound (form_at places.entry.now valued.entry.now flags.entry.now)
+    ensures found { IfOk result (λ found. IsFound
+        (form_at form.entry.now.places.now form.entry.now.valued.now form.entry.now.flags.now)
         (texts words.entry.now) (option_map (λ a. a.options) found)) }
     ensures positional { IfOk result (λ found. IfSome found (λ a. map (λ p. p.now) a.positional.items
-        ≡ places_in (given_by a.options) (map (λ p. p.now) places.entry.now))) }
+        ≡ places_in (given_by a.options) (map (λ p. p.now) form.entry.now.places.now))) }
 {
-    let Some(options) = find_matches(alloc, words, places, valued, flags)? else {
+    let Some(options) = find_matches(alloc, words, form)? else {
         return Ok(None);
     };
-    let positional = find_places(alloc, &options, places)?;
+    let positional = find_places(alloc, &options, form.places)?;
     Ok(Some(Arguments {
         positional,
         options,
@@ -109,16 +126,15 @@ fn find_places<'a>(
 fn find_matches<'a>(
     alloc: Global,
     words: &'a [String],
-    places: &[&'a str],
-    valued: &[&'a str],
-    flags: &[&'a str],
+    form: &Form<'a>,
 ) -> Result<Option<ArgMatches<'a>>, AllocError>
-    ensures { IfOk result (IsFound (form_at places.entry.now valued.entry.now flags.entry.now)
+    ensures { IfOk result (IsFound
+        (form_at form.entry.now.places.now form.entry.now.valued.now form.entry.now.flags.now)
         (texts words.entry.now)) }
 {
-    let command = clap_command(alloc, places, valued, flags)?;
+    let command = clap_command(alloc, form)?;
     match command.try_get_matches_from(words) {
-        Ok(matches) => Ok(if_plain(matches, places, valued)),
+        Ok(matches) => Ok(if_plain(matches, form.places, form.valued)),
         Err(error) => match error.kind() {
             ErrorKind::OutOfMemory => Err(AllocError),
             _ => Ok(None),

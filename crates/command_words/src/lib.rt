@@ -1,6 +1,6 @@
 //! The words of a command line: which command they ask for, and the word of a list of bits.
 //!
-//! `words` has `Command` and `read_words`; `found` has clap find a command's words in places and its options, and `readings` reads what
+//! `words` has `Command` and `read_words`; `names` has the commands by name, `found` has clap find a command's words in places and its options, and `readings` reads what
 //! these ask for; `numbers` and `bits` read single words; `help` has the help texts; `laws` says in plain terms which words have which
 //! meaning. As the top call uses it:
 //!
@@ -13,6 +13,7 @@ mod bits;
 mod found;
 mod help;
 mod laws;
+mod names;
 mod numbers;
 mod readings;
 mod words;

@@ -3,17 +3,14 @@ ghost use Rattle.std.specs.Prelude.{◌≡◌, ◌≤◌, ◌^◌, ◌-◌, ◌�
 ghost use Rattle.std.specs.Option.{option_map, option_and_then};
 ghost use Rattle.command_words.specs.Words.{length_of, public_of, workers_of, direct_params, extended_of};
 ghost use Rattle.command_words.specs.Found.{given_by};
-ghost use Rattle.command_words.specs.Given.{kind_given, generate_given, rehearse_given, eval_given, params_given};
-ghost use Rattle.command_words.specs.Given.{deal_given, service_given, serve_given, serve_many_given};
-ghost use Rattle.command_words.specs.Given.{prove_given, audit_given};
+ghost use Rattle.command_words.specs.Given.{kind_given, generate_given, rehearse_given, eval_given, params_given, deal_given, service_given, serve_given, serve_many_given, prove_given, audit_given};
 ghost use Rattle.command_words.specs.Numbers.{number_within};
 ghost use Rattle.command_words.specs.Commands.{ask_of, named_options, AreServeLimits, IsWithinLimits, IsSectionSize};
 ghost use Rattle.command_words.specs.declared.words.TheConstants.{MAX_SESSIONS};
 ghost use Rattle.zk_model.specs.FileFaults.{file_length};
 ghost use Rattle.zk_model.specs.Files.{AreParams};
 ghost use Rattle.zk_model.specs.declared.Side.TheVariants.{Prover, Verifier};
-ghost use Rattle.zk_model.specs.declared.limits.TheConstants.{FILE_LIMIT};
-ghost use Rattle.zk_model.specs.declared.limits.TheConstants.{MAX_DEALT_UNITS, MAX_GENERATED_GATES, MAX_PASSES};
+ghost use Rattle.zk_model.specs.declared.limits.TheConstants.{FILE_LIMIT, MAX_DEALT_UNITS, MAX_GENERATED_GATES, MAX_PASSES};
 
 use crate::bits::read_bits;
 use crate::found::Arguments;

@@ -5,6 +5,7 @@ use Rattle.zk_model.specs.Bytes.{LeftRight}
 use Rattle.zk_model.specs.Mac.{Pair}
 use Rattle.zk_model.specs.Files.{Transfer, ProverUnit, VerifierUnit, ProverFile, VerifierFile, dealt_per_unit}
 use Rattle.zk_model.specs.declared.Params.{Params}
+use Rattle.dealer_files.specs.declared.head.Head.{Head}
 
 -- the piece of this number of a list that is cut into pieces of one size
 abbrev pub piece : {A : Type 0} → ℕ → List A → ℕ → List A
@@ -60,3 +61,10 @@ flat_verifier params id coin_key code_seed key keys pads = record {
 pub record AreWhole {A B : Type 0} (params : Params) (items : List A) (others : List B) : Type 0 where
   pub dealt : length items ≡ dealt_per_unit params * params.total
   pub transfers : length others ≡ transfers_per_unit params * params.total
+
+-- the files of these headers
+abbrev pub prover_of : Head → List Pair → List Transfer → ProverFile
+prover_of head pairs transfers = flat_prover head.params head.id head.coin_key head.code_seed pairs transfers
+
+abbrev pub verifier_of : Head → ℕ → List ℕ → List LeftRight → VerifierFile
+verifier_of head key keys pads = flat_verifier head.params head.id head.coin_key head.code_seed key keys pads

@@ -8,6 +8,7 @@ ghost use Rattle.zk_model.specs.Files.{AreParams, IsProverFile, IsVerifierFile, 
 ghost use Rattle.dealer_files.specs.Flat.{unit_by_unit};
 ghost use Rattle.dealer_files.specs.Words.{word_pair, word_pads, word_transfer};
 
+use crate::head::Head;
 use crate::prover_file::ProverFile;
 use crate::transfer::{Pads, Transfer};
 use crate::unit::{dealt_per_unit, transfers_per_unit};
@@ -42,8 +43,15 @@ pub fn deal(
     let DealtTransfers { transfers, pads } = deal_transfers(alloc, &coins, params)?;
     let id = coins.bytes(0);
     let code_seed = deal_code_seed(&coins, params.kind);
-    let prover = ProverFile::new(*params, id, coins.bytes(1), code_seed, pairs, transfers);
-    let verifier = VerifierFile::new(*params, id, coins.bytes(2), code_seed, key, keys, pads);
+    let head = Head {
+        params: *params,
+        id,
+        coin_key: coins.bytes(1),
+        code_seed,
+    };
+    let prover = ProverFile::new(head, pairs, transfers);
+    let coin_key = coins.bytes(2);
+    let verifier = VerifierFile::new(Head { coin_key, ..head }, key, keys, pads);
     Ok((prover, verifier))
 }
 

@@ -67,14 +67,7 @@ pub fn decode_prover(alloc: Global, bytes: &[u8]) -> Result<ProverFile, FileFaul
     if !has_digest(bytes) {
         return Err(FileFault::BadDigest);
     }
-    Ok(ProverFile::new(
-        head.params,
-        head.id,
-        head.coin_key,
-        head.code_seed,
-        blocks.pairs,
-        blocks.transfers,
-    ))
+    Ok(ProverFile::new(head, blocks.pairs, blocks.transfers))
 }
 
 /// What the blocks of a verifier's file hold, unit by unit.
@@ -144,13 +137,5 @@ pub fn decode_verifier(alloc: Global, bytes: &[u8]) -> Result<VerifierFile, File
     if !has_digest(bytes) {
         return Err(FileFault::BadDigest);
     }
-    Ok(VerifierFile::new(
-        head.params,
-        head.id,
-        head.coin_key,
-        head.code_seed,
-        key,
-        blocks.keys,
-        blocks.pads,
-    ))
+    Ok(VerifierFile::new(head, key, blocks.keys, blocks.pads))
 }

@@ -3,6 +3,7 @@ ghost use Rattle.std.specs.Prelude.{◌≡◌, ◌++◌, flat_map, OnOk};
 ghost use Rattle.zk_model.specs.Bytes.{element_bytes};
 ghost use Rattle.zk_model.specs.FileBytes.{header_bytes, params_bytes, pair_bytes, transfer_bytes, pads_bytes, kind_code, sealed};
 
+use crate::head::Head;
 use crate::transfer::{Pads, Transfer};
 use mersenne_field::{Fe, Pair};
 use sha2::{Digest, Sha256};
@@ -10,23 +11,16 @@ use std::alloc::AllocError;
 use zk_model::{Kind, Params};
 
 /// Appends the first 128 bytes of a file.
-pub(crate) fn push_header(
-    bytes: &mut Vec<u8>,
-    side: u8,
-    params: &Params,
-    id: &[u8; 32],
-    coin_key: &[u8; 32],
-    code_seed: &[u8; 32],
-) -> Result<(), AllocError>
-    ensures { OnOk result (bytes.new.items
-        ≡ bytes.old.items ++ header_bytes side params.now id.now coin_key.now code_seed.now) }
+pub(crate) fn push_header(bytes: &mut Vec<u8>, side: u8, head: &Head) -> Result<(), AllocError>
+    ensures { OnOk result (bytes.new.items ≡ bytes.old.items
+        ++ header_bytes side head.now.params head.now.id head.now.coin_key head.now.code_seed) }
 {
     bytes.extend_from_slice(b"WQSFILE1")?;
     bytes.push(side)?;
-    push_params(bytes, params)?;
-    bytes.extend_from_slice(id)?;
-    bytes.extend_from_slice(coin_key)?;
-    bytes.extend_from_slice(code_seed)?;
+    push_params(bytes, &head.params)?;
+    bytes.extend_from_slice(&head.id)?;
+    bytes.extend_from_slice(&head.coin_key)?;
+    bytes.extend_from_slice(&head.code_seed)?;
     Ok(())
 }
 

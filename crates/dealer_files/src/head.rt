@@ -15,7 +15,7 @@ use mersenne_field::Fe;
 use sha2::{Digest, Sha256};
 use zk_model::{Kind, MAX_BASE, MAX_DEALT_UNITS, MAX_HEIGHT, MAX_TREES, Params, Side};
 
-/// What a header says.
+/// What a header says: what a file was made for, its id, the key of its side's coins, and the seed of the code.
 #[derive(Clone, Copy, Debug)]
 pub(crate) struct Head {
     pub params: Params,

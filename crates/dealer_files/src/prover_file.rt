@@ -2,10 +2,10 @@
 ghost use Rattle.std.specs.Prelude.{◌≡◌, ◌*◌, ◌-◌, ◌<◌, ◌≤◌, ◌++◌, length, flat_map, IfOk, OnOk};
 ghost use Rattle.zk_model.specs.Files.{IsProverFile, dealt_per_unit, prover_unit, span_pairs, unit_transfers};
 ghost use Rattle.zk_model.specs.FileBytes.{prover_unit_bytes, prover_file_bytes};
-ghost use Rattle.dealer_files.specs.Flat.{flat_prover, AreWhole};
+ghost use Rattle.dealer_files.specs.Flat.{prover_of, AreWhole};
 
 use crate::encoding::{push_digest, push_header, push_pairs, push_transfers};
-use crate::head::file_length;
+use crate::head::{Head, file_length};
 use crate::transfer::Transfer;
 use crate::unit::{first_dealt, first_transfer};
 use mersenne_field::Pair;
@@ -19,10 +19,7 @@ use zk_model::{Params, Side, Span};
 /// limits; contracts see it unit by unit.
 #[derive(Debug, Drop)]
 pub struct ProverFile {
-    params: Params,
-    id: [u8; 32],
-    coin_key: [u8; 32],
-    code_seed: [u8; 32],
+    head: Head,
     pairs: Vec<Pair>,
     transfers: Vec<Transfer>,
 }
@@ -33,34 +30,24 @@ impl Model for ProverFile {
     ghost Value = { files.ProverFile };
 
     ghost use Rattle.zk_model.specs.Files.{IsProverFile};
-    ghost use Rattle.dealer_files.specs.Flat.{flat_prover, AreWhole};
+    ghost use Rattle.dealer_files.specs.Flat.{prover_of, AreWhole};
 
-    ghost view = { λ f. flat_prover f.params f.id f.coin_key f.code_seed f.pairs.items f.transfers.items };
+    ghost view = { λ f. prover_of f.head f.pairs.items f.transfers.items };
 
     ghost invariant = { λ f. IsProverFile
-        (flat_prover f.params f.id f.coin_key f.code_seed f.pairs.items f.transfers.items)
-        × AreWhole f.params f.pairs.items f.transfers.items };
+        (prover_of f.head f.pairs.items f.transfers.items)
+        × AreWhole f.head.params f.pairs.items f.transfers.items };
 }
 
 impl ProverFile {
     /// The file of these parts.
-    pub(crate) fn new(
-        params: Params,
-        id: [u8; 32],
-        coin_key: [u8; 32],
-        code_seed: [u8; 32],
-        pairs: Vec<Pair>,
-        transfers: Vec<Transfer>,
-    ) -> Self
-        requires file { IsProverFile (flat_prover params id coin_key code_seed pairs.items transfers.items) }
-        requires whole { AreWhole params pairs.items transfers.items }
-        ensures { result ≡ flat_prover params id coin_key code_seed pairs.items transfers.items }
+    pub(crate) fn new(head: Head, pairs: Vec<Pair>, transfers: Vec<Transfer>) -> Self
+        requires file { IsProverFile (prover_of head pairs.items transfers.items) }
+        requires whole { AreWhole head.params pairs.items transfers.items }
+        ensures { result ≡ prover_of head pairs.items transfers.items }
     {
         ProverFile {
-            params,
-            id,
-            coin_key,
-            code_seed,
+            head,
             pairs,
             transfers,
         }
@@ -71,7 +58,7 @@ impl ProverFile {
         ensures id { result ≡ self.now.id }
         ensures file { IsProverFile self.now }
     {
-        self.id
+        self.head.id
     }
 
     /// What the file was made for.
@@ -79,7 +66,7 @@ impl ProverFile {
         ensures params { result ≡ self.now.params }
         ensures file { IsProverFile self.now }
     {
-        self.params
+        self.head.params
     }
 
     /// The seed of the code, 32 zero bytes in kind direct.
@@ -87,14 +74,14 @@ impl ProverFile {
         ensures seed { result ≡ self.now.code_seed }
         ensures file { IsProverFile self.now }
     {
-        self.code_seed
+        self.head.code_seed
     }
 
     /// This side's coins.
     pub fn coins(&self) -> CoinBox
         ensures { result ≡ self.now.coin_key }
     {
-        CoinBox::new(&self.coin_key)
+        CoinBox::new(&self.head.coin_key)
     }
 
     /// How many units the file has.
@@ -102,7 +89,7 @@ impl ProverFile {
         ensures total { result ≡ self.now.params.total }
         ensures file { IsProverFile self.now }
     {
-        self.params.total
+        self.head.params.total
     }
 
     /// The pairs that are dealt in the units of a span, unit by unit.
@@ -112,8 +99,8 @@ impl ProverFile {
         ensures pairs { result.now ≡ span_pairs self.now span }
         ensures count { length result.now ≡ dealt_per_unit self.now.params * (span.end - span.start) }
     {
-        let start = first_dealt(&self.params, span.start);
-        let end = first_dealt(&self.params, span.end);
+        let start = first_dealt(&self.head.params, span.start);
+        let end = first_dealt(&self.head.params, span.end);
         &self.pairs[start..end]
     }
 
@@ -123,8 +110,8 @@ impl ProverFile {
         ensures transfers { result.now ≡ unit_transfers (prover_unit self.now unit) }
         ensures count { length result.now ≡ self.now.params.trees * self.now.params.height }
     {
-        let start = first_transfer(&self.params, unit);
-        let end = first_transfer(&self.params, unit + 1);
+        let start = first_transfer(&self.head.params, unit);
+        let end = first_transfer(&self.head.params, unit + 1);
         &self.transfers[start..end]
     }
 
@@ -132,16 +119,9 @@ impl ProverFile {
     pub fn encode(&self, alloc: Global) -> Result<Vec<u8>, AllocError>
         ensures { IfOk result (λ bytes. bytes.items ≡ prover_file_bytes self.now) }
     {
-        let length = file_length(Side::Prover, &self.params) as usize;
+        let length = file_length(Side::Prover, &self.head.params) as usize;
         let mut bytes = Vec::with_capacity(alloc, length)?;
-        push_header(
-            &mut bytes,
-            0,
-            &self.params,
-            &self.id,
-            &self.coin_key,
-            &self.code_seed,
-        )?;
+        push_header(&mut bytes, 0, &self.head)?;
         self.push_units(&mut bytes)?;
         push_digest(&mut bytes)?;
         Ok(bytes)
@@ -152,7 +132,7 @@ impl ProverFile {
         ensures { OnOk result (bytes.new.items
             ≡ bytes.old.items ++ flat_map prover_unit_bytes self.now.units) }
     {
-        for unit in 0..self.params.total {
+        for unit in 0..self.head.params.total {
             let one = Span {
                 start: unit,
                 end: unit + 1,

@@ -4,11 +4,11 @@ ghost use Rattle.zk_model.specs.Field.{from_word};
 ghost use Rattle.zk_model.specs.Coins.{coin_word};
 ghost use Rattle.zk_model.specs.Files.{IsVerifierFile, dealt_per_unit, span_dealt_keys, unit_pads, verifier_unit};
 ghost use Rattle.zk_model.specs.FileBytes.{verifier_unit_bytes, verifier_file_bytes};
-ghost use Rattle.dealer_files.specs.Flat.{flat_verifier, AreWhole};
+ghost use Rattle.dealer_files.specs.Flat.{verifier_of, AreWhole};
 ghost use Rattle.zk_model.specs.declared.limits.TheConstants.{MAX_DEALT_UNITS};
 
 use crate::encoding::{push_digest, push_elements, push_header, push_pads};
-use crate::head::file_length;
+use crate::head::{Head, file_length};
 use crate::transfer::Pads;
 use crate::unit::{first_dealt, first_transfer};
 use mersenne_field::Fe;
@@ -22,10 +22,7 @@ use zk_model::{Params, Side, Span};
 /// both pads of transfers. The file keeps within its limits; contracts see it unit by unit.
 #[derive(Debug, Drop)]
 pub struct VerifierFile {
-    params: Params,
-    id: [u8; 32],
-    coin_key: [u8; 32],
-    code_seed: [u8; 32],
+    head: Head,
     key: Fe,
     keys: Vec<Fe>,
     pads: Vec<Pads>,
@@ -37,36 +34,25 @@ impl Model for VerifierFile {
     ghost Value = { files.VerifierFile };
 
     ghost use Rattle.zk_model.specs.Files.{IsVerifierFile};
-    ghost use Rattle.dealer_files.specs.Flat.{flat_verifier, AreWhole};
+    ghost use Rattle.dealer_files.specs.Flat.{verifier_of, AreWhole};
 
-    ghost view = { λ f. flat_verifier f.params f.id f.coin_key f.code_seed f.key f.keys.items f.pads.items };
+    ghost view = { λ f. verifier_of f.head f.key f.keys.items f.pads.items };
 
     ghost invariant = { λ f. IsVerifierFile
-        (flat_verifier f.params f.id f.coin_key f.code_seed f.key f.keys.items f.pads.items)
-        × AreWhole f.params f.keys.items f.pads.items };
+        (verifier_of f.head f.key f.keys.items f.pads.items)
+        × AreWhole f.head.params f.keys.items f.pads.items };
 }
 
 impl VerifierFile {
     /// The file of these parts.
-    pub(crate) fn new(
-        params: Params,
-        id: [u8; 32],
-        coin_key: [u8; 32],
-        code_seed: [u8; 32],
-        key: Fe,
-        keys: Vec<Fe>,
-        pads: Vec<Pads>,
-    ) -> Self
+    pub(crate) fn new(head: Head, key: Fe, keys: Vec<Fe>, pads: Vec<Pads>) -> Self
         requires file { IsVerifierFile
-            (flat_verifier params id coin_key code_seed key keys.items pads.items) }
-        requires whole { AreWhole params keys.items pads.items }
-        ensures { result ≡ flat_verifier params id coin_key code_seed key keys.items pads.items }
+            (verifier_of head key keys.items pads.items) }
+        requires whole { AreWhole head.params keys.items pads.items }
+        ensures { result ≡ verifier_of head key keys.items pads.items }
     {
         VerifierFile {
-            params,
-            id,
-            coin_key,
-            code_seed,
+            head,
             key,
             keys,
             pads,
@@ -78,7 +64,7 @@ impl VerifierFile {
         ensures id { result ≡ self.now.id }
         ensures file { IsVerifierFile self.now }
     {
-        self.id
+        self.head.id
     }
 
     /// What the file was made for.
@@ -86,7 +72,7 @@ impl VerifierFile {
         ensures params { result ≡ self.now.params }
         ensures file { IsVerifierFile self.now }
     {
-        self.params
+        self.head.params
     }
 
     /// The seed of the code, 32 zero bytes in kind direct.
@@ -94,14 +80,14 @@ impl VerifierFile {
         ensures seed { result ≡ self.now.code_seed }
         ensures file { IsVerifierFile self.now }
     {
-        self.code_seed
+        self.head.code_seed
     }
 
     /// This side's coins.
     pub fn coins(&self) -> CoinBox
         ensures { result ≡ self.now.coin_key }
     {
-        CoinBox::new(&self.coin_key)
+        CoinBox::new(&self.head.coin_key)
     }
 
     /// How many units the file has.
@@ -109,7 +95,7 @@ impl VerifierFile {
         ensures total { result ≡ self.now.params.total }
         ensures file { IsVerifierFile self.now }
     {
-        self.params.total
+        self.head.params.total
     }
 
     /// The verifier's one key.
@@ -127,8 +113,8 @@ impl VerifierFile {
         ensures keys { result.now ≡ span_dealt_keys self.now span }
         ensures count { length result.now ≡ dealt_per_unit self.now.params * (span.end - span.start) }
     {
-        let start = first_dealt(&self.params, span.start);
-        let end = first_dealt(&self.params, span.end);
+        let start = first_dealt(&self.head.params, span.start);
+        let end = first_dealt(&self.head.params, span.end);
         &self.keys[start..end]
     }
 
@@ -146,8 +132,8 @@ impl VerifierFile {
         ensures pads { result.now ≡ unit_pads (verifier_unit self.now unit) }
         ensures count { length result.now ≡ self.now.params.trees * self.now.params.height }
     {
-        let start = first_transfer(&self.params, unit);
-        let end = first_transfer(&self.params, unit + 1);
+        let start = first_transfer(&self.head.params, unit);
+        let end = first_transfer(&self.head.params, unit + 1);
         &self.pads[start..end]
     }
 
@@ -155,16 +141,9 @@ impl VerifierFile {
     pub fn encode(&self, alloc: Global) -> Result<Vec<u8>, AllocError>
         ensures { IfOk result (λ bytes. bytes.items ≡ verifier_file_bytes self.now) }
     {
-        let length = file_length(Side::Verifier, &self.params) as usize;
+        let length = file_length(Side::Verifier, &self.head.params) as usize;
         let mut bytes = Vec::with_capacity(alloc, length)?;
-        push_header(
-            &mut bytes,
-            1,
-            &self.params,
-            &self.id,
-            &self.coin_key,
-            &self.code_seed,
-        )?;
+        push_header(&mut bytes, 1, &self.head)?;
         bytes.extend_from_slice(&self.key.to_le())?;
         self.push_units(&mut bytes)?;
         push_digest(&mut bytes)?;
@@ -176,7 +155,7 @@ impl VerifierFile {
         ensures { OnOk result (bytes.new.items
             ≡ bytes.old.items ++ flat_map verifier_unit_bytes self.now.units) }
     {
-        for unit in 0..self.params.total {
+        for unit in 0..self.head.params.total {
             let one = Span {
                 start: unit,
                 end: unit + 1,

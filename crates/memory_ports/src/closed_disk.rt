@@ -29,17 +29,9 @@ impl ClosedDisk {
 }
 
 impl Disk for ClosedDisk {
-    ghost use Rattle.std.specs.Prelude.{None};
+    ghost use Rattle.zk_port.specs.Disks.{untold};
 
-    ghost state = { λ d. record {
-      chosen = None;
-      content = None;
-      room = None;
-      images = λ _. Unit {0};
-      moment = 0;
-      images_since = λ _ _. Unit {0};
-      faults = d.faults;
-    } };
+    ghost state = { λ d. record (untold d.faults) { images = λ _. Unit {0}; images_since = λ _ _. Unit {0} } };
 
     ghost counts_now = { λ d t c le now. tt };
 

@@ -45,17 +45,10 @@ impl SureDisk {
 }
 
 impl Disk for SureDisk {
-    ghost use Rattle.std.specs.Prelude.{Some, None};
+    ghost use Rattle.std.specs.Prelude.{Some};
+    ghost use Rattle.zk_port.specs.Disks.{untold};
 
-    ghost state = { λ d. record {
-      chosen = None;
-      content = Some d.bytes.items;
-      room = Some d.room;
-      images = λ _. ⊥;
-      moment = 0;
-      images_since = λ _ _. ⊥;
-      faults = 0;
-    } };
+    ghost state = { λ d. record (untold 0) { content = Some d.bytes.items; room = Some d.room } };
 
     ghost counts_now = { λ d t c le none. none };
 

@@ -1,5 +1,5 @@
 -- Sums over more and more products.
-use Rattle.std.proofs.Common.{◌≡◌, ℕ, ◌+◌, ◌<◌, ◌≤◌, List, [], ◌∷◌, ◌++◌, length, take, get_or, refl, ap, sym, ◌∙◌, append_assoc, append-nil}
+use Rattle.std.proofs.Common.{◌≡◌, ℕ, ◌+◌, ◌<◌, ◌≤◌, List, [], ◌∷◌, ◌++◌, length, take, get_or, ap, sym, ◌∙◌, append_assoc, append-nil}
 use Rattle.std.proofs.lemmas.List.{take_more, take_all}
 use Rattle.zk_model.specs.Field.{◌+ₚ◌, ◌*ₚ◌}
 use Rattle.zk_model.specs.Check.{Triple, KeyTriple, constant_part, linear_part, key_part}
@@ -75,11 +75,7 @@ one_behind before items index item within at =
 
 -- none yet
 pub none_behind : {T : Type 0} (before items : List T) (index : ℕ) → index ≡ 0 → before ≡ before ++ take index items
-none_behind before items index none = sym (append-nil before) ∙ ap (λ l. before ++ l) (sym (first items)) ∙ ap (λ k. before ++ take k items) (sym none)
-  where
-    first : {T : Type 0} (items : List T) → take 0 items ≡ []
-    first [] = refl
-    first (item ∷ items) = refl
+none_behind before items index none = sym (append-nil before) ∙ ap (λ k. before ++ take k items) (sym none)
 
 -- all of them
 pub all_behind : {T : Type 0} (before items : List T) (index : ℕ) → length items ≤ index → before ++ take index items ≡ before ++ items

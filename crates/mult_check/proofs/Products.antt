@@ -1,5 +1,5 @@
 -- Products of a section, block by block.
-use Rattle.std.proofs.Common.{◌≡◌, ℕ, ◌+◌, ◌-◌, ◌<◌, ◌≤◌, List, [], ◌∷◌, ◌++◌, length, map, take, drop, get_or, set, ap, sym, ◌∙◌, arith, length-drop, length-set, get_or-set_same, refl, subst}
+use Rattle.std.proofs.Common.{◌≡◌, ℕ, ◌+◌, ◌-◌, ◌<◌, ◌≤◌, List, [], ◌∷◌, ◌++◌, length, map, take, drop, get_or, set, ap, sym, ◌∙◌, arith, length-drop, length-set, get_or-set_same, subst}
 use Rattle.std.specs.Prelude.{Some, slice_get}
 use Rattle.std.proofs.Math.Seq.{take-add}
 use Rattle.std.proofs.lemmas.List.{get_or-drop, drop-drop, map-append, take_more, take-set}
@@ -49,11 +49,7 @@ block_joined f products first at count low =
 
 -- none yet
 none_between : {T : Type 0} (f : Product → T) (products : List Product) (first : ℕ) → map f (take (first - first) (drop first products)) ≡ []
-none_between f products first = let none : first - first ≡ 0 = omega arith in ap (λ n. map f (take n (drop first products))) none ∙ ap (map f) (no_item (drop first products))
-  where
-    no_item : {T : Type 0} (l : List T) → take 0 l ≡ []
-    no_item [] = refl
-    no_item (x ∷ l) = refl
+none_between f products first = let none : first - first ≡ 0 = omega arith in ap (λ n. map f (take n (drop first products))) none
 
 -- ---- what holds of the items from one number up to another
 

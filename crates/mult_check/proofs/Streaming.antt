@@ -1,5 +1,5 @@
 -- Sums over blocks, part by part, and items that a walk gives.
-use Rattle.std.proofs.Common.{◌≡◌, ℕ, ◌+◌, ◌*◌, ◌<◌, ◌≤◌, List, [], ◌∷◌, ◌++◌, length, map, min, take, drop, get_or, refl, ap, sym, ◌∙◌, arith}
+use Rattle.std.proofs.Common.{◌≡◌, ℕ, ◌+◌, ◌*◌, ◌<◌, ◌≤◌, List, [], ◌∷◌, ◌++◌, length, map, min, take, drop, get_or, ap, sym, ◌∙◌, arith}
 use Rattle.std.specs.Prelude.{Some, None, Option, slice_get}
 use Rattle.std.proofs.Math.Seq.{take-add}
 use Rattle.std.proofs.lemmas.List.{take_more, take_all, length-map, length-drop, get_or-map, get_or-drop, drop-drop, drop-map, take-map}
@@ -47,15 +47,19 @@ held : {T : Type 0} → T → Option T → T
 held other None = other
 held other (Some item) = item
 
--- one item more of a block
-pub one_taken : {T : Type 0} (all now : List T) (first met taken : ℕ) (item : T) (before after : List T) (result : Option T)
-    → now ≡ all → met ≡ first + taken → first + taken < length all
-    → result ≡ Some item → result ≡ Some (get_or now met item) → before ≡ take taken (drop first all) → after ≡ before ++ item ∷ []
-    → after ≡ take (taken + 1) (drop first all)
+-- what a walk gives is the item there
+pub given_item : {T : Type 0} (all : List T) (met : ℕ) (item : T) (result : Option T) → result ≡ Some item → result ≡ Some (get_or all met item) → item ≡ get_or all met item
 unfolding held
-one_taken all now first met taken item before after result same at below gives is far pushed =
+given_item all met item result gives is = ap (held item) (sym gives ∙ is)
+
+-- one item more of a block
+pub one_taken : {T : Type 0} (all now : List T) (first met taken : ℕ) (item : T) (before after : List T)
+    → now ≡ all → met ≡ first + taken → first + taken < length all
+    → item ≡ get_or now met item → before ≡ take taken (drop first all) → after ≡ before ++ item ∷ []
+    → after ≡ take (taken + 1) (drop first all)
+one_taken all now first met taken item before after same at below is far pushed =
     pushed
-    ∙ (λ i. far i ++ (ap (held item) (sym gives ∙ is) ∙ ap (λ l. get_or l met item) same ∙ ap (λ n. get_or all n item) at ∙ sym (get_or-drop first all taken item)) i ∷ [])
+    ∙ (λ i. far i ++ (is ∙ ap (λ l. get_or l met item) same ∙ ap (λ n. get_or all n item) at ∙ sym (get_or-drop first all taken item)) i ∷ [])
     ∙ sym (take_more (drop first all) taken item (omega (arith, below, length-drop first all)))
 
 -- ---- blocks
@@ -74,14 +78,7 @@ block_joined all first done more =
 
 -- no part yet
 pub no_part : {T : Type 0} (block : List T) (size : ℕ) → [] ≡ take (0 * size) block
-no_part block size = sym (ap (λ n. take n block) none_of ∙ nothing block)
-  where
-    none_of : 0 * size ≡ 0
-    none_of = omega arith
-
-    nothing : {T : Type 0} (l : List T) → take 0 l ≡ []
-    nothing [] = refl
-    nothing (x ∷ l) = refl
+no_part block size = let none : 0 * size ≡ 0 = omega arith in sym (ap (λ n. take n block) none)
 
 -- one part more of a block
 pub one_joined : {T : Type 0} (block : List T) (size i : ℕ) → take (i * size) block ++ take size (drop (i * size) block) ≡ take ((i + 1) * size) block

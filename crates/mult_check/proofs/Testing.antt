@@ -23,23 +23,31 @@ section_tested check s mask left sent masked summed mask_is sent_is is = (
   sym (ap (section_right check.key) (get_or_read check.sums s sent summed sent_is (0, 0))),
 )
 
--- the same of a walk, from the sums along it
+-- the same, from the sum over the section that begins with none
+pub section_summed : (check : ProductCheck) (s : ℕ) (none part : KeySum) (mask left : ℕ) (sent : ℕ × ℕ) → s < length check.masks → s < length check.sums
+    → mask ≡ get_or check.masks s mask → sent ≡ get_or check.sums s sent → IsSumOf check.key check.challenge [] none
+    → IsSumOf none.key none.challenge (section_keys check.program check.section_length check.keys s) part
+    → ((key challenge : ℕ) (triples : List KeyTriple) → IsSumOf key challenge triples part → left ≡ section_left key challenge triples mask)
+    → (left_of_section check s ≡ left) × (right_of_section check s ≡ section_right check.key sent)
+section_summed check s none part mask left sent masked summed mask_is sent_is begun over gives =
+    section_tested check s mask left sent masked summed mask_is sent_is
+    (gives check.key check.challenge triples
+    (subst (λ n. IsSumOf n check.challenge triples part) begun.key_is (subst (λ n. IsSumOf none.key n triples part) begun.challenge_is over)))
+  where
+    triples : List KeyTriple
+    triples = section_keys check.program check.section_length check.keys s
+
+-- the same of a walk
 pub section_walked : (side old : VerifierSide) (g s key challenge : ℕ) (masks : List ℕ) (sums : List (ℕ × ℕ)) (none part : KeySum) (mask left : ℕ) (sent : ℕ × ℕ)
     → side ≡ old → s < length masks → s < length sums → mask ≡ get_or masks s mask → sent ≡ get_or sums s sent → IsSumOf key challenge [] none
     → IsSumOf none.key none.challenge (section_of g s (map (key_triple side.keys) side.program.products)) part
     → ((key challenge : ℕ) (triples : List KeyTriple) → IsSumOf key challenge triples part → left ≡ section_left key challenge triples mask)
     → (left_of_section (product_check old g challenge masks key sums) s ≡ left)
     × (right_of_section (product_check old g challenge masks key sums) s ≡ section_right key sent)
-section_walked side old g s key challenge masks sums none part mask left sent same masked summed mask_is sent_is begun over gives =
-    section_tested (product_check old g challenge masks key sums) s mask left sent masked summed mask_is sent_is
-    (gives key challenge triples
-    (subst (λ n. IsSumOf n challenge triples part) begun.key_is
-    (subst (λ n. IsSumOf none.key n triples part) begun.challenge_is
+section_walked side old g s key challenge masks sums none part mask left sent same masked summed mask_is sent_is begun over =
+    section_summed (product_check old g challenge masks key sums) s none part mask left sent masked summed mask_is sent_is begun
     (subst (λ (l : List KeyTriple). IsSumOf none.key none.challenge l part)
-    (section_of_walk (λ (at : VerifierSide). key_triple at.keys) (λ (at : VerifierSide). at.program.products) side old g s same) over))))
-  where
-    triples : List KeyTriple
-    triples = section_keys old.program g old.keys s
+    (section_of_walk (λ (at : VerifierSide). key_triple at.keys) (λ (at : VerifierSide). at.program.products) side old g s same) over)
 
 -- one section more holds
 pub one_holds : (check : ProductCheck) (s left right : ℕ) → (left_of_section check s ≡ left) × (right_of_section check s ≡ right) → left ≡ right

@@ -1,19 +1,9 @@
 -- What the two checks answer.
-use Rattle.std.specs.Prelude.{◌≡◌, ◌-◌, ℕ, List, map, take, drop}
-use Rattle.zk_model.specs.Program.{Program}
-use Rattle.zk_model.specs.Check.{Triple, KeyTriple, WirePairs, WireKeys, product_triple, key_triple, ProductCheck, OpeningCheck, FailsFirstAt, OpensFalselyAt, left_of_section, right_of_section, left_of_opening, right_of_opening}
+use Rattle.std.specs.Prelude.{◌≡◌, ℕ, List}
+use Rattle.zk_model.specs.Check.{ProductCheck, OpeningCheck, FailsFirstAt, OpensFalselyAt, left_of_section, right_of_section, left_of_opening, right_of_opening}
 use Rattle.wire_auth.specs.Sides.{VerifierSide}
 use Rattle.mult_check.specs.declared.sections.Differs.{Differs}
 use Rattle.mult_check.specs.declared.openings.OpeningDiffers.{OpeningDiffers}
-
--- the products from one number up to another
-abbrev pub products_between : Program → WirePairs → ℕ → ℕ → List Triple
-products_between program pairs first end =
-    map (product_triple pairs) (take (end - first) (drop first program.products))
-
--- and the keys of them
-abbrev pub keys_between : Program → WireKeys → ℕ → ℕ → List KeyTriple
-keys_between program keys first end = map (key_triple keys) (take (end - first) (drop first program.products))
 
 -- what the check of products is over
 abbrev pub product_check : VerifierSide → ℕ → ℕ → List ℕ → ℕ → List (ℕ × ℕ) → ProductCheck

@@ -3,7 +3,8 @@
 //!
 //! `parts` has the sums of parts of a list of products, on either side, and of one section; `sections` has `prover_sums` and
 //! `check`, over all sections of wires that are held; `streams` has `stream_sums` and `stream_check`, the same along walks that hold
-//! a block of products at most, by so many workers, and `walked` what both have in common; `openings` has `check_openings`.
+//! a block of products at most, by so many workers, and `sums_along` and `check_along`, by one thread that holds none; `walked` has what
+//! these have in common; `openings` has `check_openings`.
 //!
 //!     let sums = prover_sums(alloc, &wires, g, challenge, masks)?;  // at the prover
 //!     check(&wires, g, challenge, mask_keys, key, &sums)?;          // at the verifier: or the first section that differs
@@ -13,7 +14,6 @@
 //!     stream_check(rt, alloc, &mut walk, g, challenge, mask_keys, key, &sums, workers)?;
 #![tactic(auto)]
 
-mod along;
 mod fault;
 mod openings;
 mod parts;
@@ -21,9 +21,8 @@ mod sections;
 mod streams;
 mod walked;
 
-pub use along::{check_along, sums_along};
 pub use fault::StreamFault;
 pub use openings::{OpeningDiffers, check_openings, openings_along};
 pub use parts::{ProverPart, VerifierPart, section_left, section_sums};
 pub use sections::{Differs, check, prover_sums};
-pub use streams::{stream_check, stream_sums};
+pub use streams::{check_along, stream_check, stream_sums, sums_along};

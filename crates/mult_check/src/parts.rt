@@ -1,12 +1,13 @@
-// The sums of parts of a list of products, on either side.
+// The sums of parts of a list of products, on either side, and what either side has of a product.
 ghost use Rattle.std.specs.Prelude.{◌≡◌, ◌++◌, ◌∷◌, ℕ, List, []};
 ghost use Rattle.zk_model.specs.Check as model;
 ghost use Rattle.zk_model.specs.Check.{honest_sums, section_left, constant_part, linear_part, key_part};
 ghost use Rattle.mult_check.specs.Parts.{AreSumsOf, IsSumOf};
 
+use crate::sections::Held;
 use mersenne_field::{Fe, Pair};
 use std::marker::Model;
-use wire_auth::{KeyTriple, Triple};
+use wire_auth::{KeyTriple, ProverWires, Triple, VerifierWires};
 
 /// The sums over some of a list's items, at either end: over `T`, what the end has of a product.
 pub(crate) trait Sums<T>: Copy + Send + Sync {
@@ -17,7 +18,8 @@ pub(crate) trait Sums<T>: Copy + Send + Sync {
 
     /// With the next item.
     fn with_next(self, item: T) -> Self
-        ensures { (none : Self) (before : List T) → Over none before self → Over none (before ++ item ∷ []) result };
+        ensures { (none : Self) (before : List T) → Over none before self
+            → Over none (before ++ item ∷ []) result };
 
     /// With the next items, in order.
     fn with(self, items: &[T]) -> Self
@@ -262,6 +264,38 @@ impl Sums<KeyTriple> for VerifierPart {
 
     fn and(self, later: VerifierPart) -> Self {
         self.join(later)
+    }
+}
+
+impl<'a> Held<Triple> for ProverWires<'a> {
+    ghost use Rattle.zk_model.specs.Check.{product_triple};
+
+    ghost products = { λ wires. wires.program.products };
+
+    ghost of = { λ wires product. product_triple wires.pairs product };
+
+    fn count(&self) -> usize {
+        self.program().products()
+    }
+
+    fn item(&self, i: usize) -> Triple {
+        self.triple(i)
+    }
+}
+
+impl<'a> Held<KeyTriple> for VerifierWires<'a> {
+    ghost use Rattle.zk_model.specs.Check.{key_triple};
+
+    ghost products = { λ wires. wires.program.products };
+
+    ghost of = { λ wires product. key_triple wires.keys product };
+
+    fn count(&self) -> usize {
+        self.program().products()
+    }
+
+    fn item(&self, i: usize) -> KeyTriple {
+        self.triple(i)
     }
 }
 

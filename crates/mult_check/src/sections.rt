@@ -1,10 +1,10 @@
 // All sections of a program's products.
-ghost use Rattle.std.specs.Prelude.{◌≡◌, ◌≢◌, ◌<◌, ◌≤◌, ◌*◌, ◌+◌, length, min, IfOk, IfErr};
+ghost use Rattle.std.specs.Prelude.{◌≡◌, ◌≢◌, ◌<◌, ◌≤◌, ◌*◌, ◌+◌, ◌-◌, [], length, map, min, take, drop, IfOk, IfErr};
 ghost use Rattle.zk_model.specs.Program.{part_count, section_count};
-ghost use Rattle.zk_model.specs.Check.{honest_sums, section_left, section_right, section_triples, section_keys, all_sums, AllSectionsHold};
-ghost use Rattle.mult_check.specs.Checks.{product_check, DiffersFirst, products_between, keys_between};
+ghost use Rattle.zk_model.specs.Check.{section_of, section_right, all_sums, AllSectionsHold};
+ghost use Rattle.mult_check.specs.Checks.{product_check, DiffersFirst};
 
-use crate::parts::{ProverPart, VerifierPart};
+use crate::parts::{ProverPart, Sums, VerifierPart};
 use mersenne_field::{Fe, Pair};
 use std::alloc::{AllocError, Global};
 use thiserror::Error;
@@ -24,96 +24,82 @@ pub struct Differs {
 const BLOCK: usize = 64;
 
 /// Room for a block, before it is filled.
-const BLANK: Pair = Pair {
+const BLANK_PAIR: Pair = Pair {
     x: Fe::ZERO,
     m: Fe::ZERO,
 };
 
-/// The triples of the products from `first` on, as many as there is room for.
-fn read_triples(wires: &ProverWires<'_>, first: usize, triples: &mut [Triple])
-    requires { first + length triples.old ≤ length wires.now.program.products }
-    ensures triples { triples.new
-        ≡ products_between wires.now.program wires.now.pairs first (first + length triples.old) }
-    ensures count { length triples.new ≡ length triples.old }
+const BLANK: Triple = Triple {
+    a: BLANK_PAIR,
+    b: BLANK_PAIR,
+    c: BLANK_PAIR,
+};
+
+const BLANK_KEYS: KeyTriple = KeyTriple {
+    a: Fe::ZERO,
+    b: Fe::ZERO,
+    c: Fe::ZERO,
+};
+
+/// All wires of a program, at either end, which has a `T` of each product.
+pub(crate) trait Held<T> {
+    ghost use Rattle.std.specs.Prelude.{◌≡◌, ◌<◌, List, length, Some, slice_get};
+    ghost use Rattle.zk_model.specs.declared.Product.{Product};
+
+    ghost products: { Self → List Product };
+
+    /// What it has of a product.
+    ghost of: { Self → Product → T };
+
+    /// How many products there are.
+    fn count(&self) -> usize
+        ensures { result ≡ length (products self.now) };
+
+    /// What it has of product i.
+    fn item(&self, i: usize) -> T
+        requires { i < length (products self.now) }
+        ensures { (product : Product) → slice_get (products self.now) i ≡ Some product
+            → result ≡ of self.now product };
+}
+
+/// Reads what there is of the products from `first` on, as many as there is room for.
+fn read_block<T: Copy, W: Held<T>>(wires: &W, first: usize, items: &mut [T])
+    requires { first + length items.old ≤ length (W.products wires.now) }
+    ensures items { items.new
+        ≡ map (W.of wires.now) (take (length items.old) (drop first (W.products wires.now))) }
+    ensures count { length items.new ≡ length items.old }
 {
-    let _products = wires.program().products();
-    for i in 0..triples.len() {
-        triples[i] = wires.triple(first + i);
+    let _count = wires.count();
+    for i in 0..items.len() {
+        items[i] = wires.item(first + i);
     }
 }
 
-/// The same of keys.
-fn read_keys(wires: &VerifierWires<'_>, first: usize, triples: &mut [KeyTriple])
-    requires { first + length triples.old ≤ length wires.now.program.products }
-    ensures triples { triples.new
-        ≡ keys_between wires.now.program wires.now.keys first (first + length triples.old) }
-    ensures count { length triples.new ≡ length triples.old }
-{
-    let _products = wires.program().products();
-    for i in 0..triples.len() {
-        triples[i] = wires.triple(first + i);
-    }
-}
-
-/// U and V over the products from `first` up to `end`, under a mask.
-fn sums_between(
-    wires: &ProverWires<'_>,
+/// The sums over the products from `first` up to `end`, from those over none. The block is room to work in.
+fn part_between<T: Copy, P: Sums<T>, W: Held<T>>(
+    wires: &W,
     first: usize,
     end: usize,
-    challenge: Fe,
-    mask: Pair,
-) -> (Fe, Fe)
+    none: P,
+    block: &mut [T],
+) -> P
+    requires some { 0 < length block.old }
+    requires none { P.Over none [] none }
     requires order { first ≤ end }
-    requires within { end ≤ length wires.now.program.products }
-    ensures { result
-        ≡ honest_sums challenge (products_between wires.now.program wires.now.pairs first end) mask }
+    requires within { end ≤ length (W.products wires.now) }
+    ensures { P.Over none
+        (map (W.of wires.now) (take (end - first) (drop first (W.products wires.now)))) result }
 {
-    let mut block = [Triple {
-        a: BLANK,
-        b: BLANK,
-        c: BLANK,
-    }; BLOCK];
-    let mut part = ProverPart::new(challenge);
+    let mut part = none;
     let mut at = first;
     while at < end {
-        let count = BLOCK.min(end - at);
-        let triples = &mut block[..count];
-        read_triples(wires, at, triples);
-        part.extend(triples);
+        let count = block.len().min(end - at);
+        let items = &mut block[..count];
+        read_block(wires, at, items);
+        part = part.with(items);
         at += count;
     }
-    part.masked(mask)
-}
-
-/// The left side over the products from `first` up to `end`.
-fn left_between(
-    wires: &VerifierWires<'_>,
-    first: usize,
-    end: usize,
-    challenge: Fe,
-    mask: Fe,
-    key: Fe,
-) -> Fe
-    requires order { first ≤ end }
-    requires within { end ≤ length wires.now.program.products }
-    ensures { result
-        ≡ section_left key challenge (keys_between wires.now.program wires.now.keys first end) mask }
-{
-    let mut block = [KeyTriple {
-        a: Fe::ZERO,
-        b: Fe::ZERO,
-        c: Fe::ZERO,
-    }; BLOCK];
-    let mut part = VerifierPart::new(challenge, key);
-    let mut at = first;
-    while at < end {
-        let count = BLOCK.min(end - at);
-        let triples = &mut block[..count];
-        read_keys(wires, at, triples);
-        part.extend(triples);
-        at += count;
-    }
-    part.masked(mask)
+    part
 }
 
 /// Where section s begins and ends, for sections of this many of all products.
@@ -128,39 +114,22 @@ pub(crate) fn section_bounds(products: usize, g: usize, s: usize) -> (usize, usi
     (first, first + g.min(products - first))
 }
 
-/// U and V of section s.
-fn sums_of_section(
-    wires: &ProverWires<'_>,
+/// The sums over section s, from those over none. The block is room to work in.
+fn section_part<T: Copy, P: Sums<T>, W: Held<T>>(
+    wires: &W,
     g: usize,
     s: usize,
-    challenge: Fe,
-    mask: Pair,
-) -> (Fe, Fe)
+    none: P,
+    block: &mut [T],
+) -> P
+    requires some { 0 < length block.old }
+    requires none { P.Over none [] none }
     requires at_least_one { 1 ≤ g }
-    requires there { s < section_count wires.now.program g }
-    ensures { result ≡ honest_sums challenge (section_triples wires.now.program g wires.now.pairs s) mask }
+    requires there { s < part_count (length (W.products wires.now)) g }
+    ensures { P.Over none (map (W.of wires.now) (section_of g s (W.products wires.now))) result }
 {
-    let products = wires.program().products();
-    let (first, end) = section_bounds(products, g, s);
-    sums_between(wires, first, end, challenge, mask)
-}
-
-/// The left side of section s.
-fn left_of_section(
-    wires: &VerifierWires<'_>,
-    g: usize,
-    s: usize,
-    challenge: Fe,
-    mask: Fe,
-    key: Fe,
-) -> Fe
-    requires at_least_one { 1 ≤ g }
-    requires there { s < section_count wires.now.program g }
-    ensures { result ≡ section_left key challenge (section_keys wires.now.program g wires.now.keys s) mask }
-{
-    let products = wires.program().products();
-    let (first, end) = section_bounds(products, g, s);
-    left_between(wires, first, end, challenge, mask, key)
+    let (first, end) = section_bounds(wires.count(), g, s);
+    part_between(wires, first, end, none, block)
 }
 
 /// Tests the equation of a section of this left side, from the sums that were sent.
@@ -204,9 +173,12 @@ pub fn prover_sums(
         ≡ all_sums wires.now.program g challenge wires.now.pairs masks.now) }
     ensures one_each { IfOk result (λ v. length v.items ≡ length masks.now) }
 {
+    let none = ProverPart::new(challenge);
+    let mut block = [BLANK; BLOCK];
     let mut sums = Vec::with_capacity(alloc, masks.len())?;
     for (s, mask) in masks.iter().enumerate() {
-        sums.push(sums_of_section(wires, g as usize, s, challenge, *mask))?;
+        let part = section_part(wires, g as usize, s, none, &mut block);
+        sums.push(part.masked(*mask))?;
     }
     Ok(sums)
 }
@@ -235,9 +207,11 @@ pub fn check(
         DiffersFirst (product_check wires.now g challenge mask_keys.now key sums.now) d) }
 {
     let _products = wires.program().products();
+    let none = VerifierPart::new(challenge, key);
+    let mut block = [BLANK_KEYS; BLOCK];
     for (s, mask) in mask_keys.iter().enumerate() {
-        let left = left_of_section(wires, g as usize, s, challenge, *mask, key);
-        meets(s as u32, left, sums[s], key)?;
+        let part = section_part(wires, g as usize, s, none, &mut block);
+        meets(s as u32, part.masked(*mask), sums[s], key)?;
     }
     Ok(())
 }

@@ -1,4 +1,5 @@
-// Sums along the walks of both ends, which hold no more than a block of products.
+// Sums along the walks of both ends: by so many workers, which hold no more than a block of products, or on the caller's own thread, which
+// holds none.
 ghost use Rattle.std.specs.Prelude.{◌≡◌, ◌≤◌, length, IfOk, IfErr, OnOk};
 ghost use Rattle.zk_model.specs.Check.{all_sums, AllSectionsHold};
 ghost use Rattle.zk_model.specs.Program.{section_count};
@@ -8,8 +9,8 @@ ghost use Rattle.mult_check.specs.declared.fault.StreamFault.TheVariants as stre
 
 use crate::fault::StreamFault;
 use crate::parts::{ProverPart, VerifierPart};
-use crate::sections::meets;
-use crate::walked::{Walk, next_section};
+use crate::sections::{Differs, meets};
+use crate::walked::{Walk, next_section, section_along};
 use mersenne_field::{Fe, Pair};
 use std::alloc::{AllocError, Global};
 use std::thread::Threads;
@@ -138,6 +139,69 @@ pub fn stream_check<R: Threads + Sync>(
     let mut block = Vec::new(alloc);
     for (s, mask) in mask_keys.iter().enumerate() {
         let part = next_section(rt, alloc, walk, g as usize, s, &mut block, none, workers)?;
+        meets(s as u32, part.masked(*mask), sums[s], key)?;
+    }
+    Ok(())
+}
+
+/// U and V of every section of g products under its mask, for the challenge, as `stream_sums` gives them.
+///
+/// # Errors
+///
+/// Only where memory runs out.
+pub fn sums_along(
+    alloc: Global,
+    walk: &mut ProverWalk<'_>,
+    g: u64,
+    challenge: Fe,
+    masks: &[Pair],
+) -> Result<Vec<(Fe, Fe)>, AllocError>
+    requires fresh { walk.old.met ≡ 0 }
+    requires at_least_one { 1 ≤ g }
+    requires masks { length masks.now ≡ section_count walk.old.side.program g }
+    ensures side { walk.new.side ≡ walk.old.side }
+    ensures met { OnOk result (length walk.old.side.program.products ≤ walk.new.met) }
+    ensures sums { IfOk result (λ v. v.items
+        ≡ all_sums walk.old.side.program g challenge walk.old.side.pairs masks.now) }
+    ensures one_each { IfOk result (λ v. length v.items ≡ length masks.now) }
+{
+    let none = ProverPart::new(challenge);
+    let mut sums = Vec::with_capacity(alloc, masks.len())?;
+    for (s, mask) in masks.iter().enumerate() {
+        let part = section_along(walk, g as usize, s, none);
+        sums.push(part.masked(*mask))?;
+    }
+    Ok(sums)
+}
+
+/// Tests the equation of every section of g products, one after another, as `stream_check` does. It takes no memory.
+///
+/// # Errors
+///
+/// Exactly where an equation fails: the first section whose sides differ, with both.
+pub fn check_along(
+    walk: &mut VerifierWalk<'_>,
+    g: u64,
+    challenge: Fe,
+    mask_keys: &[Fe],
+    key: Fe,
+    sums: &[(Fe, Fe)],
+) -> Result<(), Differs>
+    requires fresh { walk.old.met ≡ 0 }
+    requires at_least_one { 1 ≤ g }
+    requires masks { length mask_keys.now ≡ section_count walk.old.side.program g }
+    requires sums { length sums.now ≡ length mask_keys.now }
+    ensures side { walk.new.side ≡ walk.old.side }
+    ensures met { OnOk result (length walk.old.side.program.products ≤ walk.new.met) }
+    ensures holds { IfOk result (λ _.
+        AllSectionsHold (product_check walk.old.side g challenge mask_keys.now key sums.now)) }
+    ensures differs { IfErr result
+        (DiffersFirst (product_check walk.old.side g challenge mask_keys.now key sums.now)) }
+{
+    let _products = walk.products();
+    let none = VerifierPart::new(challenge, key);
+    for (s, mask) in mask_keys.iter().enumerate() {
+        let part = section_along(walk, g as usize, s, none);
         meets(s as u32, part.masked(*mask), sums[s], key)?;
     }
     Ok(())

@@ -1,4 +1,5 @@
-// Sums along a walk, at either end: its products are read block by block, and so many workers sum each block.
+// Sums along a walk, at either end: its products are read block by block, and so many workers sum each block; or one after another, and no
+// memory is taken.
 ghost use Rattle.std.specs.Prelude.{◌≡◌, ◌+◌, ◌-◌, ◌*◌, ◌≤◌, ◌<◌, ℕ, List, [], length, min, take, drop, slice_index_or, IfOk, OnOk};
 ghost use Rattle.zk_model.specs.Program.{part_count};
 ghost use Rattle.zk_model.specs.Check.{section_of};
@@ -51,6 +52,19 @@ pub(crate) trait Walk<T> {
     ghost kept_all: { (first last : Self) → Keeps first last → all last ≡ all first };
 }
 
+/// What a walk that has met fewer products than there are gives of the next one.
+fn next_item<T, W: Walk<T>>(walk: &mut W) -> T
+    requires { W.met walk.old < length (W.all walk.old) }
+    ensures item { result ≡ slice_index_or (W.all walk.old) (W.met walk.old) result }
+    ensures met { W.met walk.new ≡ W.met walk.old + 1 }
+    ensures kept { W.Keeps walk.old walk.new }
+{
+    let Some(item) = walk.give() else {
+        unreachable!()
+    };
+    item
+}
+
 /// Takes the next products of a walk, so many, in order.
 fn take_block<T: Drop, W: Walk<T>>(
     walk: &mut W,
@@ -64,10 +78,7 @@ fn take_block<T: Drop, W: Walk<T>>(
 {
     block.clear();
     for _taken in 0..count {
-        let Some(item) = walk.give() else {
-            unreachable!()
-        };
-        block.push(item)?;
+        block.push(next_item(walk))?;
     }
     Ok(())
 }
@@ -162,4 +173,38 @@ pub(crate) fn next_section<T: Sync + Drop, P: Sums<T>, W: Walk<T>, R: Threads + 
 {
     let (first, end) = section_bounds(walk.count(), g, s);
     next_part(rt, alloc, walk, end - first, block, none, workers)
+}
+
+/// The sums over the next products of a walk, so many, from those over none.
+fn part_along<T, P: Sums<T>, W: Walk<T>>(walk: &mut W, count: usize, none: P) -> P
+    requires none { P.Over none [] none }
+    requires there { W.met walk.old + count ≤ length (W.all walk.old) }
+    ensures kept { W.Keeps walk.old walk.new }
+    ensures met { W.met walk.new ≡ W.met walk.old + count }
+    ensures part { P.Over none (take count (drop (W.met walk.old) (W.all walk.old))) result }
+{
+    let mut part = none;
+    for _taken in 0..count {
+        part = part.with_next(next_item(walk));
+    }
+    part
+}
+
+/// The sums over section s, the next of a walk, from those over none.
+pub(crate) fn section_along<T, P: Sums<T>, W: Walk<T>>(
+    walk: &mut W,
+    g: usize,
+    s: usize,
+    none: P,
+) -> P
+    requires none { P.Over none [] none }
+    requires at_least_one { 1 ≤ g }
+    requires there { s < part_count (length (W.all walk.old)) g }
+    requires met { W.met walk.old ≡ s * g }
+    ensures kept { W.Keeps walk.old walk.new }
+    ensures met { W.met walk.new ≡ min (s * g + g) (length (W.all walk.old)) }
+    ensures part { P.Over none (section_of g s (W.all walk.old)) result }
+{
+    let (first, end) = section_bounds(walk.count(), g, s);
+    part_along(walk, end - first, none)
 }

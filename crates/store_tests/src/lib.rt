@@ -1,21 +1,9 @@
 //! Tests of journals, leases, claims and services over disks in memory: calls that fail, crashes at each call and what they leave,
 //! starts after them, damaged journals, and threads that lease and serve at once.
 //!
-//! `machine_tests` has those of `lease_core`, `word_tests` those of `lease_words`, `journal_tests` those of `lease_journal`, `lease_tests` those of `lease_store`, `claim_tests` those of `claim_store` and
+//! In `tests`, `machine_tests` has those of `lease_core`, `word_tests` those of `lease_words`, `journal_tests` those of `lease_journal`, `lease_tests` those of `lease_store`, `claim_tests` those of `claim_store` and
 //! `pool_tests` those of `session_pool`. `disks` has the journals and disks that they start on, and what a crash may leave of them.
 #![tactic(auto)]
 
 #[cfg(test)]
-mod claim_tests;
-#[cfg(test)]
-mod disks;
-#[cfg(test)]
-mod journal_tests;
-#[cfg(test)]
-mod lease_tests;
-#[cfg(test)]
-mod machine_tests;
-#[cfg(test)]
-mod pool_tests;
-#[cfg(test)]
-mod word_tests;
+mod tests;

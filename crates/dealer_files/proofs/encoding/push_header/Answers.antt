@@ -6,7 +6,7 @@ use Rattle.dealer_files.proofs.encoding.push_header.Goals as goal
 
 pub returns : goal.returns
 returns c =
-    six_appended (codes "WQSFILE1") (c.args.side ∷ []) (params_bytes c.args.params.now) c.args.id.now c.args.coin_key.now c.args.code_seed.now
+    six_appended (codes "WQSFILE1") (c.args.side ∷ []) (params_bytes c.args.head.now.params) c.args.head.now.id c.args.head.now.coin_key c.args.head.now.code_seed
     c.args.bytes.now.items c.extend_from_slice.new.self.items c.push.new.self.items c.push_params.new.bytes.items
     c.extend_from_slice-2.new.self.items c.extend_from_slice-3.new.self.items c.extend_from_slice-4.new.self.items
     c.in_ok-extend_from_slice.ensures.items c.in_ok-push.ensures.items c.in_ok-push_params.ensures

@@ -3,4 +3,4 @@ use Rattle.mult_check.specs.Checks.{product_check}
 use Rattle.mult_check.proofs.sections.check.Given as goal
 
 abbrev pub invariant-loop-s : goal.invariant-loop-s
-invariant-loop-s l = AllBelow l.s (SectionHolds (product_check l.wires l.g l.challenge l.mask_keys l.key l.sums))
+invariant-loop-s l = AllBelow l.s (SectionHolds (product_check l.wires l.g l.fn.challenge l.mask_keys l.key l.sums))

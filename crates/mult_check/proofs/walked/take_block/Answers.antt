@@ -1,25 +1,15 @@
-use Rattle.std.proofs.Common.{◌<◌, length, ap, arith}
-use Rattle.std.specs.Prelude.{slice_index_or}
-use Rattle.mult_check.proofs.Streaming.{some_item, one_taken}
+use Rattle.std.proofs.Common.{ap, arith, length}
+use Rattle.mult_check.proofs.Streaming.{one_taken}
 use Rattle.mult_check.proofs.walked.take_block.Goals as goal
-
-pub unreachable-requires : goal.unreachable-requires
-unreachable-requires g c =
-    let same = g.met.W.Walk.kept_all c.args.walk.now c.loop-taken.walk c.loop-taken.invariant.0 in
-    let below : g.W.Walk.met c.loop-taken.walk < length (g.W.Walk.all c.loop-taken.walk) =
-    omega (arith, c.loop-taken-test.true, c.requires.there, c.loop-taken.invariant.1, ap length same) in
-    let item = some_item (g.W.Walk.all c.loop-taken.walk) (g.W.Walk.met c.loop-taken.walk) below in
-    c.in_default.not-Some (slice_index_or (g.W.Walk.all c.loop-taken.walk) (g.W.Walk.met c.loop-taken.walk) item) (c.give.ensures.item item below)
 
 pub loop-taken-preserved : goal.loop-taken-preserved
 loop-taken-preserved g c =
     let same = g.met.W.Walk.kept_all c.args.walk.now c.loop-taken.walk c.loop-taken.invariant.0 in
-    let below : g.W.Walk.met c.loop-taken.walk < length (g.W.Walk.all c.loop-taken.walk) =
-    omega (arith, c.loop-taken-test.true, c.requires.there, c.loop-taken.invariant.1, ap length same) in (
-      g.met.W.Walk.kept_both c.args.walk.now c.loop-taken.walk c.give.new.self c.loop-taken.invariant.0 c.give.ensures.kept,
-      omega (arith, c.give.ensures.met below, c.loop-taken.invariant.1),
+    let kept = g.met.W.Walk.kept_both c.args.walk.now c.loop-taken.walk c.next_item.new.walk c.loop-taken.invariant.0 c.next_item.ensures.kept in (
+      kept,
+      omega (arith, c.next_item.ensures.met, c.loop-taken.invariant.1),
+      ap length (g.met.W.Walk.kept_all c.args.walk.now c.next_item.new.walk kept),
       one_taken (g.W.Walk.all c.args.walk.now) (g.W.Walk.all c.loop-taken.walk) (g.W.Walk.met c.args.walk.now) (g.W.Walk.met c.loop-taken.walk) c.loop-taken._taken
-          c.in-Some.item c.loop-taken.block.items c.push.new.self.items c.give.result same c.loop-taken.invariant.1
-          (omega (arith, c.loop-taken-test.true, c.requires.there)) c.in-Some.is (c.give.ensures.item c.in-Some.item below)
-          c.loop-taken.invariant.2 c.in_ok-push.ensures.items,
+          c.next_item.result c.loop-taken.block.items c.push.new.self.items same c.loop-taken.invariant.1
+          (omega (arith, c.loop-taken-test.true, c.requires.there)) c.next_item.ensures.item c.loop-taken.invariant.3 c.in_ok-push.ensures.items,
     )

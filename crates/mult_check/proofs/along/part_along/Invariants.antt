@@ -1,7 +1,0 @@
-use Rattle.std.proofs.Common.{◌≡◌, ◌+◌, take, drop}
-use Rattle.mult_check.proofs.along.part_along.Given as goal
-
-abbrev pub invariant-loop-taken : goal.invariant-loop-taken
-invariant-loop-taken g l =
-    g.W.Walk.Keeps l.initial.walk l.walk × (g.W.Walk.met l.walk ≡ g.W.Walk.met l.initial.walk + l._taken)
-    × g.P.Sums.Over l.fn.none (take l._taken (drop (g.W.Walk.met l.initial.walk) (g.W.Walk.all l.initial.walk))) l.part

@@ -1,9 +1,0 @@
-use Rattle.std.proofs.Common.{arith}
-use Rattle.zk_model.specs.Check.{product_triple}
-use Rattle.mult_check.proofs.Products.{block_filled}
-use Rattle.mult_check.proofs.sections.read_triples.Goals as goal
-
-pub loop-i-preserved : goal.loop-i-preserved
-loop-i-preserved c = block_filled (product_triple c.args.wires.now.pairs) c.args.wires.now.program.products c.args.first c.loop-i.i _ c.loop-i.triples c.triple.result
-    (omega (arith, c.loop-i-test.true, c.requires, c.loop-i.auto, c.loop-i.invariant.0))
-    (omega (arith, c.loop-i-test.true, c.loop-i.auto, c.loop-i.invariant.0)) c.triple.ensures c.loop-i.invariant

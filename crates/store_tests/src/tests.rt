@@ -1,0 +1,9 @@
+// What is tested, by subject.
+
+mod claim_tests;
+mod disks;
+mod journal_tests;
+mod lease_tests;
+mod machine_tests;
+mod pool_tests;
+mod word_tests;
