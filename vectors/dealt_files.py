@@ -60,6 +60,12 @@ def journal(kind, total):
     return b"WQSJRNL1" + bytes([kind]) + bytes(7) + struct.pack("<QQ", total, slots) + FILE_ID + bytes(32 * slots)
 
 
+def twin(kind, total, slots):
+    """A new journal of two areas, of the prover's claims (0) or of the verifier's ceilings (1)."""
+    front = b"WQSJRNL1" + bytes([2 + kind]) + bytes(7) + struct.pack("<QQ", total, slots) + FILE_ID
+    return front + struct.pack("<Q", 1) + bytes(23) + b"\x5a" + bytes(32 * slots) + bytes(32 * (slots + 1))
+
+
 FILES = [
     ("Direct, Prover", "direct, prover's file", deal(DIRECT)[0]),
     ("Direct, Verifier", "direct, verifier's file", deal(DIRECT)[1]),
@@ -72,11 +78,17 @@ JOURNALS = [
     ("Ceilings, 1", "ceilings of 1 unit", journal(1, 1)),
     ("Ceilings, 100", "ceilings of 100 units", journal(1, 100)),
 ]
+TWINS = [
+    ("Claims, 1", "two areas of claims of 1 unit", twin(0, 1, 1)),
+    ("Claims, 5000", "two areas of claims of 5,000 units", twin(0, 5000, 4096)),
+    ("Ceilings, 100", "two areas of ceilings of 100 units", twin(1, 100, 7)),
+]
+assert [len(data) for _, _, data in TWINS] == [192, 64 + 64 * 4097, 576]
 assert [len(data) for _, _, data in FILES] == [1184, 680, 353, 288]
 assert [len(data) for _, _, data in JOURNALS] == [96, 64 + 32 * 4096, 96, 288]
 
 ROWS = [(row, text, len(data), data[-32:]) for row, text, data in FILES]
-ROWS += [(row, text, len(data), sha256(data)) for row, text, data in JOURNALS]
+ROWS += [(row, text, len(data), sha256(data)) for row, text, data in JOURNALS + TWINS]
 
 
 def main():

@@ -1,5 +1,5 @@
 // Dealt files and journals against values that the program did not make, and every fault of a file.
-use crate::vectors::{FILE_ID, FILES, JOURNALS};
+use crate::vectors::{FILE_ID, FILES, JOURNALS, TWINS};
 use dealer_files::FileFault::{
     BadDigest, BadElement, BadKind, BadMagic, BadParam, Length, ZeroKey,
 };
@@ -9,6 +9,7 @@ use mersenne_field::{Fe, Pair};
 use sha2::{Digest, Sha256};
 use std::alloc::{AllocError, Global};
 use std::test::Fail;
+use twin_journal::{blank_twin, twin_ceiling_slots};
 use zk_coins::CoinBox;
 use zk_model::{Kind, Params, Side, Span};
 
@@ -76,6 +77,25 @@ fn dealt_files_and_journals_are_those_computed_apart(rt: HostRuntime) -> Result<
     }
     for (kind, total, length, digest) in JOURNALS {
         let journal = new_journal(alloc, kind, total)?;
+        assert_eq!(rt; journal.len(), length, "{kind:?} {total}");
+        assert_eq!(rt;
+            digest_of(alloc, &journal)?.as_str(),
+            digest,
+            "{kind:?} {total}"
+        );
+    }
+    Ok(())
+}
+
+#[test]
+fn new_journals_of_two_areas_are_those_computed_apart(rt: HostRuntime) -> Result<(), Fail> {
+    let alloc = rt.alloc();
+    for (kind, total, length, digest) in TWINS {
+        let slots = match kind {
+            JournalKind::Claims => claim_slots(total),
+            JournalKind::Ceilings => twin_ceiling_slots(total),
+        };
+        let journal = blank_twin(alloc, kind, &FILE_ID, total, slots.min(4096))?;
         assert_eq!(rt; journal.len(), length, "{kind:?} {total}");
         assert_eq!(rt;
             digest_of(alloc, &journal)?.as_str(),

@@ -66,3 +66,25 @@ pub const JOURNALS: [(JournalKind, u32, usize, &str); 4] = [
         "9f8b697c952e1e4e4f4e883ce9f2f5bd3e22e7b65e9d7fade6c48d0da5c1a9a1",
     ),
 ];
+
+/// New journals of two areas over so many units: how many bytes they have, and their SHA-256.
+pub const TWINS: [(JournalKind, u64, usize, &str); 3] = [
+    (
+        Claims,
+        1,
+        192,
+        "dcbf93755d1df4e49ec4c6ca5ade7a2d86fe301040a3eecc768af72cbceb5527",
+    ),
+    (
+        Claims,
+        5000,
+        262272,
+        "ab438830605d79c974aab535520ae52254f2caad067c4a7990da927c48ef0c4f",
+    ),
+    (
+        Ceilings,
+        100,
+        576,
+        "4fdd2b9691a7034f69d17116eaa072ce299929166c43817ffe76ab5708be7f2b",
+    ),
+];

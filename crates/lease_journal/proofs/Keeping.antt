@@ -72,7 +72,7 @@ stands_kept kind id total slots old new kept stands = record {
 }
 
 -- changes of a wider range, and changes of one range one after another
-step_content : (step wider : List ℕ → List ℕ → Type 0) → ((a b : List ℕ) → step a b → wider a b) → (before after : Option (List ℕ)) → StepsBy step before after → StepsBy wider before after
+pub step_content : (step wider : List ℕ → List ℕ → Type 0) → ((a b : List ℕ) → step a b → wider a b) → (before after : Option (List ℕ)) → StepsBy step before after → StepsBy wider before after
 step_content step wider may None after none = none
 step_content step wider may (Some a) (Some b) torn = may a b torn
 step_content step wider may (Some a) None none = none

@@ -30,7 +30,7 @@ header_size kind id total slots size =
       length-append (to_le_bytes w64 slots) id,
     )
 
-same_at : (n i z : ℕ) → get_or (replicate n z) i z ≡ z
+pub same_at : (n i z : ℕ) → get_or (replicate n z) i z ≡ z
 same_at n i z = ⊎_elim
     (λ inside. get_or-replicate n i z z inside)
     (λ past. get_or_past (replicate n z) i z (omega (arith, past, length-replicate n z)))
@@ -81,7 +81,7 @@ same_id kind id total slots place behind =
     get_or-append_right (front kind total ++ to_le_bytes w64 slots) id 32 place 0 refl behind
     ∙ sym (get_or-append_right (front kind total ++ to_le_bytes w64 0) id 32 place 0 refl behind)
 
-not_wrong : (place x y : ℕ) (fits : Bool) → fits ≡ true → (place < 24 → x ≡ y) → (32 ≤ place → x ≡ y)
+pub not_wrong : (place x y : ℕ) (fits : Bool) → fits ≡ true → (place < 24 → x ≡ y) → (32 ≤ place → x ≡ y)
     → (if place == 24 then not fits else ((nat_lt place 24 || nat_le 32 place) && not (x == y))) ≡ false
 not_wrong place x y fits is ahead behind = ⊎_elim
     (λ before. let same : x ≡ y = ahead before in grind (arith, nat_tests))

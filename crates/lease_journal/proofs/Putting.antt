@@ -144,7 +144,7 @@ module _ (at : ℕ) where
   pub body_size : (body : ℕ × ℕ) → length (body_bytes body) ≡ 16
   body_size body = refl
 
-  written_part : (at : ℕ) (left right c : List ℕ) → 0 < length left → take (length left) (drop at (written_at at (left ++ right) c)) ≡ left
+  pub written_part : (at : ℕ) (left right c : List ℕ) → 0 < length left → take (length left) (drop at (written_at at (left ++ right) c)) ≡ left
   written_part at left right c some =
       let new : List ℕ = written_at at (left ++ right) c in
       let both : length (left ++ right) ≡ length left + length right = length-append left right in
@@ -158,7 +158,7 @@ module _ (at : ℕ) where
       ∙ written_inside at (left ++ right) c i (omega (arith, below, both))
       ∙ get_or_append_left left right 0 i below)
 
-  written_rest : (at n : ℕ) (left right c : List ℕ) → length left ≡ n → 0 < length right → take (length right) (drop (at + n) (written_at at (left ++ right) c)) ≡ right
+  pub written_rest : (at n : ℕ) (left right c : List ℕ) → length left ≡ n → 0 < length right → take (length right) (drop (at + n) (written_at at (left ++ right) c)) ≡ right
   written_rest at n left right c is some =
       let new : List ℕ = written_at at (left ++ right) c in
       let both : length (left ++ right) ≡ length left + length right = length-append left right in

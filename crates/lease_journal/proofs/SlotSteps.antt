@@ -12,7 +12,7 @@ use Rattle.lease_journal.specs.Steps.{TornFrom, IsReady, body_bytes, body_writte
 use Rattle.lease_journal.proofs.Putting.{length-first, body_step, gate_step, gate_new, gate_tidy, written_body, written_whole, written_torn, opened_torn, opened_open}
 
 -- the content that is told has P
-told : (P : List ℕ → Type 0) (content : Option (List ℕ)) (bytes : List ℕ) → content ≡ Some bytes → P bytes → IfSome content P
+pub told : (P : List ℕ → Type 0) (content : Option (List ℕ)) (bytes : List ℕ) → content ≡ Some bytes → P bytes → IfSome content P
 told P content bytes is p = subst (λ o. IfSome o P) (sym is) p
 
 module _ (at : ℕ) where

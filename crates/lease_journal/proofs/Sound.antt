@@ -6,11 +6,11 @@ use Rattle.zk_model.specs.declared.JournalKind.{JournalKind}
 use Rattle.zk_model.specs.Journals.{AreSound, IsFirstBad, Recovers, body_before, first_bodies, is_sound_at, keeps_rule, last_body}
 use Rattle.lease_journal.proofs.Putting.{first-at, length-first, no_body}
 
-before_left : (bodies : List (ℕ × ℕ)) (body : ℕ × ℕ) (place : ℕ) → place ≤ length bodies → body_before (bodies ++ body ∷ []) place ≡ body_before bodies place
+pub before_left : (bodies : List (ℕ × ℕ)) (body : ℕ × ℕ) (place : ℕ) → place ≤ length bodies → body_before (bodies ++ body ∷ []) place ≡ body_before bodies place
 before_left bodies body zero within = refl
 before_left bodies body (suc place) within = get_or_append_left bodies (body ∷ []) no_body place (omega (arith, within))
 
-last_at : (bodies : List (ℕ × ℕ)) (body : ℕ × ℕ) (place : ℕ) → place ≡ length bodies → get_or (bodies ++ body ∷ []) place no_body ≡ body
+pub last_at : (bodies : List (ℕ × ℕ)) (body : ℕ × ℕ) (place : ℕ) → place ≡ length bodies → get_or (bodies ++ body ∷ []) place no_body ≡ body
 last_at bodies body place is =
     let gone : place - length bodies ≡ 0 = omega (arith, is) in
     get_or-append_right bodies (body ∷ []) (length bodies) place no_body refl (omega (arith, is)) ∙ ap (λ k. get_or (body ∷ []) k no_body) gone

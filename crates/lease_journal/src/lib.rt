@@ -16,12 +16,12 @@ ghost use Rattle.lease_journal.specs.Keeps.{BlankStands, StartsAgain};
 ghost use Rattle.lease_journal.specs.New.{BlankSaysNothing};
 ghost use Rattle.zk_model.specs.declared.limits.TheConstants.{MAX_SLOTS};
 
-mod area;
+pub mod area;
 mod fault;
 mod header;
 mod journal;
 mod starting;
-mod storing;
+pub mod storing;
 
 pub use fault::{JournalFault, StartFault};
 use header::push_header;

@@ -24,6 +24,7 @@ pub mod Files
 pub mod FileBytes
 pub mod FileFaults
 pub mod Journals
+pub mod Twins
 pub mod Dealing
 pub mod Transcript
 pub mod Frames

@@ -54,5 +54,8 @@ pub const MAX_SLOTS: u64 = 1 << 28;
 /// Slots of a journal of claims that is dealt.
 pub const MAX_CLAIM_SLOTS: u64 = 4096;
 
+/// Slots of an area of a journal of ceilings.
+pub const MAX_CEILING_SLOTS: u64 = 4096;
+
 /// Passes of a store of leases.
 pub const MAX_PASSES: u32 = 1024;

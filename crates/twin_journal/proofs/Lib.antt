@@ -1,0 +1,11 @@
+pub mod HeaderReads
+pub mod Rows
+pub mod AreaFills
+pub mod Opening
+pub mod ActiveAreas
+pub mod TwinHeaders
+pub mod SameAreas
+pub mod AreaWrites
+pub mod Turning
+pub mod TwinLaws
+pub mod NewTwins

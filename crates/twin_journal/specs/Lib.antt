@@ -1,0 +1,6 @@
+pub mod Headers
+pub mod Filling
+pub mod States
+pub mod Starts
+pub mod Compactions
+pub mod Laws

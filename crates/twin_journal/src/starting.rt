@@ -1,0 +1,184 @@
+// How a journal of two areas is opened.
+ghost use Rattle.std.specs.Prelude.{◌≡◌, ◌⊎◌, ◌<◌, ◌≤◌, ◌+◌, ◌-◌, ◌*◌, ◌^◌, ℕ, List, length, min, sum_by, Some, None, true, false, IfOk, IfErr, OnOk};
+ghost use Rattle.zk_port.specs.Disks.{Stays};
+ghost use Rattle.zk_port.specs.Images.{Only};
+ghost use Rattle.zk_model.specs.Journals.{first_bodies, last_body};
+ghost use Rattle.zk_model.specs.Twins.{TwinStands, are_twin_slots, claimed_units};
+ghost use Rattle.zk_model.specs.declared.limits.TheConstants.{MAX_SLOTS};
+ghost use Rattle.lease_journal.specs.Causes.{HasStartCause};
+ghost use Rattle.lease_journal.specs.Scans.{HasRead};
+ghost use Rattle.lease_journal.specs.declared.fault.StartFault.TheVariants as start;
+ghost use Rattle.twin_journal.specs.Starts.{IsFound, IsTwinOpened, LocateCause, TwinStartCause};
+
+use crate::header::read_header;
+use crate::heads::{Active, read_active};
+use crate::lengths::check_length;
+use crate::places::head_at;
+use lease_journal::StartFault;
+use lease_journal::area::{Scan, read_body, read_slots};
+use zk_model::JournalKind;
+use zk_port::{Disk, Failed};
+
+/// What stands on the disk before slots are read: how many of them an area has, and the active area.
+#[derive(Clone, Copy)]
+pub struct Located {
+    pub slots: u64,
+    pub active: Active,
+}
+
+/// What a journal says at its start.
+#[derive(Clone, Copy)]
+pub struct Opened {
+    pub slots: u64,
+    pub used: u64,
+    pub last: (u64, u64),
+    pub active: Active,
+}
+
+/// Syncs, and reads the header, whether the file has its full length, and the heads.
+fn locate<B: Disk>(
+    disk: &mut B,
+    begin: u64,
+    kind: JournalKind,
+    id: &[u8; 32],
+    total: u64,
+) -> Result<Located, StartFault>
+    requires { begin ≤ 2 ^ 36 }
+    ensures stands { IfOk result (λ found. (bytes : List ℕ) → (B.state disk.old).content ≡ Some bytes
+        → TwinStands kind id.now total begin found.slots bytes) }
+    ensures found { IfOk result (λ found. (bytes : List ℕ) → (B.state disk.old).content ≡ Some bytes
+        → IsFound begin found.slots bytes found.active.second found.active.generation
+        found.active.other_open) }
+    ensures bounded { IfOk result (λ found. found.slots ≤ MAX_SLOTS) }
+    ensures fits { IfOk result (λ found. are_twin_slots kind total found.slots ≡ true) }
+    ensures durable { OnOk result (Only (B.state disk.new).content (B.state disk.new).images) }
+    ensures cause { IfErr result (λ e. (bytes : List ℕ) → (B.state disk.old).content ≡ Some bytes
+        → LocateCause kind id.now total begin bytes e) }
+    ensures unread { IfErr result (λ e. (bad : ℕ) → e ≡ start.BadBody bad → ⊥) }
+    ensures stays { Stays (B.state disk.old) (B.state disk.new) }
+    ensures count { HasStartCause (B.state disk.old).faults (B.state disk.new).faults result }
+{
+    if let Err(Failed) = disk.sync() {
+        return Err(StartFault::Device);
+    }
+    let slots = match read_header(disk, begin, kind, id, total) {
+        Ok(slots) => slots,
+        Err(fault) => return Err(fault),
+    };
+    if let Err(fault) = check_length(disk, begin, slots) {
+        return Err(fault);
+    }
+    match read_active(disk, begin, slots) {
+        Ok(active) => Ok(Located { slots, active }),
+        Err(fault) => Err(fault),
+    }
+}
+
+/// How many units the claims in the first slots of an area have, each counted by itself, up to the end of the type.
+fn claimed_in<B: Disk>(disk: &mut B, at: u64, used: u64) -> Result<u64, StartFault>
+    requires place { at ≤ 2 ^ 40 }
+    requires bounded { used ≤ MAX_SLOTS }
+    ensures units { IfOk result (λ units. (bytes : List ℕ) → (B.state disk.old).content ≡ Some bytes
+        → at + 32 * used ≤ length bytes
+        → units ≡ min (2 ^ 64 - 1)
+        (sum_by (λ (body : ℕ × ℕ). body.1 - body.0) (first_bodies at used bytes))) }
+    ensures device { IfErr result (λ e. e ≡ start.Device) }
+    ensures stays { Stays (B.state disk.old) (B.state disk.new) }
+    ensures count { HasStartCause (B.state disk.old).faults (B.state disk.new).faults result }
+{
+    let mut units: u64 = 0;
+    for slot in 0..used {
+        let body = match read_body(disk, at, slot) {
+            Ok(body) => body,
+            Err(Failed) => return Err(StartFault::Device),
+        };
+        units = units.saturating_add(body.1.saturating_sub(body.0));
+    }
+    Ok(units)
+}
+
+/// How many units the bodies in the first slots of an area say, up to the end of the type. The first number of the last
+/// of them is known.
+fn units_in<B: Disk>(
+    disk: &mut B,
+    kind: JournalKind,
+    at: u64,
+    used: u64,
+    ceiling: u64,
+) -> Result<u64, StartFault>
+    requires place { at ≤ 2 ^ 40 }
+    requires bounded { used ≤ MAX_SLOTS }
+    ensures units { IfOk result (λ units. (bytes : List ℕ) → (B.state disk.old).content ≡ Some bytes
+        → at + 32 * used ≤ length bytes → ceiling ≡ (last_body at bytes used).0
+        → units ≡ min (2 ^ 64 - 1) (claimed_units kind (first_bodies at used bytes))) }
+    ensures device { IfErr result (λ e. e ≡ start.Device) }
+    ensures stays { Stays (B.state disk.old) (B.state disk.new) }
+    ensures count { HasStartCause (B.state disk.old).faults (B.state disk.new).faults result }
+{
+    match kind {
+        JournalKind::Claims => claimed_in(disk, at, used),
+        JournalKind::Ceilings => Ok(ceiling),
+    }
+}
+
+/// Whether a generation is one that there may be for so many units, up to the end of the type.
+fn may_have(generation: u64, units: u64) -> bool
+    ensures right { (all : ℕ) → units ≡ min (2 ^ 64 - 1) all → result ≡ true
+        → (1 ≤ generation) × (generation ≤ all + 1) }
+    ensures wrong { (all : ℕ) → units ≡ min (2 ^ 64 - 1) all → result ≡ false
+        → 1 ≤ generation → generation ≤ all + 1 → ⊥ }
+{
+    generation != 0 && generation - 1 <= units
+}
+
+/// Opens the journal that begins at this place: syncs, and reads the header, the length, the heads, the slots of the
+/// active area up to the first that is not open, and whether its generation is one that there may be.
+pub fn open<B: Disk>(
+    disk: &mut B,
+    begin: u64,
+    kind: JournalKind,
+    id: &[u8; 32],
+    total: u64,
+) -> Result<Opened, StartFault>
+    requires { begin ≤ 2 ^ 36 }
+    ensures opened { IfOk result (λ o. (bytes : List ℕ) → (B.state disk.old).content ≡ Some bytes
+        → IsTwinOpened kind id.now total begin o.slots o.used o.last
+        o.active.second o.active.generation o.active.other_open bytes) }
+    ensures bounded { IfOk result (λ o. o.slots ≤ MAX_SLOTS) }
+    ensures within { IfOk result (λ o. o.used ≤ o.slots) }
+    ensures fits { IfOk result (λ o. are_twin_slots kind total o.slots ≡ true) }
+    ensures read { IfOk result (λ o. HasRead kind total o.used o.last) }
+    ensures durable { OnOk result (Only (B.state disk.new).content (B.state disk.new).images) }
+    ensures cause { IfErr result (λ e. (bytes : List ℕ) → (B.state disk.old).content ≡ Some bytes
+        → TwinStartCause kind id.now total begin bytes e) }
+    ensures bad { IfErr result (λ e. (slot : ℕ) → e ≡ start.BadBody slot → slot < MAX_SLOTS) }
+    ensures stays { Stays (B.state disk.old) (B.state disk.new) }
+    ensures count { HasStartCause (B.state disk.old).faults (B.state disk.new).faults result }
+{
+    let Located { slots, active } = match locate(disk, begin, kind, id, total) {
+        Ok(located) => located,
+        Err(fault) => return Err(fault),
+    };
+    let at = head_at(begin, slots, active.second) + 32;
+    let Scan { used, last, bad } = match read_slots(disk, at, kind, total, slots) {
+        Ok(scan) => scan,
+        Err(fault) => return Err(fault),
+    };
+    if let Some(slot) = bad {
+        return Err(StartFault::BadBody { slot });
+    }
+    let units = match units_in(disk, kind, at, used, last.0) {
+        Ok(units) => units,
+        Err(fault) => return Err(fault),
+    };
+    if !may_have(active.generation, units) {
+        let place = head_at(0, slots, active.second);
+        return Err(StartFault::BadHeader { place });
+    }
+    Ok(Opened {
+        slots,
+        used,
+        last,
+        active,
+    })
+}
