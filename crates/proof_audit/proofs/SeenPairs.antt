@@ -11,11 +11,12 @@ use Rattle.zk_model.specs.ServedVerifier.{VerifierTask}
 use Rattle.zk_model.specs.declared.Kind.{Kind}
 use Rattle.zk_model.specs.declared.Kind.TheVariants.{Extended}
 use Rattle.zk_model.specs.declared.Params.{Params}
+use Rattle.tree_laws.proofs.Joined.{joined_parts}
 use Rattle.zk_laws.specs.SeenPairs.{AreRounds, AreSessionPairs}
 use Rattle.zk_laws.proofs.FoundPairs.{pairs_exist}
 use Rattle.zk_laws.proofs.KeysFit.{keys_fit}
 use Rattle.zk_laws.proofs.Views.{rounds_are}
-use Rattle.zk_laws.proofs.WholePairs.{joined_parts, pairs_are_whole}
+use Rattle.zk_laws.proofs.WholePairs.{pairs_are_whole}
 use Rattle.session_core.specs.Extending.{asks_of, replies_of}
 use Rattle.proof_audit.specs.Audits.{IsAudited}
 use Rattle.proof_audit.specs.Seen.{ArePairsBy, AreUnitPairs, AreSeenPairs}

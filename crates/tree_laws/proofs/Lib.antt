@@ -4,3 +4,4 @@ pub mod Punctured
 pub mod FoundTrees
 pub mod Grown
 pub mod Messages
+pub mod Joined

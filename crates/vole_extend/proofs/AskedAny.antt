@@ -4,7 +4,7 @@ use Rattle.std.specs.Int.{from_bool}
 use Rattle.std.specs.List.{range_with_len}
 use Rattle.std.proofs.lemmas.Simd.{map-map}
 use Rattle.std.proofs.lemmas.List.FromFn.{map-range_with_len_more}
-use Rattle.zk_laws.proofs.WholePairs.{joined_parts}
+use Rattle.tree_laws.proofs.Joined.{joined_parts}
 use Rattle.zk_model.specs.Bits.{from_bit}
 use Rattle.zk_model.specs.Mac.{Pair, values_of, macs_of}
 use Rattle.zk_model.specs.Extension.{place_of, code_outputs}

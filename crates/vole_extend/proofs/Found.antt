@@ -3,7 +3,7 @@ use Rattle.std.proofs.Common.{◌≡◌, ℕ, ◌+◌, ◌<◌, List, [], ◌∷
 use Rattle.std.specs.List.{range_with_len}
 use Rattle.std.proofs.lemmas.List.Concat.{flat_map-append}
 use Rattle.std.proofs.lemmas.List.FromFn.{get_or-map-range_with_len}
-use Rattle.zk_laws.proofs.WholePairs.{each_more, joined_parts}
+use Rattle.tree_laws.proofs.Joined.{each_more}
 use Rattle.zk_model.specs.Mac.{Pair, values_of, macs_of}
 use Rattle.zk_model.specs.Extension.{code_outputs}
 use Rattle.zk_model.specs.Files.{IsProverFile, prover_unit}

@@ -30,13 +30,12 @@ pub struct ProverRound<'a> {
 
 impl<'a> Model for ProverRound<'a> {
     ghost use Rattle.vole_extend.specs.Rounds as rounds;
-    ghost use Rattle.vole_extend.specs.Rounds.{IsExtendedUnit};
 
     ghost Value = { rounds.ProverTurn };
 
     ghost view = { λ r. record { file = r.file.now; unit = r.unit } };
 
-    ghost invariant = { λ r. IsExtendedUnit r.file.now.params r.unit };
+    ghost invariant = { λ r. rounds.IsExtendedUnit r.file.now.params r.unit };
 }
 
 /// What hides in a tree: the place of the leaf that the prover does not learn, and the value there.

@@ -30,13 +30,12 @@ pub struct VerifierRound<'a> {
 
 impl<'a> Model for VerifierRound<'a> {
     ghost use Rattle.vole_extend.specs.Rounds as rounds;
-    ghost use Rattle.vole_extend.specs.Rounds.{IsExtendedUnit};
 
     ghost Value = { rounds.VerifierTurn };
 
     ghost view = { λ r. record { file = r.file.now; unit = r.unit } };
 
-    ghost invariant = { λ r. IsExtendedUnit r.file.now.params r.unit };
+    ghost invariant = { λ r. rounds.IsExtendedUnit r.file.now.params r.unit };
 }
 
 /// What the verifier has of a round: the replies for all trees of the unit, in order, and the unit's keys, one for each

@@ -7,7 +7,8 @@ use Rattle.std.proofs.lemmas.List.Elements.{recursion_from_All}
 use Rattle.std.proofs.lemmas.List.FromFn.{length-enumerate_from, length-map-range_with_len, get_or-map-range_with_len}
 use Rattle.tree_laws.proofs.FoundTrees.{punctured_exists}
 use Rattle.zk_laws.proofs.OnePairs.{hidden_below}
-use Rattle.zk_laws.proofs.WholePairs.{joined_parts, granted_unit}
+use Rattle.tree_laws.proofs.Joined.{joined_parts}
+use Rattle.zk_laws.proofs.WholePairs.{granted_unit}
 use Rattle.tree_laws.proofs.Xors.{xor_are_bytes}
 use Rattle.zk_laws.specs.SeenPairs.{PairsExist}
 use Rattle.zk_model.specs.Bytes.{LeftRight, AreBytes, AreBothBytes}

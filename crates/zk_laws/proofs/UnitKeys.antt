@@ -5,7 +5,7 @@ use Rattle.std.proofs.lemmas.List.{get_or-map, take-map, map-append}
 use Rattle.std.proofs.lemmas.List.FromFn.{length-enumerate_from, get_or-enumerate_from}
 use Rattle.zk_laws.proofs.CodeKeys.{code_keys_fit}
 use Rattle.zk_laws.proofs.TreeKeys.{HasPad, TreeMatches, all_zip_at, answered_tree, tree_keys_fit}
-use Rattle.zk_laws.proofs.WholePairs.{joined_parts}
+use Rattle.tree_laws.proofs.Joined.{joined_parts}
 use Rattle.zk_model.specs.Mac.{Pair, pair_at, values_of, macs_of, fitting_key}
 use Rattle.zk_model.specs.Tree.{tree_leaves}
 use Rattle.zk_model.specs.Extension.{code_outputs}

@@ -1,12 +1,13 @@
 -- A prover sees as many pairs as the units of its grant give, all of elements.
-use Rattle.std.proofs.Common.{◌≡◌, ◌⊎◌, inl, inr, ℕ, zero, suc, ◌+◌, ◌*◌, ◌^◌, ◌<◌, ◌≤◌, List, [], ◌∷◌, ◌++◌, map, take, get_or, length, slice_index_or, refl, sym, ◌∙◌, ap, subst, arith}
+use Rattle.std.proofs.Common.{◌≡◌, ℕ, suc, ◌+◌, ◌*◌, ◌^◌, ◌<◌, List, [], ◌∷◌, take, length, slice_index_or, sym, ◌∙◌, ap, subst, arith}
 use Rattle.std.proofs.Math.ListN.{length-append}
 use Rattle.std.specs.Prelude.{All, flat_map}
 use Rattle.std.specs.List.{enumerate_from}
-use Rattle.std.proofs.lemmas.List.{length-map, get_or-map, map-append, get_or_append_left, get_or-append-add}
+use Rattle.std.proofs.lemmas.List.{length-map, get_or-map}
 use Rattle.std.proofs.lemmas.List.Elements.{All-nil, All-append}
 use Rattle.std.proofs.lemmas.List.FromFn.{length-enumerate_from, length-map-range_with_len}
 use Rattle.mersenne_field.proofs.FieldLaws.{reduced}
+use Rattle.tree_laws.proofs.Joined.{joined_parts}
 use Rattle.zk_laws.specs.SeenPairs.{AreRounds, PairsAreWhole}
 use Rattle.zk_model.specs.Field.{IsElement}
 use Rattle.zk_model.specs.Mac.{Pair, values_of, macs_of}
@@ -18,32 +19,6 @@ use Rattle.zk_model.specs.declared.Kind.{Kind}
 use Rattle.zk_model.specs.declared.Kind.TheVariants.{Direct, Extended}
 use Rattle.zk_model.specs.declared.Params.{Params}
 
--- ---- one list more
-
-le_or : (a b : ℕ) → (a ≤ b) ⊎ (b < a)
-le_or zero b = inl (omega arith)
-le_or (suc a) zero = inr (omega arith)
-le_or (suc a) (suc b) = either (le_or a b)
-  where
-    either : (a ≤ b) ⊎ (b < a) → (suc a ≤ suc b) ⊎ (suc b < suc a)
-    either (inl most) = inl (omega (arith, most))
-    either (inr less) = inr (omega (arith, less))
-
--- what holds of each part by its number holds of one part more
-pub each_more : {B : Type 0} (P : ℕ → List B → Type 0) (parts : List (List B)) (part : List B) (n : ℕ) → length parts ≡ n
-    → ((k : ℕ) → k < n → P k (get_or parts k [])) → P n part
-    → (k : ℕ) → k < n + 1 → P k (get_or (parts ++ part ∷ []) k [])
-each_more P parts part n sized far now k below = by_stage (le_or n k)
-  where
-    last : get_or (parts ++ part ∷ []) n [] ≡ part
-    last = ap (λ m. get_or (parts ++ part ∷ []) m []) (omega (arith, sized)) ∙ get_or-append-add parts (part ∷ []) 0 []
-
-    by_stage : (n ≤ k) ⊎ (k < n) → P k (get_or (parts ++ part ∷ []) k [])
-    by_stage (inl end) =
-        let at : n ≡ k = omega (arith, end, below) in
-        subst (λ m. P m (get_or (parts ++ part ∷ []) m [])) at (subst (P n) (sym last) now)
-    by_stage (inr before) = subst (P k) (sym (get_or_append_left parts (part ∷ []) [] k (omega (arith, sized, before)))) (far k before)
-
 -- ---- lists joined
 
 -- units of the same length, joined
@@ -54,12 +29,6 @@ joined_length per (unit ∷ units) each =
     let first = each 0 (omega arith) in
     let rest = joined_length per units (λ i below. each (suc i) (omega (arith, below))) in
     length-append unit (flat_map (λ unit. unit) units) ∙ omega (arith, first, rest)
-
--- parts of lists joined are parts of the joined list
-pub joined_parts : (part : Pair → ℕ) (units : List (List Pair)) → flat_map (map part) units ≡ map part (flat_map (λ unit. unit) units)
-joined_parts part [] = refl
-joined_parts part (unit ∷ units) =
-    ap (λ l. map part unit ++ l) (joined_parts part units) ∙ sym (map-append part unit (flat_map (λ unit. unit) units))
 
 -- what holds of all items of all lists holds of all items of the joined list
 joined_all : (P : Pair → Type 0) (units : List (List Pair)) → ((i : ℕ) → i < length units → All P (slice_index_or units i []))

@@ -1,14 +1,13 @@
 -- What is determined: what stands before the challenge has one commitment and one list of errors, and a session has one
 -- view and one finding.
-use Rattle.std.specs.Prelude.{◌≡◌, ℕ, List, slice_index}
-use Rattle.zk_model.specs.Program.{Program, Carries, IsProgram, IsSetInAll}
+use Rattle.std.specs.Prelude.{◌≡◌, ℕ}
+use Rattle.zk_model.specs.Program.{Program, IsSetInAll}
 use Rattle.zk_model.specs.Statement.{Statement, IsStatement}
-use Rattle.zk_model.specs.Files.{ProverFile, AreParams, IsProverFile}
+use Rattle.zk_model.specs.Files.{ProverFile, IsProverFile}
 use Rattle.zk_model.specs.Transcript.{Commitment, Transcript, IsCommitment, IsTranscript, BeginsWith, commitment_bytes, spelling}
 use Rattle.zk_model.specs.Mac.{pair_at}
 use Rattle.zk_model.specs.View.{View, IsView}
 use Rattle.zk_model.specs.Finding.{Finding, section_errors, IsFinding}
-use Rattle.zk_model.specs.declared.Params.{Params}
 
 -- two views of one session agree on all correlations, on all given values, and on every wire that is set
 pub record Agree (program : Program) (some others : View) : Type 0 where

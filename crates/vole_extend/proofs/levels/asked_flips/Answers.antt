@@ -1,4 +1,4 @@
-use Rattle.std.proofs.Common.{◌≡◌, [], ◌∙◌, false, length, arith}
+use Rattle.std.proofs.Common.{◌≡◌, ◌∙◌, length, arith}
 use Rattle.zk_model.specs.Extension.{flip_for}
 use Rattle.vole_extend.specs.Levels.{choice_at, transfer_at}
 use Rattle.vole_extend.proofs.Ranges.{map_more, transfer_read}

@@ -1,4 +1,4 @@
-use Rattle.std.proofs.Common.{◌≡◌, [], ◌∙◌, false, length, arith, refl}
+use Rattle.std.proofs.Common.{◌≡◌, [], ◌∙◌, length, arith, refl}
 use Rattle.zk_model.specs.Extension.{unmasked_message}
 use Rattle.vole_extend.specs.Levels.{choice_at, transfer_at, both_at}
 use Rattle.vole_extend.proofs.Ranges.{map_more, read_at, transfer_read}
