@@ -40,11 +40,9 @@ def honest_parts():
 
 
 def main() -> None:
-    frames = log_frames()
     if sys.argv[1:] == ["--rust"]:
         hello, rests = honest_parts()
         print_rust("FILE_ID", FILE_ID)
-        print_rust("AND_LOG", b"".join(frames))
         print_rust("AND_HELLO", hello)
         print_rust("AND_RESTS", b"".join(rests))
         return
@@ -56,7 +54,7 @@ def main() -> None:
     for j in (0, 1, 63):
         print(f"correlation {j}: x {pairs[j].x:#018x} m {pairs[j].m:#018x} key {pairs[j].k:#018x}")
     print(f"challenge coin of unit 0 {from_word(word(VERIFIER_COINS, 1, 0)):#018x}")
-    for data in frames:
+    for data in log_frames():
         side = "Prover" if data[0] in (1, 3, 5, 7, 8) else "Verifier"
         print(side, NAMES[data[0]], len(data), data.hex())
 

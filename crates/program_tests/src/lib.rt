@@ -1,16 +1,13 @@
 //! Tests of whole runs of the program, through `run_zk` over objects in memory: those that take objects of their own. What a run's lines
 //! and status are stands in the lines of `session_runs` and `stored_runs`.
 //!
-//! `run_tests` has a rehearsal that is handed back and words that are long, `log_tests` a session's log byte for byte, and `serve_tests`
-//! services whose gate holds sessions or counts what it is told, with peers that are honest over whichever units they are granted.
-//! `party_tests` has both ends in one process, over a connection. `given` has dealt files and journals, `vectors` bytes that the program
-//! did not make.
+//! `run_tests` has a rehearsal that is handed back and words that are long, and `serve_tests` services whose gate holds sessions or counts
+//! what it is told, with peers that are honest over whichever units they are granted. `party_tests` has both ends in one process, over a
+//! connection. `given` has dealt files and journals, `vectors` bytes that the program did not make.
 #![tactic(auto)]
 
 #[cfg(test)]
 mod given;
-#[cfg(test)]
-mod log_tests;
 #[cfg(test)]
 mod party_tests;
 #[cfg(test)]

@@ -102,7 +102,7 @@ fn run<R: Threads + Wait + Sync>(
 }
 
 /// The rehearsal that is handed back for a circuit of this text at these bits, in sections of this length.
-pub fn rehearsal_of<R: Threads + Wait + Sync>(
+fn rehearsal_of<R: Threads + Wait + Sync>(
     rt: &R,
     alloc: Global,
     text: &str,
