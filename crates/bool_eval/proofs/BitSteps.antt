@@ -1,8 +1,8 @@
 -- One gate's bit after another.
-use Rattle.std.proofs.Common.{◌≡◌, ◌≢◌, ℕ, ◌+◌, ◌<◌, ◌≤◌, Bool, false, not, List, length, take, get_or, arith, sym, ◌∙◌, ap, refl, set, get_or-set_other, get_or-set_same, subst, length-set, inl, inr}
+use Rattle.std.proofs.Common.{◌≡◌, ◌≢◌, ℕ, ◌+◌, ◌<◌, ◌≤◌, Bool, false, not, List, length, take, arith, sym, ◌∙◌, ap, refl, set, get_or-set_other, get_or-set_same, subst, length-set, inl, inr}
 use Rattle.std.proofs.Math.Nat.{eq-or-lt_of_le}
 use Rattle.std.proofs.lemmas.List.{take-set-le}
-use Rattle.std.proofs.lemmas.Option.{slice_get_within, slice_get-get_or}
+use Rattle.std.proofs.lemmas.Option.{slice_get_within}
 use Rattle.std.specs.Prelude.{All, Some, slice_get, ◌&&◌}
 use Rattle.zk_model.specs.Bits.{exclusive_or}
 use Rattle.zk_model.specs.Circuit.{Circuit, IsSet, IsWellFormed, MeetsGate, AreWireBits, bit_of, wire_set, wires_read}
@@ -100,10 +100,7 @@ all_bits circuit inputs bits far = record {
 }
 
 -- the same, as a loop over the gates has it
-pub bits_next : (circuit : Circuit) (inputs bits now : List Bool) (rows : List GateRow) (n : ℕ) (other : GateRow) → IsWellFormed circuit
-    → rows ≡ circuit.gates → n < length rows → now ≡ set bits (wire_set (get_or rows n other)) (gate_bit bits (get_or rows n other))
-    → AreBitsSoFar circuit inputs bits n → AreBitsSoFar circuit inputs now (n + 1)
-bits_next circuit inputs bits now rows n other order same below is far =
-    let at : slice_get circuit.gates n ≡ Some (get_or rows n other) =
-    ap (λ gates. slice_get gates n) (sym same) ∙ slice_get-get_or rows n other below in
-    subst (λ (l : List Bool). AreBitsSoFar circuit inputs l (n + 1)) (sym is) (bits_more circuit inputs bits n (get_or rows n other) order at far)
+pub bits_next : (circuit : Circuit) (inputs bits now : List Bool) (n : ℕ) (gate : GateRow) → IsWellFormed circuit → slice_get circuit.gates n ≡ Some gate
+    → now ≡ set bits (wire_set gate) (gate_bit bits gate) → AreBitsSoFar circuit inputs bits n → AreBitsSoFar circuit inputs now (n + 1)
+bits_next circuit inputs bits now n gate order at is far =
+    subst (λ (l : List Bool). AreBitsSoFar circuit inputs l (n + 1)) (sym is) (bits_more circuit inputs bits n gate order at far)

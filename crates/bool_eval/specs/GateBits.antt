@@ -1,10 +1,8 @@
 -- What a gate gives, from the bits of the wires that it reads.
-use Rattle.std.specs.Prelude.{◌≡◌, ℕ, ◌<◌, ◌≤◌, Bool, false, not, ◌&&◌, List, length}
+use Rattle.std.specs.Prelude.{◌≡◌, ℕ, ◌<◌, ◌≤◌, Bool, false, List, length}
 use Rattle.std.specs.List.{AllByRecursion}
-use Rattle.zk_model.specs.Bits.{exclusive_or}
 use Rattle.zk_model.specs.Circuit.{Circuit, IsSet, bit_of, wire_set, wires_read}
 use Rattle.zk_model.specs.declared.GateRow.{GateRow}
-use Rattle.zk_model.specs.declared.GateRow.TheVariants.{And, Xor, Inv, Eqw, Eq}
 
 -- the wires of a gate are below a number of wires
 abbrev pub IsWithin : ℕ → GateRow → Type 0

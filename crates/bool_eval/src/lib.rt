@@ -88,8 +88,9 @@ fn set_gates(circuit: &Circuit, bits: &mut [bool])
     ensures wires { AreWireBits circuit.now (take circuit.now.inputs bits.old) bits.new }
     ensures unset { LeavesUnset circuit.now bits.new }
 {
-    for gate in circuit.rows() {
-        set_gate(bits, *gate);
+    let _wires = circuit.wires();
+    for i in 0..circuit.gates() {
+        set_gate(bits, circuit.gate(i));
     }
 }
 

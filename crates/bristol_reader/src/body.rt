@@ -9,8 +9,9 @@ use crate::gate::read_gate;
 use crate::header::Header;
 use crate::set_wires::SetWires;
 use crate::tokens::Tokens;
+use packed_gates::{GateRow, PackedGates};
 use std::alloc::Global;
-use zk_model::{GateRow, ReadFault};
+use zk_model::ReadFault;
 
 /// The wire that a gate sets.
 #[inline(always)]
@@ -47,18 +48,18 @@ pub fn read_body(
     alloc: Global,
     tokens: &mut Tokens,
     header: Header,
-) -> Result<Vec<GateRow>, ReadError>
+) -> Result<PackedGates, ReadError>
     requires inputs { header.inputs ≤ header.wires }
     requires outputs { header.outputs ≤ header.wires }
     requires bounded { header.wires ≤ MAX_WIRES }
-    ensures found { IfOk result (λ gates. IsBody header tokens.old gates.items) }
+    ensures found { IfOk result (λ gates. IsBody header tokens.old gates) }
     ensures cause { IfErr result (BodyCause header tokens.old) }
 {
     let mut set = SetWires::of_inputs(alloc, header.wires, header.inputs)?;
-    let mut gates = Vec::with_capacity(alloc, header.gates as usize)?;
+    let mut gates = PackedGates::with_capacity(alloc, header.gates as usize)?;
     'gates: for _ in 0..header.gates {
         let gate = read_gate(tokens, &set)?;
-        gates.push_reserved(gate);
+        gates.push(gate)?;
         set.insert(out_wire(gate));
     }
     tokens.end()?;

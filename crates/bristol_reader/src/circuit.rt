@@ -1,9 +1,10 @@
 // Circuits.
-ghost use Rattle.std.specs.Prelude.{◌≡◌, ◌<◌, length, Some, slice_get};
+ghost use Rattle.std.specs.Prelude.{◌≡◌, ◌<◌, length, Some, slice_get, IfOk};
 ghost use Rattle.bristol_reader.specs.Circuits.{circuit_of, IsCircuit};
 
+use packed_gates::{GateRow, PackedGates};
+use std::alloc::{AllocError, Global};
 use std::marker::Model;
-use zk_model::GateRow;
 
 /// A circuit that was read: how many wires it has, how many of the first are inputs and of the last outputs,
 /// and its gates in order. It is well formed, and within the limits of `read`.
@@ -12,7 +13,7 @@ pub struct Circuit {
     wires: u32,
     inputs: u32,
     outputs: u32,
-    gates: Vec<GateRow>,
+    gates: PackedGates,
 }
 
 impl Model for Circuit {
@@ -21,16 +22,16 @@ impl Model for Circuit {
 
     ghost Value = { model.Circuit };
 
-    ghost view = { λ c. circuit_of c.wires c.inputs c.outputs c.gates.items };
+    ghost view = { λ c. circuit_of c.wires c.inputs c.outputs c.gates };
 
-    ghost invariant = { λ c. IsCircuit (circuit_of c.wires c.inputs c.outputs c.gates.items) };
+    ghost invariant = { λ c. IsCircuit (circuit_of c.wires c.inputs c.outputs c.gates) };
 }
 
 impl Circuit {
     /// The circuit of these counts and gates.
-    pub(crate) fn new(wires: u32, inputs: u32, outputs: u32, gates: Vec<GateRow>) -> Circuit
-        requires { IsCircuit (circuit_of wires inputs outputs gates.items) }
-        ensures { result ≡ circuit_of wires inputs outputs gates.items }
+    pub(crate) fn new(wires: u32, inputs: u32, outputs: u32, gates: PackedGates) -> Circuit
+        requires { IsCircuit (circuit_of wires inputs outputs gates) }
+        ensures { result ≡ circuit_of wires inputs outputs gates }
     {
         Circuit {
             wires,
@@ -70,18 +71,35 @@ impl Circuit {
     }
 
     /// The gate of this number, from 0.
+    #[inline(always)]
     pub fn gate(&self, i: usize) -> GateRow
         requires { i < length self.now.gates }
         ensures { slice_get self.now.gates i ≡ Some result }
     {
-        self.gates[i]
+        self.gates.get(i)
     }
 
-    /// The gates in order.
-    pub fn rows(&self) -> &[GateRow]
-        ensures rows { result.now ≡ self.now.gates }
-        ensures rules { IsCircuit self.now }
+    /// The same circuit once more.
+    ///
+    /// # Errors
+    ///
+    /// Only where memory runs out.
+    pub fn copied(&self, alloc: Global) -> Result<Circuit, AllocError>
+        ensures { IfOk result (λ circuit. circuit ≡ self.now) }
     {
-        &self.gates
+        let gates = self.gates.copied(alloc)?;
+        Ok(Circuit {
+            wires: self.wires,
+            inputs: self.inputs,
+            outputs: self.outputs,
+            gates,
+        })
+    }
+
+    /// The gates alone, in the form in which a program has its steps.
+    pub fn into_gates(self) -> PackedGates
+        ensures { result ≡ self.gates }
+    {
+        self.gates
     }
 }

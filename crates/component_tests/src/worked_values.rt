@@ -1,13 +1,11 @@
 // Each part of a session at rows that the program did not make.
 ghost use Rattle.std.specs.Prelude.{◌≡◌};
-ghost use Rattle.zk_model.specs.Field.{from_word};
 ghost use Rattle.proof_frames.specs.Readings.{IsShortPlace};
 
+use crate::made::{circuit_of, program_of, small, small_pair};
 use bool_eval::{eval, eval_wires};
-use bristol_reader::{Circuit, read};
 use check_findings::{Finding, opening_finding, section_finding};
-use field_program::{FieldProgram, Step};
-use gate_translate::translate;
+use field_program::Step;
 use mersenne_field::{Fe, Pair};
 use mult_check::{check_openings, section_left, section_sums};
 use pad_transfer::Masked;
@@ -19,38 +17,6 @@ use std::test::Fail;
 use tree_messages::{TreeAsk, TreeReply};
 use wire_auth::{Correlations, KeyTriple, ProverWires, Triple, VerifierWires};
 use zk_model::FrameKind;
-
-/// The element of a small number.
-fn small(number: u64) -> Fe
-    ensures { result ≡ from_word number }
-{
-    Fe::from_word(number)
-}
-
-/// The pair of two small numbers.
-fn small_pair(x: u64, m: u64) -> Pair
-    ensures { result ≡ record { x = from_word x; m = from_word m } }
-{
-    Pair {
-        x: small(x),
-        m: small(m),
-    }
-}
-
-/// The circuit of a text.
-fn circuit_of(alloc: Global, text: &[u8]) -> Result<Circuit, Fail> {
-    let Ok(circuit) = read(alloc, text) else {
-        return Err(Fail::new("no circuit"));
-    };
-    Ok(circuit)
-}
-
-/// The program of a circuit's text.
-fn program_of(alloc: Global, text: &[u8]) -> Result<FieldProgram, Fail> {
-    let circuit = circuit_of(alloc, text)?;
-    let program = translate(alloc, &circuit)?;
-    Ok(program)
-}
 
 /// The coefficients of a polynomial.
 fn polynomial(alloc: Global, coefficients: &[u64]) -> Result<Vec<Fe>, Fail> {

@@ -7,7 +7,7 @@ use Rattle.std.proofs.lemmas.List.{length-replicate, take_more, take_all}
 use Rattle.std.proofs.lemmas.List.Elements.{Contains-append_left, Contains-push, Contains-push_cases}
 use Rattle.std.proofs.lemmas.Option.{slice_get_within}
 use Rattle.zk_model.specs.Program.{Program}
-use Rattle.field_program.specs.PackedSteps.{HasFactors}
+use Rattle.field_program.specs.Rules.{HasFactors}
 use Rattle.field_program.specs.Programs.{IsSmallProgram}
 use Rattle.field_program.specs.Steps.{step_equation}
 use Rattle.field_program.specs.declared.step.Step.{Step}

@@ -3,7 +3,7 @@ use Rattle.std.proofs.Common.{◌≡◌, ◌≢◌, ℕ, ◌+◌, ◌<◌, ⊎_e
 use Rattle.std.specs.Prelude.{Some, slice_get, slice_index}
 use Rattle.zk_model.specs.Program.{Program, IsSet}
 use Rattle.zk_model.proofs.SetWires.{set_below}
-use Rattle.field_program.specs.PackedSteps.{HasFactors}
+use Rattle.field_program.specs.Rules.{HasFactors}
 use Rattle.field_program.specs.Programs.{IsSmallProgram}
 use Rattle.field_program.specs.Steps.{step_equation}
 use Rattle.field_program.specs.declared.step.Step.{Step}

@@ -8,7 +8,7 @@ use Rattle.std.proofs.lemmas.Option.{slice_get_within, slice_get-get_or, get_or_
 use Rattle.zk_model.specs.Boolean.{once, less_once, less_twice}
 use Rattle.zk_model.specs.Program.{Term, Step as model, Program, IsSet}
 use Rattle.zk_model.specs.declared.Product.{Product}
-use Rattle.field_program.specs.PackedSteps.{HasFactors}
+use Rattle.field_program.specs.Rules.{HasFactors}
 use Rattle.field_program.specs.Programs.{IsSmallProgram, values_taken}
 use Rattle.field_program.specs.Steps.{step_equation}
 use Rattle.field_program.specs.declared.step.Step.{Step}

@@ -1,4 +1,4 @@
-pub mod PackedSteps
+pub mod Rules
 pub mod Programs
 pub mod Steps
 pub mod Slotting

@@ -1,24 +1,29 @@
 -- The programs that are held.
-use Rattle.std.specs.Prelude.{◌≡◌, ℕ, ◌+◌, ◌-◌, ◌<◌, ◌≤◌, List, map, flat_map, length, slice_get, Some}
+use Rattle.std.specs.Prelude.{◌≡◌, ℕ, ◌+◌, ◌-◌, ◌<◌, ◌≤◌, List, ◌++◌, map, flat_map, length, slice_get, Some}
 use Rattle.std.specs.List.{range_with_len}
 use Rattle.zk_model.specs.Program.{Step, Program, IsProgram, IsOrdered}
+use Rattle.zk_model.specs.Boolean.{bit_check}
 use Rattle.zk_model.specs.declared.Product.{Product}
-use Rattle.field_program.specs.PackedSteps.{step_of, numbered}
+use Rattle.field_program.specs.Rules.{step_of, numbered}
 use Rattle.field_program.specs.Steps.{equations}
-use Rattle.field_program.specs.declared.packed.Factors.{Factors}
-use Rattle.field_program.specs.declared.packed.PackedStep.{PackedStep}
+use Rattle.packed_gates.specs.declared.packed.Factors.{Factors}
+use Rattle.packed_gates.specs.declared.packed.PackedStep.{PackedStep}
 use Rattle.zk_model.specs.declared.limits.TheConstants.{MAX_WIRES}
 
--- the program of these parts: how many wires there are, how many are public and inputs, and how many values are given;
--- the rules of the steps, the factors of the products, and the wires that are opened
-abbrev pub program_of : ℕ → ℕ → ℕ → ℕ → List PackedStep → List Factors → List ℕ → Program
-program_of wires public inputs givens rules factors opened = record {
+-- the products of a program: the bit checks of its inputs, behind so many public ones, and the products with these factors
+abbrev pub products_with : ℕ → ℕ → List Factors → List Product
+products_with public inputs factors = map (bit_check public) (range_with_len 0 inputs) ++ numbered inputs factors
+
+-- the program of these parts: how many wires there are, and how many are public and inputs; the rules of the steps, the factors of
+-- the products that steps take, and the wires that are opened
+abbrev pub program_of : ℕ → ℕ → ℕ → List PackedStep → List Factors → List ℕ → Program
+program_of wires public inputs rules factors opened = record {
   wires = wires;
   public = public;
   inputs = inputs;
-  steps = equations (map (step_of factors) rules);
-  givens = givens;
-  products = numbered 0 factors;
+  steps = equations (map (step_of inputs factors) rules);
+  givens = inputs + length factors;
+  products = products_with public inputs factors;
   opened = opened;
 }
 

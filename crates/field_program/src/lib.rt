@@ -1,8 +1,8 @@
 //! Programs over the field: linear equations of wires, in order, and the products that a proof checks (Yang, Sarkar, Weng and
 //! Wang, QuickSilver, ACM CCS 2021).
 //!
-//! `program` has `FieldProgram`, `step` one linear equation as contracts see it; `packed` keeps steps and products in 12 and in 8
-//! bytes; `slots` has `SlotPlan`, of the wires that a walk along the steps has to hold at once.
+//! `program` has `FieldProgram`, `step` one linear equation as contracts see it; `packed` reads a step
+//! from the form in which a circuit keeps its gates; `slots` has `SlotPlan`, of the wires that a walk along the steps has to hold at once.
 //!
 //!     let need = program.need(g); // correlations of a session in sections of g products
 #![tactic(auto)]
@@ -12,7 +12,7 @@ mod program;
 mod slots;
 mod step;
 
-pub use packed::{Factors, PackedStep};
+pub use packed_gates::{Factors, PackedStep};
 pub use program::FieldProgram;
 pub use slots::SlotPlan;
 pub use step::Step;

@@ -1,24 +1,27 @@
 // Programs over the field.
-ghost use Rattle.std.specs.Prelude.{◌≡◌, ◌≤◌, ◌<◌, length, slice_get, All, Some};
+ghost use Rattle.std.specs.Prelude.{◌≡◌, ◌≤◌, ◌<◌, ◌+◌, ◌^◌, length, slice_get, All, Some};
+ghost use Rattle.zk_model.specs.Boolean.{bit_check};
 ghost use Rattle.zk_model.specs.Program.{section_count, correlations_needed};
 ghost use Rattle.field_program.specs.Programs.{IsSmallProgram, program_of};
-ghost use Rattle.field_program.specs.PackedSteps.{HasFactors, IsRule};
+ghost use Rattle.field_program.specs.Rules.{HasFactors};
 ghost use Rattle.field_program.specs.Steps.{step_equation};
+ghost use Rattle.packed_gates.specs.PackedSteps.{IsRule};
 
-use crate::packed::{Factors, PackedStep, step_of};
+use crate::packed::step_of;
 use crate::step::Step;
+use packed_gates::{Factors, PackedStep};
 use std::marker::Model;
 use zk_model::Product;
 
 /// A program over the field: linear equations of wires, and products to be checked (Yang, Sarkar, Weng and Wang,
 /// QuickSilver, ACM CCS 2021). It is well formed: wires are set before they are read, and once. It takes 12 bytes for each
-/// step, and 8 for each product, which has the given value of its own number.
+/// step, and 8 for each product that is no bit check. Each product has the given value of its own number: the first are the bit checks of
+/// the private inputs, the others are those that steps take.
 #[derive(Debug, Drop)]
 pub struct FieldProgram {
     wires: u32,
     public: u32,
     inputs: u32,
-    givens: u32,
     rules: Vec<PackedStep>,
     factors: Vec<Factors>,
     opened: Vec<u32>,
@@ -31,12 +34,12 @@ impl Model for FieldProgram {
 
     ghost use Rattle.std.specs.Prelude.{length, All};
     ghost use Rattle.field_program.specs.Programs.{IsSmallProgram, program_of};
-    ghost use Rattle.field_program.specs.PackedSteps.{IsRule};
+    ghost use Rattle.packed_gates.specs.PackedSteps.{IsRule};
 
-    ghost view = { λ p. program_of p.wires p.public p.inputs p.givens
+    ghost view = { λ p. program_of p.wires p.public p.inputs
         p.rules.items p.factors.items p.opened.items };
 
-    ghost invariant = { λ p. IsSmallProgram (program_of p.wires p.public p.inputs p.givens
+    ghost invariant = { λ p. IsSmallProgram (program_of p.wires p.public p.inputs
         p.rules.items p.factors.items p.opened.items) × All (IsRule (length p.factors.items)) p.rules.items };
 }
 
@@ -56,7 +59,7 @@ impl FieldProgram {
         ensures factors { HasFactors self.now.products result }
         ensures held { IsSmallProgram self.now }
     {
-        step_of(self.rules[k], &self.factors)
+        step_of(self.rules[k], self.inputs, &self.factors)
     }
 
     /// How many products are to be checked.
@@ -64,7 +67,7 @@ impl FieldProgram {
         ensures count { result ≡ length self.now.products }
         ensures held { IsSmallProgram self.now }
     {
-        self.factors.len()
+        self.inputs as usize + self.factors.len()
     }
 
     /// Product i, in order.
@@ -73,7 +76,11 @@ impl FieldProgram {
         ensures product { slice_get self.now.products i ≡ Some result }
         ensures held { IsSmallProgram self.now }
     {
-        let Factors { a, b } = self.factors[i];
+        let inputs = self.inputs as usize;
+        if i < inputs {
+            return bit_check(self.public, i as u32);
+        }
+        let Factors { a, b } = self.factors[i - inputs];
         Product { a, b, c: i as u32 }
     }
 
@@ -114,7 +121,7 @@ impl FieldProgram {
         ensures count { result ≡ self.now.givens }
         ensures held { IsSmallProgram self.now }
     {
-        self.givens as usize
+        self.products()
     }
 
     /// The sections of this many products that the products make: their number by the section's length, rounded up.
@@ -131,32 +138,44 @@ impl FieldProgram {
         requires { 1 ≤ g }
         ensures { result ≡ correlations_needed self.now g }
     {
-        u64::from(self.givens) + self.sections(g)
+        self.products() as u64 + self.sections(g)
     }
 
-    /// A program of these parts, which is well formed.
+    /// A program of these parts, which is well formed: the products are the bit checks of the inputs, and those with these factors.
     pub fn from_parts(
         wires: u32,
         public: u32,
         inputs: u32,
-        givens: u32,
         rules: Vec<PackedStep>,
         factors: Vec<Factors>,
         opened: Vec<u32>,
     ) -> Self
-        requires held { IsSmallProgram (program_of wires public inputs givens
+        requires held { IsSmallProgram (program_of wires public inputs
             rules.items factors.items opened.items) }
         requires rules { All (IsRule (length factors.items)) rules.items }
-        ensures { result ≡ program_of wires public inputs givens rules.items factors.items opened.items }
+        ensures { result ≡ program_of wires public inputs rules.items factors.items opened.items }
     {
         FieldProgram {
             wires,
             public,
             inputs,
-            givens,
             rules,
             factors,
             opened,
         }
+    }
+}
+
+/// The bit check of an input behind so many public ones.
+#[inline(always)]
+fn bit_check(public: u32, i: u32) -> Product
+    requires { public + i < 2 ^ 32 }
+    ensures { result ≡ bit_check public i }
+{
+    let wire = public + i;
+    Product {
+        a: wire,
+        b: wire,
+        c: i,
     }
 }

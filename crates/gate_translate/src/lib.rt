@@ -3,7 +3,7 @@
 //!
 //! `translation` has `translate_public` and, for circuits all of whose inputs are private, `translate`.
 //!
-//!     let program = translate(alloc, &circuit)?;
+//!     let program = translate(alloc, circuit)?;
 //!     let need = program.need(g); // correlations of a session in sections of g products
 #![tactic(auto)]
 

@@ -96,15 +96,20 @@ fn audit_files<F: Shelf>(
 {
     let files = load_audited(alloc, shelf, words)?;
     let log = load_file(alloc, shelf, words.log)?;
-    let ClaimedCircuit { circuit, digest } = &files.claimed;
+    let AuditedFiles {
+        claimed,
+        prover,
+        verifier,
+    } = files;
+    let ClaimedCircuit { circuit, digest } = claimed;
     match audit(
         alloc,
         circuit,
-        *digest,
+        digest,
         words.public,
         words.outputs,
-        &files.prover,
-        &files.verifier,
+        &prover,
+        &verifier,
         &log,
     ) {
         Ok(finding) => Ok(finding),

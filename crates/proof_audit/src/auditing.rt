@@ -70,7 +70,7 @@ fn session_finding(
 /// `NotDealt` where the files are not of one dealing, `LogFault` where the log has a fault, `NoMemory`.
 pub fn audit(
     alloc: Global,
-    circuit: &Circuit,
+    circuit: Circuit,
     digest: [u8; 32],
     public: &[bool],
     outputs: &[bool],
@@ -79,12 +79,12 @@ pub fn audit(
     log: &[u8],
 ) -> Result<Finding, AuditFault>
     requires digest { AreBytes 32 digest }
-    requires public { length public.now ≤ circuit.now.inputs }
-    requires outputs { length outputs.now ≡ circuit.now.outputs }
-    ensures finding { IfOk result (Finds circuit.now public.now outputs.now prover.now
-        (audit_task circuit.now digest public.now outputs.now verifier.now) log.now) }
+    requires public { length public.now ≤ circuit.inputs }
+    requires outputs { length outputs.now ≡ circuit.outputs }
+    ensures finding { IfOk result (Finds circuit public.now outputs.now prover.now
+        (audit_task circuit digest public.now outputs.now verifier.now) log.now) }
     ensures fault { IfErr result (AuditCause prover.now
-        (audit_task circuit.now digest public.now outputs.now verifier.now) log.now) }
+        (audit_task circuit digest public.now outputs.now verifier.now) log.now) }
 {
     let _circuit = circuit.wires();
     let _prover = prover.total();

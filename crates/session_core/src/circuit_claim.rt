@@ -44,19 +44,19 @@ impl Model for CircuitClaim {
 
 impl CircuitClaim {
     /// The claim that the circuit, of whose text this is the digest, gives these outputs, as many as it has, with these
-    /// public bits for its first inputs.
+    /// public bits for its first inputs. The circuit's gates become the program's steps.
     pub fn new(
         alloc: Global,
-        circuit: &Circuit,
+        circuit: Circuit,
         digest: [u8; 32],
         public: &[bool],
         outputs: &[bool],
     ) -> Result<Self, AllocError>
         requires digest { AreBytes 32 digest }
-        requires public { length public.now ≤ circuit.now.inputs }
-        requires outputs { length outputs.now ≡ circuit.now.outputs }
+        requires public { length public.now ≤ circuit.inputs }
+        requires outputs { length outputs.now ≡ circuit.outputs }
         ensures { IfOk result (λ claim.
-            claim ≡ circuit_statement circuit.now digest public.now outputs.now) }
+            claim ≡ circuit_statement circuit digest public.now outputs.now) }
     {
         circuit_is_statement();
         let _wires = circuit.wires();

@@ -157,8 +157,8 @@ fn wires_at(
 }
 
 /// Rehearses a session in which the prover claims what the circuit gives at these bits, public ones and then private ones: the
-/// seed's files of this kind, as many units as the session takes, and both ends over a log. The circuit is given up once its
-/// program and its outputs are known. The private bits must be as many as the circuit's inputs that are not public (else
+/// seed's files of this kind, as many units as the session takes, and both ends over a log. The circuit becomes the
+/// program once its outputs are known. The private bits must be as many as the circuit's inputs that are not public (else
 /// [`RehearseFault::WrongLength`]), and the units 4,096 at most (else [`RehearseFault::TooLarge`]).
 pub fn rehearse<R: Threads + Sync>(
     rt: &R,
@@ -179,9 +179,8 @@ pub fn rehearse<R: Threads + Sync>(
     let _wires = circuit.wires();
     let wires = wires_at(alloc, &circuit, public, bits)?;
     let outputs = Bits::copied(alloc, output_bits(&circuit, &wires))?;
-    let claim = CircuitClaim::new(alloc, &circuit, [0; 32], public, outputs.as_slice())?;
     drop(wires);
-    drop(circuit);
+    let claim = CircuitClaim::new(alloc, circuit, [0; 32], public, outputs.as_slice())?;
     let inputs = elements_of(alloc, bits)?;
     let rehearsal = rehearse_claim(rt, alloc, &claim, &inputs, outputs, kind, section, seed)?;
     Ok(rehearsal)

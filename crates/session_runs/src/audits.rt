@@ -69,7 +69,7 @@ impl fmt::Display for Answered {
 }
 
 /// The answer about a log.
-fn answer_about(alloc: Global, audited: &Audited<'_>, log: &[u8]) -> Answered
+fn answer_about(alloc: Global, audited: &Audited<'_>, log: &[u8]) -> Result<Answered>
     requires public { length audited.now.public.now ≤ audited.now.circuit.now.inputs }
     requires outputs { length audited.now.outputs.now ≡ audited.now.circuit.now.outputs }
 {
@@ -80,10 +80,11 @@ fn answer_about(alloc: Global, audited: &Audited<'_>, log: &[u8]) -> Answered
         prover,
         verifier,
     } = *audited;
+    let circuit = circuit.copied(alloc)?;
     let answer = audit(
         alloc, circuit, [0; 32], public, outputs, prover, verifier, log,
     );
-    Answered { answer }
+    Ok(Answered { answer })
 }
 
 /// The lines of audits of these logs, over the files of a rehearsal that took so many units.
@@ -110,7 +111,7 @@ pub fn audit_lines(
     };
     let mut lines = String::new(alloc);
     for Case { name, script, .. } in cases {
-        let answer = answer_about(alloc, &audited, &script);
+        let answer = answer_about(alloc, &audited, &script)?;
         lines.push_str(&format!(in alloc; "{name}{answer}\n")?)?;
     }
     Ok(lines)

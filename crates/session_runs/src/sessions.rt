@@ -417,7 +417,7 @@ fn circuit_lines<R: Threads + Wait + Sync>(
     let (public, private) = bits.all.split_at(bits.public);
     let inputs = elements_of(alloc, private)?;
     let outputs = claimed_outputs(alloc, circuit, scenario.outputs, &bits.all)?;
-    let claim = CircuitClaim::new(alloc, circuit, digest, public, &outputs)?;
+    let claim = CircuitClaim::new(alloc, circuit.copied(alloc)?, digest, public, &outputs)?;
     let statement = claim.statement();
     let (prover_file, verifier_file) = deal(alloc, &params_of(scenario)?, &SEED)?;
     let prover = ProverJob::new(&statement, &prover_file, &inputs);
@@ -438,7 +438,7 @@ fn circuit_lines<R: Threads + Wait + Sync>(
     let Some(before) = bits.all.get(..before) else {
         return Err(Error::msg("too many public bits"));
     };
-    let other = CircuitClaim::new(alloc, circuit, digest, before, &outputs)?;
+    let other = CircuitClaim::new(alloc, circuit.copied(alloc)?, digest, before, &outputs)?;
     let other = other.statement();
     match VerifierJob::fit(&other, &verifier_file, section) {
         Ok(first) => {

@@ -10,7 +10,7 @@ use Rattle.zk_model.specs.Program.{Term, Step as model, Program, IsProgram, IsSe
 use Rattle.std.proofs.Math.Nat.{eq-or-lt_of_le}
 use Rattle.zk_model.specs.Slots.{Plan, IsPlanOf, IsLive, IsSetAt, Reads}
 use Rattle.zk_model.specs.Boolean.{once, less_twice}
-use Rattle.field_program.specs.PackedSteps.{HasFactors}
+use Rattle.field_program.specs.Rules.{HasFactors}
 use Rattle.field_program.specs.Programs.{IsSmallProgram, values_taken}
 use Rattle.field_program.specs.Steps.{step_equation, value_taken}
 use Rattle.field_program.specs.declared.step.Step.{Step}

@@ -39,7 +39,8 @@ impl<'a> Model for ProverWalk<'a> {
       met = w.values.met;
     } };
 
-    ghost invariant = { λ w. IsProverWalk w.values.program w.public.now w.inputs.now w.dealt.now w.values w.macs };
+    ghost invariant = { λ w. IsProverWalk w.values.program w.public.now w.inputs.now w.dealt.now
+        w.values w.macs };
 }
 
 impl<'a> ProverWalk<'a> {
@@ -98,7 +99,8 @@ impl<'a> ProverWalk<'a> {
 
     /// The pairs of the factors of the next product, and of its value; none after the last.
     pub fn next(&mut self) -> Option<Triple>
-        ensures some { (product : zk.Product) → slice_get self.old.side.program.products self.old.met ≡ Some product
+        ensures some { (product : zk.Product)
+            → slice_get self.old.side.program.products self.old.met ≡ Some product
             → result ≡ Some (product_triple self.old.side.pairs product) }
         ensures none { length self.old.side.program.products ≤ self.old.met → result ≡ None }
         ensures side { self.new.side ≡ self.old.side }

@@ -2,7 +2,7 @@
 ghost use Rattle.std.specs.Prelude.{◌≡◌, ◌<◌, ◌≤◌, ℕ, List, length, slice_get, Some, IfOk};
 ghost use Rattle.zk_model.specs.Field.{IsElement};
 ghost use Rattle.zk_model.specs.Program.{AreMade};
-ghost use Rattle.field_program.specs.PackedSteps.{HasFactors};
+ghost use Rattle.field_program.specs.Rules.{HasFactors};
 ghost use Rattle.wire_auth.specs.Sides.{IsBegun, IsTaken};
 ghost use Rattle.wire_auth.specs.Values.{BitsMakeProducts, given_from, given_value};
 

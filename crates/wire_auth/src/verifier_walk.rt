@@ -37,7 +37,8 @@ impl<'a> Model for VerifierWalk<'a> {
       met = w.walk.met;
     } };
 
-    ghost invariant = { λ w. IsVerifierWalk w.walk.program w.key w.public.now w.keys.now w.corrections.now w.walk };
+    ghost invariant = { λ w. IsVerifierWalk w.walk.program w.key w.public.now w.keys.now
+        w.corrections.now w.walk };
 }
 
 impl<'a> VerifierWalk<'a> {
@@ -97,7 +98,8 @@ impl<'a> VerifierWalk<'a> {
 
     /// The keys of the factors of the next product, and of its value; none after the last.
     pub fn next(&mut self) -> Option<KeyTriple>
-        ensures some { (product : zk.Product) → slice_get self.old.side.program.products self.old.met ≡ Some product
+        ensures some { (product : zk.Product)
+            → slice_get self.old.side.program.products self.old.met ≡ Some product
             → result ≡ Some (key_triple self.old.side.keys product) }
         ensures none { length self.old.side.program.products ≤ self.old.met → result ≡ None }
         ensures side { self.new.side ≡ self.old.side }

@@ -3,7 +3,7 @@ ghost use Rattle.std.specs.Prelude.{◌≡◌, ◌+◌, ◌<◌, ◌≤◌, ◌�
 ghost use Rattle.zk_model.specs.Program.{Step as model, MeetsStep, step_value};
 ghost use Rattle.zk_model.specs.Slots.{IsPlanOf};
 ghost use Rattle.zk_model.specs.declared.Product as zk;
-ghost use Rattle.field_program.specs.PackedSteps.{HasFactors};
+ghost use Rattle.field_program.specs.Rules.{HasFactors};
 ghost use Rattle.field_program.specs.Programs.{values_taken};
 ghost use Rattle.field_program.specs.Steps.{step_equation};
 ghost use Rattle.wire_auth.specs.Sides.{IsTaken};
@@ -61,8 +61,8 @@ fn number_in(plan: &SlotPlan, slots: &[Fe], wire: u32) -> Fe
 #[inline(always)]
 fn step_number(plan: &SlotPlan, slots: &[Fe], step: &Step, one: Fe, taken: Fe) -> Fe
     requires { AreSlotsWithin plan.now (length slots.now) step.now }
-    ensures { (wires given : List ℕ) → AreReadIn plan.now slots.now wires step.now → IsTaken given step.now taken
-        → result ≡ step_value one wires given (step_equation step.now) }
+    ensures { (wires given : List ℕ) → AreReadIn plan.now slots.now wires step.now
+        → IsTaken given step.now taken → result ≡ step_value one wires given (step_equation step.now) }
 {
     match *step {
         Step::Const { value, .. } => value * one,

@@ -36,7 +36,7 @@ fn load_claim<F: Shelf>(
     let (public, outputs) = (named.public(), named.outputs());
     let claimed = load_claimed(alloc, shelf, named.circuit(), public, outputs)?;
     let ClaimedCircuit { circuit, digest } = claimed;
-    Ok(CircuitClaim::new(alloc, &circuit, digest, public, outputs)?)
+    Ok(CircuitClaim::new(alloc, circuit, digest, public, outputs)?)
 }
 
 /// The claims of these names, in order, up to the first that can't be had.

@@ -147,7 +147,7 @@ fn load_witness<F: Shelf>(
     drop(wires);
     let digest = Sha256::digest(&text);
     drop(text);
-    let claim = CircuitClaim::new(alloc, &circuit, digest, words.public, words.outputs)?;
+    let claim = CircuitClaim::new(alloc, circuit, digest, words.public, words.outputs)?;
     let inputs = elements_of(alloc, words.bits)?;
     Ok(Witness { claim, inputs })
 }

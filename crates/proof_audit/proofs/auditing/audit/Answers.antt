@@ -9,25 +9,25 @@ use Rattle.proof_audit.proofs.auditing.audit.Goals as goal
 
 pub returns : goal.returns
 returns c = record {
-  finding = finds c.args.circuit.now c.args.digest c.args.public.now c.args.outputs.now c.args.prover.now c.args.verifier.now c.args.log.now
+  finding = finds c.args.circuit c.args.digest c.args.public.now c.args.outputs.now c.args.prover.now c.args.verifier.now c.args.log.now
       c.in-Some.session c.in_ok-finding.finding about (c.in_ok-finding.ensures task (sym same) audited);
   fault = tt;
 }
   where
     task : VerifierTask
-    task = audit_task c.args.circuit.now c.args.digest c.args.public.now c.args.outputs.now c.args.verifier.now
+    task = audit_task c.args.circuit c.args.digest c.args.public.now c.args.outputs.now c.args.verifier.now
 
-    same : c.statement-statement.result ≡ circuit_statement c.args.circuit.now c.args.digest c.args.public.now c.args.outputs.now
+    same : c.statement-statement.result ≡ circuit_statement c.args.circuit c.args.digest c.args.public.now c.args.outputs.now
     same = c.statement-statement.ensures ∙ c.in_ok-claim.ensures
 
-    judged : c.new-judge.result ≡ audit_task c.args.circuit.now c.args.digest c.args.public.now c.args.outputs.now c.args.verifier.now
+    judged : c.new-judge.result ≡ audit_task c.args.circuit c.args.digest c.args.public.now c.args.outputs.now c.args.verifier.now
     judged = c.new-judge.ensures ∙ (λ i. record { file = c.args.verifier.now; statement = same i })
 
-    read : IsReadSession (audit_task c.args.circuit.now c.args.digest c.args.public.now c.args.outputs.now c.args.verifier.now) c.args.log.now c.in-Some.session
+    read : IsReadSession (audit_task c.args.circuit c.args.digest c.args.public.now c.args.outputs.now c.args.verifier.now) c.args.log.now c.in-Some.session
     read = subst (λ (task : VerifierTask). IsReadSession task c.args.log.now c.in-Some.session) judged
         (subst (λ o. IfSome o (IsReadSession c.new-judge.result c.args.log.now)) c.in-Some.is c.in_ok-session.ensures.accepted)
 
-    audited : IsAudited c.args.prover.now (audit_task c.args.circuit.now c.args.digest c.args.public.now c.args.outputs.now c.args.verifier.now) c.in-Some.session
+    audited : IsAudited c.args.prover.now (audit_task c.args.circuit c.args.digest c.args.public.now c.args.outputs.now c.args.verifier.now) c.in-Some.session
     audited = record {
       prover_file = c.total-prover.ensures.file;
       verifier_file = c.total-verifier.ensures.file;
@@ -37,7 +37,7 @@ returns c = record {
       kept = read.kept;
     }
 
-    about : IsAbout c.args.circuit.now c.args.digest c.args.public.now c.args.outputs.now c.args.prover.now c.args.verifier.now c.args.log.now c.in-Some.session
+    about : IsAbout c.args.circuit c.args.digest c.args.public.now c.args.outputs.now c.args.prover.now c.args.verifier.now c.args.log.now c.in-Some.session
     about = record {
       formed = c.wires-circuit.ensures.rules.well_formed;
       few = c.requires.public;

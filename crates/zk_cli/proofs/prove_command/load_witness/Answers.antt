@@ -1,4 +1,4 @@
-use Rattle.std.proofs.Common.{◌≡◌, ◌-◌, List, ℕ, length, map, sym, ap, ◌∙◌, subst, arith}
+use Rattle.std.proofs.Common.{◌≡◌, ◌-◌, Bool, List, ℕ, length, map, sym, ap, ◌∙◌, subst, arith}
 use Rattle.std.proofs.lemmas.List.{length-map, length-append}
 use Rattle.sha2.specs.Sha256.{sha256}
 use Rattle.sha2.proofs.Facts256.{length-sha256}
@@ -6,6 +6,7 @@ use Rattle.frame_laws.proofs.Octets.{sha256_octets}
 use Rattle.zk_model.specs.Bits.{from_bit}
 use Rattle.zk_model.specs.Bristol.{IsText}
 use Rattle.zk_model.specs.Bytes.{AreBytes}
+use Rattle.zk_model.specs.Circuit.{Circuit}
 use Rattle.zk_model.specs.HonestProver.{IsWitness}
 use Rattle.zk_model.specs.Statement.{Statement, circuit_statement}
 use Rattle.session_core.specs.Jobs.{prover_from, prover_of}
@@ -16,10 +17,10 @@ use Rattle.zk_cli.proofs.prove_command.load_witness.Goals as goal
 pub new-requires-clause-digest : goal.new-requires-clause-digest
 new-requires-clause-digest g c = subst (AreBytes 32) (sym c.digest-digest.ensures) (length-sha256 _, sha256_octets _)
 
-stated : (g : Over) (c : goal.After-drop-circuit-inside-2 g) → c.in_ok-claim.claim
-    ≡ circuit_statement c.in_ok-circuit.circuit (sha256 c.in_ok-text.text.items) c.args.words.now.public.now c.args.words.now.outputs.now
-stated g c = c.in_ok-claim.ensures
-    ∙ ap (λ (digest : List ℕ). circuit_statement c.in_ok-circuit.circuit digest c.args.words.now.public.now c.args.words.now.outputs.now) c.digest-digest.ensures
+-- the claim, by the digest of the text
+stated : (claim : Statement) (circuit : Circuit) (text digest : List ℕ) (public outputs : List Bool)
+    → claim ≡ circuit_statement circuit digest public outputs → digest ≡ sha256 text → claim ≡ circuit_statement circuit (sha256 text) public outputs
+stated claim circuit text digest public outputs is digested = is ∙ ap (λ d. circuit_statement circuit d public outputs) digested
 
 pub returns-clause-witness : goal.returns-clause-witness
 returns-clause-witness g c =
@@ -28,7 +29,8 @@ returns-clause-witness g c =
     let public = c.args.words.now.public.now in
     let bits = c.args.words.now.bits.now in
     let outputs = c.args.words.now.outputs.now in
-    let wires = c.in_ok-wires.wires.items in record {
+    let wires = c.in_ok-wires.wires.items in
+    let said = stated c.in_ok-claim.claim circuit text _ public outputs c.in_ok-claim.ensures c.digest-digest.ensures in record {
       circuit = circuit;
       wires = wires;
       witnessed = record {
@@ -38,16 +40,16 @@ returns-clause-witness g c =
           says = subst (IsText circuit) c.deref.ensures.value c.in_ok-circuit.ensures.says;
           few = c.in_ok-wires.ensures.few;
           count = c.in_ok-wires.ensures.count;
-          statement_is = stated g c;
+          statement_is = said;
         };
         wires_are = c.in_ok-wires.ensures.wires;
         satisfied = (wires, c.in_ok-wires.ensures.wires, c.in_ok-wires.ensures.outputs);
         witness = λ file.
-            subst (λ (s : Statement). IsWitness s (map from_bit bits) (map from_bit wires) (prover_of s wires file).given) (sym (stated g c))
+            subst (λ (s : Statement). IsWitness s (map from_bit bits) (map from_bit wires) (prover_of s wires file).given) (sym said)
             (witness_is circuit (sha256 text) public bits outputs wires c.bits_solve.ensures c.in_ok-circuit.ensures.says.well_formed c.in_ok-wires.ensures.few c.in_ok-wires.ensures.wires);
       };
       proves = λ file.
-          subst (λ (s : Statement). prover_from s c.in_ok-inputs.inputs.items file ≡ prover_of s wires file) (sym (stated g c))
+          subst (λ (s : Statement). prover_from s c.in_ok-inputs.inputs.items file ≡ prover_of s wires file) (sym said)
           (ap (λ (values : List ℕ). prover_from (circuit_statement circuit (sha256 text) public outputs) values file) c.in_ok-inputs.ensures
           ∙ c.input_bits_prove.ensures circuit (sha256 text) public outputs bits wires file c.in_ok-circuit.ensures.says.well_formed c.in_ok-wires.ensures.few c.in_ok-wires.ensures.wires);
     }
@@ -59,5 +61,6 @@ returns-clause-inputs g c =
     let whole = length-append public bits in
     let inputs = c.in_ok-wires.ensures.inputs in
     let all : length bits ≡ c.in_ok-circuit.circuit.inputs - length public = omega (arith, whole, inputs) in
-    ap length c.in_ok-inputs.ensures ∙ length-map bits from_bit ∙ all
-    ∙ sym (ap (λ (s : Statement). s.program.inputs) (stated g c))
+    let said = stated c.in_ok-claim.claim c.in_ok-circuit.circuit c.in_ok-text.text.items _ public c.args.words.now.outputs.now
+    c.in_ok-claim.ensures c.digest-digest.ensures in
+    ap length c.in_ok-inputs.ensures ∙ length-map bits from_bit ∙ all ∙ sym (ap (λ (s : Statement). s.program.inputs) said)

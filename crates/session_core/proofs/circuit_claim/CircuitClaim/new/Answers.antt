@@ -14,6 +14,6 @@ invariant_of-result c = (
         outputs = sym c.in_ok-claimed.ensures i;
         public_digest = sym c.in_ok-named.ensures i;
       })
-      (c.circuit_is_statement.ensures c.args.circuit.now c.args.digest c.args.public.now c.args.outputs.now c.wires-wires.ensures.rules.well_formed
+      (c.circuit_is_statement.ensures c.args.circuit c.args.digest c.args.public.now c.args.outputs.now c.wires-wires.ensures.rules.well_formed
       c.requires.digest c.requires.public c.requires.outputs),
 )

@@ -1,11 +1,9 @@
 // Walks over trees and along programs, the slots they take and the sums over parts of their products.
 ghost use Rattle.std.specs.Prelude.{◌≡◌, ◌≤◌, ◌<◌, length, IfOk};
-ghost use Rattle.zk_model.specs.Field.{from_word};
 ghost use Rattle.zk_model.specs.declared.limits.TheConstants.{MAX_HEIGHT};
 
-use bristol_reader::read;
+use crate::made::{program_of, small, small_pair};
 use field_program::{FieldProgram, SlotPlan};
-use gate_translate::translate;
 use ggm_tree::{Steps, WalkSums, Walker, walk_sums};
 use mersenne_field::{Fe, Pair};
 use mult_check::{ProverPart, VerifierPart};
@@ -18,21 +16,6 @@ use wire_auth::{KeyTriple, ProverWalk, Triple, VerifierWalk};
 
 /// One AND gate of two inputs of one bit.
 const AND: &str = "1 3\n2 1 1\n1 1\n\n2 1 0 1 2 AND\n";
-
-/// The element of a small number.
-fn small(number: u64) -> Fe
-    ensures { result ≡ from_word number }
-{
-    Fe::from_word(number)
-}
-
-/// The pair of two small numbers.
-fn small_pair(x: u64, m: u64) -> Pair {
-    Pair {
-        x: small(x),
-        m: small(m),
-    }
-}
 
 /// A node as a number.
 fn number(node: [u8; 16]) -> u128 {
@@ -67,15 +50,6 @@ fn sums_from<L: Ledger>(height: u32, blank: Blank) -> WalkSums
     walk_sums(&[0; 16], height, &mut steps)
 }
 
-/// The program of a circuit's text.
-fn program_of(alloc: Global, text: &str) -> Result<FieldProgram, Fail> {
-    let Ok(circuit) = read(alloc, text.as_bytes()) else {
-        return Err(Fail::new("no circuit"));
-    };
-    let program = translate(alloc, &circuit)?;
-    Ok(program)
-}
-
 /// The program of one AND gate.
 fn and_program(alloc: Global) -> Result<FieldProgram, Fail>
     ensures public { IfOk result (λ program. program.public ≡ 0) }
@@ -84,7 +58,7 @@ fn and_program(alloc: Global) -> Result<FieldProgram, Fail>
     ensures products { IfOk result (λ program. length program.products ≡ 3) }
     ensures opened { IfOk result (λ program. length program.opened ≡ 1) }
 {
-    let program = program_of(alloc, AND)?;
+    let program = program_of(alloc, AND.as_bytes())?;
     if program.public() != 0 || program.inputs() != 2 || program.givens() != 3 {
         return Err(Fail::new("other values"));
     }
@@ -96,7 +70,7 @@ fn and_program(alloc: Global) -> Result<FieldProgram, Fail>
 
 /// The slots of a circuit's text.
 fn slots_of(alloc: Global, text: &str) -> Result<usize, Fail> {
-    let program = program_of(alloc, text)?;
+    let program = program_of(alloc, text.as_bytes())?;
     let plan = SlotPlan::of(alloc, &program)?;
     Ok(plan.slots())
 }
