@@ -11,7 +11,7 @@ import sys
 import time
 from typing import List, NamedTuple
 
-TURNS = 5
+TURNS = 7
 
 
 class Cost(NamedTuple):

@@ -1,7 +1,7 @@
 #!/usr/bin/env python3
 """Compares how fast two programs read circuits, and how much memory they take.
 
-`reading.py PROGRAM OTHER` runs `eval FILE BITS` of both on the same texts, as `costs.py` says, and prints the best of five times
+`reading.py PROGRAM OTHER` runs `eval FILE BITS` of both on the same texts, as `costs.py` says, and prints the best of seven times
 (elapsed seconds of the whole run) and the largest resident memory of each. The texts are
 
   - circuits of 131,000 and of 1,000,000 gates: XOR, AND and INV of wires that are drawn from those before;

@@ -2,7 +2,7 @@
 """Compares how fast two programs rehearse sessions, and how much memory they take.
 
 `rehearsing.py PROGRAM OTHER [--extended]` runs `rehearse FILE BITS` of both, in sections of the default length and over files of
-the one kind or the other, as `costs.py` says, and prints the best of five times (elapsed seconds of the whole run) and the
+the one kind or the other, as `costs.py` says, and prints the best of seven times (elapsed seconds of the whole run) and the
 largest resident memory of each. The circuits are chains: of AND gates, each of the wire before and input 0, half and all of
 131,000, and in kind extended a million; and of INV gates, half a million and a million. Others are random ones of `circuits.py`, of
 131,000 gates, and in kind extended a million.

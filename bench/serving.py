@@ -13,7 +13,7 @@ what an honest prover sends, so that the verifier alone is measured. All are the
 
 The second has the seconds of a session about a million gates over extended files: of `serve` until it
 listens, of `prove` from its start to its end, and of both from the start of `serve` to the end of both;
-and of a rehearsal by each program. It has the best of five turns.
+and of a rehearsal by each program. It has the best of seven turns.
 """
 import functools
 import pathlib

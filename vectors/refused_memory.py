@@ -37,6 +37,8 @@ SHIM = r"""
 #include <stdio.h>
 #include <stdlib.h>
 #include <string.h>
+#include <sys/syscall.h>
+#include <unistd.h>
 
 static atomic_long calls;
 static long refused = -1;
@@ -51,9 +53,17 @@ __attribute__((constructor)) static void begin(void) {
 }
 
 __attribute__((destructor)) static void end(void) {
+    long count = atomic_load(&calls);
     refused = -1;
     FILE *file = told ? fopen(told, "w") : NULL;
-    if (file) { fprintf(file, "%ld %s\n", atomic_load(&calls), kind); fclose(file); }
+    if (file) { fprintf(file, "%ld %s\n", count, kind); fclose(file); }
+}
+
+/* The program ends so, and no destructor is called then. */
+void _exit(int status) {
+    end();
+    syscall(SYS_exit_group, status);
+    __builtin_unreachable();
 }
 
 static int refuse(const char *call, size_t old, size_t size) {
@@ -125,13 +135,18 @@ def each_refused(shim: Shim, run: Judge, step: int) -> Row:
     return Row(calls, runs, unharmed)
 
 
+def without_id(ran: Ran) -> Ran:
+    """What came of a run, with one id in place of that of the files which it dealt."""
+    return Ran(re.sub(r"^id [0-9a-f]{64}$", "id", ran.text, flags=re.M), ran.status)
+
+
 def command(shim: Shim, program: str, folder: pathlib.Path, words: List[str]) -> Judge:
     """Runs of a command that nobody else takes part in."""
-    whole = Process([program], folder, words).end()
+    whole = without_id(Process([program], folder, words).end())
     assert whole.status == 0, whole
 
     def run(call: int) -> bool:
-        ran = Process(shim.words(program, call), folder, words).end()
+        ran = without_id(Process(shim.words(program, call), folder, words).end())
         if ran == whole:
             return True
         is_cut = whole.text.startswith(ran.text) or ran.text.endswith("memory\n") and whole.text.startswith(ran.text[:-7])
