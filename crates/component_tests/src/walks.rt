@@ -3,7 +3,7 @@ ghost use Rattle.std.specs.Prelude.{◌≡◌, ◌≤◌, ◌<◌, length, IfOk}
 ghost use Rattle.zk_model.specs.declared.limits.TheConstants.{MAX_HEIGHT};
 
 use crate::made::{program_of, small, small_pair};
-use field_program::{FieldProgram, SlotPlan};
+use field_program::{FieldProgram, SlotPlan, StepSlots};
 use ggm_tree::{Steps, WalkSums, Walker, walk_sums};
 use mersenne_field::{Fe, Pair};
 use mult_check::{ProverPart, VerifierPart};
@@ -143,6 +143,20 @@ fn slots_are_as_many_as_wires_that_are_live_at_once(rt: HostRuntime) -> Result<(
     }
     let chain = long_chain(alloc)?;
     assert_eq!(rt; slots_of(alloc, &chain)?, 2);
+    Ok(())
+}
+
+#[test]
+fn a_step_and_an_output_have_the_slots_of_their_wires(rt: HostRuntime) -> Result<(), Fail> {
+    let alloc = rt.alloc();
+    let program = and_program(alloc)?;
+    let plan = SlotPlan::of(alloc, &program)?;
+    if program.steps() != 1 {
+        return Err(Fail::new("other steps"));
+    }
+    let slots = StepSlots { out: 2, a: 0, b: 1 };
+    assert_eq!(rt; plan.step_slots(0), slots);
+    assert_eq!(rt; plan.opened_slot(0), 2);
     Ok(())
 }
 

@@ -59,16 +59,16 @@ few_slots program count formed (k, wires, live, is) =
 
 -- wires that are live at once have slots of their own, so there are no more of them than slots
 pub most_live : (program : Program) (plan : Plan) → IsPlanOf program plan → (n : ℕ) (wires : List ℕ) → AreLive program n wires → length wires ≤ plan.slots
-most_live program plan is n wires live = let few = few_below places plan.slots apart within in let counted = length-map wires (slice_index plan.places) in omega (arith, few, counted)
+most_live program plan is n wires live = let few = few_below places plan.slots apart within in let counted = length-map wires (slice_index is.places) in omega (arith, few, counted)
   where
     places : List ℕ
-    places = map (slice_index plan.places) wires
+    places = map (slice_index is.places) wires
 
     inside : (i : ℕ) → i < length places → i < length wires
-    inside i below = let counted = length-map wires (slice_index plan.places) in omega (arith, below, counted)
+    inside i below = let counted = length-map wires (slice_index is.places) in omega (arith, below, counted)
 
-    at : (i d : ℕ) → i < length places → get_or places i d ≡ slice_index plan.places (get_or wires i 0)
-    at i d below = get_or-map (slice_index plan.places) wires i 0 d (inside i below)
+    at : (i d : ℕ) → i < length places → get_or places i d ≡ slice_index is.places (get_or wires i 0)
+    at i d below = get_or-map (slice_index is.places) wires i 0 d (inside i below)
 
     within : All (λ x. x < plan.slots) places
     within i d below = subst (λ x. x < plan.slots) (sym (at i d below)) (is.within n (get_or wires i 0) live.within (live.live i 0 (inside i below)))

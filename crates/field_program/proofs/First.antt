@@ -1,29 +1,16 @@
 -- Slots before all steps.
-use Rattle.std.proofs.Common.{◌≡◌, ℕ, ◌+◌, ◌<◌, ◌≤◌, ⊎_elim, inl, inr, List, [], length, refl, sym, ◌∙◌, ap, subst, arith}
+use Rattle.std.proofs.Common.{◌≡◌, ℕ, ◌+◌, ◌<◌, ◌≤◌, ⊎_elim, List, [], length, refl, sym, ◌∙◌, ap, subst, arith}
 use Rattle.std.specs.Prelude.{slice_index}
 use Rattle.std.specs.List.{range_with_len}
 use Rattle.std.proofs.Math.Nat.{eq-or-lt_of_le}
 use Rattle.std.proofs.lemmas.List.FromFn.{get_or-range_with_len, length-range_with_len}
 use Rattle.zk_model.specs.Program.{Program, IsProgram}
-use Rattle.zk_model.specs.Slots.{IsSetAt, IsLive}
+use Rattle.zk_model.specs.Slots.{IsLive}
 use Rattle.field_program.specs.Slotting.{IsHolding, EndsWire, AreSlotsAt, AreSlotsUpTo}
 use Rattle.field_program.specs.declared.slots.Slots.{Slots}
 use Rattle.field_program.proofs.Held.{none_there, holding_same, end_holding}
+use Rattle.field_program.proofs.Live.{first_live, live_first}
 use Rattle.field_program.proofs.Next.{reached_now, slots_next}
-
--- the first wires are live before all steps, and no others
-pub first_live : (program : Program) (wire : ℕ) → wire < program.public + program.inputs → IsLive program 0 wire
-first_live program wire below = record { from = 0; set = inl (refl, below); behind = omega arith; needed = inl refl }
-
-pub live_first : (program : Program) (wire : ℕ) → IsLive program 0 wire → wire < program.public + program.inputs
-live_first program wire live = by (subst (λ n. IsSetAt program n wire) none live.set)
-  where
-    none : live.from ≡ 0
-    none = let behind = live.behind in omega (arith, behind)
-
-    by : IsSetAt program 0 wire → wire < program.public + program.inputs
-    by (inl at) = at.1
-    by (inr (k, step, is, stands, sets)) = absurd (omega (arith, is))
 
 -- each has the slot of its number
 pub slots_first : (program : Program) (slots : Slots) → IsProgram program → slots.places.items ≡ range_with_len 0 program.wires → slots.free.items ≡ []
@@ -33,6 +20,7 @@ slots_first program slots formed places free count = record {
   holding = holding;
   within = λ k wire upto live. (holding.placed wire (at_first k wire upto live)).0;
   apart = λ k one other upto live lives same. holding.apart one other (at_first k one upto live) (at_first k other upto lives) same;
+  first = at;
   reached = reached_now program 0 slots (omega arith) free holding;
 }
   where

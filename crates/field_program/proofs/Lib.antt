@@ -7,3 +7,4 @@ pub mod Counts
 pub mod Followed
 pub mod First
 pub mod Ends
+pub mod Noted

@@ -117,3 +117,19 @@ held_on program ends k wire step are stands held unread = ⊎_elim at_end (λ le
                 let same : j ≡ k = omega (arith, at, behind, last, is) in
                 subst (λ s. Reads program s wire)
                 (some_same other step (slice_get program.steps k) (ap (slice_get program.steps) (sym same) ∙ stands_other) stands) reads_other
+
+-- ---- before all steps
+
+-- the first wires are live before all steps, and no others
+pub first_live : (program : Program) (wire : ℕ) → wire < program.public + program.inputs → IsLive program 0 wire
+first_live program wire below = record { from = 0; set = inl (refl, below); behind = omega arith; needed = inl refl }
+
+pub live_first : (program : Program) (wire : ℕ) → IsLive program 0 wire → wire < program.public + program.inputs
+live_first program wire live = by (subst (λ n. IsSetAt program n wire) none live.set)
+  where
+    none : live.from ≡ 0
+    none = let behind = live.behind in omega (arith, behind)
+
+    by : IsSetAt program 0 wire → wire < program.public + program.inputs
+    by (inl at) = at.1
+    by (inr (k, step, is, stands, sets)) = absurd (omega (arith, is))

@@ -8,12 +8,12 @@ use Rattle.std.proofs.lemmas.List.FromFn.{get_or-map-range_with_len, length-map-
 use Rattle.std.proofs.lemmas.Option.{slice_get_within}
 use Rattle.zk_model.specs.Program.{Step, Program, IsProgram, IsSet}
 use Rattle.zk_model.specs.Slots.{Reads, IsLive, AreLive}
-use Rattle.field_program.specs.Slotting.{IsOperand, AreEnds, IsHeldBeyond, IsHolding, TakesSlot, AreSlotsUpTo, AreSlotsAt}
+use Rattle.field_program.specs.Slotting.{IsOperand, AreEnds, IsHeldBeyond, IsHolding, TakesSlot, KeepsSlots, AreSlotsUpTo, AreSlotsAt}
 use Rattle.field_program.specs.declared.slots.Slots.{Slots}
 use Rattle.field_program.specs.declared.slots.Operands.{Operands}
 use Rattle.field_program.specs.declared.slots.Operands.TheVariants.{None, One, Two}
 use Rattle.field_program.proofs.Held.{none_there, holding_same, take_holding}
-use Rattle.field_program.proofs.Live.{not_set_yet, live_next, out_live, held_live, held_on}
+use Rattle.field_program.proofs.Live.{first_live, not_set_yet, live_next, out_live, held_live, held_on}
 
 -- all slots are held, so there are as many wires that are live at once
 pub reached_now : (program : Program) (n : ℕ) (slots : Slots) → n ≤ length program.steps → slots.free.items ≡ [] → IsHolding (IsLive program n) slots
@@ -50,6 +50,15 @@ reached_now program n slots within none holding = (
         let equal : i ≡ j = sym first ∙ ap (slice_index slots.places.items) same ∙ second in
         absurd (omega (arith, before, equal))
 
+-- a wire that is set takes a slot, and the wires that were live keep theirs
+pub step_keeps : (program : Program) (k out : ℕ) (step : Step) (before at after : Slots) → IsProgram program → slice_get program.steps k ≡ Some step
+    → out ≡ step.out → TakesSlot out before at → after.places ≡ at.places → after.count ≡ at.count → KeepsSlots program k before after
+step_keeps program k out step before at after formed stands is takes places count = record {
+  grows = ⊎_elim (λ old. omega (arith, old.1, count)) (λ new. omega (arith, new.3, count)) takes.from;
+  kept = λ n wire upto live. ap (λ p. slice_index p.items wire) places ∙ ap (λ l. slice_index l wire) takes.places
+      ∙ get_or-set_other before.places.items out wire takes.slot 0 (λ same. not_set_yet program n k wire step formed upto stands live (same ∙ is));
+}
+
 -- the wire that a step sets takes a slot
 pub taken_next : (program : Program) (ends : List ℕ) (k out : ℕ) (step : Step) (before after : Slots) → IsProgram program → AreEnds program ends
     → slice_get program.steps k ≡ Some step → out ≡ step.out → AreSlotsUpTo program ends k before → TakesSlot out before after
@@ -59,14 +68,15 @@ taken_next program ends k out step before after formed are stands is far takes =
   holding = holding;
   within = λ j wire upto live. ⊎_elim
       (λ same. (holding.placed wire (subst (λ n. IsLive program n wire) same live)).0)
-      (λ less. let grows = grown in let old = far.within j wire (omega (arith, less)) live in
-      subst (λ n. n < after.count) (sym (kept j wire (omega (arith, less)) live)) (omega (arith, grows, old)))
+      (λ less. let grows = keeps.grows in let old = far.within j wire (omega (arith, less)) live in
+      subst (λ n. n < after.count) (sym (keeps.kept j wire (omega (arith, less)) live)) (omega (arith, grows, old)))
       (eq-or-lt_of_le upto);
   apart = λ j one other upto live lives same. ⊎_elim
       (λ now. holding.apart one other (subst (λ n. IsLive program n one) now live) (subst (λ n. IsLive program n other) now lives) same)
       (λ less. far.apart j one other (omega (arith, less)) live lives
-      (sym (kept j one (omega (arith, less)) live) ∙ same ∙ kept j other (omega (arith, less)) lives))
+      (sym (keeps.kept j one (omega (arith, less)) live) ∙ same ∙ keeps.kept j other (omega (arith, less)) lives))
       (eq-or-lt_of_le upto);
+  first = λ wire below. keeps.kept 0 wire (omega arith) (first_live program wire below) ∙ far.first wire below;
   reached = ⊎_elim
       (λ old. subst (λ count. (j : ℕ) × (wires : List ℕ) × AreLive program j wires × (length wires ≡ count)) (sym old.1) far.reached)
       (λ new. reached_now program (k + 1) after (omega (arith, slice_get_within program.steps k step stands)) new.1 holding)
@@ -90,12 +100,8 @@ taken_next program ends k out step before after formed are stands is far takes =
         (λ wire live. ⊎_elim (λ same. inl (sets wire same)) (λ held. inr held) (live_next program ends k wire step are stands live))
         (take_holding (IsHeldBeyond program ends k) out before after within fresh takes far.holding)
 
-    grown : before.count ≤ after.count
-    grown = ⊎_elim (λ old. omega (arith, old.1)) (λ new. omega (arith, new.3)) takes.from
-
-    kept : (j wire : ℕ) → j ≤ k → IsLive program j wire → slice_index after.places.items wire ≡ slice_index before.places.items wire
-    kept j wire upto live = ap (λ l. slice_index l wire) takes.places
-        ∙ get_or-set_other before.places.items out wire takes.slot 0 (λ same. not_set_yet program j k wire step formed upto stands live (same ∙ is))
+    keeps : KeepsSlots program k before after
+    keeps = step_keeps program k out step before after after formed stands is takes refl refl
 
 -- those that are held in the end are held beyond the step
 pub slots_next : (program : Program) (ends : List ℕ) (n : ℕ) (Remains : ℕ → Type 0) (at after : Slots)
@@ -108,6 +114,7 @@ slots_next program ends n Remains at after places count there back holding far =
       (subst (λ m. slice_index at.places.items wire < m) (sym count) (far.within k wire upto live));
   apart = λ k one other upto live lives same. far.apart k one other upto live lives
       (ap (λ p. slice_index p.items one) (sym places) ∙ same ∙ ap (λ p. slice_index p.items other) places);
+  first = λ wire below. ap (λ p. slice_index p.items wire) places ∙ far.first wire below;
   reached = subst (λ m. (k : ℕ) × (wires : List ℕ) × AreLive program k wires × (length wires ≡ m)) (sym count) far.reached;
 }
 

@@ -18,7 +18,7 @@ use Rattle.field_program.specs.Slotting.{IsOperand, operands_of}
 
 -- ---- short lists
 
-only : {X : Type 0} (x y : X) → Contains (x ∷ []) y → x ≡ y
+pub only : {X : Type 0} (x y : X) → Contains (x ∷ []) y → x ≡ y
 only x y (zero, below, is) = is
 only x y (suc k, below, is) = absurd (omega (arith, below))
 
@@ -27,10 +27,10 @@ either x y z (zero, below, is) = inl is
 either x y z (suc zero, below, is) = inr is
 either x y z (suc (suc k), below, is) = absurd (omega (arith, below))
 
-none_in : {X : Type 0} (xs : List X) (x : X) → length xs ≡ 0 → ¬ Contains xs x
+pub none_in : {X : Type 0} (xs : List X) (x : X) → length xs ≡ 0 → ¬ Contains xs x
 none_in xs x none (k, below, is) = absurd (omega (arith, below, none))
 
-first_of : {X : Type 0} (x : X) (xs : List X) → Contains (x ∷ xs) x
+pub first_of : {X : Type 0} (x : X) (xs : List X) → Contains (x ∷ xs) x
 first_of x xs = (0, omega arith, refl)
 
 second_of : {X : Type 0} (x y : X) (xs : List X) → Contains (x ∷ y ∷ xs) y
@@ -39,7 +39,7 @@ second_of x y xs = (1, omega arith, refl)
 -- ---- products
 
 -- the product whose value is taken is the one of its number
-product_is : (program : Program) (number : ℕ) (known product : Product) → IsSmallProgram program → slice_get program.products number ≡ Some known
+pub product_is : (program : Program) (number : ℕ) (known product : Product) → IsSmallProgram program → slice_get program.products number ≡ Some known
     → Contains program.products product → product.c ≡ number → known ≡ product
 product_is program number known product held at (k, below, is) same =
     sym (get_or_from_slice_get program.products number known product at) ∙ ap (λ i. get_or program.products i product) place ∙ is

@@ -1,4 +1,5 @@
 pub mod Rules
 pub mod Programs
 pub mod Steps
+pub mod Plans
 pub mod Slotting

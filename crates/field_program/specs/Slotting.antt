@@ -1,9 +1,13 @@
 -- Slots while they are given to wires and given back.
-use Rattle.std.specs.Prelude.{◌≡◌, ◌≢◌, ℕ, ◌+◌, ◌<◌, ◌≤◌, ◌⊎◌, List, [], ◌∷◌, ◌++◌, length, slice_index, slice_set, Contains, All, AllPairs}
+use Rattle.std.specs.Prelude.{◌≡◌, ◌≢◌, ℕ, ◌+◌, ◌<◌, ◌≤◌, ◌⊎◌, List, [], ◌∷◌, ◌++◌, length, slice_get, slice_index, slice_set, Some, Contains, All, AllPairs}
+use Rattle.zk_model.specs.Program as model
 use Rattle.zk_model.specs.Program.{Program}
 use Rattle.field_program.specs.declared.step.Step.{Step}
 use Rattle.field_program.specs.declared.step.Step.TheVariants as step
-use Rattle.zk_model.specs.Slots.{IsReadAt, IsLive, IsNeededAt, AreLive}
+use Rattle.zk_model.specs.Slots.{IsReadAt, IsLive, IsNeededAt, AreLive, AreSlotsOf}
+use Rattle.field_program.specs.Plans.{named}
+use Rattle.field_program.specs.declared.plan.StepSlots.{StepSlots}
+use Rattle.field_program.specs.declared.slots.Followed.{Followed}
 use Rattle.field_program.specs.declared.slots.Slots.{Slots}
 use Rattle.field_program.specs.declared.slots.Operands.{Operands}
 use Rattle.field_program.specs.declared.slots.Operands.TheVariants.{None, One, Two}
@@ -97,6 +101,7 @@ pub record AreSlotsUpTo (program : Program) (ends : List ℕ) (n : ℕ) (slots :
   pub within : (k wire : ℕ) → k ≤ n → IsLive program k wire → slice_index slots.places.items wire < slots.count
   pub apart : (k one other : ℕ) → k ≤ n → IsLive program k one → IsLive program k other
       → slice_index slots.places.items one ≡ slice_index slots.places.items other → one ≡ other
+  pub first : (wire : ℕ) → wire < program.public + program.inputs → slice_index slots.places.items wire ≡ wire
   pub reached : (k : ℕ) × (wires : List ℕ) × AreLive program k wires × (length wires ≡ slots.count)
 
 -- while step n is taken: a slot for each wire that is live there
@@ -106,4 +111,33 @@ pub record AreSlotsAt (program : Program) (n : ℕ) (slots : Slots) : Type 0 whe
   pub within : (k wire : ℕ) → k ≤ n → IsLive program k wire → slice_index slots.places.items wire < slots.count
   pub apart : (k one other : ℕ) → k ≤ n → IsLive program k one → IsLive program k other
       → slice_index slots.places.items one ≡ slice_index slots.places.items other → one ≡ other
+  pub first : (wire : ℕ) → wire < program.public + program.inputs → slice_index slots.places.items wire ≡ wire
   pub reached : (k : ℕ) × (wires : List ℕ) × AreLive program k wires × (length wires ≡ slots.count)
+
+-- ---- the slots of steps
+
+-- the slots of a step that sets this wire, where wires have these places: what it does not read has the slot of the wire that it sets
+abbrev pub slots_with : List ℕ → ℕ → Operands → StepSlots
+slots_with places out None = record { out = slice_index places out; a = slice_index places out; b = slice_index places out }
+slots_with places out (One a) = record { out = slice_index places out; a = slice_index places a; b = slice_index places out }
+slots_with places out (Two a b) = record { out = slice_index places out; a = slice_index places a; b = slice_index places b }
+
+-- while step k is taken: there are no fewer slots, and the wires that were live keep theirs
+pub record KeepsSlots (program : Program) (k : ℕ) (before after : Slots) : Type 0 where
+  pub grows : before.count ≤ after.count
+  pub kept : (n wire : ℕ) → n ≤ k → IsLive program n wire → slice_index after.places.items wire ≡ slice_index before.places.items wire
+
+-- step k has these slots
+pub record IsNoted (program : Program) (k : ℕ) (slots : Slots) (noted : StepSlots) : Type 0 where
+  pub are : (step : model.Step) → slice_get program.steps k ≡ Some step → AreSlotsOf program slots.places.items step (named noted)
+  pub within : (noted.out < slots.count) × (noted.a < slots.count) × (noted.b < slots.count)
+
+-- the first n steps have these
+pub record AreNoted (program : Program) (n : ℕ) (slots : Slots) (noted : List StepSlots) : Type 0 where
+  pub one_each : length noted ≡ n
+  pub each : (k : ℕ) (step : StepSlots) → slice_get noted k ≡ Some step → IsNoted program k slots step
+
+-- all steps have been followed
+pub record IsFollowed (program : Program) (ends : List ℕ) (followed : Followed) : Type 0 where
+  pub slots : AreSlotsUpTo program ends (length program.steps) followed.slots
+  pub noted : AreNoted program (length program.steps) followed.slots followed.steps.items

@@ -1,31 +1,12 @@
-// Slots for the wires that a walk along a program's steps has to hold.
-ghost use Rattle.std.specs.Prelude.{◌≡◌, ◌+◌, ◌<◌, ◌^◌, length, slice_index, IfOk, OnOk};
+// The slots that wires are given along a program's steps, and that they give back.
+ghost use Rattle.std.specs.Prelude.{◌≡◌, ◌+◌, ◌<◌, ◌^◌, ℕ, List, length, slice_index, IfOk, OnOk};
 ghost use Rattle.std.specs.List.{range_with_len};
-ghost use Rattle.zk_model.specs.Slots.{IsPlanOf, IsSlotCount};
-ghost use Rattle.field_program.specs.Slotting.{AreEnds, AreLastReads, AreSlotsAt, AreSlotsUpTo, AreOperandsWithin, NotesOperands, EndsOperands, EndsWire, TakesSlot, operands_of};
+ghost use Rattle.field_program.specs.Slotting.{AreEnds, AreLastReads, AreSlotsAt, AreSlotsUpTo, AreOperandsWithin, KeepsSlots, NotesOperands, EndsOperands, EndsWire, IsFollowed, IsNoted, TakesSlot, operands_of, slots_with};
 
+use crate::plan::StepSlots;
 use crate::program::FieldProgram;
 use crate::step::Step;
 use std::alloc::{AllocError, Global};
-use std::marker::Model;
-
-/// A slot for each wire of a program, such that a walk along the steps that keeps each wire's number in its slot finds there every number
-/// that it reads, and in the end those of the opened wires. Wires that are live at one step have slots of their own: one is live from the
-/// step that sets it, or from the beginning, up to the last that reads it, or to the end where it is opened. A slot is used again as soon
-/// as its wire is live no more, so there are no more slots than wires that are live at once.
-#[derive(Debug, Drop)]
-pub struct SlotPlan {
-    slots: u32,
-    places: Vec<u32>,
-}
-
-impl Model for SlotPlan {
-    ghost use Rattle.zk_model.specs.Slots as plans;
-
-    ghost Value = { plans.Plan };
-
-    ghost view = { λ p. record { slots = p.slots; places = p.places.items } };
-}
 
 /// The wires that a step reads.
 #[derive(Clone, Copy, Debug, PartialEq, Eq)]
@@ -37,47 +18,17 @@ enum Operands {
 
 /// Slots, while they are given to wires and given back.
 #[derive(Debug, Drop)]
-struct Slots {
-    places: Vec<u32>,
+pub(crate) struct Slots {
+    pub(crate) places: Vec<u32>,
     free: Vec<u32>,
-    count: u32,
+    pub(crate) count: u32,
 }
 
-impl SlotPlan {
-    /// The plan of a program.
-    ///
-    /// # Errors
-    ///
-    /// Only where memory runs out.
-    pub fn of(alloc: Global, program: &FieldProgram) -> Result<SlotPlan, AllocError>
-        ensures plan { IfOk result (IsPlanOf program.now) }
-        ensures slots { IfOk result (λ plan. IsSlotCount program.now plan.slots) }
-    {
-        let _held = program.steps();
-        let ends = ends_of(alloc, program)?;
-        let mut first = Slots::first(alloc, program)?;
-        first.end_first(program, &ends)?;
-        let slots = follow(program, &ends, first)?;
-        Ok(SlotPlan {
-            slots: slots.count,
-            places: slots.places,
-        })
-    }
-
-    /// How many slots there are: the greatest number of wires that are live at once.
-    pub fn slots(&self) -> usize
-        ensures { result ≡ self.now.slots }
-    {
-        self.slots as usize
-    }
-
-    /// The slot of a wire.
-    pub fn slot(&self, wire: u32) -> usize
-        requires { wire < length self.now.places }
-        ensures { result ≡ slice_index self.now.places wire }
-    {
-        self.places[wire as usize] as usize
-    }
+/// Slots that have been given along all steps, and those of each step.
+#[derive(Debug, Drop)]
+pub(crate) struct Followed {
+    pub(crate) slots: Slots,
+    pub(crate) steps: Vec<StepSlots>,
 }
 
 /// The wires that a step reads: those of its equation, or the factors of the product whose value it takes.
@@ -136,17 +87,61 @@ fn numbers(alloc: Global, count: u32) -> Result<Vec<u32>, AllocError>
     (0..count).map(|number| number).collect(alloc)
 }
 
-/// Gives slots along all steps, and takes them back.
-fn follow(program: &FieldProgram, ends: &[u32], first: Slots) -> Result<Slots, AllocError>
+/// The slots of a step that sets this wire, from those of the wires. What it does not read has the slot of the wire that it sets.
+fn slots_with(places: &[u32], out: u32, operands: Operands) -> StepSlots
+    requires out { out < length places.now }
+    requires operands { AreOperandsWithin (length places.now) operands }
+    ensures { result ≡ slots_with places.now out operands }
+{
+    let out = places[out as usize];
+    match operands {
+        Operands::None => StepSlots {
+            out,
+            a: out,
+            b: out,
+        },
+        Operands::One(a) => StepSlots {
+            out,
+            a: places[a as usize],
+            b: out,
+        },
+        Operands::Two(a, b) => StepSlots {
+            out,
+            a: places[a as usize],
+            b: places[b as usize],
+        },
+    }
+}
+
+/// Gives slots along all steps, and takes them back; notes those of each step.
+fn follow(
+    alloc: Global,
+    program: &FieldProgram,
+    ends: &[u32],
+    first: Slots,
+) -> Result<Followed, AllocError>
     requires ends { AreEnds program.now ends.now }
     requires first { AreSlotsUpTo program.now ends.now 0 first }
-    ensures { IfOk result (AreSlotsUpTo program.now ends.now (length program.now.steps)) }
+    ensures { IfOk result (IsFollowed program.now ends.now) }
 {
     let mut slots = first;
+    let mut steps = Vec::with_capacity(alloc, program.steps())?;
     for k in 0..program.steps() {
-        slots.follow_step(program, ends, k)?;
+        let noted = slots.follow_step(program, ends, k)?;
+        steps.push(noted)?;
     }
-    Ok(slots)
+    Ok(Followed { slots, steps })
+}
+
+/// The slots of all steps, in order, and how many there are in all.
+pub(crate) fn slots_along(alloc: Global, program: &FieldProgram) -> Result<Followed, AllocError>
+    ensures { IfOk result (λ followed. (ends : List ℕ) × IsFollowed program.now ends followed) }
+{
+    let ends = ends_of(alloc, program)?;
+    let mut first = Slots::first(alloc, program)?;
+    first.end_first(program, &ends)?;
+    let followed = follow(alloc, program, &ends, first)?;
+    Ok(followed)
 }
 
 impl Slots {
@@ -222,17 +217,20 @@ impl Slots {
         Ok(())
     }
 
-    /// Gives a slot to the wire that a step sets, and takes back those of the wires that are not needed beyond it.
+    /// Gives a slot to the wire that a step sets, and takes back those of the wires that are not needed beyond it. Says which slots the
+    /// step has.
     fn follow_step(
         &mut self,
         program: &FieldProgram,
         ends: &[u32],
         k: usize,
-    ) -> Result<(), AllocError>
+    ) -> Result<StepSlots, AllocError>
         requires there { k < length program.now.steps }
         requires ends { AreEnds program.now ends.now }
         requires before { AreSlotsUpTo program.now ends.now k self.old }
-        ensures { OnOk result (AreSlotsUpTo program.now ends.now (k + 1) self.new) }
+        ensures after { OnOk result (AreSlotsUpTo program.now ends.now (k + 1) self.new) }
+        ensures kept { OnOk result (KeepsSlots program.now k self.old self.new) }
+        ensures noted { IfOk result (IsNoted program.now k self.new) }
     {
         let step = program.step(k);
         let n = k as u32 + 1;
@@ -241,6 +239,6 @@ impl Slots {
         self.take(out);
         self.end(ends, n, out)?;
         self.end_operands(ends, n, operands)?;
-        Ok(())
+        Ok(slots_with(&self.places, out, operands))
     }
 }

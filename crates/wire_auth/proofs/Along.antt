@@ -7,16 +7,14 @@ use Rattle.std.proofs.lemmas.List.Concat.{flat_map-append}
 use Rattle.std.proofs.lemmas.List.FromFn.{get_or-range_with_len, length-range_with_len}
 use Rattle.std.proofs.lemmas.Option.{slice_get_within, get_or_from_slice_get}
 use Rattle.zk_model.specs.Program.{Term, Step as model, Program, IsProgram, IsSet}
-use Rattle.zk_model.specs.Slots.{IsLive, Reads}
+use Rattle.zk_model.specs.Slots.{Plan, StepSlots, IsPlanOf, IsLive}
 use Rattle.zk_model.specs.declared.Product.{Product}
 use Rattle.field_program.specs.Programs.{IsSmallProgram, values_taken}
 use Rattle.field_program.specs.Steps.{step_equation}
 use Rattle.field_program.specs.declared.step.Step.{Step}
-use Rattle.field_program.proofs.First.{first_live}
-use Rattle.field_program.proofs.Live.{some_same}
-use Rattle.field_program.proofs.Operands.{read_set}
+use Rattle.field_program.proofs.Live.{first_live, some_same}
 use Rattle.wire_auth.specs.Walks.{IsAlong, IsTakenBy, TakesAt}
-use Rattle.wire_auth.proofs.HeldNumbers.{taken_more, one_value}
+use Rattle.wire_auth.proofs.HeldNumbers.{read_before, taken_more, one_value}
 
 -- ---- values are taken in order
 
@@ -93,7 +91,39 @@ at_end program steps met held along none = ⊎_elim (λ end. end) (λ takes. abs
           length-map equation.given (λ (t : Term). t.place),
         )
 
--- the factors of the product that a walk meets next are live
+-- ---- the product that a walk meets next
+
+-- behind the bit checks it is the one whose value the step takes
+record IsTakenNext (program : Program) (steps : ℕ) (product : Product) : Type 0 where
+  equation : model
+  stands : slice_get program.steps steps ≡ Some equation
+  term : Term
+  taken : Contains equation.given term
+  among : Contains program.products product
+  number : product.c ≡ term.place
+
+taken_next : (program : Program) (steps met : ℕ) (product : Product) → IsSmallProgram program → IsAlong program steps met → program.inputs ≤ met
+    → slice_get program.products met ≡ Some product → IsTakenNext program steps product
+taken_next program steps met product held along low stands =
+    by (waits_at program steps met held along low (slice_get_within program.products met product stands))
+  where
+    none : Term
+    none = record { factor = 0; place = 0 }
+
+    by : TakesAt program steps → IsTakenNext program steps product
+    by (equation, at, some) =
+        let first : 0 < length equation.given = omega (arith, some) in
+        let place : (get_or equation.given 0 none).place ≡ met = takes_met program steps met 0 none equation held along low at first ∙ omega arith in
+        record {
+          equation = equation;
+          stands = at;
+          term = get_or equation.given 0 none;
+          taken = (0, first, get_or_default equation.given 0 (get_or equation.given 0 none) none first);
+          among = (met, slice_get_within program.products met product stands, get_or_from_slice_get program.products met product product stands);
+          number = held.numbered met product stands ∙ sym place;
+        }
+
+-- its factors are live
 pub factors_live : (program : Program) (steps met : ℕ) (product : Product) → IsSmallProgram program → IsAlong program steps met
     → slice_get program.products met ≡ Some product → IsLive program steps product.a × IsLive program steps product.b
 factors_live program steps met product held along stands = ⊎_elim check behind (cases_lt met program.inputs)
@@ -107,39 +137,25 @@ factors_live program steps met product held along stands = ⊎_elim check behind
         )
 
     behind : program.inputs ≤ met → IsLive program steps product.a × IsLive program steps product.b
-    behind low = by (waits_at program steps met held along low (slice_get_within program.products met product stands))
-      where
-        live : (wire : ℕ) (equation : model) → slice_get program.steps steps ≡ Some equation → Reads program equation wire → IsLive program steps wire
-        live wire equation at reads = set_before (read_set program steps wire equation held at reads)
-          where
-            set_before : IsSet program steps wire → IsLive program steps wire
-            set_before (inl first) = record {
-              from = 0;
-              set = inl (refl, first);
-              behind = omega arith;
-              needed = inr (inl (steps + 1, omega arith, (steps, equation, refl, at, reads)));
-            }
-            set_before (inr (j, other, before, is, sets)) = record {
-              from = j + 1;
-              set = inr (j, other, refl, is, sets);
-              behind = omega (arith, before);
-              needed = inr (inl (steps + 1, omega arith, (steps, equation, refl, at, reads)));
-            }
+    behind low = let next = taken_next program steps met product held along low stands in (
+      read_before program steps product.a next.equation held next.stands (inr (next.term, product, next.taken, next.among, next.number, inl refl)),
+      read_before program steps product.b next.equation held next.stands (inr (next.term, product, next.taken, next.among, next.number, inr refl)),
+    )
 
-        by : TakesAt program steps → IsLive program steps product.a × IsLive program steps product.b
-        by (equation, at, some) =
-            let term : Term = get_or equation.given 0 none in
-            let first : 0 < length equation.given = omega (arith, some) in
-            let place : term.place ≡ met = takes_met program steps met 0 none equation held along low at first ∙ omega arith in
-            let number : product.c ≡ term.place = held.numbered met product stands ∙ sym place in
-            let among : Contains program.products product = (met, slice_get_within program.products met product stands, get_or_from_slice_get program.products met product product stands) in
-            let taken : Contains equation.given term = (0, first, get_or_default equation.given 0 term none first) in (
-              live product.a equation at (inr (term, product, taken, among, number, inl refl)),
-              live product.b equation at (inr (term, product, taken, among, number, inr refl)),
-            )
-          where
-            none : Term
-            none = record { factor = 0; place = 0 }
+-- and behind the bit checks their slots are those of the step
+pub waiting_slots : (program : Program) (plan : Plan) (is : IsPlanOf program plan) (steps met : ℕ) (slots : StepSlots) (product : Product)
+    → IsSmallProgram program → IsAlong program steps met → program.inputs ≤ met → slice_get program.products met ≡ Some product
+    → slice_get plan.steps steps ≡ Some slots → (slots.a ≡ slice_index is.places product.a) × (slots.b ≡ slice_index is.places product.b)
+waiting_slots program plan is steps met slots product held along low stands there =
+    let next = taken_next program steps met product held along low stands in
+    (is.steps steps next.equation slots next.stands there).factors next.term product next.taken next.among next.number
+
+-- the slots of steps are there
+pub slots_there : (program : Program) (plan : Plan) (k : ℕ) (slots : StepSlots) → IsPlanOf program plan → slice_get plan.steps k ≡ Some slots
+    → (slots.out < plan.slots) × (slots.a < plan.slots) × (slots.b < plan.slots)
+slots_there program plan k slots is there =
+    subst (λ (s : StepSlots). (s.out < plan.slots) × (s.a < plan.slots) × (s.b < plan.slots)) (get_or_from_slice_get plan.steps k slots slots there)
+    (is.inside k slots (slice_get_within plan.steps k slots there))
 
 -- opened wires are live in the end
 pub opened_live : (program : Program) (o : ℕ) (d : ℕ) → IsProgram program → o < length program.opened → IsLive program (length program.steps) (get_or program.opened o d)
@@ -238,9 +254,16 @@ none_taken steps k none = ap (λ n. length (values_taken (take n steps))) none �
     nothing [] = refl
     nothing (step ∷ steps) = refl
 
--- after the last product opened wires are live
-pub opened_after : (program : Program) (steps met o : ℕ) (opened : List ℕ) → IsSmallProgram program → IsAlong program steps met → length program.products ≤ met
-    → opened ≡ program.opened → o < length program.opened → IsLive program steps (slice_index opened o)
-opened_after program steps met o opened held along done are below =
-    subst (λ n. IsLive program n (slice_index opened o)) (sym (at_end program steps met held along done))
-    (subst (λ l. IsLive program (length program.steps) (slice_index l o)) (sym are) (opened_live program o 0 held.formed below))
+-- after the last product an opened wire is live, and has a slot
+pub opened_after : (program : Program) (plan : Plan) (is : IsPlanOf program plan) (steps met o slot : ℕ) → IsSmallProgram program → IsAlong program steps met
+    → length program.products ≤ met → o < length program.opened → slot ≡ slice_index plan.opened o
+    → (slot ≡ slice_index is.places (slice_index program.opened o)) × IsLive program steps (slice_index program.opened o) × (slot < plan.slots)
+opened_after program plan is steps met o slot held along done below same =
+    (place, live, subst (λ n. n < plan.slots) (sym place) (is.within steps (slice_index program.opened o) along.upto live))
+  where
+    place : slot ≡ slice_index is.places (slice_index program.opened o)
+    place = same ∙ ap (λ l. slice_index l o) is.opened ∙ get_or-map (slice_index is.places) program.opened o 0 0 below
+
+    live : IsLive program steps (slice_index program.opened o)
+    live = subst (λ n. IsLive program n (slice_index program.opened o)) (sym (at_end program steps met held along done))
+        (opened_live program o 0 held.formed below)

@@ -10,6 +10,7 @@ use mersenne_field::Fe;
 use std::alloc::{AllocError, Global};
 
 /// The number, which is an element.
+#[inline(always)]
 pub(crate) fn known(number: Fe) -> Fe
     ensures unchanged { result ≡ number }
     ensures element { IsElement number }

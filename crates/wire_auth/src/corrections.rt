@@ -11,7 +11,7 @@ ghost use Rattle.wire_auth.specs.Walks.{Follows, side_made};
 use crate::carrying::{first_numbers, known};
 use crate::prover_walk::given_number;
 use crate::values::given_value;
-use crate::walking::NumberWalk;
+use crate::walking::StepWalk;
 use field_program::{FieldProgram, SlotPlan};
 use mersenne_field::{Fe, Pair};
 use std::alloc::{AllocError, Global};
@@ -40,14 +40,14 @@ pub(crate) fn corrections(
 }
 
 /// Meets the next product of a walk over values, and says its given value.
-fn meet_value(walk: &mut NumberWalk<'_>) -> Fe
+fn meet_value(walk: &mut StepWalk<'_, Fe>) -> Fe
     requires more { walk.old.met < length walk.old.program.products }
     ensures program { walk.new.program ≡ walk.old.program }
     ensures met { walk.new.met ≡ walk.old.met + 1 }
-    ensures value { (values : List ℕ) → Follows walk.old values (given_from walk.old.program values)
+    ensures value { (values : List ℕ) → Follows (λ n. n) walk.old values (given_from walk.old.program values)
         → result ≡ slice_index (given_from walk.old.program values) walk.old.met }
-    ensures follows { (values : List ℕ) → Follows walk.old values (given_from walk.old.program values)
-        → Follows walk.new values (given_from walk.old.program values) }
+    ensures follows { (values : List ℕ) → Follows (λ n. n) walk.old values (given_from walk.old.program values)
+        → Follows (λ n. n) walk.new values (given_from walk.old.program values) }
     ensures element { IsElement result }
 {
     let program = walk.program();
@@ -88,7 +88,7 @@ pub fn walk_corrections(
         (side_made program.now public.now inputs.now dealt.now).pairs) }
 {
     let first = first_numbers(alloc, public, Fe::ONE, inputs)?;
-    let mut walk = NumberWalk::new(alloc, program, plan, Fe::ONE, &first)?;
+    let mut walk = StepWalk::new(program, plan, Fe::ONE, first)?;
     let mut corrections = Vec::with_capacity(alloc, program.products())?;
     for i in 0..program.products() {
         let value = meet_value(&mut walk);

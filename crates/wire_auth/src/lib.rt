@@ -3,12 +3,14 @@
 //!
 //! `pairs` has `ProverWires`, `keys` has `VerifierWires`; `carrying` is what steps make of values, MACs and keys alike, `values` what
 //! public values and inputs make, `corrections` what makes pairs of given values; `correlations` are those that were dealt or made,
-//! `triples` the wires of a product.
+//! `triples` the wires of a product. `prover_walk` and `verifier_walk` have the walks that hold live wires alone: `walking` is the walk
+//! of both, over what `carried` says.
 //!
 //!     let (wires, corrections) = ProverWires::run(alloc, program, public, inputs, pairs)?;
 //!     let keys = VerifierWires::run(alloc, program, public, keys, key, &corrections)?;
 #![tactic(auto)]
 
+mod carried;
 mod carrying;
 mod corrections;
 mod correlations;

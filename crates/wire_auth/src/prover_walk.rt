@@ -1,17 +1,19 @@
 // The prover's pairs, one product after another.
-ghost use Rattle.std.specs.Prelude.{◌≡◌, ◌+◌, ◌<◌, ◌≤◌, ℕ, List, Some, None, length, min, slice_get, slice_index, IfOk};
+ghost use Rattle.std.specs.Prelude.{◌≡◌, ◌+◌, ◌<◌, ◌≤◌, ◌++◌, ℕ, List, Some, None, length, map, min, slice_get, slice_index, IfOk};
 ghost use Rattle.zk_model.specs.Check.{opened_pairs, product_triple};
-ghost use Rattle.zk_model.specs.Mac.{macs_of, pair_at};
+ghost use Rattle.zk_model.specs.Field.{◌*ₚ◌};
+ghost use Rattle.zk_model.specs.Mac.{values_of, macs_of, pair_at};
 ghost use Rattle.zk_model.specs.Slots.{IsPlanOf};
 ghost use Rattle.zk_model.specs.declared.Product as zk;
 ghost use Rattle.field_program.specs.Programs.{IsSmallProgram};
+ghost use Rattle.wire_auth.specs.Sides.{joined};
 ghost use Rattle.wire_auth.specs.Values.{given_value};
 ghost use Rattle.wire_auth.specs.Walks.{side_made};
 
 use crate::carrying::first_numbers;
 use crate::pairs::macs_of;
 use crate::triples::Triple;
-use crate::walking::NumberWalk;
+use crate::walking::StepWalk;
 use field_program::{FieldProgram, SlotPlan};
 use mersenne_field::{Fe, Pair};
 use std::alloc::{AllocError, Global};
@@ -24,8 +26,7 @@ pub struct ProverWalk<'a> {
     public: &'a [Fe],
     inputs: &'a [Fe],
     dealt: &'a [Pair],
-    values: NumberWalk<'a>,
-    macs: NumberWalk<'a>,
+    pairs: StepWalk<'a, Pair>,
 }
 
 impl<'a> Model for ProverWalk<'a> {
@@ -35,12 +36,12 @@ impl<'a> Model for ProverWalk<'a> {
     ghost Value = { walks.ProverWalking };
 
     ghost view = { λ w. record {
-      side = side_made w.values.program w.public.now w.inputs.now w.dealt.now;
-      met = w.values.met;
+      side = side_made w.pairs.program w.public.now w.inputs.now w.dealt.now;
+      met = w.pairs.met;
     } };
 
-    ghost invariant = { λ w. IsProverWalk w.values.program w.public.now w.inputs.now w.dealt.now
-        w.values w.macs };
+    ghost invariant = { λ w. IsProverWalk w.pairs.program w.public.now w.inputs.now w.dealt.now
+        w.pairs };
 }
 
 impl<'a> ProverWalk<'a> {
@@ -68,17 +69,17 @@ impl<'a> ProverWalk<'a> {
         }) }
     {
         let _products = program.products();
-        let first = first_numbers(alloc, public, Fe::ONE, inputs)?;
-        let values = NumberWalk::new(alloc, program, plan, Fe::ONE, &first)?;
-        let first_macs = macs_of(alloc, &dealt[..program.inputs()])?;
-        let first = first_numbers(alloc, public, Fe::ZERO, &first_macs)?;
-        let macs = NumberWalk::new(alloc, program, plan, Fe::ZERO, &first)?;
+        let first = first_pairs(alloc, public, inputs, &dealt[..program.inputs()])?;
+        let one = Pair {
+            x: Fe::ONE,
+            m: Fe::ZERO,
+        };
+        let pairs = StepWalk::new(program, plan, one, first)?;
         Ok(ProverWalk {
             public,
             inputs,
             dealt,
-            values,
-            macs,
+            pairs,
         })
     }
 
@@ -86,7 +87,7 @@ impl<'a> ProverWalk<'a> {
     pub fn program(&self) -> &'a FieldProgram
         ensures { result.now ≡ self.now.side.program }
     {
-        self.values.program()
+        self.pairs.program()
     }
 
     /// How many products the program has, whose pairs `next` gives.
@@ -94,7 +95,7 @@ impl<'a> ProverWalk<'a> {
         ensures count { result ≡ length self.now.side.program.products }
         ensures held { IsSmallProgram self.now.side.program }
     {
-        self.values.program().products()
+        self.pairs.program().products()
     }
 
     /// The pairs of the factors of the next product, and of its value; none after the last.
@@ -107,26 +108,16 @@ impl<'a> ProverWalk<'a> {
         ensures met { self.new.met
             ≡ min (self.old.met + 1) (length self.old.side.program.products) }
     {
-        let program = self.values.program();
+        let program = self.pairs.program();
         let _products = program.products();
-        let met = self.values.met();
-        let (left, right) = self.values.factors()?;
-        let (left_mac, right_mac) = self.macs.factors()?;
-        let value = given_number(program, met, left, right);
-        let mac = dealt_mac(self.dealt, met);
-        self.values.meet(value);
-        self.macs.meet(mac);
-        Some(Triple {
-            a: Pair {
-                x: left,
-                m: left_mac,
-            },
-            b: Pair {
-                x: right,
-                m: right_mac,
-            },
-            c: Pair { x: value, m: mac },
-        })
+        let met = self.pairs.met();
+        let (a, b) = self.pairs.factors()?;
+        let c = Pair {
+            x: given_number(program, met, a.x, b.x),
+            m: dealt_mac(self.dealt, met),
+        };
+        self.pairs.meet(c);
+        Some(Triple { a, b, c })
     }
 
     /// The pair of opened wire o, after the last product.
@@ -135,12 +126,40 @@ impl<'a> ProverWalk<'a> {
         requires there { o < length self.now.side.program.opened }
         ensures { result ≡ pair_at (opened_pairs self.now.side.program self.now.side.pairs) o }
     {
-        let _opened = self.values.program().opened();
-        Pair {
-            x: self.values.opened(o),
-            m: self.macs.opened(o),
-        }
+        let _opened = self.pairs.program().opened();
+        self.pairs.opened(o)
     }
+}
+
+/// Values and MACs, one by one.
+fn joined(alloc: Global, values: &[Fe], macs: &[Fe]) -> Result<Vec<Pair>, AllocError>
+    ensures { IfOk result (λ pairs. pairs.items ≡ joined values.now macs.now) }
+{
+    values
+        .iter()
+        .zip(macs)
+        .map(|(x, m)| Pair { x: *x, m: *m })
+        .collect(alloc)
+}
+
+/// The pairs of the first wires: public values have the MAC 0, and private inputs those of these pairs.
+fn first_pairs(
+    alloc: Global,
+    public: &[Fe],
+    inputs: &[Fe],
+    dealt: &[Pair],
+) -> Result<Vec<Pair>, AllocError>
+    requires { length inputs.now ≡ length dealt.now }
+    ensures values { IfOk result (λ first. values_of first.items
+        ≡ map (λ value. value *ₚ 1) public.now ++ inputs.now) }
+    ensures macs { IfOk result (λ first. macs_of first.items
+        ≡ map (λ value. value *ₚ 0) public.now ++ macs_of dealt.now) }
+{
+    let values = first_numbers(alloc, public, Fe::ONE, inputs)?;
+    let macs = macs_of(alloc, dealt)?;
+    let macs = first_numbers(alloc, public, Fe::ZERO, &macs)?;
+    let first = joined(alloc, &values, &macs)?;
+    Ok(first)
 }
 
 /// The given value of a product, from the values of both factors: that of the input which it checks, or their product.

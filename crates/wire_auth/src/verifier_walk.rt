@@ -9,7 +9,7 @@ ghost use Rattle.wire_auth.specs.Walks.{keys_made};
 use crate::carrying::first_numbers;
 use crate::keys::corrected;
 use crate::triples::KeyTriple;
-use crate::walking::NumberWalk;
+use crate::walking::StepWalk;
 use field_program::{FieldProgram, SlotPlan};
 use mersenne_field::Fe;
 use std::alloc::{AllocError, Global};
@@ -23,7 +23,7 @@ pub struct VerifierWalk<'a> {
     keys: &'a [Fe],
     corrections: &'a [Fe],
     key: Fe,
-    walk: NumberWalk<'a>,
+    walk: StepWalk<'a, Fe>,
 }
 
 impl<'a> Model for VerifierWalk<'a> {
@@ -71,7 +71,7 @@ impl<'a> VerifierWalk<'a> {
         let inputs = program.inputs();
         let first_keys = corrected(alloc, &keys[..inputs], &corrections[..inputs], key)?;
         let first = first_numbers(alloc, public, key, &first_keys)?;
-        let walk = NumberWalk::new(alloc, program, plan, key, &first)?;
+        let walk = StepWalk::new(program, plan, key, first)?;
         Ok(VerifierWalk {
             public,
             keys,

@@ -1,39 +1,37 @@
-// A walk along a program's steps that holds the numbers of live wires alone.
-ghost use Rattle.std.specs.Prelude.{◌≡◌, ◌+◌, ◌<◌, ◌≤◌, ◌⊎◌, ◌↔◌, ℕ, List, All, Some, length, take, slice_get, slice_index, slice_set, IfOk, IfSome, IsNone};
+// A walk along a program's steps that holds what it carries of live wires alone.
+ghost use Rattle.std.specs.Prelude.{◌≡◌, ◌+◌, ◌<◌, ◌≤◌, ◌⊎◌, ◌↔◌, ℕ, List, All, Some, length, map, take, slice_get, slice_index, IfOk, IfSome, IsNone};
 ghost use Rattle.zk_model.specs.Program.{Step as model, MeetsStep, step_value};
 ghost use Rattle.zk_model.specs.Slots.{IsPlanOf};
 ghost use Rattle.zk_model.specs.declared.Product as zk;
-ghost use Rattle.field_program.specs.Rules.{HasFactors};
 ghost use Rattle.field_program.specs.Programs.{values_taken};
 ghost use Rattle.field_program.specs.Steps.{step_equation};
 ghost use Rattle.wire_auth.specs.Sides.{IsTaken};
-ghost use Rattle.wire_auth.specs.Walks.{AreHeldAt, AreReadIn, AreSlotsWithin, Follows, HasSlot, IsAlong, IsTakenBy, TakesAt};
+ghost use Rattle.wire_auth.specs.Walks.{Part, AreHeldAt, AreReadIn, AreSlotsWithin, Follows, IsAlong, IsTakenBy, TakesAt};
 
-use crate::carrying::known;
-use field_program::{FieldProgram, SlotPlan, Step};
-use mersenne_field::Fe;
+use crate::carried::Carried;
+use field_program::{FieldProgram, SlotPlan, Step, StepSlots};
 use std::alloc::{AllocError, Global};
 use std::marker::Model;
 
-/// A walk along a program's steps over one list of numbers, of values, MACs or keys, which holds no more of them than wires are live at
-/// once. It comes to one product after another.
+/// A walk along a program's steps over what it carries: values, MACs or keys, or values and MACs side by side. It holds those of no more
+/// wires than are live at once. It comes to one product after another.
 #[derive(Debug, Drop)]
-pub(crate) struct NumberWalk<'a> {
+pub(crate) struct StepWalk<'a, N: Carried> {
     program: &'a FieldProgram,
     plan: &'a SlotPlan,
-    one: Fe,
-    slots: Vec<Fe>,
+    one: N,
+    slots: Vec<N>,
     steps: usize,
     met: usize,
 }
 
-impl<'a> Model for NumberWalk<'a> {
+impl<'a, N: Carried> Model for StepWalk<'a, N> {
     ghost use Rattle.std.specs.Prelude.{◌≡◌, length};
     ghost use Rattle.zk_model.specs.Slots.{IsPlanOf};
     ghost use Rattle.wire_auth.specs.Walks as walks;
     ghost use Rattle.wire_auth.specs.Walks.{IsAlong};
 
-    ghost Value = { walks.Walking };
+    ghost Value = { walks.Walking N };
 
     ghost view = { λ w. record {
       program = w.program.now;
@@ -48,63 +46,59 @@ impl<'a> Model for NumberWalk<'a> {
         × (length w.slots.items ≡ w.plan.now.slots) };
 }
 
-/// The number of a wire that has a slot.
+/// What a step gives its wire, from what is in the slots of those that it reads, and of the given value that it takes.
 #[inline(always)]
-fn number_in(plan: &SlotPlan, slots: &[Fe], wire: u32) -> Fe
-    requires { HasSlot plan.now (length slots.now) wire }
-    ensures { result ≡ slice_index slots.now (slice_index plan.now.places wire) }
-{
-    known(slots[plan.slot(wire)])
-}
-
-/// The number that a step gives its wire, from those in the slots of the wires that it reads, and that of the given value that it takes.
-#[inline(always)]
-fn step_number(plan: &SlotPlan, slots: &[Fe], step: &Step, one: Fe, taken: Fe) -> Fe
-    requires { AreSlotsWithin plan.now (length slots.now) step.now }
-    ensures { (wires given : List ℕ) → AreReadIn plan.now slots.now wires step.now
-        → IsTaken given step.now taken → result ≡ step_value one wires given (step_equation step.now) }
+fn step_number<N: Carried>(slots: &[N], at: StepSlots, step: &Step, one: N, taken: N) -> N
+    requires { AreSlotsWithin (length slots.now) at }
+    ensures { (which : Part) (wires given : List ℕ) → AreReadIn at (map (N.part which) slots.now) wires step.now
+        → IsTaken given step.now (N.part which taken)
+        → N.part which result ≡ step_value (N.part which one) wires given (step_equation step.now) }
 {
     match *step {
-        Step::Const { value, .. } => value * one,
-        Step::Copy { a, .. } => number_in(plan, slots, a),
-        Step::Not { a, .. } => one - number_in(plan, slots, a),
-        Step::Mul { .. } => known(taken),
-        Step::XorFrom { a, b, .. } => {
-            number_in(plan, slots, a) + number_in(plan, slots, b) - (taken + taken)
+        Step::Const { value, .. } => one.times(value),
+        Step::Copy { .. } => slots[at.a as usize].known(),
+        Step::Not { .. } => one.less(slots[at.a as usize]),
+        Step::Mul { .. } => taken.known(),
+        Step::XorFrom { .. } => {
+            let sum = slots[at.a as usize].plus(slots[at.b as usize]);
+            sum.less(taken.plus(taken))
         }
     }
 }
 
-/// Puts the number of a step's wire in its slot.
-fn follow_step(
+/// Puts what a step gives its wire in its slot.
+#[inline(always)]
+fn follow_step<N: Carried>(
     program: &FieldProgram,
-    plan: &SlotPlan,
-    slots: &mut Vec<Fe>,
     k: usize,
-    one: Fe,
-    taken: Fe,
+    plan: &SlotPlan,
+    slots: &mut Vec<N>,
+    one: N,
+    taken: N,
 )
     requires there { k < length program.now.steps }
     requires plan { IsPlanOf program.now plan.now }
     requires whole { length slots.old.items ≡ plan.now.slots }
     ensures whole { length slots.new.items ≡ plan.now.slots }
-    ensures held { (wires given : List ℕ) (equation : model) → slice_get program.now.steps k ≡ Some equation
-        → MeetsStep one wires given equation → IsTakenBy given equation taken
-        → AreHeldAt program.now plan.now k wires slots.old.items
-        → AreHeldAt program.now plan.now (k + 1) wires slots.new.items }
+    ensures held { (which : Part) (is : IsPlanOf program.now plan.now) (wires given : List ℕ) (equation : model)
+        → slice_get program.now.steps k ≡ Some equation → MeetsStep (N.part which one) wires given equation
+        → IsTakenBy given equation (N.part which taken)
+        → AreHeldAt program.now is.places k wires (map (N.part which) slots.old.items)
+        → AreHeldAt program.now is.places (k + 1) wires (map (N.part which) slots.new.items) }
 {
     let step = program.step(k);
-    let number = step_number(plan, slots, &step, one, taken);
-    slots[plan.slot(step.out())] = number;
+    let at = plan.step_slots(k);
+    let number = step_number(slots, at, &step, one, taken);
+    slots[at.out as usize] = number;
 }
 
 /// Follows the steps from one on that take no given value, up to the first that does, and says which that is.
-fn pass_linear(
+fn pass_linear<N: Carried>(
     program: &FieldProgram,
     plan: &SlotPlan,
-    slots: &mut Vec<Fe>,
+    slots: &mut Vec<N>,
     from: usize,
-    one: Fe,
+    one: N,
 ) -> usize
     requires from { from ≤ length program.now.steps }
     requires plan { IsPlanOf program.now plan.now }
@@ -114,28 +108,35 @@ fn pass_linear(
     ensures taken { values_taken (take result program.now.steps)
         ≡ values_taken (take from program.now.steps) }
     ensures waits { (result ≡ length program.now.steps) ⊎ TakesAt program.now result }
-    ensures held { (wires given : List ℕ) → All (MeetsStep one wires given) program.now.steps
-        → AreHeldAt program.now plan.now from wires slots.old.items
-        → AreHeldAt program.now plan.now result wires slots.new.items }
+    ensures held { (which : Part) (is : IsPlanOf program.now plan.now) (wires given : List ℕ)
+        → All (MeetsStep (N.part which one) wires given) program.now.steps
+        → AreHeldAt program.now is.places from wires (map (N.part which) slots.old.items)
+        → AreHeldAt program.now is.places result wires (map (N.part which) slots.new.items) }
 {
     for k in from..program.steps() {
         if program.step(k).value_taken().is_some() {
             return k;
         }
-        follow_step(program, plan, slots, k, one, Fe::ZERO);
+        follow_step(program, k, plan, slots, one, N::nothing());
     }
     program.steps()
 }
 
 /// Follows the steps before the first product, and says how many those are: none where bit checks come first.
-fn pass_first(program: &FieldProgram, plan: &SlotPlan, slots: &mut Vec<Fe>, one: Fe) -> usize
+fn pass_first<N: Carried>(
+    program: &FieldProgram,
+    plan: &SlotPlan,
+    slots: &mut Vec<N>,
+    one: N,
+) -> usize
     requires plan { IsPlanOf program.now plan.now }
     requires whole { length slots.old.items ≡ plan.now.slots }
     ensures whole { length slots.new.items ≡ plan.now.slots }
     ensures along { IsAlong program.now result 0 }
-    ensures held { (wires given : List ℕ) → All (MeetsStep one wires given) program.now.steps
-        → AreHeldAt program.now plan.now 0 wires slots.old.items
-        → AreHeldAt program.now plan.now result wires slots.new.items }
+    ensures held { (which : Part) (is : IsPlanOf program.now plan.now) (wires given : List ℕ)
+        → All (MeetsStep (N.part which one) wires given) program.now.steps
+        → AreHeldAt program.now is.places 0 wires (map (N.part which) slots.old.items)
+        → AreHeldAt program.now is.places result wires (map (N.part which) slots.new.items) }
 {
     if program.inputs() > 0 {
         return 0;
@@ -145,14 +146,14 @@ fn pass_first(program: &FieldProgram, plan: &SlotPlan, slots: &mut Vec<Fe>, one:
 
 /// Follows the steps from a product to the next, where the given value of the first has this number, and says how many steps are behind.
 /// A bit check of an input comes before all steps.
-fn pass_product(
+fn pass_product<N: Carried>(
     program: &FieldProgram,
-    plan: &SlotPlan,
-    slots: &mut Vec<Fe>,
     steps: usize,
     met: usize,
-    one: Fe,
-    number: Fe,
+    plan: &SlotPlan,
+    slots: &mut Vec<N>,
+    one: N,
+    number: N,
 ) -> usize
     requires along { IsAlong program.now steps met }
     requires more { met < length program.now.products }
@@ -160,9 +161,10 @@ fn pass_product(
     requires whole { length slots.old.items ≡ plan.now.slots }
     ensures whole { length slots.new.items ≡ plan.now.slots }
     ensures along { IsAlong program.now result (met + 1) }
-    ensures held { (wires given : List ℕ) → All (MeetsStep one wires given) program.now.steps
-        → number ≡ slice_index given met → AreHeldAt program.now plan.now steps wires slots.old.items
-        → AreHeldAt program.now plan.now result wires slots.new.items }
+    ensures held { (which : Part) (is : IsPlanOf program.now plan.now) (wires given : List ℕ)
+        → All (MeetsStep (N.part which one) wires given) program.now.steps → N.part which number ≡ slice_index given met
+        → AreHeldAt program.now is.places steps wires (map (N.part which) slots.old.items)
+        → AreHeldAt program.now is.places result wires (map (N.part which) slots.new.items) }
 {
     let inputs = program.inputs();
     let _products = program.products();
@@ -173,58 +175,72 @@ fn pass_product(
         return pass_linear(program, plan, slots, steps, one);
     }
     let _step = program.step(steps);
-    follow_step(program, plan, slots, steps, one, number);
+    follow_step(program, steps, plan, slots, one, number);
     pass_linear(program, plan, slots, steps + 1, one)
 }
 
-/// A slot for each wire that is live at once, in which the first wires have these numbers.
-fn first_slots(
-    alloc: Global,
+/// A slot for each wire that is live at once, of which the first wires have theirs.
+fn first_slots<N: Carried>(
     program: &FieldProgram,
     plan: &SlotPlan,
-    first: &[Fe],
-) -> Result<Vec<Fe>, AllocError>
-    requires first { length first.now ≡ program.now.public + program.now.inputs }
+    first: Vec<N>,
+) -> Result<Vec<N>, AllocError>
+    requires first { length first.items ≡ program.now.public + program.now.inputs }
     requires plan { IsPlanOf program.now plan.now }
     ensures whole { IfOk result (λ slots. length slots.items ≡ plan.now.slots) }
-    ensures held { IfOk result (λ slots. (wires : List ℕ)
-        → take (program.now.public + program.now.inputs) wires ≡ first.now
-        → AreHeldAt program.now plan.now 0 wires slots.items) }
+    ensures held { IfOk result (λ slots. (which : Part) (is : IsPlanOf program.now plan.now) (wires : List ℕ)
+        → take (program.now.public + program.now.inputs) wires ≡ map (N.part which) first.items
+        → AreHeldAt program.now is.places 0 wires (map (N.part which) slots.items)) }
 {
     let _held = program.steps();
-    let mut slots = vec![in alloc; Fe::ZERO; plan.slots()]?;
-    for (wire, number) in first.iter().enumerate() {
-        slots[plan.slot(wire as u32)] = known(*number);
-    }
+    let mut slots = first;
+    slots.resize(plan.slots(), N::nothing())?;
     Ok(slots)
 }
 
-impl<'a> NumberWalk<'a> {
-    /// A walk that has met no product yet. The first wires have these numbers: the public wires, and then the private inputs.
+/// The slots of both factors of the next product. A bit check has that of the input, which is its number, and another those of the
+/// step that takes its value.
+#[inline(always)]
+fn factor_slots(program: &FieldProgram, plan: &SlotPlan, steps: usize, met: usize) -> (u32, u32)
+    requires along { IsAlong program.now steps met }
+    requires more { met < length program.now.products }
+    requires plan { IsPlanOf program.now plan.now }
+    ensures within { (result.0 < plan.now.slots) × (result.1 < plan.now.slots) }
+    ensures factors { (is : IsPlanOf program.now plan.now) (product : zk.Product) → slice_get program.now.products met ≡ Some product
+        → (result.0 ≡ slice_index is.places product.a) × (result.1 ≡ slice_index is.places product.b) }
+{
+    if met < program.inputs() {
+        let wire = (program.public() + met) as u32;
+        return (wire, wire);
+    }
+    let at = plan.step_slots(steps);
+    (at.a, at.b)
+}
+
+impl<'a, N: Carried> StepWalk<'a, N> {
+    /// A walk that has met no product yet. The first wires have these: the public wires, and then the private inputs.
     ///
     /// # Errors
     ///
     /// Only where memory runs out.
     pub fn new(
-        alloc: Global,
         program: &'a FieldProgram,
         plan: &'a SlotPlan,
-        one: Fe,
-        first: &[Fe],
+        one: N,
+        first: Vec<N>,
     ) -> Result<Self, AllocError>
-        requires first { length first.now ≡ program.now.public + program.now.inputs }
+        requires first { length first.items ≡ program.now.public + program.now.inputs }
         requires plan { IsPlanOf program.now plan.now }
         ensures program { IfOk result (λ w. w.program ≡ program.now) }
-        ensures plan { IfOk result (λ w. w.plan ≡ plan.now) }
-        ensures one { IfOk result (λ w. w.one ≡ one) }
         ensures met { IfOk result (λ w. w.met ≡ 0) }
-        ensures follows { IfOk result (λ w. (wires given : List ℕ)
-            → All (MeetsStep one wires given) program.now.steps
-            → take (program.now.public + program.now.inputs) wires ≡ first.now → Follows w wires given) }
+        ensures follows { IfOk result (λ w. (which : Part) (wires given : List ℕ)
+            → All (MeetsStep (N.part which one) wires given) program.now.steps
+            → take (program.now.public + program.now.inputs) wires ≡ map (N.part which) first.items
+            → Follows (N.part which) w wires given) }
     {
-        let mut slots = first_slots(alloc, program, plan, first)?;
+        let mut slots = first_slots(program, plan, first)?;
         let steps = pass_first(program, plan, &mut slots, one);
-        Ok(NumberWalk {
+        Ok(StepWalk {
             program,
             plan,
             one,
@@ -249,30 +265,27 @@ impl<'a> NumberWalk<'a> {
         self.program
     }
 
-    /// The numbers of both factors of the next product, and none after the last.
-    pub fn factors(&self) -> Option<(Fe, Fe)>
+    /// What both factors of the next product have, and none after the last.
+    pub fn factors(&self) -> Option<(N, N)>
         ensures none { IsNone result ↔ length self.now.program.products ≤ self.now.met }
-        ensures some { IfSome result (λ both. (wires given : List ℕ) (product : zk.Product)
-            → Follows self.now wires given → slice_get self.now.program.products self.now.met ≡ Some product
-            → both ≡ (slice_index wires product.a, slice_index wires product.b)) }
+        ensures some { IfSome result (λ both. (which : Part) (wires given : List ℕ) (product : zk.Product)
+            → Follows (N.part which) self.now wires given → slice_get self.now.program.products self.now.met ≡ Some product
+            → (N.part which both.0 ≡ slice_index wires product.a) × (N.part which both.1 ≡ slice_index wires product.b)) }
     {
         if self.met == self.program.products() {
             return None;
         }
-        let product = self.program.product(self.met);
-        let a = number_in(self.plan, &self.slots, product.a);
-        Some((a, number_in(self.plan, &self.slots, product.b)))
+        let (a, b) = factor_slots(self.program, self.plan, self.steps, self.met);
+        Some((self.slots[a as usize], self.slots[b as usize]))
     }
 
-    /// Meets the next product, whose given value has this number.
-    pub fn meet(&mut self, number: Fe)
+    /// Meets the next product, whose given value has this.
+    pub fn meet(&mut self, number: N)
         requires { self.old.met < length self.old.program.products }
         ensures program { self.new.program ≡ self.old.program }
-        ensures plan { self.new.plan ≡ self.old.plan }
-        ensures one { self.new.one ≡ self.old.one }
         ensures met { self.new.met ≡ self.old.met + 1 }
-        ensures follows { (wires given : List ℕ) → number ≡ slice_index given self.old.met
-            → Follows self.old wires given → Follows self.new wires given }
+        ensures follows { (which : Part) (wires given : List ℕ) → N.part which number ≡ slice_index given self.old.met
+            → Follows (N.part which) self.old wires given → Follows (N.part which) self.new wires given }
     {
         let Self {
             program,
@@ -283,24 +296,24 @@ impl<'a> NumberWalk<'a> {
         let _products = program.products();
         self.steps = pass_product(
             program,
-            plan,
-            &mut self.slots,
             self.steps,
             self.met,
+            plan,
+            &mut self.slots,
             one,
             number,
         );
         self.met += 1;
     }
 
-    /// The number of opened wire o, after the last product.
-    pub fn opened(&self, o: usize) -> Fe
+    /// What opened wire o has, after the last product.
+    pub fn opened(&self, o: usize) -> N
         requires done { length self.now.program.products ≤ self.now.met }
         requires there { o < length self.now.program.opened }
-        ensures { (wires given : List ℕ) → Follows self.now wires given
-            → result ≡ slice_index wires (slice_index self.now.program.opened o) }
+        ensures { (which : Part) (wires given : List ℕ) → Follows (N.part which) self.now wires given
+            → N.part which result ≡ slice_index wires (slice_index self.now.program.opened o) }
     {
         let _products = self.program.products();
-        number_in(self.plan, &self.slots, self.program.opened()[o])
+        self.slots[self.plan.opened_slot(o) as usize]
     }
 }

@@ -1,5 +1,5 @@
 -- Which wires a walk along a program's steps has to hold at each step.
-use Rattle.std.specs.Prelude.{◌≡◌, ℕ, ◌+◌, ◌<◌, ◌≤◌, ◌≢◌, ◌⊎◌, List, length, slice_index, slice_get, Some, All, AllPairs, Contains}
+use Rattle.std.specs.Prelude.{◌≡◌, ℕ, ◌+◌, ◌<◌, ◌≤◌, ◌≢◌, ◌⊎◌, List, [], ◌∷◌, length, map, slice_index, slice_get, Some, All, AllPairs, Contains}
 use Rattle.zk_model.specs.Program.{Term, Step, Program}
 use Rattle.zk_model.specs.declared.Product.{Product}
 
@@ -48,14 +48,37 @@ pub record IsSlotCount (program : Program) (count : ℕ) : Type 0 where
 
 -- ---- plans
 
--- a slot for each wire
+-- the slots of a step: of the wire that it sets, and of those that it reads
+pub record StepSlots : Type 0 where
+  pub out : ℕ
+  pub a : ℕ
+  pub b : ℕ
+
+-- how many slots there are, those of the steps, and those of the opened wires
 pub record Plan : Type 0 where
   pub slots : ℕ
-  pub places : List ℕ
+  pub steps : List StepSlots
+  pub opened : List ℕ
 
--- Of a program: wires that are live at one number have slots of their own.
+-- Where each wire has a place, a step has those of the wire that it sets, and of the one wire of its equation or of both factors of the
+-- product whose value it takes.
+pub record AreSlotsOf (program : Program) (places : List ℕ) (step : Step) (slots : StepSlots) : Type 0 where
+  pub out : slots.out ≡ slice_index places step.out
+  pub one : (term : Term) → step.wires ≡ term ∷ [] → slots.a ≡ slice_index places term.place
+  pub factors : (term : Term) (product : Product) → Contains step.given term → Contains program.products product → product.c ≡ term.place
+      → (slots.a ≡ slice_index places product.a) × (slots.b ≡ slice_index places product.b)
+
+-- Of a program: there is a place for each wire, its slot while it is live, such that wires that are live at one number have slots of
+-- their own. The first wires have the slots of their own numbers; steps and opened wires have those that the plan says.
 pub record IsPlanOf (program : Program) (plan : Plan) : Type 0 where
-  pub whole : length plan.places ≡ program.wires
-  pub within : (n wire : ℕ) → n ≤ length program.steps → IsLive program n wire → slice_index plan.places wire < plan.slots
+  pub places : List ℕ
+  pub whole : length places ≡ program.wires
+  pub within : (n wire : ℕ) → n ≤ length program.steps → IsLive program n wire → slice_index places wire < plan.slots
   pub apart : (n one other : ℕ) → n ≤ length program.steps → IsLive program n one → IsLive program n other
-      → slice_index plan.places one ≡ slice_index plan.places other → one ≡ other
+      → slice_index places one ≡ slice_index places other → one ≡ other
+  pub first : (wire : ℕ) → wire < program.public + program.inputs → slice_index places wire ≡ wire
+  pub one_each : length plan.steps ≡ length program.steps
+  pub steps : (k : ℕ) (step : Step) (slots : StepSlots) → slice_get program.steps k ≡ Some step → slice_get plan.steps k ≡ Some slots
+      → AreSlotsOf program places step slots
+  pub inside : All (λ slots. (slots.out < plan.slots) × (slots.a < plan.slots) × (slots.b < plan.slots)) plan.steps
+  pub opened : plan.opened ≡ map (slice_index places) program.opened

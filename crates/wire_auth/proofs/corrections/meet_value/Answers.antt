@@ -4,17 +4,17 @@ use Rattle.std.proofs.lemmas.Option.{slice_get-get_or}
 use Rattle.zk_model.specs.Program.{Program}
 use Rattle.zk_model.specs.declared.Product as zk
 use Rattle.wire_auth.specs.Values.{given_from, given_value}
-use Rattle.wire_auth.specs.Walks.{Follows}
+use Rattle.wire_auth.specs.Walks.{Value, Follows}
 use Rattle.wire_auth.proofs.Making.{given_at}
 use Rattle.wire_auth.proofs.corrections.meet_value.Goals as goal
 
 -- the value is the given one of the product that is met
-value_is : (c : goal.After-meet) (values : List ℕ) → Follows c.args.walk.now values (given_from c.args.walk.now.program values)
+value_is : (c : goal.After-meet) (values : List ℕ) → Follows (λ n. n) c.args.walk.now values (given_from c.args.walk.now.program values)
     → c.known-value.result ≡ slice_index (given_from c.args.walk.now.program values) c.args.walk.now.met
 value_is c values follows =
     c.known-value.ensures.unchanged
     ∙ c.given_number.ensures product values ((λ i. slice_get (c.program-program.ensures i).products (c.met-met.ensures.met i)) ∙ stands)
-    (ap (λ (q : ℕ × ℕ). q.0) factors) (ap (λ (q : ℕ × ℕ). q.1) factors)
+    factors.0 factors.1
     ∙ ap (λ (p : Program). given_value p values product) c.program-program.ensures
     ∙ sym (given_at c.args.walk.now.program values c.args.walk.now.met product stands)
   where
@@ -24,12 +24,12 @@ value_is c values follows =
     stands : slice_get c.args.walk.now.program.products c.args.walk.now.met ≡ Some product
     stands = slice_get-get_or c.args.walk.now.program.products c.args.walk.now.met (record { a = 0; b = 0; c = 0 }) c.requires.more
 
-    factors : ◌≡◌ {A = ℕ × ℕ} c.in-Some.factors (slice_index values product.a, slice_index values product.b)
-    factors = c.in-Some.ensures.some values (given_from c.args.walk.now.program values) product follows stands
+    factors : (c.in-Some.factors.0 ≡ slice_index values product.a) × (c.in-Some.factors.1 ≡ slice_index values product.b)
+    factors = c.in-Some.ensures.some Value values (given_from c.args.walk.now.program values) product follows stands
 
 pub returns-clause-value : goal.returns-clause-value
 returns-clause-value c values follows = value_is c values follows
 
 pub returns-clause-follows : goal.returns-clause-follows
 returns-clause-follows c values follows =
-    c.meet.ensures.follows values (given_from c.args.walk.now.program values) (value_is c values follows) follows
+    c.meet.ensures.follows Value values (given_from c.args.walk.now.program values) (value_is c values follows) follows

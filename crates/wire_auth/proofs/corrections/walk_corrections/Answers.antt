@@ -1,12 +1,13 @@
 use Rattle.std.proofs.Common.{◌≡◌, ◌+◌, ◌∙◌, ◌++◌, ℕ, List, [], ◌∷◌, arith, map, take, length, ap, sym, subst}
 use Rattle.std.specs.Prelude.{slice_index}
+use Rattle.std.proofs.lemmas.List.{map-id}
 use Rattle.std.proofs.lemmas.List.Elements.{All-from_get_or}
 use Rattle.zk_model.specs.Field.{IsElement, ◌*ₚ◌, ◌-ₚ◌}
 use Rattle.zk_model.specs.Mac.{Pair}
 use Rattle.zk_model.specs.HonestProver.{honest_corrections}
 use Rattle.zk_model.specs.Program.{Program, AreMade}
 use Rattle.wire_auth.specs.Values.{wires_made, given_from, given_made}
-use Rattle.wire_auth.specs.Walks.{Follows}
+use Rattle.wire_auth.specs.Walks.{Value, Follows}
 use Rattle.wire_auth.proofs.BothWalks.{first_carried, values_made}
 use Rattle.wire_auth.proofs.Correcting.{one_more, all_made, walked_given, walked_pairs}
 use Rattle.wire_auth.proofs.Lengths.{next_correction}
@@ -18,9 +19,9 @@ loop-i-init c =
     record {
       program = c.in_ok-walk.ensures.program;
       met = c.in_ok-walk.ensures.met;
-      follows = c.in_ok-walk.ensures.follows values (given_from c.args.program.now values) made.carried.steps
+      follows = c.in_ok-walk.ensures.follows Value values (given_from c.args.program.now values) made.carried.steps
           (first_carried 1 c.args.program.now c.args.public.now (given_from c.args.program.now values) values made.carried
-          ∙ ap (λ (l : List ℕ). map (λ value. value *ₚ 1) c.args.public.now ++ l) made.first ∙ sym (c.deref.ensures.value ∙ c.in_ok-first.ensures));
+          ∙ ap (λ (l : List ℕ). map (λ value. value *ₚ 1) c.args.public.now ++ l) made.first ∙ sym (map-id c.in_ok-first.first.items ∙ c.in_ok-first.ensures));
       so_far = c.in_ok-corrections.ensures.items;
       elements = λ k below. absurd (omega (arith, below));
     }
@@ -57,19 +58,19 @@ loop-i-preserved c =
     sized : length given ≡ length c.args.program.now.products
     sized = length-given_from c.args.program.now values
 
-    before : Follows c.loop-i.walk values (given_from c.loop-i.walk.program values)
-    before = subst (λ (p : Program). Follows c.loop-i.walk values (given_from p values)) (sym c.loop-i.invariant.program) c.loop-i.invariant.follows
+    before : Follows (λ n. n) c.loop-i.walk values (given_from c.loop-i.walk.program values)
+    before = subst (λ (p : Program). Follows (λ n. n) c.loop-i.walk values (given_from p values)) (sym c.loop-i.invariant.program) c.loop-i.invariant.follows
 
     value : c.meet_value-value.result ≡ slice_index given c.loop-i.i
     value = c.meet_value-value.ensures.value values before
         ∙ (λ i. slice_index (given_from (c.loop-i.invariant.program i) values) (c.loop-i.invariant.met i))
 
-    follows : Follows c.meet_value-value.new.walk values given
-    follows = subst (λ (p : Program). Follows c.meet_value-value.new.walk values (given_from p values)) c.loop-i.invariant.program
+    follows : Follows (λ n. n) c.meet_value-value.new.walk values given
+    follows = subst (λ (p : Program). Follows (λ n. n) c.meet_value-value.new.walk values (given_from p values)) c.loop-i.invariant.program
         (c.meet_value-value.ensures.follows values before)
 
 -- what has been made at the end
-ended : (c : goal.After-drop-first-2) → (c.loop-i.corrections.items ≡ honest_corrections (given_from c.args.program.now (wires_made c.args.program.now c.args.public.now c.args.inputs.now)) c.args.dealt.now)
+ended : (c : goal.After-drop-walk-inside-2) → (c.loop-i.corrections.items ≡ honest_corrections (given_from c.args.program.now (wires_made c.args.program.now c.args.public.now c.args.inputs.now)) c.args.dealt.now)
     × (length c.loop-i.corrections.items ≡ c.args.program.now.givens)
 ended c =
     all_made c.args.program.now (wires_made c.args.program.now c.args.public.now c.args.inputs.now) c.loop-i.corrections.items c.args.dealt.now c.loop-i.i

@@ -10,7 +10,7 @@ abbrev pub invariant-loop-i : goal.invariant-loop-i
 invariant-loop-i l = record {
   program : l.walk.program ≡ l.program;
   met : l.walk.met ≡ l.i;
-  follows : Follows l.walk (wires_made l.program l.public l.inputs) (given_from l.program (wires_made l.program l.public l.inputs));
+  follows : Follows (λ n. n) l.walk (wires_made l.program l.public l.inputs) (given_from l.program (wires_made l.program l.public l.inputs));
   so_far : l.corrections.items ≡ take l.i (honest_corrections (given_from l.program (wires_made l.program l.public l.inputs)) l.dealt);
   elements : (k : ℕ) → k < l.i → IsElement (slice_index (given_from l.program (wires_made l.program l.public l.inputs)) k);
 }

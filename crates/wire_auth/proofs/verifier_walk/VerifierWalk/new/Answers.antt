@@ -1,8 +1,10 @@
 use Rattle.std.proofs.Common.{◌++◌, List, ℕ, ap, map, subst, sym, take, ◌∙◌}
+use Rattle.std.proofs.lemmas.List.{map-id}
 use Rattle.zk_model.specs.Field.{◌*ₚ◌}
 use Rattle.zk_model.specs.Mac.{corrected_keys}
 use Rattle.zk_model.specs.Program.{Program, Carries}
 use Rattle.wire_auth.specs.Values.{numbers_carried}
+use Rattle.wire_auth.specs.Walks.{Value}
 use Rattle.wire_auth.specs.Walks.{IsVerifierWalk}
 use Rattle.wire_auth.proofs.BothWalks.{first_carried, first_corrected, keys_carried}
 use Rattle.wire_auth.proofs.verifier_walk.VerifierWalk.new.Goals as goal
@@ -15,13 +17,13 @@ invariant_of-result c =
       public_count = c.requires.public;
       enough = c.requires.keys;
       one_each = c.requires.corrections;
-      of_keys = c.in_ok-walk.ensures.follows (numbers_carried c.args.key c.args.program.now c.args.public.now given) given carried.steps
+      of_keys = c.in_ok-walk.ensures.follows Value (numbers_carried c.args.key c.args.program.now c.args.public.now given) given carried.steps
           (first_carried c.args.key c.args.program.now c.args.public.now given (numbers_carried c.args.key c.args.program.now c.args.public.now given) carried
           ∙ ap (λ l. map (λ value. value *ₚ c.args.key) c.args.public.now ++ l)
           (first_corrected c.args.program.now.inputs c.args.key c.args.keys.now c.args.corrections.now
           ∙ (λ i. corrected_keys c.args.key (take (sym c.inputs-inputs.ensures.count i) c.args.keys.now) (take (sym c.inputs-inputs.ensures.count i) c.args.corrections.now))
           ∙ sym (c.deref.ensures.value ∙ c.in_ok-first_keys.ensures.keys))
-          ∙ sym (c.deref-2.ensures.value ∙ c.in_ok-first.ensures));
+          ∙ sym (map-id c.in_ok-first.first.items ∙ c.in_ok-first.ensures));
     })
   where
     given : List ℕ

@@ -8,7 +8,7 @@ use Rattle.zk_model.specs.Mac.{corrected_keys}
 use Rattle.zk_model.specs.Check.{KeyTriple, key_triple}
 use Rattle.field_program.specs.Programs.{IsSmallProgram}
 use Rattle.wire_auth.specs.Values.{numbers_carried}
-use Rattle.wire_auth.specs.Walks.{VerifierWalking, IsVerifierWalk}
+use Rattle.wire_auth.specs.Walks.{Value, VerifierWalking, IsVerifierWalk}
 use Rattle.wire_auth.proofs.BothWalks.{key_at, none_more}
 use Rattle.wire_auth.proofs.verifier_walk.VerifierWalk.next.Goals as goal
 
@@ -53,15 +53,15 @@ invariant_of-self c =
       public_count = c.self.invariant.public_count;
       enough = c.self.invariant.enough;
       one_each = c.self.invariant.one_each;
-      of_keys = c.meet.ensures.follows (numbers_carried c.self.inside.key c.self.inside.walk.program c.self.inside.public.now (given c)) (given c) (key_is c) c.self.invariant.of_keys;
+      of_keys = c.meet.ensures.follows Value (numbers_carried c.self.inside.key c.self.inside.walk.program c.self.inside.public.now (given c)) (given c) (key_is c) c.self.invariant.of_keys;
     })
 
 pub returns-clause-some : goal.returns-clause-some
 returns-clause-some c product stands =
     ap (λ (t : KeyTriple). Some t)
     ((λ i. record {
-      a = (factors i).0;
-      b = (factors i).1;
+      a = factors.0 i;
+      b = factors.1 i;
       c = (key_is c ∙ ap (slice_index (given c)) (sym ((small c).numbered c.self.inside.walk.met product here))) i;
     })
     ∙ ap (λ (w : VerifierWalking). key_triple w.side.keys product) c.self.view_is)
@@ -72,5 +72,5 @@ returns-clause-some c product stands =
     keys : List ℕ
     keys = numbers_carried c.self.inside.key c.self.inside.walk.program c.self.inside.public.now (given c)
 
-    factors : ◌≡◌ {A = ℕ × ℕ} (c.in_ok-a.a, c.in_ok-a.b) (slice_index keys product.a, slice_index keys product.b)
-    factors = c.in_ok-a.ensures.some keys (given c) product c.self.invariant.of_keys here
+    factors : (c.in_ok-a.a ≡ slice_index keys product.a) × (c.in_ok-a.b ≡ slice_index keys product.b)
+    factors = c.in_ok-a.ensures.some Value keys (given c) product c.self.invariant.of_keys here
