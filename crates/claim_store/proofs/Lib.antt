@@ -1,4 +1,9 @@
 pub mod Meeting
+pub mod Units
+pub mod Joining
+pub mod Places
 pub mod Slots
 pub mod Starting
 pub mod Claiming
+pub mod SlotBySlot
+pub mod Rows

@@ -1,53 +1,61 @@
 -- Why a store of claims doesn't start, and why a span is not claimed.
-use Rattle.std.specs.Prelude.{◌≡◌, ◌≢◌, ◌⊎◌, ℕ, ◌+◌, ◌<◌, ◌≤◌, List, length, Some, None, true, false, Result, IsErrOf, OnOk}
+use Rattle.std.specs.Prelude.{◌≡◌, ◌≢◌, ◌⊎◌, ℕ, ◌+◌, ◌<◌, ◌≤◌, List, [], ◌∷◌, ◌++◌, length, Some, None, true, false, Bool, Result, IsErrOf, OnOk}
 use Rattle.zk_port.specs.Counts.{Rose}
-use Rattle.zk_model.specs.Journals.{AreUsed, HasHeader, IsFirstBad, Stands, slots_at}
+use Rattle.zk_model.specs.ClaimedRanges.{AreMerged}
+use Rattle.zk_model.specs.Journals.{AreUsed, IsFirstBad, first_bodies}
+use Rattle.zk_model.specs.Twins.{HoldsTwin, IsActive, MayHaveGeneration, area_at, generation_at}
 use Rattle.zk_model.specs.declared.Span.{Span}
 use Rattle.zk_model.specs.declared.JournalKind.TheVariants.{Claims}
 use Rattle.lease_core.specs.Spans.{meets_any, span}
-use Rattle.lease_journal.specs.Causes.{StartCause}
 use Rattle.lease_journal.specs.declared.fault.StartFault.TheVariants as start
+use Rattle.twin_journal.specs.Starts.{FileCause}
 use Rattle.claim_store.specs.declared.ClaimFault.{ClaimFault}
 use Rattle.claim_store.specs.declared.ClaimFault.TheVariants.{Broken, OutOfRange, Overlap, Full, Device, NoMemory}
 use Rattle.claim_store.specs.declared.fault.StoreFault.{StoreFault}
 use Rattle.claim_store.specs.declared.fault.StoreFault.TheVariants as store
 use Rattle.claim_store.specs.Claims.{ClaimState, AreClaims, SaysClaims, claim_at, first_claims, first_met, may_follow}
 
--- the first open slot whose span has a unit of an earlier one; each open slot has a span up to the total
+-- The first open slot of the active area whose span has a unit of an earlier one: the journal itself is refused by no other reason, and each
+-- open slot has a span up to the total.
 pub record IsFirstMeeting (id : List ℕ) (total : ℕ) (bytes : List ℕ) (slot : ℕ) : Type 0 where
-  pub header : HasHeader Claims id total bytes
+  pub begin : ℕ
+  pub slots : ℕ
+  pub holds : HoldsTwin Claims id total begin slots bytes
+  pub second : Bool
+  pub active : IsActive begin slots bytes second
   pub used : ℕ
-  pub slots_used : AreUsed 64 (slots_at bytes) used bytes
-  pub sound : IsFirstBad Claims total 64 bytes used None
+  pub slots_used : AreUsed (area_at begin slots second) slots used bytes
+  pub sound : IsFirstBad Claims total (area_at begin slots second) bytes used None
+  pub may_have : MayHaveGeneration Claims (first_bodies (area_at begin slots second) used bytes) (generation_at begin slots bytes second)
   pub inside : slot < used
-  pub before : AreClaims total (first_claims slot bytes)
-  pub meets : meets_any (claim_at bytes slot) (first_claims slot bytes) ≡ true
+  pub before : AreClaims total (first_claims (area_at begin slots second) slot bytes)
+  pub meets : meets_any (claim_at (area_at begin slots second) bytes slot) (first_claims (area_at begin slots second) slot bytes) ≡ true
 
 -- why a store doesn't start on these bytes: the journal's own reasons come first, the test for units in common last
 abbrev pub StoreCause : List ℕ → ℕ → List ℕ → StoreFault → Type 0
 StoreCause id total bytes store.NoMemory = Unit {0}
 StoreCause id total bytes (store.Journal start.Device) = Unit {0}
-StoreCause id total bytes (store.Journal (start.Short need got)) = StartCause Claims id total bytes (start.Short need got)
-StoreCause id total bytes (store.Journal (start.BadHeader place)) = StartCause Claims id total bytes (start.BadHeader place)
+StoreCause id total bytes (store.Journal (start.Short need got)) = FileCause Claims id total bytes (start.Short need got)
+StoreCause id total bytes (store.Journal (start.BadHeader place)) = FileCause Claims id total bytes (start.BadHeader place)
 StoreCause id total bytes (store.Journal (start.BadBody slot)) =
-    StartCause Claims id total bytes (start.BadBody slot) ⊎ IsFirstMeeting id total bytes slot
+    FileCause Claims id total bytes (start.BadBody slot) ⊎ IsFirstMeeting id total bytes slot
 
--- bytes in which a journal of claims stands, no two of which have a unit in common, are refused by no start but where the disk
--- fails or memory runs out
+-- files of a journal that says claims are refused by no start but where the disk fails or memory runs out
 abbrev pub ClaimsStartAgain : Type 0
 ClaimsStartAgain =
-    (id : List ℕ) (total slots : ℕ) (claims : List Span) (bytes : List ℕ) (fault : StoreFault)
-    → Stands Claims id total slots bytes → SaysClaims slots claims bytes → AreClaims total claims
+    (id : List ℕ) (total begin slots : ℕ) (claims : List Span) (bytes : List ℕ) (fault : StoreFault)
+    → HoldsTwin Claims id total begin slots bytes → SaysClaims total begin slots claims bytes
     → StoreCause id total bytes fault → (fault ≡ store.Journal start.Device) ⊎ (fault ≡ store.NoMemory)
 
--- why the slots in use are not read as claims: the first whose span may not stand after those before it
-abbrev pub ReadCause : ℕ → ℕ → List ℕ → StoreFault → Type 0
-ReadCause total used bytes store.NoMemory = Unit {0}
-ReadCause total used bytes (store.Journal start.Device) = Unit {0}
-ReadCause total used bytes (store.Journal (start.Short need got)) = ⊥
-ReadCause total used bytes (store.Journal (start.BadHeader place)) = ⊥
-ReadCause total used bytes (store.Journal (start.BadBody slot)) =
-    (slot < used) × AreClaims total (first_claims slot bytes) × (may_follow total (first_claims slot bytes) (claim_at bytes slot) ≡ false)
+-- why the slots in use of an area are not read as claims: the first whose span may not stand after those before it
+abbrev pub ReadCause : ℕ → ℕ → ℕ → List ℕ → StoreFault → Type 0
+ReadCause total at used bytes store.NoMemory = Unit {0}
+ReadCause total at used bytes (store.Journal start.Device) = Unit {0}
+ReadCause total at used bytes (store.Journal (start.Short need got)) = ⊥
+ReadCause total at used bytes (store.Journal (start.BadHeader place)) = ⊥
+ReadCause total at used bytes (store.Journal (start.BadBody slot)) =
+    (slot < used) × AreClaims total (first_claims at slot bytes)
+    × (may_follow total (first_claims at slot bytes) (claim_at at bytes slot) ≡ false)
 
 -- the disk's count doesn't fall, rises where a fault of it is told, and stands still where all is well
 pub record HasReadCause {T : Type 0} (before now : ℕ) (result : Result T StoreFault) : Type 0 where
@@ -55,12 +63,23 @@ pub record HasReadCause {T : Type 0} (before now : ℕ) (result : Result T Store
   pub device : IsErrOf result (store.Journal start.Device) → Rose before now
   pub done : OnOk result (now ≡ before)
 
+-- the ranges of these claims and of one span more are more than so many, or not more
+pub record AreMore (slots : ℕ) (claims : List Span) (s : Span) : Type 0 where
+  pub ranges : List Span
+  pub merged : AreMerged (claims ++ s ∷ []) ranges
+  pub more : slots < length ranges
+
+pub record AreFew (slots : ℕ) (claims : List Span) (s : Span) : Type 0 where
+  pub ranges : List Span
+  pub merged : AreMerged (claims ++ s ∷ []) ranges
+  pub few : length ranges ≤ slots
+
 -- nothing speaks against these units
 pub record IsFree {D : Type 0} (state : ClaimState D) (start count : ℕ) : Type 0 where
   pub whole : state.fault ≡ 0
   pub within : start + count ≤ state.total
   pub apart : first_met (span start (start + count)) state.claims ≡ None
-  pub room : length state.claims < state.slots
+  pub room : (state.used < state.slots) ⊎ AreFew state.slots state.claims (span start (start + count))
 
 -- What speaks against these units, before the disk or memory is asked: the first of these that holds.
 abbrev pub IsFaultOf : {D : Type 0} → ClaimState D → ℕ → ℕ → ClaimFault → Type 0
@@ -71,7 +90,8 @@ IsFaultOf state start count (Overlap earlier) =
     × (first_met (span start (start + count)) state.claims ≡ Some earlier)
 IsFaultOf state start count (Full slots) =
     (slots ≡ state.slots) × (state.fault ≡ 0) × (start + count ≤ state.total)
-    × (first_met (span start (start + count)) state.claims ≡ None) × (length state.claims ≡ state.slots)
+    × (first_met (span start (start + count)) state.claims ≡ None) × (state.used ≡ state.slots)
+    × AreMore state.slots state.claims (span start (start + count))
 IsFaultOf state start count Device = ⊥
 IsFaultOf state start count NoMemory = ⊥
 

@@ -1,2 +1,4 @@
+pub mod Ranges
 pub mod Claims
+pub mod Writes
 pub mod Causes

@@ -2,9 +2,9 @@
 ghost use Rattle.claim_store.specs.declared.fault.StoreFault.TheVariants as store;
 ghost use Rattle.std.specs.Prelude.{◌≡◌};
 
-use lease_journal::StartFault;
 use std::alloc::AllocFailed;
 use thiserror::Error;
+use twin_journal::StartFault;
 
 /// Why a store of claims doesn't start.
 #[derive(Clone, Copy, Debug, PartialEq, Eq, Error)]

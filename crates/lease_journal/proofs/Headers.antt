@@ -5,14 +5,13 @@ use Rattle.zk_model.specs.Journals.{journal_header}
 use Rattle.std.proofs.lemmas.Bool.Decides.{nat_tests}
 use Rattle.zk_model.specs.declared.JournalKind.{JournalKind}
 use Rattle.zk_model.specs.declared.JournalKind.TheVariants.{Claims, Ceilings}
-use Rattle.zk_model.specs.Journals.{are_slots, is_wrong_at, slots_at, HasHeader, IsFirstWrong}
-use Rattle.lease_journal.specs.Scans.{IsFirstWrongOf}
+use Rattle.zk_model.specs.Journals.{are_slots, is_wrong_at, slots_at}
 use Rattle.lease_journal.proofs.Reading.{IsRead, read_byte, read_word}
 
-slots_same : (buffer bytes : List ℕ) → IsRead buffer bytes 0 64 → slots_at buffer ≡ slots_at bytes
+pub slots_same : (buffer bytes : List ℕ) → IsRead buffer bytes 0 64 → slots_at buffer ≡ slots_at bytes
 slots_same buffer bytes read = read_word buffer bytes 0 64 24 24 read (omega arith) (omega arith)
 
-wrong_same : (kind : JournalKind) (id : List ℕ) (total : ℕ) (buffer bytes : List ℕ) → IsRead buffer bytes 0 64 → (place : ℕ) → place < 64
+pub wrong_same : (kind : JournalKind) (id : List ℕ) (total : ℕ) (buffer bytes : List ℕ) → IsRead buffer bytes 0 64 → (place : ℕ) → place < 64
     → is_wrong_at kind id total buffer place ≡ is_wrong_at kind id total bytes place
 wrong_same kind id total buffer bytes read place inside =
     let there : 0 + place ≡ place = omega arith in
@@ -20,25 +19,6 @@ wrong_same kind id total buffer bytes read place inside =
     let slots : slots_at buffer ≡ slots_at bytes = slots_same buffer bytes read in
     λ i. if place == 24 then not (are_slots kind total (slots i))
     else ((nat_lt place 24 || nat_le 32 place) && not (byte i == get_or (journal_header kind id total 0) place 0))
-
-pub header_read : (kind : JournalKind) (id : List ℕ) (total : ℕ) (buffer bytes : List ℕ) → IsRead buffer bytes 0 64
-    → IsFirstWrongOf kind id total buffer None → (slots_at buffer ≡ slots_at bytes) × HasHeader kind id total bytes
-header_read kind id total buffer bytes read none = (
-  slots_same buffer bytes read,
-  record {
-    whole = omega (arith, read.inside);
-    right = λ place inside. sym (wrong_same kind id total buffer bytes read place inside) ∙ none place inside;
-  },
-)
-
-pub wrong_read : (kind : JournalKind) (id : List ℕ) (total place : ℕ) (buffer bytes : List ℕ) → IsRead buffer bytes 0 64
-    → IsFirstWrongOf kind id total buffer (Some place) → IsFirstWrong kind id total bytes place
-wrong_read kind id total place buffer bytes read first = record {
-  whole = omega (arith, read.inside);
-  inside = first.0;
-  wrong = sym (wrong_same kind id total buffer bytes read place first.0) ∙ first.1;
-  first = λ earlier before. sym (wrong_same kind id total buffer bytes read earlier (omega (arith, before, first.0))) ∙ first.2 earlier before;
-}
 
 -- a byte is judged beside a header that says no number of slots
 pub judged : (kind : JournalKind) (id : List ℕ) (total : ℕ) (header wanted : List ℕ) (fits result : Bool) (word place : ℕ)
@@ -63,15 +43,3 @@ more_right kind id total header at so_far here place below = ⊎_elim
 pub fits_few : (kind : JournalKind) (total slots : ℕ) → not (are_slots kind total slots) ≡ false → slots ≤ 2 ^ 28
 fits_few Claims total slots fits = grind (arith, nat_tests)
 fits_few Ceilings total slots fits = grind (arith, nat_tests)
-
--- a right header says few slots
-pub few_slots : (kind : JournalKind) (id : List ℕ) (total : ℕ) (header : List ℕ) (slots : ℕ) → slots ≡ slots_at header → IsFirstWrongOf kind id total header None → slots ≤ 2 ^ 28
-few_slots kind id total header slots is right = fits_few kind total slots (ap (λ n. not (are_slots kind total n)) is ∙ right 24 (omega arith))
-
--- a right header says a number of slots that there may be
-pub right_slots : (kind : JournalKind) (id : List ℕ) (total : ℕ) (header : List ℕ) (slots : ℕ) → slots ≡ slots_at header → IsFirstWrongOf kind id total header None
-    → are_slots kind total slots ≡ true
-right_slots kind id total header slots is right = not-false (are_slots kind total slots) (ap (λ n. not (are_slots kind total n)) is ∙ right 24 (omega arith)) where
-  not-false : (b : Bool) → not b ≡ false → b ≡ true
-  not-false true e = refl
-  not-false false e = absurd (cc)

@@ -1,18 +1,17 @@
 -- What stays of a journal while one slot is written.
-use Rattle.std.proofs.Common.{◌≡◌, ◌<◌, ◌≤◌, ◌+◌, ◌*◌, ◌==◌, ◌&&◌, ◌||◌, not, nat_lt, nat_le, if◌then◌else◌, inl, inr, ℕ, List, length, get_or, true, false, Option, Some, None, IfSome, IsSomeAnd, ⊎_elim, refl, ap, sym, ◌∙◌, subst, arith}
+use Rattle.std.proofs.Common.{◌≡◌, ◌≢◌, ◌<◌, ◌≤◌, ◌+◌, ◌*◌, ◌==◌, ◌&&◌, ◌||◌, not, nat_lt, nat_le, if◌then◌else◌, inl, inr, ℕ, List, length, get_or, true, false, Option, Some, None, IfSome, IsSomeAnd, ⊎_elim, refl, ap, sym, ◌∙◌, subst, arith}
 use Rattle.std.specs.Option.{option_map}
+use Rattle.std.proofs.lemmas.Bool.{cases_eq}
 use Rattle.std.specs.Int.{w64, from_le_bytes}
 use Rattle.zk_port.specs.Disks.{DiskState, Stays, Steps}
 use Rattle.zk_port.specs.Images.{IsOutside, IsTorn, StepsBy, written_at}
 use Rattle.zk_port.proofs.Torn.{torn_by_write}
 use Rattle.zk_model.specs.declared.JournalKind.{JournalKind}
-use Rattle.zk_model.specs.Journals.{AreSound, AreUsed, HasHeader, IsHeaded, IsInHeader, SameWhere, Stands, are_slots, first_bodies, is_sound_at, is_wrong_at, journal_header, slots_at}
-use Rattle.lease_journal.specs.Keeps.{ChangesAt, IsSpared, Keeps, StartsAgain}
+use Rattle.zk_model.specs.Journals.{SameWhere, are_slots, journal_header, slots_at}
+use Rattle.zk_model.specs.Twins.{HasMovedHeader, is_wrong_beside_gate}
+use Rattle.lease_journal.specs.Keeps.{ChangesAt, IsSpared, Keeps}
 use Rattle.lease_journal.specs.Steps.{TornFrom}
-use Rattle.lease_journal.specs.declared.fault.StartFault.TheVariants.{Device, Short, BadHeader, BadBody}
 use Rattle.lease_journal.proofs.Moments.{goes_on, leaves_also, started, then_leaves}
-use Rattle.lease_journal.proofs.Scanning.{used_recovers}
-use Rattle.lease_journal.proofs.Sound.{recovers_same, sound_slots}
 use Rattle.lease_journal.proofs.Torn.{same_part, untorn}
 
 -- a torn write is one of a wider range
@@ -32,43 +31,42 @@ torn_again at n a b c first second = record {
   kept = λ place inside outside. second.kept place (omega (arith, inside, first.least)) outside ∙ first.kept place inside outside;
 }
 
--- a torn write after the header keeps the header
-pub torn_same : (at n : ℕ) (old new : List ℕ) → 64 ≤ at → 64 ≤ length old → IsTorn at n old new → SameWhere IsInHeader old new
-torn_same at n old new behind whole torn = record {
+-- at each place of the header but the gate of the migration
+pub record SameBeside (old new : List ℕ) : Type 0 where
+  pub whole : 64 ≤ length old
+  pub longer : length old ≤ length new
+  pub same : (place : ℕ) → place < 64 → place ≢ 15 → get_or new place 0 ≡ get_or old place 0
+
+pub torn_beside : (at n : ℕ) (old new : List ℕ) → (((place : ℕ) → place < 64 → place ≢ 15 → IsOutside at n place)) → 64 ≤ length old → IsTorn at n old new → SameBeside old new
+torn_beside at n old new beside whole torn = record {
+  whole = whole;
   longer = torn.least;
-  same = λ place inside. torn.kept place (omega (arith, inside, whole)) (inl (omega (arith, inside, behind)));
+  same = λ place inside apart. torn.kept place (omega (arith, inside, whole)) (beside place inside apart);
 }
 
-pub slots_kept : (old new : List ℕ) → 64 ≤ length old → SameWhere IsInHeader old new → slots_at new ≡ slots_at old
-slots_kept old new whole kept =
-    ap (from_le_bytes w64) (same_part old new 24 8 (omega (arith, whole)) (omega (arith, whole, kept.longer)) (λ i below. kept.same (24 + i) (omega (arith, below))))
+pub moved_slots : (old new : List ℕ) → SameBeside old new → slots_at new ≡ slots_at old
+moved_slots old new kept =
+    ap (from_le_bytes w64) (same_part old new 24 8 (omega (arith, kept.whole)) (omega (arith, kept.whole, kept.longer))
+    (λ i below. kept.same (24 + i) (omega (arith, below)) (λ e. omega (arith, e))))
 
-wrong_kept : (kind : JournalKind) (id : List ℕ) (total : ℕ) (old new : List ℕ) → 64 ≤ length old → SameWhere IsInHeader old new → (place : ℕ) → place < 64
-    → is_wrong_at kind id total new place ≡ is_wrong_at kind id total old place
-wrong_kept kind id total old new whole kept place inside =
-    let byte : get_or new place 0 ≡ get_or old place 0 = kept.same place inside in
-    let slots : slots_at new ≡ slots_at old = slots_kept old new whole kept in
-    λ i. if place == 24 then not (are_slots kind total (slots i))
-    else ((nat_lt place 24 || nat_le 32 place) && not (byte i == get_or (journal_header kind id total 0) place 0))
+moved_wrong : (kind : JournalKind) (id : List ℕ) (total : ℕ) (old new : List ℕ) → SameBeside old new → (place : ℕ) → place < 64
+    → is_wrong_beside_gate kind id total new place ≡ is_wrong_beside_gate kind id total old place
+moved_wrong kind id total old new kept place inside = ⊎_elim
+    (λ gate. at_gate new gate ∙ sym (at_gate old gate))
+    (λ apart.
+    let byte : get_or new place 0 ≡ get_or old place 0 = kept.same place inside apart in
+    let slots : slots_at new ≡ slots_at old = moved_slots old new kept in
+    λ i. not (place == 15) && (if place == 24 then not (are_slots kind total (slots i))
+    else ((nat_lt place 24 || nat_le 32 place) && not (byte i == get_or (journal_header kind id total 0) place 0))))
+    (cases_eq place 15)
+  where
+    at_gate : (bytes : List ℕ) → place ≡ 15 → is_wrong_beside_gate kind id total bytes place ≡ false
+    at_gate bytes gate = subst (λ p. is_wrong_beside_gate kind id total bytes p ≡ false) (sym gate) refl
 
-pub header_kept : (kind : JournalKind) (id : List ℕ) (total : ℕ) (old new : List ℕ) → SameWhere IsInHeader old new → HasHeader kind id total old → HasHeader kind id total new
-header_kept kind id total old new kept header = record {
+pub moved_kept : (kind : JournalKind) (id : List ℕ) (total : ℕ) (old new : List ℕ) → SameBeside old new → HasMovedHeader kind id total old → HasMovedHeader kind id total new
+moved_kept kind id total old new kept header = record {
   whole = omega (arith, header.whole, kept.longer);
-  right = λ place inside. wrong_kept kind id total old new header.whole kept place inside ∙ header.right place inside;
-}
-
-pub headed_kept : (kind : JournalKind) (id : List ℕ) (total slots : ℕ) (old new : List ℕ) → SameWhere IsInHeader old new → IsHeaded kind id total slots old
-    → IsHeaded kind id total slots new
-headed_kept kind id total slots old new kept headed = record {
-  header = header_kept kind id total old new kept headed.header;
-  says = slots_kept old new headed.header.whole kept ∙ headed.says;
-}
-
-pub stands_kept : (kind : JournalKind) (id : List ℕ) (total slots : ℕ) (old new : List ℕ) → SameWhere IsInHeader old new → Stands kind id total slots old → Stands kind id total slots new
-stands_kept kind id total slots old new kept stands = record {
-  header = header_kept kind id total old new kept stands.header;
-  says = slots_kept old new stands.header.whole kept ∙ stands.says;
-  full = omega (arith, stands.full, kept.longer);
+  right = λ place inside. moved_wrong kind id total old new kept place inside ∙ header.right place inside;
 }
 
 -- changes of a wider range, and changes of one range one after another
@@ -153,37 +151,6 @@ keeps {old} {new} at n P changes step = record {
     in_content None after none had = subst (λ o. IfSome o P) (sym none) tt
     in_content (Some a) (Some b) torn had = step a b had torn
     in_content (Some a) None torn had = tt
-
-pub keeps_header : {old new : DiskState} (slot : ℕ) → ChangesAt (64 + 32 * slot) 32 old new → (kind : JournalKind) (id : List ℕ) (total slots : ℕ)
-    → Keeps (IsHeaded kind id total slots) old new
-keeps_header slot changes kind id total slots = keeps (64 + 32 * slot) 32 (IsHeaded kind id total slots) changes
-    (λ a b had torn. headed_kept kind id total slots a b (torn_same (64 + 32 * slot) 32 a b (omega arith) had.header.whole torn) had)
-
-pub keeps_stands : {old new : DiskState} (slot slots : ℕ) → ChangesAt (64 + 32 * slot) 32 old new → (kind : JournalKind) (id : List ℕ) (total : ℕ) → Keeps (Stands kind id total slots) old new
-keeps_stands slot slots changes kind id total = keeps (64 + 32 * slot) 32 (Stands kind id total slots) changes
-    (λ a b had torn. stands_kept kind id total slots a b (torn_same (64 + 32 * slot) 32 a b (omega arith) had.header.whole torn) had)
-
--- why a journal that stands is not opened
-pub starts_again : StartsAgain
-starts_again kind id total slots bodies bytes Device stands recovers sound cause = refl
-starts_again kind id total slots bodies bytes (Short need got) stands recovers sound cause = absurd (⊎_elim
-    (λ short. omega (arith, short.1, stands.header.whole))
-    (λ cut. omega (arith, cut.2.ends, cut.2.within, stands.says, stands.full))
-    cause.1)
-starts_again kind id total slots bodies bytes (BadHeader place) stands recovers sound cause =
-    absurd (both (sym (stands.header.right place cause.inside) ∙ cause.wrong))
-  where
-    both : false ≡ true → ⊥
-    both e = cc e
-starts_again kind id total slots bodies bytes (BadBody bad) stands recovers sound cause =
-    let used : ℕ = cause.2 in
-    let are : AreUsed 64 slots used bytes = subst (λ n. AreUsed 64 n used bytes) stands.says cause.3 in
-    let same : bodies ≡ first_bodies 64 used bytes = recovers_same 64 slots bytes bodies (first_bodies 64 used bytes) recovers (used_recovers 64 slots used bytes are) in
-    let right : is_sound_at kind total 64 bytes bad ≡ true = sound_slots kind total 64 used bytes (subst (AreSound kind total) same sound) bad cause.4.0 in
-    absurd (both (sym cause.4.1 ∙ right))
-  where
-    both : false ≡ true → ⊥
-    both e = cc e
 
 -- a write of a body or of a gate spares what stands beside both
 spared_step : (first : List ℕ) (at from n : ℕ) → ((place : ℕ) → IsSpared first at place → IsOutside from n place) → (a b : List ℕ)

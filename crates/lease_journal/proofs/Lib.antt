@@ -7,5 +7,6 @@ pub mod Keeping
 pub mod Reading
 pub mod Scanning
 pub mod Headers
+pub mod MovedHeaders
+pub mod OneAreas
 pub mod Newly
-pub mod Tidiness

@@ -1,11 +1,12 @@
 -- Why a journal refuses, and what stands in one that is kept.
-use Rattle.std.specs.Prelude.{◌≡◌, ◌⊎◌, ℕ, ◌+◌, ◌*◌, ◌^◌, ◌<◌, ◌≤◌, List, length, Option, Some, None, Result, OnOk, IsErrOf}
+use Rattle.std.specs.Prelude.{◌≡◌, ◌⊎◌, ℕ, ◌+◌, ◌*◌, ◌^◌, ◌<◌, ◌≤◌, List, length, Option, Some, None, false, Result, OnOk, IsErrOf}
 use Rattle.zk_port.specs.Counts.{Rose}
 use Rattle.zk_port.specs.Disks.{DiskState}
 use Rattle.zk_model.specs.declared.JournalKind.{JournalKind}
 use Rattle.lease_journal.specs.declared.fault.StartFault.{StartFault}
 use Rattle.lease_journal.specs.declared.fault.StartFault.TheVariants as start
-use Rattle.zk_model.specs.Journals.{IsTidy, Recovers, IsOpen, AreUsed, IsFirstBad, IsCut, HasHeader, IsFirstWrong, body_at, last_body, slots_at}
+use Rattle.zk_model.specs.Journals.{IsTidy, Recovers, IsOpen, AreUsed, IsFirstBad, IsCut, body_at, last_body, slots_at}
+use Rattle.zk_model.specs.Twins.{HasMovedHeader, IsFirstMovedWrong, is_migrated}
 use Rattle.lease_journal.specs.declared.fault.JournalFault.{JournalFault}
 use Rattle.lease_journal.specs.declared.fault.JournalFault.TheVariants.{Device, Broken, Full}
 use Rattle.zk_model.specs.declared.limits.TheConstants.{MAX_SLOTS}
@@ -65,27 +66,19 @@ ScanCause at slots bytes (start.BadBody bad) = ⊥
 abbrev pub HeaderCause : JournalKind → List ℕ → ℕ → List ℕ → StartFault → Type 0
 HeaderCause kind id total bytes start.Device = Unit {0}
 HeaderCause kind id total bytes (start.Short need got) = (need ≡ 64) × (got ≡ length bytes) × (length bytes < 64)
-HeaderCause kind id total bytes (start.BadHeader place) = IsFirstWrong kind id total bytes place
+HeaderCause kind id total bytes (start.BadHeader place) = IsFirstMovedWrong kind id total bytes place
 HeaderCause kind id total bytes (start.BadBody bad) = ⊥
 
--- Why a journal of these bytes is not opened: the first of these that holds.
-abbrev pub StartCause : JournalKind → List ℕ → ℕ → List ℕ → StartFault → Type 0
-StartCause kind id total bytes start.Device = Unit {0}
-StartCause kind id total bytes (start.Short need got) =
+-- Why a journal of one area is not read: the first of these that holds. No slot is judged of one that was migrated.
+abbrev pub OneAreaCause : JournalKind → List ℕ → ℕ → List ℕ → StartFault → Type 0
+OneAreaCause kind id total bytes start.Device = Unit {0}
+OneAreaCause kind id total bytes (start.Short need got) =
     (got ≡ length bytes) × (((need ≡ 64) × (length bytes < 64))
-    ⊎ ((need ≡ 64 + 32 * slots_at bytes) × HasHeader kind id total bytes × IsCut 64 (slots_at bytes) bytes))
-StartCause kind id total bytes (start.BadHeader place) = IsFirstWrong kind id total bytes place
-StartCause kind id total bytes (start.BadBody bad) =
-    HasHeader kind id total bytes × (¬ (IsCut 64 (slots_at bytes) bytes)) × (used : ℕ)
+    ⊎ ((need ≡ 64 + 32 * slots_at bytes) × HasMovedHeader kind id total bytes × (is_migrated kind bytes ≡ false) × IsCut 64 (slots_at bytes) bytes))
+OneAreaCause kind id total bytes (start.BadHeader place) = IsFirstMovedWrong kind id total bytes place
+OneAreaCause kind id total bytes (start.BadBody bad) =
+    HasMovedHeader kind id total bytes × (is_migrated kind bytes ≡ false) × (¬ (IsCut 64 (slots_at bytes) bytes)) × (used : ℕ)
     × AreUsed 64 (slots_at bytes) used bytes × IsFirstBad kind total 64 bytes used (Some bad)
-
--- what an open journal says of the bytes: a right header, the slots in use, and bodies that all keep their rule
-pub record IsOpened (kind : JournalKind) (id : List ℕ) (total slots used : ℕ) (last : ℕ × ℕ) (bytes : List ℕ) : Type 0 where
-  pub header : HasHeader kind id total bytes
-  pub slots_are : slots ≡ slots_at bytes
-  pub slots_used : AreUsed 64 slots used bytes
-  pub last_is : last ≡ last_body 64 bytes used
-  pub sound : IsFirstBad kind total 64 bytes used None
 
 -- a number of slots that a header may say, where the content is told
 abbrev pub SaysSlots : Option (List ℕ) → ℕ → Type 0

@@ -1,6 +1,6 @@
 pub mod Steps
 pub mod Causes
 pub mod Scans
-pub mod New
-pub mod States
 pub mod Keeps
+pub mod OneAreas
+pub mod Laws

@@ -12,13 +12,11 @@ ghost use Rattle.lease_journal.specs.Steps.{TornFrom, IsReady, slot_written, bod
 ghost use Rattle.lease_journal.specs.declared.fault.StartFault.TheVariants as start;
 ghost use Rattle.zk_model.specs.declared.limits.TheConstants.{MAX_SLOTS};
 
+use crate::OPEN;
 use crate::fault::StartFault;
 use crate::storing::{store_at, word_at};
 use zk_model::JournalKind;
 use zk_port::{Disk, Failed};
-
-/// The byte after a body that counts.
-const OPEN: u8 = 0x5A;
 
 /// What stands in the slots: how many are in use, the body in the last of them, and the first whose body breaks the
 /// rule of its kind.

@@ -1,5 +1,9 @@
+pub mod Places
 pub mod Bodies
-pub mod Putting
+pub mod Rounding
+pub mod Contents
+pub mod Covering
 pub mod Starting
 pub mod Refusing
 pub mod Closing
+pub mod Finding

@@ -1,27 +1,59 @@
 -- What a journal of ceilings says, and kinds of disks.
-use Rattle.std.specs.Prelude.{◌≡◌, ℕ, ◌-◌, ◌^◌, ◌<◌, ◌≤◌, List, length, get_or, Some, IsSomeAnd}
+use Rattle.std.specs.Prelude.{◌≡◌, ℕ, ◌+◌, ◌-◌, ◌^◌, ◌<◌, ◌≤◌, List, length, get_or, Option, Some, IsSomeAnd}
 use Rattle.zk_port.specs.Disks.{DiskState}
+use Rattle.lease_journal.specs.declared.fault.StartFault.{StartFault}
+use Rattle.twin_journal.specs.Starts.{FileCause, IsTidyFile, SaysTwinSlots}
 use Rattle.zk_model.specs.declared.JournalKind.TheVariants.{Ceilings}
-use Rattle.zk_model.specs.Journals.{SaysBodies, Stands, body_before, ceiling_slots}
+use Rattle.zk_model.specs.Journals.{AreSound, body_before}
+use Rattle.zk_model.specs.Twins.{HoldsTwin, MayHaveGeneration, SaysTwin, twin_begin, twin_ceiling_slots, twin_length}
 
 -- the last ceiling, or 0 where there is none
 abbrev pub last_ceiling : List (ℕ × ℕ) → ℕ
 last_ceiling bodies = (body_before bodies (length bodies)).0
 
--- A journal of ceilings of this id and total in these bytes says this ceiling: its header is right, it is tidy, this is the last of
--- the bodies that it recovers, and each of these keeps the rule of ceilings. So the second number of each is 0.
+-- a journal of ceilings of this id and total stands in these bytes
+pub record HasCeilingHeader (id : List ℕ) (total : ℕ) (bytes : List ℕ) : Type 0 where
+  pub begin : ℕ
+  pub slots : ℕ
+  pub holds : HoldsTwin Ceilings id total begin slots bytes
+
+-- in its active area no slot after one that is not open is open, as in each journal that stores alone have written
+abbrev pub HasTidyCeilings : List ℕ → Type 0
+HasTidyCeilings bytes = IsTidyFile Ceilings bytes
+
+-- so many bytes are room for as many slots as its header says, where it begins; or, where the content is not known, as a header may say
+abbrev pub HasCeilingRoom : Option (List ℕ) → ℕ → Type 0
+HasCeilingRoom content size = (begin slots : ℕ) → SaysTwinSlots Ceilings content begin slots → begin + twin_length slots ≤ size
+
+-- why a journal of ceilings of this id and total is not opened
+abbrev pub CeilingStartCause : List ℕ → ℕ → List ℕ → StartFault → Type 0
+CeilingStartCause id total bytes fault = FileCause Ceilings id total bytes fault
+
+-- A journal of ceilings of this id and total begins at a place of these bytes and stands there. It says these bodies, in an area of this
+-- generation; each of them keeps the rule of ceilings, and the generation is one that there may be for them.
+pub record HasCeilings (id : List ℕ) (total begin generation : ℕ) (bodies : List (ℕ × ℕ)) (bytes : List ℕ) : Type 0 where
+  pub holds : HoldsTwin Ceilings id total begin (twin_ceiling_slots total) bytes
+  pub says : SaysTwin begin (twin_ceiling_slots total) generation bodies bytes
+  pub sound : AreSound Ceilings total bodies
+  pub may_have : MayHaveGeneration Ceilings bodies generation
+
+-- A journal of ceilings of this id and total stands in these bytes and says this ceiling, its last. The second number of each body is 0.
 pub record SaysCeiling (id : List ℕ) (total ceiling : ℕ) (bytes : List ℕ) : Type 0 where
+  pub begin : ℕ
+  pub generation : ℕ
   pub bodies : List (ℕ × ℕ)
-  pub says : SaysBodies Ceilings id total (ceiling_slots total) bodies bytes
+  pub says : HasCeilings id total begin generation bodies bytes
   pub last : last_ceiling bodies ≡ ceiling
   pub seconds : (place : ℕ) → place < length bodies → (get_or bodies place (0, 0)).1 ≡ 0
 
--- The same with this ceiling or a higher one; and where a whole journal stood in the first bytes, one stands in these.
+-- The same with this ceiling or a higher one; and the journal begins where the one in the first bytes begins.
 pub record FindsCeiling (id : List ℕ) (total ceiling : ℕ) (first bytes : List ℕ) : Type 0 where
+  pub begin : ℕ
+  pub generation : ℕ
   pub bodies : List (ℕ × ℕ)
-  pub says : SaysBodies Ceilings id total (ceiling_slots total) bodies bytes
+  pub says : HasCeilings id total begin generation bodies bytes
   pub reaches : ceiling ≤ last_ceiling bodies
-  pub stands : Stands Ceilings id total (ceiling_slots total) first → Stands Ceilings id total (ceiling_slots total) bytes
+  pub began : twin_begin Ceilings first ≡ begin
 
 -- A disk that says its content said it at the start too; and where it did, the content and each image say this ceiling or a higher
 -- one.

@@ -3,11 +3,9 @@ use Rattle.std.specs.Prelude.{◌≡◌, ℕ, ◌≤◌, List, Some, refl}
 use Rattle.std.specs.Coded.{Coded, code_by, coded×, coded_ℕ}
 use Rattle.atomic_table.specs.Seated.{TableId, table_id_coded}
 use Rattle.zk_port.specs.Disks.{DiskState}
-use Rattle.lease_journal.specs.States.{JournalState, state_code}
+use Rattle.twin_journal.specs.States.{TwinState, state_code}
 use Rattle.lease_words.specs.declared.view.View.{View}
-use Rattle.zk_model.specs.declared.JournalKind.TheVariants.{Ceilings}
-use Rattle.zk_model.specs.Journals.{HasHeader}
-use Rattle.lease_store.specs.Ceilings.{NeverFails}
+use Rattle.lease_store.specs.Ceilings.{HasCeilingHeader, NeverFails}
 use Rattle.lease_store.specs.Desks.{IsDesk}
 use Rattle.zk_model.specs.declared.limits.TheConstants.{MAX_STORE_UNITS}
 
@@ -33,13 +31,13 @@ pub record StoreState : Type 0 where
 
 -- behind the lock: the journal, the ceiling that its seat shows, and the mark that it set, or 0
 pub record DeskState (D : Type 0) : Type 0 where
-  pub journal : JournalState D
+  pub journal : TwinState D
   pub ceiling : ℕ
   pub mark : ℕ
 
 abbrev pub desk_code : {D : Type 0} → Coded D → Coded (DeskState D)
 desk_code {D} disk =
-    code_by (JournalState D × (ℕ × ℕ))
+    code_by (TwinState D × (ℕ × ℕ))
     (coded× (state_code disk) (coded× coded_ℕ coded_ℕ))
     (λ d. (d.journal, (d.ceiling, d.mark)))
     (λ p. record { journal = p.0; ceiling = p.1.0; mark = p.1.1 })
@@ -47,20 +45,20 @@ desk_code {D} disk =
 
 -- What parts keep: the seat is of these words, which begin at the journal's ceiling, and the journal and the seat are a desk that has
 -- just started, for each id that the header has.
-pub record AreParts {D : Type 0} (disk_state : D → DiskState) (total base : ℕ) (table seat : TableId) (journal : JournalState D) (v : View) : Type 0 where
+pub record AreParts {D : Type 0} (disk_state : D → DiskState) (total base : ℕ) (table seat : TableId) (journal : TwinState D) (v : View) : Type 0 where
   pub few : total ≤ MAX_STORE_UNITS
   pub own : seat ≡ table
   pub base_is : base ≡ journal.last.0
   pub kept : (id : List ℕ)
-      → ((bytes : List ℕ) → (disk_state journal.disk).content ≡ Some bytes → HasHeader Ceilings id total bytes)
-      → IsDesk (disk_state journal.disk) (disk_state journal.disk) id total base journal.slots journal.used journal.last.0 journal.fault v
+      → ((bytes : List ℕ) → (disk_state journal.disk).content ≡ Some bytes → HasCeilingHeader id total bytes)
+      → IsDesk disk_state (disk_state journal.disk) id total base journal v
   pub whole : journal.fault ≡ 0
 
 -- what the desk keeps, of the store that has this table, total, number of passes, base, id, and disk at its start
-pub record IsDeskOf {D : Type 0} (disk_state : D → DiskState) (table : TableId) (total passes base : ℕ) (id : List ℕ) (start : DiskState) (seat : TableId) (journal : JournalState D) (own_total : ℕ) (v : View) : Type 0 where
+pub record IsDeskOf {D : Type 0} (disk_state : D → DiskState) (table : TableId) (total passes base : ℕ) (id : List ℕ) (start : DiskState) (seat : TableId) (journal : TwinState D) (own_total : ℕ) (v : View) : Type 0 where
   pub few : own_total ≤ MAX_STORE_UNITS
   pub total_is : own_total ≡ total
   pub own : seat ≡ table
   pub made : v.made ≡ passes
-  pub kept : IsDesk start (disk_state journal.disk) id total base journal.slots journal.used journal.last.0 journal.fault v
+  pub kept : IsDesk disk_state start id total base journal v
   pub never : NeverFails disk_state → journal.fault ≡ 0

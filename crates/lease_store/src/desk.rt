@@ -1,24 +1,27 @@
 // What stands behind the lock.
-ghost use Rattle.std.specs.Prelude.{◌≡◌, ◌^◌, ◌+◌, ◌<◌, ◌≤◌, ℕ, List, Some, is_ok, true, IfErr, OnOk, OnErr};
+ghost use Rattle.std.specs.Prelude.{◌≡◌, ◌<◌, ◌≤◌, ℕ, List, Some, is_ok, true, IfErr, OnOk, OnErr};
 ghost use Rattle.lease_core.specs.Machine.{ceiling_for};
 ghost use Rattle.lease_words.specs.Calls.{ceiling_of, made_of, own_mark_of, words_id};
 ghost use Rattle.zk_port.specs.Disks.{LeavesOnly};
 ghost use Rattle.lease_store.specs.Ceilings.{AreFound, FindsCeiling, NeverFails};
 ghost use Rattle.lease_store.specs.Desks.{CoverCause, IsDesk};
+ghost use Rattle.lease_store.specs.Raising.{after_ceiling, are_all_used};
 ghost use Rattle.lease_store.specs.States.{IsDeskOf};
 ghost use Rattle.zk_model.specs.declared.limits.TheConstants.{MAX_STORE_UNITS};
 
 use crate::name::LeaseName;
-use lease_journal::{Journal, JournalFault};
+use crate::raising::store_ceiling;
 use lease_words::{JournalSeat, Words};
 use std::marker::{Model, PhantomData};
+use twin_journal::{JournalFault, Twin};
 use zk_port::Disk;
 
-/// The journal, and the seat that raises the ceiling. The ceiling is that of the journal's slots in use, and every image
-/// of the disk is a sound journal that recovers it or a higher one. Contracts see of it the journal, the ceiling and the mark (`DeskState`).
+/// The journal, and the seat that raises the ceiling. The ceiling is that of the active area's slots in use, and every
+/// image of the disk is a sound journal that recovers it or a higher one. Contracts see of it the journal, the ceiling
+/// and the mark (`DeskState`).
 #[derive(Drop)]
 pub struct Desk<B: Disk, N: LeaseName> {
-    journal: Journal<B>,
+    journal: Twin<B>,
     seat: JournalSeat,
     total: u64,
     name: PhantomData<N>,
@@ -52,7 +55,7 @@ fn ceiling_for(total: u64, end: u64) -> u64
 
 impl<B: Disk, N: LeaseName> Desk<B, N> {
     /// The desk of the store that has this name.
-    pub fn new(journal: Journal<B>, seat: JournalSeat, total: u64) -> Self
+    pub fn new(journal: Twin<B>, seat: JournalSeat, total: u64) -> Self
         requires { IsDeskOf B.state N.table N.total N.passes N.base N.id N.start
             seat.seat.table_id journal total seat.seat.me.0 }
         ensures journal { result.journal ≡ journal }
@@ -68,9 +71,8 @@ impl<B: Disk, N: LeaseName> Desk<B, N> {
     }
 
     /// The journal and the seat.
-    pub fn into_parts(self) -> (Journal<B>, JournalSeat)
-        ensures kept { IsDesk N.start (B.state result.0.disk) N.id N.total N.base result.0.slots result.0.used
-            result.0.last.0 result.0.fault result.1.seat.me.0 }
+    pub fn into_parts(self) -> (Twin<B>, JournalSeat)
+        ensures kept { IsDesk B.state N.start N.id N.total N.base result.0 result.1.seat.me.0 }
         ensures own { result.1.seat.table_id ≡ N.table }
         ensures made { made_of result.1 ≡ N.passes }
     {
@@ -79,12 +81,13 @@ impl<B: Disk, N: LeaseName> Desk<B, N> {
     }
 
     /// Sees to it that the ceiling reaches this end. Where it doesn't yet, it puts the end, rounded up to a multiple of 16
-    /// and at most the total, into the journal, and then shows it.
+    /// and at most the total, into the journal, and then shows it. Where all slots of the active area are in use, it
+    /// compacts the journal to this one ceiling in place of the put. It takes no memory.
     ///
     /// # Errors
     ///
-    /// `Device` where the journal's put failed, which marks the journal's fault; `Broken` where one failed before. The
-    /// ceiling is then as before.
+    /// `Device` where the journal's put or compaction failed, which marks the journal's fault; `Broken` where one failed
+    /// before. The ceiling is then as before. It is never `Full`.
     pub fn cover(&mut self, words: &Words, end: u64) -> Result<(), JournalFault>
         requires own { words_id words.now ≡ N.table }
         requires within { end ≤ N.total }
@@ -92,8 +95,9 @@ impl<B: Disk, N: LeaseName> Desk<B, N> {
         ensures raised { OnOk result (self.old.ceiling < end → self.new.ceiling ≡ ceiling_for N.total end) }
         ensures written { OnOk result (self.old.ceiling < end
             → self.new.journal.last ≡ (ceiling_for N.total end, 0)) }
-        ensures used { OnOk result (self.old.ceiling < end
-            → self.new.journal.used ≡ self.old.journal.used + 1) }
+        ensures journal { OnOk result (self.old.ceiling < end
+            → self.new.journal ≡ after_ceiling (are_all_used self.old.journal) self.old.journal
+            self.new.journal.disk (ceiling_for N.total end)) }
         ensures found { AreFound N.start (B.state self.new.journal.disk) N.id N.total self.new.ceiling }
         ensures reached { OnOk result (end ≤ self.new.ceiling) }
         ensures refused { OnErr result (self.new.ceiling ≡ self.old.ceiling) }
@@ -109,7 +113,7 @@ impl<B: Disk, N: LeaseName> Desk<B, N> {
             return Ok(());
         }
         let ceiling = ceiling_for(self.total, end);
-        match self.journal.put(ceiling, 0) {
+        match store_ceiling(&mut self.journal, ceiling) {
             Ok(()) => {
                 words.raise(&mut self.seat, ceiling);
                 Ok(())

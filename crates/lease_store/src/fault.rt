@@ -1,6 +1,6 @@
 // Why units are not leased without waiting, and why a store doesn't start.
-use lease_journal::StartFault;
 use thiserror::Error;
+use twin_journal::StartFault;
 
 /// Why units are not leased without waiting.
 #[derive(Clone, Copy, Debug, PartialEq, Eq, Error)]

@@ -11,9 +11,9 @@ use crate::desk::Desk;
 use crate::fault::TryFault;
 use crate::name::LeaseName;
 use crate::store::LeaseStore;
-use lease_journal::JournalFault;
 use lease_words::{Exhausted, Pass};
 use std::sync::Wait;
+use twin_journal::JournalFault;
 use zk_model::Span;
 use zk_port::Disk;
 

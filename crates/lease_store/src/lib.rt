@@ -3,8 +3,11 @@
 //! Threads draw by the lease words, and behind a lock stand the journal and the seat that raises the ceiling. A span is
 //! granted once its pass has seen a ceiling at or above its end, and the ceiling is shown only after the journal's put of
 //! it: so a crash at any moment leaves a journal whose ceiling is at or above the end of every span that was granted, and
-//! the next start begins there.
+//! the next start begins there. The journal has two areas: where all slots of one are in use, it is compacted to the one
+//! new ceiling, so that no lease finds it full.
 #![tactic(auto)]
+
+ghost use Rattle.lease_store.specs.Laws.{BlankSaysZero, CeilingsStartAgain};
 
 mod desk;
 mod fault;
@@ -12,6 +15,7 @@ mod grantor;
 mod leasing;
 mod name;
 mod parts;
+mod raising;
 mod store;
 
 pub use desk::Desk;
@@ -35,3 +39,14 @@ pub enum LeaseFault {
     #[error("a call of the journal's disk failed before, as number {first}")]
     Broken { first: u64 },
 }
+
+/// A store may start on all bytes in which a ceiling is found: no fault but one of the disk refuses them. And bytes say
+/// one ceiling.
+pub fn ceilings_start_again()
+    ensures { CeilingsStartAgain }
+{}
+
+/// A new journal for one unit or more says ceiling 0.
+pub fn blank_says_zero()
+    ensures { BlankSaysZero }
+{}

@@ -1,14 +1,11 @@
 // A store that has no name yet.
-ghost use Rattle.std.specs.Prelude.{◌≡◌, ◌*◌, ◌+◌, ◌^◌, ◌≤◌, ℕ, List, length, Some, IfOk, IfErr, All, nat_le, nat_eq, ◌&&◌, ◌||◌, ◌==◌};
+ghost use Rattle.std.specs.Prelude.{◌≡◌, ◌^◌, ◌≤◌, ℕ, List, length, Some, IfOk, IfErr, All};
 ghost use Rattle.zk_port.specs.Counts.{Rose};
 ghost use Rattle.zk_port.specs.Disks.{Stays};
 ghost use Rattle.zk_port.specs.Images.{Only};
-ghost use Rattle.zk_model.specs.Journals.{HasHeader, IsTidy, ceiling_slots, slots_at};
-ghost use Rattle.zk_model.specs.declared.JournalKind.TheVariants as kind;
-ghost use Rattle.lease_journal.specs.Causes.{SaysSlots, StartCause};
 ghost use Rattle.lease_journal.specs.declared.fault.StartFault.TheVariants as start;
 ghost use Rattle.lease_words.specs.Calls.{base_of, words_id, AreFresh};
-ghost use Rattle.lease_store.specs.Ceilings.{SaysCeiling};
+ghost use Rattle.lease_store.specs.Ceilings.{CeilingStartCause, HasCeilingHeader, HasCeilingRoom, HasTidyCeilings, SaysCeiling};
 ghost use Rattle.lease_store.specs.Desks.{Begins, IsDesk};
 ghost use Rattle.lease_store.specs.Leases.{IsPassAt};
 ghost use Rattle.lease_store.specs.declared.fault.StoreFault.TheVariants as store;
@@ -18,11 +15,11 @@ use crate::desk::Desk;
 use crate::fault::StoreFault;
 use crate::name::LeaseName;
 use crate::store::LeaseStore;
-use lease_journal::{Journal, JournalKind, StartFault, ceiling_slots};
 use lease_words::{JournalSeat, Pass, Words};
 use std::alloc::{AllocError, Global};
 use std::marker::Model;
 use std::sync::Mutex;
+use twin_journal::{JournalKind, StartFault, Twin};
 use zk_port::Disk;
 
 /// A store as it starts, before it has a name. Contracts see of it the disk, the table of its words, the first unit of
@@ -30,7 +27,7 @@ use zk_port::Disk;
 #[derive(Drop)]
 pub struct LeaseParts<B: Disk> {
     words: Words,
-    journal: Journal<B>,
+    journal: Twin<B>,
     seat: JournalSeat,
     total: u64,
 }
@@ -56,8 +53,8 @@ impl<B: Disk> Model for LeaseParts<B> {
 }
 
 impl<B: Disk> LeaseParts<B> {
-    /// Opens the journal of ceilings of this id and total that stands on the disk, and makes words that begin at its
-    /// ceiling, with as many passes.
+    /// Opens the journal of ceilings of this id and total that stands on the disk, one of two areas, and makes words that
+    /// begin at its ceiling, with as many passes.
     ///
     /// # Errors
     ///
@@ -72,13 +69,12 @@ impl<B: Disk> LeaseParts<B> {
         requires total { total ≤ MAX_STORE_UNITS }
         requires passes { (1 ≤ passes) × (passes ≤ MAX_PASSES) }
         requires room { (size : ℕ) → (B.state disk).room ≡ Some size
-            → (slots : ℕ) → SaysSlots (B.state disk).content slots → 64 + 32 * slots ≤ size }
-        requires tidy { (bytes : List ℕ) → (B.state disk).content ≡ Some bytes
-            → IsTidy 64 (slots_at bytes) bytes }
+            → HasCeilingRoom (B.state disk).content size }
+        requires tidy { (bytes : List ℕ) → (B.state disk).content ≡ Some bytes → HasTidyCeilings bytes }
         ensures base { IfOk result (λ r. (bytes : List ℕ) → (B.state disk).content ≡ Some bytes
             → SaysCeiling id.now total r.0.base bytes) }
         ensures header { IfOk result (λ r. (bytes : List ℕ) → (B.state r.0.disk).content ≡ Some bytes
-            → HasHeader kind.Ceilings id.now r.0.total bytes) }
+            → HasCeilingHeader id.now r.0.total bytes) }
         ensures begins { IfOk result (λ r. Begins (B.state r.0.disk) (B.state r.0.disk)) }
         ensures total { IfOk result (λ r. r.0.total ≡ total) }
         ensures made { IfOk result (λ r. r.0.passes ≡ passes) }
@@ -91,14 +87,14 @@ impl<B: Disk> LeaseParts<B> {
         ensures passes { IfOk result (λ r. All (IsPassAt r.0.table r.0.total) r.1.items) }
         ensures cause { IfErr result (λ e. (bytes : List ℕ) → (B.state disk).content ≡ Some bytes
             → (fault : StartFault) → e.0 ≡ store.Journal fault
-            → StartCause kind.Ceilings id.now total bytes fault) }
+            → CeilingStartCause id.now total bytes fault) }
         ensures device { IfErr result (λ e. e.0 ≡ store.Journal start.Device
             → Rose (B.state disk).faults (B.state e.1).faults) }
         ensures faults_grow { IfErr result (λ e. (B.state disk).faults ≤ (B.state e.1).faults) }
         ensures stays_refused { IfErr result (λ e.
             Stays (B.state disk) (B.state e.1)) }
     {
-        let journal = match Journal::start(disk, JournalKind::Ceilings, id, total) {
+        let journal = match Twin::start(disk, JournalKind::Ceilings, id, total) {
             Ok(journal) => journal,
             Err((fault, disk)) => return Err((StoreFault::Journal(fault), disk)),
         };
@@ -132,7 +128,7 @@ impl<B: Disk> LeaseParts<B> {
         requires passes { self.passes ≡ N.passes }
         requires base { self.base ≡ N.base }
         requires header { (bytes : List ℕ) → (B.state self.disk).content ≡ Some bytes
-            → HasHeader kind.Ceilings N.id N.total bytes }
+            → HasCeilingHeader N.id N.total bytes }
         requires begins { Begins N.start (B.state self.disk) }
         ensures base { result.base ≡ self.base }
     {

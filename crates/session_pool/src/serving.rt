@@ -1,8 +1,7 @@
 // The sessions with all peers that call.
 ghost use Rattle.std.specs.Prelude.{◌≡◌, ◌+◌, ◌<◌, ◌≤◌, ℕ, List, true, [], Some, IfSome, All, AllPairs, length, vec_len, vec_capacity};
 ghost use Rattle.std.specs.Thread.{IsSync};
-ghost use Rattle.zk_model.specs.Journals.{HasHeader};
-ghost use Rattle.zk_model.specs.declared.JournalKind.TheVariants as kind;
+ghost use Rattle.lease_store.specs.Ceilings.{HasCeilingHeader};
 ghost use Rattle.lease_store.specs.Desks.{Begins};
 ghost use Rattle.lease_store.specs.Leases.{IsPassAt};
 ghost use Rattle.session_pool.specs.Doors.{Takes};
@@ -211,7 +210,7 @@ where
     requires passes { parts.passes ≡ N.passes }
     requires base { parts.base ≡ N.base }
     requires header { (bytes : List ℕ) → (B.state parts.disk).content ≡ Some bytes
-        → HasHeader kind.Ceilings N.id N.total bytes }
+        → HasCeilingHeader N.id N.total bytes }
     requires begins { Begins N.start (B.state parts.disk) }
     requires own { All (IsPassAt N.table N.total) passes.items }
     requires all { length passes.items ≡ N.passes }
@@ -282,7 +281,7 @@ where
     requires some { 0 < length passes.items }
     requires total { parts.total ≡ S.total session.now }
     requires header { (bytes : List ℕ) → (B.state parts.disk).content ≡ Some bytes
-        → HasHeader kind.Ceilings (S.id session.now) parts.total bytes }
+        → HasCeilingHeader (S.id session.now) parts.total bytes }
     requires begins { Begins (B.state parts.disk) (B.state parts.disk) }
     ensures notes { All (IsNoteOf (S.is_note session.now)) result.notes.items }
     ensures taken { Takes sessions (length result.notes.items) result.door_failed result.memory_failed

@@ -1,9 +1,11 @@
 // What is tested, by subject.
 
+mod ceiling_disks;
 mod claim_tests;
 mod disks;
 mod journal_tests;
 mod lease_tests;
 mod machine_tests;
 mod pool_tests;
+mod twin_disks;
 mod word_tests;

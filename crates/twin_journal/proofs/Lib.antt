@@ -1,4 +1,5 @@
 pub mod HeaderReads
+pub mod MovedHeaders
 pub mod Rows
 pub mod AreaFills
 pub mod Opening
@@ -8,4 +9,5 @@ pub mod SameAreas
 pub mod AreaWrites
 pub mod Turning
 pub mod TwinLaws
+pub mod Laid
 pub mod NewTwins

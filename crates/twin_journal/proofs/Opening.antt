@@ -5,7 +5,7 @@ use Rattle.zk_port.specs.Disks.{DiskState}
 use Rattle.zk_model.specs.declared.JournalKind.{JournalKind}
 use Rattle.zk_model.specs.declared.JournalKind.TheVariants.{Ceilings}
 use Rattle.zk_model.specs.Journals.{AreUsed, IsFirstBad, body_at, body_before, first_bodies, last_body}
-use Rattle.zk_model.specs.Twins.{IsAreaOf, IsTwinTidy, TwinRecovers, TwinStands, area_at, claimed_units, head_at, twin_length, twin_slots_at}
+use Rattle.zk_model.specs.Twins.{IsAreaOf, IsTwinTidy, TwinRecovers, TwinStands, area_at, claimed_units, head_at, twin_begin, twin_length, twin_slots_at}
 use Rattle.lease_journal.specs.Causes.{IsScanned}
 use Rattle.lease_journal.specs.declared.fault.StartFault.TheVariants as start
 use Rattle.lease_journal.proofs.Putting.{first_more, length-first}
@@ -124,10 +124,11 @@ pub area_inside : (begin slots : ℕ) (second : Bool) (n : ℕ) → begin + twin
 area_inside begin slots false n full = omega (arith, full)
 area_inside begin slots true n full = omega (arith, full)
 
--- what a header says of the number of slots
-pub says_twin_slots : (begin : ℕ) (content : Option (List ℕ)) (slots : ℕ) → slots ≤ 2 ^ 28 → ((bytes : List ℕ) → content ≡ Some bytes → slots ≡ twin_slots_at begin bytes) → SaysTwinSlots begin content slots
-says_twin_slots begin None slots few is = few
-says_twin_slots begin (Some bytes) slots few is = (is bytes refl, few)
+-- where a journal begins in a file, and what its header says of the number of slots
+pub says_twin_slots : (kind : JournalKind) (content : Option (List ℕ)) (begin slots : ℕ) → begin ≤ 2 ^ 36 → slots ≤ 2 ^ 28
+    → ((bytes : List ℕ) → content ≡ Some bytes → (begin ≡ twin_begin kind bytes) × (slots ≡ twin_slots_at begin bytes)) → SaysTwinSlots kind content begin slots
+says_twin_slots kind None begin slots low few is = (low, few)
+says_twin_slots kind (Some bytes) begin slots low few is = ((is bytes refl).0, (is bytes refl).1, low, few)
 
 -- what is kept stands where the disk tells it
 pub kept_told : {D : Type 0} (state : D → DiskState) (twin : TwinState D) (bodies : List (ℕ × ℕ)) (bytes : List ℕ) → IsKept state twin bodies bytes

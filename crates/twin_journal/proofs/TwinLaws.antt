@@ -6,12 +6,13 @@ use Rattle.std.proofs.lemmas.List.Sums.{sum_by-append}
 use Rattle.zk_model.specs.declared.JournalKind.{JournalKind}
 use Rattle.zk_model.specs.declared.JournalKind.TheVariants.{Claims, Ceilings}
 use Rattle.zk_model.specs.Journals.{AreSound, AreUsed, IsTidy, Recovers, body_before, first_bodies, keeps_rule}
-use Rattle.zk_model.specs.Twins.{IsActive, MayHaveGeneration, SaysTwin, TwinStands, area_at, claimed_units, generation_at}
+use Rattle.zk_model.specs.Twins.{HoldsTwin, IsActive, IsTwinTidy, MayHaveGeneration, SaysTwin, TwinStands, area_at, claimed_units, generation_at, twin_slots_at}
+use Rattle.lease_journal.specs.declared.fault.StartFault.{StartFault}
 use Rattle.lease_journal.specs.declared.fault.StartFault.TheVariants.{Device, Short, BadHeader, BadBody}
 use Rattle.lease_journal.proofs.Scanning.{used_recovers}
 use Rattle.lease_journal.proofs.Sound.{before_left, before_more, last_at, recovers_same, sound_slots}
 use Rattle.twin_journal.specs.Laws.{GenerationsGoOn, RecoversOneList, SaysWhatItRecovers, TwinStartsAgain}
-use Rattle.twin_journal.specs.Starts.{HasBadBody, HasBadGeneration, HasNoArea}
+use Rattle.twin_journal.specs.Starts.{HasBadBody, HasBadGeneration, HasNoArea, IsTidyFile, PlaceCause, TwinStartCause}
 
 -- one area is the active one
 pub active_one : (begin slots : ℕ) (bytes : List ℕ) (j k : Bool) → IsActive begin slots bytes j → IsActive begin slots bytes k → j ≡ k
@@ -62,21 +63,44 @@ module _ (kind : JournalKind) (id : List ℕ) (total begin slots generation : �
       has.bad (subst (λ n. MayHaveGeneration kind (first_bodies (area_at begin slots has.second) has.used bytes) n) here
       (subst (λ bs. MayHaveGeneration kind bs generation) same may))
 
-pub starts_again : TwinStartsAgain
-starts_again kind id total begin slots generation bodies bytes Device stands says sound may cause = refl
-starts_again kind id total begin slots generation bodies bytes (Short need got) stands says sound may cause = absurd (⊎_elim
+starts_there : (kind : JournalKind) (id : List ℕ) (total begin slots generation : ℕ) (bodies : List (ℕ × ℕ)) (bytes : List ℕ) (fault : StartFault)
+    → TwinStands kind id total begin slots bytes → SaysTwin begin slots generation bodies bytes → AreSound kind total bodies
+    → MayHaveGeneration kind bodies generation → TwinStartCause kind id total begin bytes fault → fault ≡ Device
+starts_there kind id total begin slots generation bodies bytes Device stands says sound may cause = refl
+starts_there kind id total begin slots generation bodies bytes (Short need got) stands says sound may cause = absurd (⊎_elim
     (λ short. omega (arith, short.1, stands.header.whole))
     (λ cut. omega (arith, cut.2, stands.says, stands.full))
     cause.1)
-starts_again kind id total begin slots generation bodies bytes (BadHeader place) stands says sound may cause = absurd (⊎_elim
+starts_there kind id total begin slots generation bodies bytes (BadHeader place) stands says sound may cause = absurd (⊎_elim
     (λ wrong. not_both (sym (stands.header.right place wrong.inside) ∙ wrong.wrong))
     (λ whole. ⊎_elim
     (λ none. no_area begin slots bytes place says.second says.area.active (subst (λ n. HasNoArea begin n bytes place) stands.says none))
     (λ bad. no_bad_generation kind id total begin slots generation bodies bytes stands says sound may place (subst (λ n. HasBadGeneration kind total begin n bytes place) stands.says bad))
     whole.1)
     cause)
-starts_again kind id total begin slots generation bodies bytes (BadBody bad) stands says sound may cause =
+starts_there kind id total begin slots generation bodies bytes (BadBody bad) stands says sound may cause =
     absurd (no_bad_body kind id total begin slots generation bodies bytes stands says sound may bad (subst (λ n. HasBadBody kind total begin n bytes bad) stands.says cause.1))
+
+-- the place is found
+no_place : (kind : JournalKind) (id : List ℕ) (total begin slots : ℕ) (bytes : List ℕ) (fault : StartFault) → HoldsTwin kind id total begin slots bytes
+    → PlaceCause kind id total bytes fault → fault ≡ Device
+no_place kind id total begin slots bytes Device holds cause = refl
+no_place kind id total begin slots bytes (Short need got) holds cause = absurd cause
+no_place kind id total begin slots bytes (BadHeader place) holds cause = absurd (not_both (sym ((holds.moved cause.0).right place cause.1.inside) ∙ cause.1.wrong))
+no_place kind id total begin slots bytes (BadBody bad) holds cause = absurd cause
+
+pub starts_again : TwinStartsAgain
+starts_again kind id total begin slots generation bodies bytes fault holds says sound may cause = ⊎_elim
+    (λ unplaced. no_place kind id total begin slots bytes fault holds unplaced)
+    (λ there. starts_there kind id total begin slots generation bodies bytes fault holds.stands says sound may
+    (subst (λ n. TwinStartCause kind id total n bytes fault) holds.begins there.1))
+    cause
+
+-- a tidy file has a tidy journal
+pub tidy_there : (kind : JournalKind) (id : List ℕ) (total begin slots : ℕ) (bytes : List ℕ) → HoldsTwin kind id total begin slots bytes → IsTidyFile kind bytes
+    → IsTwinTidy begin slots bytes
+tidy_there kind id total begin slots bytes holds tidy =
+    subst (λ n. IsTwinTidy begin n bytes) holds.stands.says (subst (λ n. IsTwinTidy n (twin_slots_at n bytes) bytes) holds.begins tidy)
 
 -- one body more says no fewer units
 more_claims : (bodies : List (ℕ × ℕ)) (body : ℕ × ℕ) → claimed_units Claims bodies ≤ claimed_units Claims (bodies ++ body ∷ [])

@@ -2,14 +2,14 @@
 use Rattle.std.specs.Prelude.{◌≡◌, ℕ, ◌+◌, ◌≤◌, List, [], ◌∷◌, ◌++◌, length, true}
 use Rattle.zk_model.specs.declared.JournalKind.{JournalKind}
 use Rattle.zk_model.specs.Journals.{AreSound}
-use Rattle.zk_model.specs.Twins.{IsTwinTidy, MayHaveGeneration, SaysTwin, TwinRecovers, TwinStands, are_twin_slots, blank_twin_bytes, claimed_units}
+use Rattle.zk_model.specs.Twins.{HoldsTwin, IsTwinTidy, MayHaveGeneration, SaysTwin, TwinRecovers, are_twin_slots, blank_twin_bytes, claimed_units}
 use Rattle.lease_journal.specs.declared.fault.StartFault.{StartFault}
 use Rattle.lease_journal.specs.declared.fault.StartFault.TheVariants.{Device}
-use Rattle.twin_journal.specs.Starts.{TwinStartCause}
+use Rattle.twin_journal.specs.Starts.{FileCause}
 
--- a journal in which nothing is written yet: it stands, and says no body, in generation 1
+-- a file of a journal in which nothing is written yet: it stands there from its first byte on, and says no body, in generation 1
 pub record IsNewTwin (kind : JournalKind) (id : List ℕ) (total slots : ℕ) (bytes : List ℕ) : Type 0 where
-  pub stands : TwinStands kind id total 0 slots bytes
+  pub holds : HoldsTwin kind id total 0 slots bytes
   pub says : SaysTwin 0 slots 1 [] bytes
 
 -- so it is of every new journal with areas of a number of slots that they may have
@@ -34,13 +34,13 @@ RecoversOneList =
     (begin slots : ℕ) (bytes : List ℕ) (bodies others : List (ℕ × ℕ)) → TwinRecovers begin slots bytes bodies
     → TwinRecovers begin slots bytes others → bodies ≡ others
 
--- Bytes in which a journal stands, whose bodies keep their rules and whose generation is one that there may be for them, are refused by no
--- start but where the disk fails.
+-- Files of a journal whose bodies keep their rules and whose generation is one that there may be for them are refused by no start but
+-- where the disk fails.
 abbrev pub TwinStartsAgain : Type 0
 TwinStartsAgain =
     (kind : JournalKind) (id : List ℕ) (total begin slots generation : ℕ) (bodies : List (ℕ × ℕ)) (bytes : List ℕ) (fault : StartFault)
-    → TwinStands kind id total begin slots bytes → SaysTwin begin slots generation bodies bytes → AreSound kind total bodies
-    → MayHaveGeneration kind bodies generation → TwinStartCause kind id total begin bytes fault → fault ≡ Device
+    → HoldsTwin kind id total begin slots bytes → SaysTwin begin slots generation bodies bytes → AreSound kind total bodies
+    → MayHaveGeneration kind bodies generation → FileCause kind id total bytes fault → fault ≡ Device
 
 -- A generation that there may be stays one with one body more, and the next generation is one for bodies that say at least so many units
 -- as there were generations.

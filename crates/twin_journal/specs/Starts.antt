@@ -1,9 +1,9 @@
 -- What is found at a start, and why a journal is not opened.
-use Rattle.std.specs.Prelude.{◌≡◌, ◌⊎◌, ℕ, ◌+◌, ◌-◌, ◌<◌, ◌≤◌, List, length, get_or, Option, Some, None, Bool, true, false, not, nat_lt}
+use Rattle.std.specs.Prelude.{◌≡◌, ◌⊎◌, ℕ, ◌+◌, ◌-◌, ◌^◌, ◌<◌, ◌≤◌, List, length, get_or, Option, Some, None, Bool, true, false, not, nat_lt}
 use Rattle.zk_model.specs.declared.JournalKind.{JournalKind}
 use Rattle.zk_model.specs.declared.limits.TheConstants.{MAX_SLOTS}
 use Rattle.zk_model.specs.Journals.{AreUsed, IsFirstBad, first_bodies, last_body, number_at}
-use Rattle.zk_model.specs.Twins.{HasTwinHeader, IsActive, IsFirstTwinWrong, IsHeadOpen, MayHaveGeneration, TwinStands, area_at, generation_at, head_at, twin_length, twin_slots_at}
+use Rattle.zk_model.specs.Twins.{HasMovedHeader, HasTwinHeader, IsActive, IsFirstMovedWrong, IsFirstTwinWrong, IsHeadOpen, IsTwinTidy, MayHaveGeneration, TwinStands, area_at, generation_at, head_at, is_migrated, twin_begin, twin_length, twin_slots_at}
 use Rattle.lease_journal.specs.declared.fault.StartFault.{StartFault}
 use Rattle.lease_journal.specs.declared.fault.StartFault.TheVariants as start
 
@@ -92,10 +92,24 @@ pub record IsTwinOpened (kind : JournalKind) (id : List ℕ) (total begin slots 
   pub sound : IsFirstBad kind total (area_at begin slots second) bytes used None
   pub may_have : MayHaveGeneration kind (first_bodies (area_at begin slots second) used bytes) generation
 
--- a number of slots that a header may say, where the content is known
-abbrev pub SaysTwinSlots : ℕ → Option (List ℕ) → ℕ → Type 0
-SaysTwinSlots begin None slots = slots ≤ MAX_SLOTS
-SaysTwinSlots begin (Some bytes) slots = (slots ≡ twin_slots_at begin bytes) × (slots ≤ MAX_SLOTS)
+-- a place where a journal may begin in a file of this side, and a number of slots that its header may say, where the content is known
+abbrev pub SaysTwinSlots : JournalKind → Option (List ℕ) → ℕ → ℕ → Type 0
+SaysTwinSlots kind None begin slots = (begin ≤ 2 ^ 36) × (slots ≤ MAX_SLOTS)
+SaysTwinSlots kind (Some bytes) begin slots =
+    (begin ≡ twin_begin kind bytes) × (slots ≡ twin_slots_at begin bytes) × (begin ≤ 2 ^ 36) × (slots ≤ MAX_SLOTS)
+
+-- why it is not found where the journal begins in a file: it was migrated, and this byte of the first header is wrong
+abbrev pub PlaceCause : JournalKind → List ℕ → ℕ → List ℕ → StartFault → Type 0
+PlaceCause kind id total bytes start.Device = Unit {0}
+PlaceCause kind id total bytes (start.Short need got) = ⊥
+PlaceCause kind id total bytes (start.BadHeader place) = (is_migrated kind bytes ≡ true) × IsFirstMovedWrong kind id total bytes place
+PlaceCause kind id total bytes (start.BadBody bad) = ⊥
+
+-- Why a file of this side is not opened: of one that was migrated its first header is judged first, and then the journal where it begins
+abbrev pub FileCause : JournalKind → List ℕ → ℕ → List ℕ → StartFault → Type 0
+FileCause kind id total bytes fault =
+    PlaceCause kind id total bytes fault
+    ⊎ ((is_migrated kind bytes ≡ true → HasMovedHeader kind id total bytes) × TwinStartCause kind id total (twin_begin kind bytes) bytes fault)
 
 -- why no active area is found
 abbrev pub LocateCause : JournalKind → List ℕ → ℕ → ℕ → List ℕ → StartFault → Type 0
@@ -108,3 +122,7 @@ LocateCause kind id total begin bytes (start.BadHeader place) =
     IsFirstTwinWrong kind id total begin bytes place
     ⊎ (TwinStands kind id total begin (twin_slots_at begin bytes) bytes × HasNoArea begin (twin_slots_at begin bytes) bytes place)
 LocateCause kind id total begin bytes (start.BadBody bad) = ⊥
+
+-- a file of this side is tidy, where a journal begins in it
+abbrev pub IsTidyFile : JournalKind → List ℕ → Type 0
+IsTidyFile kind bytes = IsTwinTidy (twin_begin kind bytes) (twin_slots_at (twin_begin kind bytes) bytes) bytes

@@ -38,7 +38,7 @@ fn closed_slot() -> [u8; 32]
 
 /// The bytes of a slot for the next body, which it counts, or of one that is not open where there is none.
 fn next_slot<F: Bodies>(next: &mut F, filled: &mut Filled) -> [u8; 32]
-    requires { filled.old.used < MAX_SLOTS }
+    requires { filled.old.used ≤ MAX_SLOTS }
     ensures slot { IsSlotFor (F.rest next.old) result }
     ensures rest { F.rest next.new ≡ drop 1 (F.rest next.old) }
     ensures used { filled.new.used ≡ filled.old.used + min 1 (length (F.rest next.old)) }
@@ -63,7 +63,7 @@ pub fn write_slots<B: Disk, F: Bodies>(
     next: &mut F,
 ) -> Result<Filled, Failed>
     requires place { at ≤ 2 ^ 40 }
-    requires bounded { slots ≤ MAX_SLOTS }
+    requires bounded { slots ≤ MAX_SLOTS + 1 }
     requires fits { HasDiskRoom (at + 32 * slots) (B.state disk.old).room }
     requires few { length (F.rest next.old) ≤ slots }
     ensures filled { OnOk result ((bytes : List ℕ) → (B.state disk.old).content ≡ Some bytes

@@ -10,27 +10,8 @@ ghost use Rattle.zk_model.specs.declared.limits.TheConstants.{MAX_SLOTS};
 use crate::twin_ceiling_slots;
 use lease_journal::StartFault;
 use lease_journal::storing::word_at;
-use std::alloc::AllocError;
 use zk_model::{JournalKind, MAX_SLOTS};
 use zk_port::Disk;
-
-/// Appends the first 64 bytes of a journal.
-pub fn push_header(
-    bytes: &mut Vec<u8>,
-    kind: JournalKind,
-    id: &[u8; 32],
-    total: u64,
-    slots: u64,
-) -> Result<(), AllocError>
-    ensures { OnOk result (bytes.new.items ≡ bytes.old.items ++ twin_header kind id.now total slots) }
-{
-    bytes.extend_from_slice(b"WQSJRNL1")?;
-    bytes.extend_from_slice(&[twin_code(kind), 0, 0, 0, 0, 0, 0, 0])?;
-    bytes.extend_from_slice(&total.to_le_bytes())?;
-    bytes.extend_from_slice(&slots.to_le_bytes())?;
-    bytes.extend_from_slice(id)?;
-    Ok(())
-}
 
 /// The byte of a kind.
 fn twin_code(kind: JournalKind) -> u8
@@ -53,14 +34,15 @@ fn are_slots(kind: JournalKind, total: u64, slots: u64) -> bool
     }
 }
 
-/// The first 64 bytes of a journal that says no number of slots.
-fn header_of(kind: JournalKind, id: &[u8; 32], total: u64) -> [u8; 64]
-    ensures { result ≡ twin_header kind id.now total 0 }
+/// The first 64 bytes of a journal.
+pub fn header_of(kind: JournalKind, id: &[u8; 32], total: u64, slots: u64) -> [u8; 64]
+    ensures { result ≡ twin_header kind id.now total slots }
 {
     let mut header = [0; 64];
     header[..8].copy_from_slice(b"WQSJRNL1");
     header[8] = twin_code(kind);
     header[16..24].copy_from_slice(&total.to_le_bytes());
+    header[24..32].copy_from_slice(&slots.to_le_bytes());
     header[32..].copy_from_slice(id);
     header
 }
@@ -70,7 +52,7 @@ fn first_wrong(header: &[u8; 64], kind: JournalKind, id: &[u8; 32], total: u64) 
     ensures { IsFirstWrongOf kind id.now total header.now result }
 {
     let fits = are_slots(kind, total, word_at(header, 24));
-    let wanted = header_of(kind, id, total);
+    let wanted = header_of(kind, id, total, 0);
     for place in 0..64 {
         if is_wrong(header, &wanted, fits, place) {
             return Some(place as u64);

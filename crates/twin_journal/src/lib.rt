@@ -22,18 +22,21 @@ ghost use Rattle.zk_model.specs.Twins.{blank_twin_bytes, first_head, twin_ceilin
 ghost use Rattle.zk_model.specs.declared.limits.TheConstants.{MAX_SLOTS};
 ghost use Rattle.twin_journal.specs.Laws.{BlankTwinIsNew, GenerationsGoOn, RecoversOneList, SaysWhatItRecovers, TwinStartsAgain};
 
+mod beginning;
 mod bodies;
 mod compacting;
 mod filling;
 mod header;
 mod heads;
+mod laying;
 mod lengths;
 mod places;
 mod starting;
 mod twin;
 
-pub use bodies::Bodies;
-use header::push_header;
+pub use bodies::{Bodies, OneBody};
+use header::header_of;
+pub use laying::lay;
 use lease_journal::ceiling_slots;
 pub use lease_journal::{JournalFault, JournalKind, StartFault};
 use std::alloc::{AllocError, Global};
@@ -60,7 +63,7 @@ pub fn blank_twin(
 {
     let length = 128 + 64 * slots as usize;
     let mut bytes = Vec::with_capacity(alloc, length)?;
-    push_header(&mut bytes, kind, id, total, slots)?;
+    bytes.extend_from_slice(&header_of(kind, id, total, slots))?;
     bytes.extend_from_slice(&first_head())?;
     bytes.resize(length, 0)?;
     Ok(bytes)
@@ -99,8 +102,8 @@ pub fn recovers_one_list()
     ensures { RecoversOneList }
 {}
 
-/// Bytes in which a journal stands, with bodies that keep their rules and a generation that there may be for them, are
-/// refused by no start but where the disk fails.
+/// Files of a journal with bodies that keep their rules and a generation that there may be for them are refused by no
+/// start but where the disk fails.
 pub fn twin_starts_again()
     ensures { TwinStartsAgain }
 {}

@@ -3,13 +3,14 @@ ghost use Rattle.std.specs.Prelude.{◌≡◌, ◌⊎◌, ◌<◌, ◌≤◌, �
 ghost use Rattle.zk_port.specs.Disks.{Stays};
 ghost use Rattle.zk_port.specs.Images.{Only};
 ghost use Rattle.zk_model.specs.Journals.{first_bodies, last_body};
-ghost use Rattle.zk_model.specs.Twins.{TwinStands, are_twin_slots, claimed_units};
+ghost use Rattle.zk_model.specs.Twins.{HoldsTwin, TwinStands, are_twin_slots, claimed_units};
 ghost use Rattle.zk_model.specs.declared.limits.TheConstants.{MAX_SLOTS};
 ghost use Rattle.lease_journal.specs.Causes.{HasStartCause};
 ghost use Rattle.lease_journal.specs.Scans.{HasRead};
 ghost use Rattle.lease_journal.specs.declared.fault.StartFault.TheVariants as start;
-ghost use Rattle.twin_journal.specs.Starts.{IsFound, IsTwinOpened, LocateCause, TwinStartCause};
+ghost use Rattle.twin_journal.specs.Starts.{FileCause, IsFound, IsTwinOpened, LocateCause, TwinStartCause};
 
+use crate::beginning::find_begin;
 use crate::header::read_header;
 use crate::heads::{Active, read_active};
 use crate::lengths::check_length;
@@ -29,13 +30,14 @@ pub struct Located {
 /// What a journal says at its start.
 #[derive(Clone, Copy)]
 pub struct Opened {
+    pub begin: u64,
     pub slots: u64,
     pub used: u64,
     pub last: (u64, u64),
     pub active: Active,
 }
 
-/// Syncs, and reads the header, whether the file has its full length, and the heads.
+/// Reads the header, whether the file has its full length, and the heads.
 fn locate<B: Disk>(
     disk: &mut B,
     begin: u64,
@@ -51,16 +53,12 @@ fn locate<B: Disk>(
         found.active.other_open) }
     ensures bounded { IfOk result (λ found. found.slots ≤ MAX_SLOTS) }
     ensures fits { IfOk result (λ found. are_twin_slots kind total found.slots ≡ true) }
-    ensures durable { OnOk result (Only (B.state disk.new).content (B.state disk.new).images) }
     ensures cause { IfErr result (λ e. (bytes : List ℕ) → (B.state disk.old).content ≡ Some bytes
         → LocateCause kind id.now total begin bytes e) }
     ensures unread { IfErr result (λ e. (bad : ℕ) → e ≡ start.BadBody bad → ⊥) }
     ensures stays { Stays (B.state disk.old) (B.state disk.new) }
     ensures count { HasStartCause (B.state disk.old).faults (B.state disk.new).faults result }
 {
-    if let Err(Failed) = disk.sync() {
-        return Err(StartFault::Device);
-    }
     let slots = match read_header(disk, begin, kind, id, total) {
         Ok(slots) => slots,
         Err(fault) => return Err(fault),
@@ -131,9 +129,9 @@ fn may_have(generation: u64, units: u64) -> bool
     generation != 0 && generation - 1 <= units
 }
 
-/// Opens the journal that begins at this place: syncs, and reads the header, the length, the heads, the slots of the
-/// active area up to the first that is not open, and whether its generation is one that there may be.
-pub fn open<B: Disk>(
+/// Opens the journal that begins at this place: reads the header, the length, the heads, the slots of the active area up
+/// to the first that is not open, and whether its generation is one that there may be.
+fn open_at<B: Disk>(
     disk: &mut B,
     begin: u64,
     kind: JournalKind,
@@ -142,13 +140,13 @@ pub fn open<B: Disk>(
 ) -> Result<Opened, StartFault>
     requires { begin ≤ 2 ^ 36 }
     ensures opened { IfOk result (λ o. (bytes : List ℕ) → (B.state disk.old).content ≡ Some bytes
-        → IsTwinOpened kind id.now total begin o.slots o.used o.last
+        → IsTwinOpened kind id.now total o.begin o.slots o.used o.last
         o.active.second o.active.generation o.active.other_open bytes) }
+    ensures begin { IfOk result (λ o. o.begin ≡ begin) }
     ensures bounded { IfOk result (λ o. o.slots ≤ MAX_SLOTS) }
     ensures within { IfOk result (λ o. o.used ≤ o.slots) }
     ensures fits { IfOk result (λ o. are_twin_slots kind total o.slots ≡ true) }
     ensures read { IfOk result (λ o. HasRead kind total o.used o.last) }
-    ensures durable { OnOk result (Only (B.state disk.new).content (B.state disk.new).images) }
     ensures cause { IfErr result (λ e. (bytes : List ℕ) → (B.state disk.old).content ≡ Some bytes
         → TwinStartCause kind id.now total begin bytes e) }
     ensures bad { IfErr result (λ e. (slot : ℕ) → e ≡ start.BadBody slot → slot < MAX_SLOTS) }
@@ -176,9 +174,43 @@ pub fn open<B: Disk>(
         return Err(StartFault::BadHeader { place });
     }
     Ok(Opened {
+        begin,
         slots,
         used,
         last,
         active,
     })
+}
+
+/// Opens the journal of a file: syncs, finds where the journal begins, and opens it there.
+pub fn open<B: Disk>(
+    disk: &mut B,
+    kind: JournalKind,
+    id: &[u8; 32],
+    total: u64,
+) -> Result<Opened, StartFault>
+    ensures holds { IfOk result (λ o. (bytes : List ℕ) → (B.state disk.old).content ≡ Some bytes
+        → HoldsTwin kind id.now total o.begin o.slots bytes) }
+    ensures opened { IfOk result (λ o. (bytes : List ℕ) → (B.state disk.old).content ≡ Some bytes
+        → IsTwinOpened kind id.now total o.begin o.slots o.used o.last
+        o.active.second o.active.generation o.active.other_open bytes) }
+    ensures low { IfOk result (λ o. o.begin ≤ 2 ^ 36) }
+    ensures bounded { IfOk result (λ o. o.slots ≤ MAX_SLOTS) }
+    ensures within { IfOk result (λ o. o.used ≤ o.slots) }
+    ensures fits { IfOk result (λ o. are_twin_slots kind total o.slots ≡ true) }
+    ensures read { IfOk result (λ o. HasRead kind total o.used o.last) }
+    ensures durable { OnOk result (Only (B.state disk.new).content (B.state disk.new).images) }
+    ensures cause { IfErr result (λ e. (bytes : List ℕ) → (B.state disk.old).content ≡ Some bytes
+        → FileCause kind id.now total bytes e) }
+    ensures bad { IfErr result (λ e. (slot : ℕ) → e ≡ start.BadBody slot → slot < MAX_SLOTS) }
+    ensures stays { Stays (B.state disk.old) (B.state disk.new) }
+    ensures count { HasStartCause (B.state disk.old).faults (B.state disk.new).faults result }
+{
+    if let Err(Failed) = disk.sync() {
+        return Err(StartFault::Device);
+    }
+    match find_begin(disk, kind, id, total) {
+        Ok(begin) => open_at(disk, begin, kind, id, total),
+        Err(fault) => Err(fault),
+    }
 }

@@ -4,13 +4,13 @@ ghost use Rattle.zk_port.specs.Counts.{Rose};
 ghost use Rattle.zk_port.specs.Disks.{LeavesOnly, Stays};
 ghost use Rattle.zk_port.specs.Images.{Only};
 ghost use Rattle.zk_model.specs.Journals.{body_at, body_before, first_bodies};
-ghost use Rattle.zk_model.specs.Twins.{IsTwinTidy, SaysOldOrNew, TwinRecovers, TwinStands, are_twin_slots, area_at, head_at, twin_length};
+ghost use Rattle.zk_model.specs.Twins.{HoldsTwin, IsTwinTidy, SaysOldOrNew, TwinRecovers, TwinStands, are_twin_slots, area_at, head_at, twin_length};
 ghost use Rattle.zk_model.specs.declared.limits.TheConstants.{MAX_SLOTS};
 ghost use Rattle.lease_journal.specs.Causes.{BodyCause, PutCause};
 ghost use Rattle.lease_journal.specs.Keeps.{ChangesAt, Keeps};
 ghost use Rattle.lease_journal.specs.Scans.{HasRead};
 ghost use Rattle.lease_journal.specs.declared.fault.StartFault.TheVariants as start;
-ghost use Rattle.twin_journal.specs.Starts.{IsTwinOpened, SaysTwinSlots, TwinStartCause};
+ghost use Rattle.twin_journal.specs.Starts.{FileCause, IsTwinOpened, SaysTwinSlots};
 ghost use Rattle.twin_journal.specs.States.{IsKept};
 
 use crate::bodies::Bodies;
@@ -63,32 +63,35 @@ impl<B: Disk> Model for Twin<B> {
 }
 
 impl<B: Disk> Twin<B> {
-    /// Opens the journal of this kind, total and id that stands on the disk from its first byte on. It syncs, and reads
-    /// the header, whether the file has its full length, both heads, and the slots of the active area up to the first
-    /// that is not open. The disk of a refused start comes back.
+    /// Opens the journal of this kind, total and id that the file on the disk holds: from its first byte on, or behind a
+    /// journal of one area that was migrated. It syncs, and reads the header, whether the file has its full length, both
+    /// heads, and the slots of the active area up to the first that is not open. The disk of a refused start comes back.
     ///
     /// # Errors
     ///
-    /// The first of these that applies: `Device`, `Short` of the header, `BadHeader`, `Short` of the whole, `BadHeader`
-    /// at the first head's gate where no head is open, `BadBody`, `BadHeader` at the generation.
+    /// The first of these that applies: `Device`, `BadHeader` of the header of a journal that was migrated, `Short` of
+    /// the header, `BadHeader`, `Short` of the whole, `BadHeader` at the first head's gate where no head is open,
+    /// `BadBody`, `BadHeader` at the generation. Places and lengths, but of the first of these headers, count from where
+    /// the journal begins.
     pub fn start(
         disk: B,
         kind: JournalKind,
         id: &[u8; 32],
         total: u64,
     ) -> Result<Self, (StartFault, B)>
-        requires room { (size : ℕ) → (B.state disk).room ≡ Some size
-            → (slots : ℕ) → SaysTwinSlots 0 (B.state disk).content slots → twin_length slots ≤ size }
+        requires room { (size : ℕ) → (B.state disk).room ≡ Some size → (begin slots : ℕ)
+            → SaysTwinSlots kind (B.state disk).content begin slots → begin + twin_length slots ≤ size }
+        ensures holds { IfOk result (λ twin. (bytes : List ℕ) → (B.state disk).content ≡ Some bytes
+            → HoldsTwin kind id.now total twin.begin twin.slots bytes) }
         ensures opened { IfOk result (λ twin. (bytes : List ℕ) → (B.state disk).content ≡ Some bytes
-            → IsTwinOpened kind id.now total 0 twin.slots twin.used twin.last
+            → IsTwinOpened kind id.now total twin.begin twin.slots twin.used twin.last
             twin.second twin.generation twin.other_open bytes) }
         ensures recovers { IfOk result (λ twin. (bytes : List ℕ) → (B.state disk).content ≡ Some bytes
-            → TwinRecovers 0 twin.slots bytes
-            (first_bodies (area_at 0 twin.slots twin.second) twin.used bytes)) }
+            → TwinRecovers twin.begin twin.slots bytes
+            (first_bodies (area_at twin.begin twin.slots twin.second) twin.used bytes)) }
         ensures kept { IfOk result (λ twin. (bytes : List ℕ) → (B.state disk).content ≡ Some bytes
-            → IsTwinTidy 0 twin.slots bytes
-            → IsKept B.state twin (first_bodies (area_at 0 twin.slots twin.second) twin.used bytes) bytes) }
-        ensures begin { IfOk result (λ twin. twin.begin ≡ 0) }
+            → IsTwinTidy twin.begin twin.slots bytes → IsKept B.state twin
+            (first_bodies (area_at twin.begin twin.slots twin.second) twin.used bytes) bytes) }
         ensures durable { IfOk result (λ twin. Only (B.state twin.disk).content (B.state twin.disk).images) }
         ensures stays { IfOk result (λ twin. Stays (B.state disk) (B.state twin.disk)) }
         ensures fits { IfOk result (λ twin. are_twin_slots kind total twin.slots ≡ true) }
@@ -96,7 +99,7 @@ impl<B: Disk> Twin<B> {
         ensures fault { IfOk result (λ twin. twin.fault ≡ 0) }
         ensures faults { IfOk result (λ twin. (B.state twin.disk).faults ≡ (B.state disk).faults) }
         ensures cause { IfErr result (λ e. (bytes : List ℕ) → (B.state disk).content ≡ Some bytes
-            → TwinStartCause kind id.now total 0 bytes e.0) }
+            → FileCause kind id.now total bytes e.0) }
         ensures bad { IfErr result (λ e. (slot : ℕ) → e.0 ≡ start.BadBody slot → slot < MAX_SLOTS) }
         ensures device { IfErr result (λ e. e.0 ≡ start.Device → Rose (B.state disk).faults
             (B.state e.1).faults) }
@@ -104,9 +107,10 @@ impl<B: Disk> Twin<B> {
         ensures stays_refused { IfErr result (λ e. Stays (B.state disk) (B.state e.1)) }
     {
         let mut disk = disk;
-        match open(&mut disk, 0, kind, id, total) {
+        match open(&mut disk, kind, id, total) {
             Ok(
                 Opened {
+                    begin,
                     slots,
                     used,
                     last,
@@ -114,7 +118,7 @@ impl<B: Disk> Twin<B> {
                 },
             ) => Ok(Twin {
                 disk,
-                begin: 0,
+                begin,
                 slots,
                 used,
                 last,
@@ -237,6 +241,9 @@ impl<B: Disk> Twin<B> {
         ensures stands { (kind : JournalKind) (id : List ℕ) (total : ℕ)
             → Keeps (TwinStands kind id total self.old.begin self.old.slots)
             (B.state self.old.disk) (B.state self.new.disk) }
+        ensures holds { (kind : JournalKind) (id : List ℕ) (total : ℕ)
+            → Keeps (HoldsTwin kind id total self.old.begin self.old.slots)
+            (B.state self.old.disk) (B.state self.new.disk) }
         ensures faults { OnOk result ((B.state self.new.disk).faults ≡ (B.state self.old.disk).faults) }
         ensures faults_grow { (B.state self.old.disk).faults ≤ (B.state self.new.disk).faults }
         ensures cause { IfErr result (PutCause self.old.slots self.old.used self.old.fault self.new.fault
@@ -300,6 +307,9 @@ impl<B: Disk> Twin<B> {
             (B.state self.old.disk) (B.state self.new.disk) }
         ensures stands { (kind : JournalKind) (id : List ℕ) (total : ℕ)
             → Keeps (TwinStands kind id total self.old.begin self.old.slots)
+            (B.state self.old.disk) (B.state self.new.disk) }
+        ensures holds { (kind : JournalKind) (id : List ℕ) (total : ℕ)
+            → Keeps (HoldsTwin kind id total self.old.begin self.old.slots)
             (B.state self.old.disk) (B.state self.new.disk) }
         ensures faults { OnOk result ((B.state self.new.disk).faults ≡ (B.state self.old.disk).faults) }
         ensures faults_grow { (B.state self.old.disk).faults ≤ (B.state self.new.disk).faults }

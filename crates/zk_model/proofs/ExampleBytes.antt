@@ -2,7 +2,8 @@
 use Rattle.std.proofs.Common.{◌≡◌, ◌++◌, true, [], ◌∷◌, flat_map, refl, replicate, length, take}
 use Rattle.std.specs.Prelude.{Some, None, codes}
 use Rattle.zk_model.specs.Transcript.{Hello, Transcript, hello_frame, ask_frame, reply_frame, challenge_frame, corrections_frame, spelling, setup_turns, session_turns, turn_bytes}
-use Rattle.zk_model.specs.Journals.{blank_journal_bytes, ceiling_slots, claim_slots}
+use Rattle.zk_model.specs.Journals.{ceiling_slots, claim_slots}
+use Rattle.zk_model.specs.Twins.{blank_twin_bytes, twin_ceiling_slots}
 use Rattle.zk_model.specs.declared.JournalKind.TheVariants.{Ceilings}
 
 challenge_of_two : challenge_frame 2 ≡ 6 ∷ 8 ∷ 0 ∷ 0 ∷ 0 ∷ 2 ∷ 0 ∷ 0 ∷ 0 ∷ 0 ∷ 0 ∷ 0 ∷ 0 ∷ []
@@ -58,15 +59,15 @@ and_sides : length (flat_map (λ turn. turn.0) (session_turns and_session)) ∷ 
 unfolding and_session
 and_sides = refl
 
--- a verifier's journal of 100 units, in which nothing is written yet: 7 slots
-ceilings_of_hundred : ceiling_slots 100 ≡ 7
+-- a verifier's journal of 100 units, in which nothing is written yet: areas of 7 slots, the first with generation 1 and an open head
+ceilings_of_hundred : twin_ceiling_slots 100 ≡ 7
 ceilings_of_hundred = refl
 
-blank_length : length (blank_journal_bytes Ceilings (replicate 32 9) 100 (ceiling_slots 100)) ≡ 288
+blank_length : length (blank_twin_bytes Ceilings (replicate 32 9) 100 (twin_ceiling_slots 100)) ≡ 576
 blank_length = refl
 
-blank_header : take 64 (blank_journal_bytes Ceilings (replicate 32 9) 100 7)
-    ≡ codes "WQSJRNL1" ++ (1 ∷ replicate 7 0) ++ (100 ∷ replicate 7 0) ++ (7 ∷ replicate 7 0) ++ replicate 32 9
+blank_header : take 96 (blank_twin_bytes Ceilings (replicate 32 9) 100 7)
+    ≡ codes "WQSJRNL1" ++ (3 ∷ replicate 7 0) ++ (100 ∷ replicate 7 0) ++ (7 ∷ replicate 7 0) ++ replicate 32 9 ++ (1 ∷ replicate 30 0) ++ (90 ∷ [])
 blank_header = refl
 
 -- a multiple of 16 needs no slot more, and a unit beyond it does

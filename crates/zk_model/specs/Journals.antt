@@ -1,5 +1,5 @@
--- Journals: the bytes of a new one, and what stands in the slots of one. Numbers have their low byte first.
-use Rattle.std.specs.Prelude.{◌≡◌, ◌⊎◌, ℕ, zero, suc, ◌+◌, ◌*◌, ◌%◌, ◌<◌, ◌≤◌, ◌^◌, min, List, [], ◌∷◌, ◌++◌, length, get_or, take, drop, map, replicate, codes, Option, Some, None, Bool, true, false, not, ◌&&◌, ◌||◌, ◌==◌, nat_le, nat_lt, if◌then◌else◌}
+-- Journals: the header of one of one area, and what stands in the slots of any. Numbers have their low byte first.
+use Rattle.std.specs.Prelude.{◌≡◌, ◌⊎◌, ℕ, zero, suc, ◌+◌, ◌*◌, ◌%◌, ◌<◌, ◌≤◌, min, List, [], ◌∷◌, ◌++◌, length, get_or, take, drop, map, replicate, codes, Option, Some, None, Bool, true, false, not, ◌&&◌, ◌||◌, ◌==◌, nat_le, nat_lt, if◌then◌else◌}
 use Rattle.std.specs.Int.{w64, to_le_bytes, from_le_bytes}
 use Rattle.std.specs.List.{range_with_len}
 use Rattle.zk_model.specs.Program.{part_count}
@@ -12,17 +12,13 @@ abbrev pub journal_code : JournalKind → ℕ
 journal_code Claims = 0
 journal_code Ceilings = 1
 
--- the first 64 bytes: a magic word, the kind and 7 zero bytes, the total of units, the number of slots, and the id of the dealt
+-- the first 64 bytes of a journal of one area: a magic word, the kind and 7 zero bytes, the total of units, the number of slots, and the id of the dealt
 -- files
 abbrev pub journal_header : JournalKind → List ℕ → ℕ → ℕ → List ℕ
 journal_header kind id total slots =
     codes "WQSJRNL1" ++ (journal_code kind ∷ replicate 7 0) ++ to_le_bytes w64 total ++ to_le_bytes w64 slots ++ id
 
--- a journal in which nothing is written yet: the header, and 32 zero bytes for each slot
-abbrev pub blank_journal_bytes : JournalKind → List ℕ → ℕ → ℕ → List ℕ
-blank_journal_bytes kind id total slots = journal_header kind id total slots ++ replicate (32 * slots) 0
-
--- how many slots the verifier's journal has: one for each 16 units, rounded up
+-- how many slots a verifier's journal of one area has: one for each 16 units, rounded up
 abbrev pub ceiling_slots : ℕ → ℕ
 ceiling_slots total = part_count total 16
 
@@ -30,8 +26,8 @@ ceiling_slots total = part_count total 16
 abbrev pub claim_slots : ℕ → ℕ
 claim_slots total = min total MAX_CLAIM_SLOTS
 
--- ---- An area of a journal: slots of 32 bytes from a place on. A journal has one, at 64. A byte past the end counts as 0, so that a
--- slot is not open there.
+-- ---- An area of a journal: slots of 32 bytes from a place on; in a journal of one area, from 64. A byte past the end counts as 0, so that
+-- a slot is not open there.
 
 -- the slot of this number, from 0, is open: its last byte is 0x5A
 abbrev pub IsOpen : ℕ → List ℕ → ℕ → Type 0
@@ -72,10 +68,6 @@ pub record SameWhere (P : ℕ → Type 0) (old new : List ℕ) : Type 0 where
 
 -- ---- the header
 
--- a place in the header
-abbrev pub IsInHeader : ℕ → Type 0
-IsInHeader place = place < 64
-
 -- how many slots a header says
 abbrev pub slots_at : List ℕ → ℕ
 slots_at bytes = number_at bytes 24
@@ -91,30 +83,6 @@ abbrev pub is_wrong_at : JournalKind → List ℕ → ℕ → List ℕ → ℕ �
 is_wrong_at kind id total bytes place =
     if place == 24 then not (are_slots kind total (slots_at bytes))
     else ((nat_lt place 24 || nat_le 32 place) && not (get_or bytes place 0 == get_or (journal_header kind id total 0) place 0))
-
--- there is a header, and no byte of it is wrong
-pub record HasHeader (kind : JournalKind) (id : List ℕ) (total : ℕ) (bytes : List ℕ) : Type 0 where
-  pub whole : 64 ≤ length bytes
-  pub right : (place : ℕ) → place < 64 → is_wrong_at kind id total bytes place ≡ false
-
--- the first byte of a header that is wrong
-pub record IsFirstWrong (kind : JournalKind) (id : List ℕ) (total : ℕ) (bytes : List ℕ) (place : ℕ) : Type 0 where
-  pub whole : 64 ≤ length bytes
-  pub inside : place < 64
-  pub wrong : is_wrong_at kind id total bytes place ≡ true
-  pub first : (earlier : ℕ) → earlier < place → is_wrong_at kind id total bytes earlier ≡ false
-
--- the header is right, and says this number of slots
-pub record IsHeaded (kind : JournalKind) (id : List ℕ) (total slots : ℕ) (bytes : List ℕ) : Type 0 where
-  pub header : HasHeader kind id total bytes
-  pub says : slots_at bytes ≡ slots
-
--- A journal of this kind, id and total and of so many slots stands in these bytes: its header is right and says this number of
--- slots, and the file has its full length.
-pub record Stands (kind : JournalKind) (id : List ℕ) (total slots : ℕ) (bytes : List ℕ) : Type 0 where
-  pub header : HasHeader kind id total bytes
-  pub says : slots_at bytes ≡ slots
-  pub full : 64 + 32 * slots ≤ length bytes
 
 -- ---- bodies and their rules
 
@@ -164,14 +132,3 @@ IsFirstBad kind total at bytes used None = (slot : ℕ) → slot < used → is_s
 IsFirstBad kind total at bytes used (Some bad) =
     (bad < used) × (is_sound_at kind total at bytes bad ≡ false)
     × ((slot : ℕ) → slot < bad → is_sound_at kind total at bytes slot ≡ true)
-
--- ---- what a journal says
-
--- A journal of this kind, id and total and of so many slots has a right header, is tidy, and says these bodies, each of which keeps
--- its rule.
-pub record SaysBodies (kind : JournalKind) (id : List ℕ) (total slots : ℕ) (bodies : List (ℕ × ℕ)) (bytes : List ℕ) : Type 0 where
-  pub header : HasHeader kind id total bytes
-  pub says : slots_at bytes ≡ slots
-  pub tidy : IsTidy 64 slots bytes
-  pub recovered : Recovers 64 slots bytes bodies
-  pub sound : AreSound kind total bodies

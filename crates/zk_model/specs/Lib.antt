@@ -25,6 +25,8 @@ pub mod FileBytes
 pub mod FileFaults
 pub mod Journals
 pub mod Twins
+pub mod ClaimedRanges
+pub mod Migrations
 pub mod Dealing
 pub mod Transcript
 pub mod Frames

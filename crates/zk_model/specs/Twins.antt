@@ -2,10 +2,10 @@
 --
 -- Such a journal begins at a place of its file, 0 in one that was made so: a header of 64 bytes, and two areas, each a head of 32 bytes
 -- and as many slots of 32 bytes as the header says. A head has a generation in its first 8 bytes, and is open where its last byte is
--- 0x5A. An area is named by whether it is the second.
+-- 0x5A. An area is named by whether it is the second. A migrated journal begins behind the journal of one area that it was made from.
 use Rattle.std.specs.Prelude.{◌≡◌, ◌⊎◌, ℕ, ◌+◌, ◌-◌, ◌*◌, ◌<◌, ◌≤◌, min, List, [], ◌∷◌, ◌++◌, length, get_or, replicate, codes, sum_by, Bool, true, false, not, ◌&&◌, ◌||◌, ◌==◌, nat_le, nat_lt, if◌then◌else◌}
 use Rattle.std.specs.Int.{w64, to_le_bytes}
-use Rattle.zk_model.specs.Journals.{IsTidy, Recovers, body_before, ceiling_slots, number_at}
+use Rattle.zk_model.specs.Journals.{IsTidy, Recovers, body_before, ceiling_slots, is_wrong_at, journal_code, number_at, slots_at}
 use Rattle.zk_model.specs.declared.JournalKind.{JournalKind}
 use Rattle.zk_model.specs.declared.JournalKind.TheVariants.{Claims, Ceilings}
 use Rattle.zk_model.specs.declared.limits.TheConstants.{MAX_CEILING_SLOTS, MAX_SLOTS}
@@ -65,6 +65,39 @@ pub record TwinStands (kind : JournalKind) (id : List ℕ) (total begin slots : 
   pub header : HasTwinHeader kind id total begin bytes
   pub says : twin_slots_at begin bytes ≡ slots
   pub full : begin + twin_length slots ≤ length bytes
+
+-- ---- files: a journal of one area that was migrated has byte 15 of its header, the gate of the migration, 0x5A
+
+-- whether a file of this side holds a journal of one area that was migrated
+abbrev pub is_migrated : JournalKind → List ℕ → Bool
+is_migrated kind bytes = nat_le 64 (length bytes) && (get_or bytes 8 0 == journal_code kind) && (get_or bytes 15 0 == 90)
+
+-- where the journal of two areas begins in a file: where the journal of one area ends, in one that was migrated
+abbrev pub twin_begin : JournalKind → List ℕ → ℕ
+twin_begin kind bytes = if is_migrated kind bytes then 64 + 32 * slots_at bytes else 0
+
+-- whether the byte at this place of the header of a journal of one area is wrong, where the gate of the migration is not judged
+abbrev pub is_wrong_beside_gate : JournalKind → List ℕ → ℕ → List ℕ → ℕ → Bool
+is_wrong_beside_gate kind id total bytes place = not (place == 15) && is_wrong_at kind id total bytes place
+
+-- there is a header of a journal of one area, and no byte of it is wrong but the gate
+pub record HasMovedHeader (kind : JournalKind) (id : List ℕ) (total : ℕ) (bytes : List ℕ) : Type 0 where
+  pub whole : 64 ≤ length bytes
+  pub right : (place : ℕ) → place < 64 → is_wrong_beside_gate kind id total bytes place ≡ false
+
+-- the first byte of it that is wrong
+pub record IsFirstMovedWrong (kind : JournalKind) (id : List ℕ) (total : ℕ) (bytes : List ℕ) (place : ℕ) : Type 0 where
+  pub whole : 64 ≤ length bytes
+  pub inside : place < 64
+  pub wrong : is_wrong_beside_gate kind id total bytes place ≡ true
+  pub first : (earlier : ℕ) → earlier < place → is_wrong_beside_gate kind id total bytes earlier ≡ false
+
+-- A file of a journal of two areas, which begins at this place of it and has areas of so many slots: it stands there, and where it was
+-- migrated, the header before it is right too.
+pub record HoldsTwin (kind : JournalKind) (id : List ℕ) (total begin slots : ℕ) (bytes : List ℕ) : Type 0 where
+  pub begins : twin_begin kind bytes ≡ begin
+  pub moved : is_migrated kind bytes ≡ true → HasMovedHeader kind id total bytes
+  pub stands : TwinStands kind id total begin slots bytes
 
 -- ---- areas
 

@@ -1,14 +1,11 @@
 // Sessions over doors and disks in memory.
 ghost use Rattle.std.specs.Prelude.{◌≡◌, ◌≤◌, ◌<◌, ◌+◌, ◌*◌, ℕ, List, All, IfOk, IfSome, Some, length};
-ghost use Rattle.zk_model.specs.Journals.{HasHeader, IsTidy, slots_at};
 ghost use Rattle.zk_model.specs.declared.limits.TheConstants.{MAX_UNITS};
-ghost use Rattle.zk_model.specs.declared.JournalKind.TheVariants as kind;
-ghost use Rattle.lease_journal.specs.Causes.{SaysSlots};
-ghost use Rattle.lease_store.specs.Desks.{Begins};
+ghost use Rattle.lease_store.specs.Ceilings.{HasCeilingRoom, HasTidyCeilings};
 ghost use Rattle.lease_store.specs.Leases.{IsPassAt};
 
-use crate::tests::disks::{failing, new_journal, quiet_disk, started, sure_disk};
-use lease_journal::JournalKind;
+use crate::tests::ceiling_disks::{new_ceilings, started, sure_ceilings};
+use crate::tests::disks::{failing, quiet_disk};
 use lease_store::{Grantor, LeaseFault, LeaseParts};
 use lease_words::Pass;
 use memory_ports::{MemoryDoor, NoFault, ScriptedLink, SureDisk, Together};
@@ -138,9 +135,8 @@ fn run_on<B: Disk + Drop + Send, G: Gate + Sync, R: Threads + Wait + Sync>(
 ) -> Result<Served<Note, Peers, B>, Fail>
     requires passes { (1 ≤ passes) × (passes ≤ 1024) }
     requires room { (size : ℕ) → (B.state disk).room ≡ Some size
-        → (slots : ℕ) → SaysSlots (B.state disk).content slots → 64 + 32 * slots ≤ size }
-    requires tidy { (bytes : List ℕ) → (B.state disk).content ≡ Some bytes
-        → IsTidy 64 (slots_at bytes) bytes }
+        → HasCeilingRoom (B.state disk).content size }
+    requires tidy { (bytes : List ℕ) → (B.state disk).content ≡ Some bytes → HasTidyCeilings bytes }
 {
     let (parts, passes) = started(alloc, disk, TOTAL, passes)?;
     let door = door_of(alloc, bytes)?;
@@ -158,7 +154,7 @@ fn run<G: Gate + Sync, R: Threads + Wait + Sync>(
 ) -> Result<Served<Note, Peers, SureDisk>, Fail>
     requires { (1 ≤ passes) × (passes ≤ 1024) }
 {
-    let disk = sure_disk(alloc, JournalKind::Ceilings, TOTAL, 4)?;
+    let disk = sure_ceilings(alloc, TOTAL)?;
     run_on(rt, alloc, disk, passes, sessions, bytes, gate)
 }
 
@@ -238,9 +234,9 @@ fn sessions_lease_as_many_units_as_each_wants(rt: HostRuntime) -> Result<(), Fai
 #[test]
 fn a_disk_that_fails_is_told(rt: HostRuntime) -> Result<(), Fail> {
     let alloc: Global = rt.alloc();
-    // A start on a new journal makes three calls.
-    let bytes = new_journal(alloc, JournalKind::Ceilings, TOTAL, 4)?;
-    let disk = quiet_disk(alloc, bytes, failing(alloc, &[4])?)?;
+    // A start on a new journal makes seven calls.
+    let bytes = new_ceilings(alloc, TOTAL)?;
+    let disk = quiet_disk(alloc, bytes, failing(alloc, &[8])?)?;
     let served = run_on(&rt, alloc, disk, 1, 3, b"hxh", &QuietGate)?;
     let mut told = Vec::new(alloc);
     for note in &served.notes {

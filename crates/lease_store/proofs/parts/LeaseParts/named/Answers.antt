@@ -1,7 +1,6 @@
 use Rattle.std.proofs.Common.{◌≡◌, ℕ, List, Some, ap, sym, ◌∙◌, subst}
-use Rattle.zk_model.specs.declared.JournalKind.TheVariants.{Ceilings}
-use Rattle.zk_model.specs.Journals.{HasHeader}
 use Rattle.lease_words.specs.Calls.{base_of}
+use Rattle.lease_store.specs.Ceilings.{HasCeilingHeader}
 use Rattle.lease_store.specs.Desks.{Begins, IsDesk}
 use Rattle.lease_store.specs.States.{PartsState}
 use Rattle.lease_store.proofs.Starting.{named}
@@ -12,14 +11,13 @@ new-desk-requires g c =
     let i = c.self.invariant in
     let p = c.self.inside in
     let j = p.journal in
-    let s = g.B.Disk.state j.disk in
     let v = p.seat.seat.me.0 in
     let is = c.self.view_is in
     let total : p.total ≡ g.N.LeaseName.total = ap (λ (p : PartsState g.row.B.Denot). p.total) is ∙ c.requires.total in
     let base : base_of p.words ≡ g.N.LeaseName.base = ap (λ (p : PartsState g.row.B.Denot). p.base) is ∙ c.requires.base in
-    let header : (bytes : List ℕ) → (g.B.Disk.state p.journal.disk).content ≡ Some bytes → HasHeader Ceilings g.N.LeaseName.id p.total bytes =
-    subst (λ n. (bytes : List ℕ) → (g.B.Disk.state p.journal.disk).content ≡ Some bytes → HasHeader Ceilings g.N.LeaseName.id n bytes) (sym total)
-    (subst (λ (p : PartsState g.row.B.Denot). (bytes : List ℕ) → (g.B.Disk.state p.disk).content ≡ Some bytes → HasHeader Ceilings g.N.LeaseName.id g.N.LeaseName.total bytes)
+    let header : (bytes : List ℕ) → (g.B.Disk.state p.journal.disk).content ≡ Some bytes → HasCeilingHeader g.N.LeaseName.id p.total bytes =
+    subst (λ n. (bytes : List ℕ) → (g.B.Disk.state p.journal.disk).content ≡ Some bytes → HasCeilingHeader g.N.LeaseName.id n bytes) (sym total)
+    (subst (λ (p : PartsState g.row.B.Denot). (bytes : List ℕ) → (g.B.Disk.state p.disk).content ≡ Some bytes → HasCeilingHeader g.N.LeaseName.id g.N.LeaseName.total bytes)
     (sym is) c.requires.header) in
     let begins : Begins g.N.LeaseName.start (g.B.Disk.state p.journal.disk) =
     subst (λ (p : PartsState g.row.B.Denot). Begins g.N.LeaseName.start (g.B.Disk.state p.disk)) (sym is) c.requires.begins in
@@ -28,8 +26,8 @@ new-desk-requires g c =
       total_is = total;
       own = i.own ∙ ap (λ (p : PartsState g.row.B.Denot). p.table) is ∙ c.requires.table;
       made = ap (λ (p : PartsState g.row.B.Denot). p.passes) is ∙ c.requires.passes;
-      kept = subst (λ n. IsDesk g.N.LeaseName.start s g.N.LeaseName.id n g.N.LeaseName.base j.slots j.used j.last.0 j.fault v) total
-          (subst (λ n. IsDesk g.N.LeaseName.start s g.N.LeaseName.id p.total n j.slots j.used j.last.0 j.fault v) base
-          (named g.N.LeaseName.start s g.N.LeaseName.id p.total (base_of p.words) j.slots j.used j.last.0 j.fault v begins i.base_is (i.kept g.N.LeaseName.id header)));
+      kept = subst (λ n. IsDesk g.B.Disk.state g.N.LeaseName.start g.N.LeaseName.id n g.N.LeaseName.base j v) total
+          (subst (λ n. IsDesk g.B.Disk.state g.N.LeaseName.start g.N.LeaseName.id p.total n j v) base
+          (named g.B.Disk.state g.N.LeaseName.start g.N.LeaseName.id p.total (base_of p.words) j v begins i.base_is (i.kept g.N.LeaseName.id header)));
       never = λ sure. i.whole;
     }

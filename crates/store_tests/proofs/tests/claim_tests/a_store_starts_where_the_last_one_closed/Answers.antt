@@ -1,5 +1,6 @@
 use Rattle.std.proofs.Common.{◌≡◌, Some, sym, ◌∙◌, subst, refl}
-use Rattle.zk_model.specs.Journals.{IsTidy, slots_at}
+use Rattle.zk_model.specs.declared.JournalKind.TheVariants.{Claims}
+use Rattle.twin_journal.specs.Starts.{IsTidyFile}
 use Rattle.store_tests.proofs.tests.claim_tests.a_store_starts_where_the_last_one_closed.Goals as goal
 
 pub claimed_on-requires-2-clause-tidy : goal.claimed_on-requires-2-clause-tidy
@@ -12,5 +13,5 @@ pub claimed_on-requires-4-clause-tidy : goal.claimed_on-requires-4-clause-tidy
 claimed_on-requires-4-clause-tidy g c = λ bytes is.
     let told : Some bytes ≡ Some c.in_ok-image.image.items = sym is ∙ c.in_ok-disk-5.ensures.content in
     let same : bytes ≡ c.in_ok-image.image.items = cc in
-    subst (λ b. IsTidy 64 (slots_at b) b) (sym same)
+    subst (IsTidyFile Claims) (sym same)
     (c.in_ok-disk-4.ensures.images c.in_ok-disk-3.disk.bytes.items refl c.in_ok-disk-4.disk.bytes.items refl c.in_ok-image.image.items c.in_ok-image.ensures.image)

@@ -1,4 +1,4 @@
-use Rattle.lease_store.proofs.Closing.{read_tidy, tidy_again}
+use Rattle.lease_store.proofs.Finding.{read_tidy, tidy_again}
 use Rattle.store_tests.proofs.tests.lease_tests.played_on.Goals as goal
 
 pub returns-clause-tidy : goal.returns-clause-tidy

@@ -3,7 +3,7 @@ use Rattle.zk_port.specs.Disks.{LeavesOnly}
 use Rattle.zk_model.specs.Twins.{SaysOldOrNew}
 use Rattle.twin_journal.proofs.SameAreas.{area_room}
 use Rattle.twin_journal.proofs.Turning.{goes_on_telling, kept_may, kept_turned}
-use Rattle.twin_journal.proofs.TwinHeaders.{area_behind, keeps_stands}
+use Rattle.twin_journal.proofs.TwinHeaders.{area_behind, keeps_holds, keeps_stands}
 use Rattle.twin_journal.proofs.twin.Twin.compact.Goals as goal
 
 pub turn-requires-clause-fits : goal.turn-requires-clause-fits
@@ -61,3 +61,15 @@ returns-in-Ok-clause-recovered g c = rw (← c.self.view_is) (λ bytes bodies ke
     }) was.second (g.F.Bodies.rest c.args.next.now) kept.sound c.in-Ok.ensures.used refl refl
     (goes_on_telling c.head_at-head.result (32 * (was.slots + 1)) bytes (g.B.Disk.state was.disk).content (g.B.Disk.state c.turn.new.disk).content kept.content c.turn.ensures.changes.content)
     (c.in-Ok.ensures.turned was.begin was.second was.generation bodies bytes may))
+
+pub returns-in-Ok-clause-holds : goal.returns-in-Ok-clause-holds
+returns-in-Ok-clause-holds g c = rw (← c.self.view_is)
+    (let was = c.self.inside in
+    keeps_holds was.begin was.slots c.head_at-head.result (32 * (was.slots + 1))
+    (omega (arith, c.head_at-head.ensures, area_behind was.begin was.slots (not was.second))) c.turn.ensures.changes)
+
+pub returns-in-Err-clause-holds : goal.returns-in-Err-clause-holds
+returns-in-Err-clause-holds g c = rw (← c.self.view_is)
+    (let was = c.self.inside in
+    keeps_holds was.begin was.slots c.head_at-head.result (32 * (was.slots + 1))
+    (omega (arith, c.head_at-head.ensures, area_behind was.begin was.slots (not was.second))) c.turn.ensures.changes)

@@ -4,7 +4,7 @@ use Rattle.std.specs.Option.{option_map}
 use Rattle.lease_journal.specs.Steps.{slot_written}
 use Rattle.twin_journal.proofs.Opening.{kept_told}
 use Rattle.twin_journal.proofs.ActiveAreas.{area_done, heads_done, put_any_moment, put_any_read}
-use Rattle.twin_journal.proofs.TwinHeaders.{area_behind, keeps_stands}
+use Rattle.twin_journal.proofs.TwinHeaders.{area_behind, keeps_holds, keeps_stands}
 use Rattle.twin_journal.proofs.twin.Twin.put.Goals as goal
 
 pub returns-in-Err-clause-any_moment : goal.returns-in-Err-clause-any_moment
@@ -82,3 +82,15 @@ returns-clause-recovered g c = rw (← c.self.view_is) (λ bytes bodies kept.
       other_opened = λ opened. heads.gates (not was.second) ∙ kept.other_opened opened;
       other_closed = λ shut is_open. kept.other_closed shut (sym (heads.gates (not was.second)) ∙ is_open);
     }))
+
+pub returns-in-Err-clause-holds : goal.returns-in-Err-clause-holds
+returns-in-Err-clause-holds g c = rw (← c.self.view_is)
+    (let was = c.self.inside in
+    keeps_holds was.begin was.slots (c.head_at-at.result + 32 + 32 * was.used) 32
+    (omega (arith, c.head_at-at.ensures, area_behind was.begin was.slots was.second)) c.store_slot.ensures.changes)
+
+pub returns-clause-holds : goal.returns-clause-holds
+returns-clause-holds g c = rw (← c.self.view_is)
+    (let was = c.self.inside in
+    keeps_holds was.begin was.slots (c.head_at-at.result + 32 + 32 * was.used) 32
+    (omega (arith, c.head_at-at.ensures, area_behind was.begin was.slots was.second)) c.store_slot.ensures.changes)

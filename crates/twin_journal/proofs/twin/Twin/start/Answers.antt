@@ -9,13 +9,13 @@ pub invariant_of-result : goal.invariant_of-result
 invariant_of-result g c =
     let found = c.in-Ok.field-0 in
     record {
-      low = omega arith;
+      low = c.in-Ok.ensures.low;
       few = c.in-Ok.ensures.bounded;
       within = c.in-Ok.ensures.within;
       has_room = λ size is.
-          let fits = c.requires.room size (sym c.open.ensures.stays.room ∙ is) found.slots
-          (says_twin_slots 0 (g.B.Disk.state c.args.disk).content found.slots c.in-Ok.ensures.bounded (λ bytes there. sym (c.in-Ok.ensures.opened bytes there).stands.says)) in
-          omega (arith, fits);
+          c.requires.room size (sym c.open.ensures.stays.room ∙ is) found.begin found.slots
+          (says_twin_slots c.args.kind (g.B.Disk.state c.args.disk).content found.begin found.slots c.in-Ok.ensures.low c.in-Ok.ensures.bounded (λ bytes there.
+          (sym (c.in-Ok.ensures.holds bytes there).begins, sym (c.in-Ok.ensures.opened bytes there).stands.says)));
       full = λ bytes is. (c.in-Ok.ensures.opened bytes (sym c.open.ensures.stays.content ∙ is)).stands.full;
       only = λ bytes sound is. subst (λ o. Only o (g.B.Disk.state c.open.new.disk).images) is c.in-Ok.ensures.durable;
     }
@@ -31,7 +31,7 @@ returns-in-Ok-clause-kept g c = λ bytes is tidy.
     record {
       sound = refl;
       content = c.open.ensures.stays.content ∙ is;
-      count = length-first (area_at 0 found.slots found.active.second) found.used bytes;
+      count = length-first (area_at found.begin found.slots found.active.second) found.used bytes;
       area = area_found _ _ _ _ _ _ _ _ _ _ bytes opened tidy;
       other_opened = opened.found.opened;
       other_closed = opened.found.closed;

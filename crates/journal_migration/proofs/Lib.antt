@@ -1,0 +1,2 @@
+pub mod BehindIt
+pub mod Sound
