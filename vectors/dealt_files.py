@@ -2,7 +2,8 @@
 """Dealt files and new journals, computed apart from the program that is tested against them.
 
 From a seed of 32 bytes 7 it makes both dealt files of kind direct (1 unit) and of kind extended (1 unit, 1 tree of
-height 1, base 10), and journals with the id of that seed in which nothing is written yet. Of each it prints how many
+height 1, base 10), and journals with the id of that seed in which nothing is written yet, of two areas as they are dealt,
+and of one area as they are migrated. Of each it prints how many
 bytes it has, and in hex SHA-256 of the bytes: of a dealt file of all but its last 32, which are that digest.
 
 It follows the formats of `docs/FORMATS.md`, with what `common.py` has of the field, coins and digests.
@@ -54,16 +55,35 @@ def deal(params):
     return sealed(prover), sealed(verifier)
 
 
-def journal(kind, total):
-    """A new journal of the prover's claims (0) or of the verifier's ceilings (1)."""
-    slots = -(-total // 16) if kind == 1 else min(total, 4096)
-    return b"WQSJRNL1" + bytes([kind]) + bytes(7) + struct.pack("<QQ", total, slots) + FILE_ID + bytes(32 * slots)
+def one_area(kind, total, slots=None, gate=0):
+    """A journal of one area of the prover's claims (0) or of the verifier's ceilings (1) that says nothing, with this gate of its migration."""
+    if slots is None:
+        slots = -(-total // 16) if kind == 1 else min(total, 4096)
+    front = b"WQSJRNL1" + bytes([kind]) + bytes(6) + bytes([gate])
+    return front + struct.pack("<QQ", total, slots) + FILE_ID + bytes(32 * slots)
 
 
-def twin(kind, total, slots):
-    """A new journal of two areas, of the prover's claims (0) or of the verifier's ceilings (1)."""
-    front = b"WQSJRNL1" + bytes([2 + kind]) + bytes(7) + struct.pack("<QQ", total, slots) + FILE_ID
-    return front + struct.pack("<Q", 1) + bytes(23) + b"\x5a" + bytes(32 * slots) + bytes(32 * (slots + 1))
+def area(generation, bodies, slots):
+    """An area of so many slots, the first of which have these bodies; its head is closed where the generation is 0."""
+    head = struct.pack("<Q", generation) + bytes(23) + (b"\x5a" if generation else b"\0")
+    opened = b"".join(struct.pack("<QQ", *body) + bytes(15) + b"\x5a" for body in bodies)
+    return head + opened.ljust(32 * slots, b"\0")[: 32 * slots]
+
+
+def own_slots(kind, total):
+    """How many slots an area of a new journal has."""
+    return min(-(-total // 16) if kind == 1 else total, 4096)
+
+
+def header_of(kind, total, slots):
+    """The header of a journal of two areas."""
+    return b"WQSJRNL1" + bytes([2 + kind]) + bytes(7) + struct.pack("<QQ", total, slots) + FILE_ID
+
+
+def journal(kind, total, slots=None):
+    """A new journal of the prover's claims (0) or of the verifier's ceilings (1): two areas, the first of which is open."""
+    slots = own_slots(kind, total) if slots is None else slots
+    return header_of(kind, total, slots) + area(1, [], slots) + area(0, [], slots)
 
 
 FILES = [
@@ -77,18 +97,20 @@ JOURNALS = [
     ("Claims, 5000", "claims of 5,000 units", journal(0, 5000)),
     ("Ceilings, 1", "ceilings of 1 unit", journal(1, 1)),
     ("Ceilings, 100", "ceilings of 100 units", journal(1, 100)),
+    ("Ceilings, 70000", "ceilings of 70,000 units", journal(1, 70000)),
 ]
-TWINS = [
-    ("Claims, 1", "two areas of claims of 1 unit", twin(0, 1, 1)),
-    ("Claims, 5000", "two areas of claims of 5,000 units", twin(0, 5000, 4096)),
-    ("Ceilings, 100", "two areas of ceilings of 100 units", twin(1, 100, 7)),
+ONE_AREA = [
+    ("one area of claims of 1 unit", one_area(0, 1)),
+    ("one area of claims of 5,000 units", one_area(0, 5000)),
+    ("one area of ceilings of 1 unit", one_area(1, 1)),
+    ("one area of ceilings of 100 units", one_area(1, 100)),
 ]
-assert [len(data) for _, _, data in TWINS] == [192, 64 + 64 * 4097, 576]
 assert [len(data) for _, _, data in FILES] == [1184, 680, 353, 288]
-assert [len(data) for _, _, data in JOURNALS] == [96, 64 + 32 * 4096, 96, 288]
+assert [len(data) for _, _, data in JOURNALS] == [192, 64 + 64 * 4097, 192, 576, 64 + 64 * 4097]
+assert [len(data) for _, data in ONE_AREA] == [96, 64 + 32 * 4096, 96, 288]
 
 ROWS = [(row, text, len(data), data[-32:]) for row, text, data in FILES]
-ROWS += [(row, text, len(data), sha256(data)) for row, text, data in JOURNALS + TWINS]
+ROWS += [(row, text, len(data), sha256(data)) for row, text, data in JOURNALS]
 
 
 def main():
@@ -97,6 +119,9 @@ def main():
             print(f'    ({row}, {length}, "{digest.hex()}"),')
         else:
             print(f"{text}: {length} bytes {digest.hex()}")
+    if "--rust" not in sys.argv[1:]:
+        for text, data in ONE_AREA:
+            print(f"{text}: {len(data)} bytes {sha256(data).hex()}")
 
 
 if __name__ == "__main__":

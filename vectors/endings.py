@@ -7,9 +7,9 @@ from typing import Callable, List, NamedTuple, Sequence, Tuple
 
 import bristol
 from common import P, sha256
-from dealt_files import journal
+from dealt_files import journal, one_area
 from ends import Link, hold, prove
-from parties import HELLO_BYTES, SMALL, TINY, Room, Span, Subject
+from parties import HELLO_BYTES, SMALL, TINY, Room, Span, Subject, slots_of
 from processes import SECONDS, Ran, Service, free_address, without_output, without_writes
 from published import ADDER, AND_GATE
 
@@ -99,30 +99,31 @@ def overlap(room: Room) -> None:
     claims = room.get("p0.journal")
     room.put("x.verifier.journal", copy)
     left = (LEFT[0] + "units 1..2 broken ended 102\n", 1)
-    meet(room, [Other()] * 2, Said(left, [("peer overlap 0..1\n", 8), ("peer overlap 1..2\n", 8)]))
+    meet(room, [Other()] * 2, Said(left, [("peer overlap 0..2\n", 8)] * 2))
     assert room.get("p0.journal") == claims and room.ceiling() == 16
     meet(room, [Other()], Said(("units 16..17 accepted\n", 0), [("units 16..17 accepted\n", 0)]))
 
 
 def overlap_in_part(room: Room) -> None:
-    """The first claim in the order of the slots that has a unit of the grant is named."""
+    """Of the claims that have a unit of the grant the one that starts first is named, in whatever order they stand."""
     room.put("p0.journal", with_slots(room.get("p0.journal"), [(9, 12), (5, 6), (0, 2)]))
-    meet(room, [Other()], Said(("units 0..7 broken ended 102\n", 1), [("peer overlap 5..6\n", 8)]))
+    meet(room, [Other()], Said(("units 0..7 broken ended 102\n", 1), [("peer overlap 0..2\n", 8)]))
 
 
 def torn(room: Room) -> None:
     """A claim whose gate was not written is none; its slot is used again."""
     claimed = with_slots(room.get("p0.journal"), [(0, 1)])
-    room.put("p0.journal", claimed[:95] + b"\0" + claimed[96:])
+    room.put("p0.journal", claimed[:127] + b"\0" + claimed[128:])
     meet(room, [Other()], Said(ACCEPTED, [ACCEPTED]))
     assert room.claims("p0") == [(0, 1)]
 
 
 def full(room: Room) -> None:
-    new = room.get("p0.journal")
-    room.put("p0.journal", new[:24] + struct.pack("<Q", 1) + new[32:96])
-    left = "units 1..2 broken ended 102\n"
-    meet(room, [Other()] * 2, Said((ACCEPTED[0] + left, 1), [ACCEPTED, ("journal full 1\n", 5)]))
+    """A journal of one slot, with a claim: what touches this is one with it, and no other claim has room."""
+    room.put("p0.journal", with_slots(journal(0, room.total, 1), [(2, 3)]))
+    second = ("units 1..2 accepted\n", 0)
+    meet(room, [Other()] * 2, Said((LEFT[0] + second[0], 1), [("journal full 1\n", 5), second]))
+    assert slots_of(room.get("p0.journal")) == [(1, 3)]
 
 
 def shorter(room: Room) -> None:
@@ -222,9 +223,9 @@ def wrong_mac(room: Room) -> None:
 
 
 def with_slots(new: bytes, spans: List[Span]) -> bytes:
-    """A journal with these slots open."""
+    """A new journal with these slots of its first area open."""
     slots = b"".join(struct.pack("<QQ", start, end) + bytes(15) + b"\x5a" for start, end in spans)
-    return new[:64] + slots + new[64 + len(slots) :]
+    return new[:96] + slots + new[96 + len(slots) :]
 
 
 def without_link(room: Room) -> None:
@@ -253,10 +254,14 @@ def without_journal(room: Room) -> None:
     begin(room, Other(), "journal failed 1\n", 5)
     rows = [
         (new[:63], "refused Short 1 64 63\n"),
-        (new[:80], "refused Short 1 128 80\n"),
+        (new[:80], "refused Short 1 256 80\n"),
+        (new[:-1], "refused Short 1 256 255\n"),
+        (one_area(0, room.total), "refused BadHeader 2 8\n"),
         (room.get("x.verifier.journal"), "refused BadHeader 2 8\n"),
         (new[:40] + b"\0" + new[41:], "refused BadHeader 2 40\n"),
         (new[:24] + bytes(8) + new[32:], "refused BadHeader 2 24\n"),
+        (new[:64] + b"\2" + new[65:], "refused BadHeader 2 64\n"),
+        (new[:95] + b"\0" + new[96:], "refused BadHeader 2 95\n"),
         (with_slots(new, [(0, 3)]), "refused BadBody 3 0\n"),
         (with_slots(new, [(0, 1), (1, 1)]), "refused BadBody 3 1\n"),
         (with_slots(new, [(1, 2), (0, 2)]), "refused BadBody 3 1\n"),
@@ -331,7 +336,7 @@ def wrong_audits(room: Room) -> None:
 
 def helped(room: Room) -> None:
     """Help and the version, and an output that is full."""
-    commands = ["deal", "eval", "rehearse", "serve", "serve-many", "prove", "audit"]
+    commands = ["deal", "eval", "rehearse", "serve", "serve-many", "prove", "audit", "migrate"]
     whole = room.run("--help")
     assert whole == room.run("-h") and whole.status == 0 and all(f"zk {name} " in whole.text for name in commands), whole
     for name in commands:
@@ -357,7 +362,7 @@ ENDINGS = [
     Ending(overlap, AND, 17),
     Ending(overlap_in_part, SUM, 16),
     Ending(torn, AND, 2),
-    Ending(full, AND, 2),
+    Ending(full, AND, 3),
     Ending(shorter, AND, 2),
     Ending(lost_claim, AND, 2),
     Ending(lost_ceiling, AND, 2),

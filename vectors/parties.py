@@ -82,13 +82,22 @@ class Subject(NamedTuple):
         return self.job(0).units(self.section)
 
 
+def area_of(data: bytes) -> bytes:
+    """The slots of a journal's active area: of the open head with the greater generation, and of equal ones the first."""
+    slots = int.from_bytes(data[24:32], "little")
+    areas = [data[at : at + 32 * (slots + 1)] for at in (64, 96 + 32 * slots)]
+    opened = [area for area in areas if area[31] == 0x5A]
+    return max(opened, key=lambda area: int.from_bytes(area[:8], "little"))[32:]
+
+
 def slots_of(data: bytes) -> List[Span]:
-    """The bodies of a journal's open slots, up to the first that is closed."""
+    """The bodies that a journal says: those of the first slots of its active area, up to the first that is closed."""
+    area = area_of(data)
     found: List[Span] = []
-    for at in range(64, len(data), 32):
-        if data[at + 31] != 0x5A:
+    for at in range(0, len(area), 32):
+        if area[at + 31] != 0x5A:
             break
-        found.append(struct.unpack("<QQ", data[at : at + 16]))
+        found.append(struct.unpack("<QQ", area[at : at + 16]))
     return found
 
 

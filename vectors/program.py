@@ -12,7 +12,7 @@ from typing import Dict, List, NamedTuple, Optional, Tuple
 import bristol
 from auditor import audit
 from common import FILE_ID, sha256
-from dealt_files import Params, deal, journal
+from dealt_files import Params, deal, header_of, journal, one_area, own_slots
 from ends import MOST_UNITS, End, Job, Link, prove_by, verify_by
 from generated import MOST_GENERATED, generate
 from session import LONG, Claim, Extended, products_of
@@ -363,39 +363,156 @@ def served_jobs(outside: Outside, service: Service, statements: List[Claimed]) -
     return jobs
 
 
-def first_wrong(kind: int, header: bytes, total: int) -> Optional[int]:
-    """The first byte of a journal's header that is wrong: 24 where no journal has so many slots."""
-    wanted = journal(kind, total)[:64]
-    if kind == 0 and 1 <= slots_of(header) <= 2**28:
-        wanted = wanted[:24] + header[24:32] + wanted[32:]
-    wrong = [place for place in range(64) if header[place] != wanted[place]]
-    return min((24 if 24 <= place < 32 else place for place in wrong), default=None)
-
-
 def slots_of(header: bytes) -> int:
     return int.from_bytes(header[24:32], "little")
 
 
-def put_slot(disk: Disk, slot: int, body: Tuple[int, int]) -> None:
-    """Writes a slot, and opens it."""
-    at = 64 + 32 * slot
-    disk.write(at, struct.pack("<QQ", *body))
-    disk.sync()
-    disk.write(at + 31, b"\x5a")
-    disk.sync()
+def first_wrong(header: bytes, wanted: bytes, fits: bool) -> Optional[int]:
+    """The first byte of a header that is wrong: 24 where no journal has so many slots."""
+    wrong = [place for place in range(64) if not 24 <= place < 32 and header[place] != wanted[place]]
+    return min(wrong + ([] if fits else [24]), default=None)
+
+
+def check_header(header: bytes, wanted: bytes, kind: int, most: int) -> None:
+    """The header is this one, but for the number of slots: any for claims, and the most for ceilings."""
+    fits = 1 <= slots_of(header) <= 2**28 and (kind == 0 or slots_of(header) == most)
+    place = first_wrong(header, wanted, fits)
+    if place is not None:
+        raise Stopped(f"refused BadHeader 2 {place}", 3)
+
+
+Body = Tuple[int, int]
+
+
+class Area(NamedTuple):
+    """Where an area stands, its generation, and whether its head is open."""
+
+    at: int
+    generation: int
+    is_open: bool
+
+
+class Journal:
+    """An open journal of two areas: where it begins, how many slots an area has, the active area, the other one, and what is said."""
+
+    def __init__(self, disk: Disk, kind: int, total: int):
+        self.disk, self.kind = disk, kind
+        disk.choose()
+        disk.sync()
+        self.begin = self.find_begin(total)
+        header = disk.read(self.begin, 64)
+        if len(header) < 64:
+            raise Stopped(f"refused Short 1 64 {len(header)}", 3)
+        check_header(header, header_of(kind, total, 0), kind, own_slots(kind, total))
+        self.slots = slots_of(header)
+        self.check_length()
+        areas = [self.read_head(self.begin + 64), self.read_head(self.begin + 96 + 32 * self.slots)]
+        if not any(each.is_open for each in areas):
+            raise Stopped("refused BadHeader 2 95", 3)
+        # The open head with the greater generation counts, and of equal ones the first.
+        self.active, self.other = sorted(areas, key=lambda each: (not each.is_open, -each.generation))
+        self.bodies = self.read_bodies(total)
+        self.check_generation()
+
+    def find_begin(self, total: int) -> int:
+        """Where the journal begins: behind one of one area, where this was migrated."""
+        first = self.disk.read(0, 64)
+        if len(first) < 64 or first[8] != self.kind or first[15] != 0x5A:
+            return 0
+        most = -(-total // 16)
+        check_header(first, one_area(self.kind, total, 0, 0x5A), self.kind, most)
+        return 64 + 32 * slots_of(first)
+
+    def check_length(self) -> None:
+        """The last byte is read, and where it is missing, bytes before it: each halves the places at which the file may end."""
+        need = 128 + 64 * self.slots
+        low, high = self.begin + 64, self.begin + need - 1
+        if self.disk.read(high, 1):
+            return
+        while low < high:
+            middle = (low + high) // 2
+            low, high = (middle + 1, high) if self.disk.read(middle, 1) else (low, middle)
+        raise Stopped(f"refused Short 1 {need} {low - self.begin}", 3)
+
+    def read_head(self, at: int) -> Area:
+        head = self.disk.read(at, 32)
+        return Area(at, int.from_bytes(head[:8], "little"), head[31] == 0x5A)
+
+    def read_bodies(self, total: int) -> List[Body]:
+        """What the slots say up to the first that is not open."""
+        keeps = is_ceiling if self.kind == 1 else is_span
+        bodies: List[Body] = []
+        for slot in range(self.slots):
+            data = self.disk.read(self.active.at + 32 * (slot + 1), 32)
+            if data[31] != 0x5A:
+                break
+            bodies.append(struct.unpack("<QQ", data[:16]))
+        for slot, body in enumerate(bodies):
+            if not keeps(total, bodies[:slot], body):
+                raise Stopped(f"refused BadBody 3 {slot}", 3)
+        return bodies
+
+    def check_generation(self) -> None:
+        """A generation is at least 1, and at most 1 more than the units that the journal says are spent."""
+        if self.kind == 1:
+            units = self.bodies[-1][0] if self.bodies else 0
+        else:
+            self.read_again()
+            units = sum(end - start for start, end in self.bodies)
+        if not 1 <= self.active.generation <= units + 1:
+            raise Stopped(f"refused BadHeader 2 {self.active.at - self.begin}", 3)
+
+    def read_again(self) -> None:
+        """Each body is read once more."""
+        for slot in range(len(self.bodies)):
+            self.disk.read(self.active.at + 32 * (slot + 1), 16)
+
+    def set_gate(self, at: int, gate: bytes) -> None:
+        self.disk.write(at + 31, gate)
+        self.disk.sync()
+
+    def put(self, body: Body) -> None:
+        """Writes the next slot of the active area, and opens it."""
+        at = self.active.at + 32 * (len(self.bodies) + 1)
+        self.disk.write(at, struct.pack("<QQ", *body))
+        self.disk.sync()
+        self.set_gate(at, b"\x5a")
+        self.bodies.append(body)
+
+    def compact(self, bodies: List[Body]) -> None:
+        """Writes these bodies into the other area, while its head is closed, and opens it with the next generation."""
+        if self.other.is_open:
+            self.set_gate(self.other.at, b"\0")
+        generation = self.active.generation + 1
+        self.disk.write(self.other.at, struct.pack("<Q", generation))
+        for slot in range(self.slots):
+            data = struct.pack("<QQ", *bodies[slot]) + bytes(15) + b"\x5a" if slot < len(bodies) else bytes(32)
+            self.disk.write(self.other.at + 32 * (slot + 1), data)
+        self.disk.sync()
+        self.set_gate(self.other.at, b"\x5a")
+        self.active, self.other = Area(self.other.at, generation, True), self.active
+        self.bodies = bodies
+
+    def is_full(self) -> bool:
+        return len(self.bodies) == self.slots
 
 
 class Leases:
     """The units of a journal that is open, for one worker."""
 
-    def __init__(self, disk: Disk, total: int, used: int, ceiling: int):
-        self.disk, self.total, self.used, self.ceiling = disk, total, used, ceiling
-        self.next, self.mark = ceiling, 0
+    def __init__(self, journal: Journal, total: int):
+        self.journal, self.total = journal, total
+        self.next = self.ceiling = journal.bodies[-1][0] if journal.bodies else 0
+        self.mark = 0
         self.exhausted: Optional[str] = None
 
     def put(self, ceiling: int) -> None:
-        put_slot(self.disk, self.used, (ceiling, 0))
-        self.used, self.ceiling = self.used + 1, ceiling
+        """The journal says this ceiling, and where all its slots are open it says this alone."""
+        if self.journal.is_full():
+            self.journal.compact([(ceiling, 0)])
+        else:
+            self.journal.put((ceiling, 0))
+        self.ceiling = ceiling
 
     def cover(self, end: int) -> Optional[str]:
         """Raises the ceiling up to this end, or the outcome by which it is not."""
@@ -407,7 +524,7 @@ class Leases:
             self.put(min(self.total, -(-end // 16) * 16))
             return None
         except DiskFailed:
-            self.mark = self.disk.faults
+            self.mark = self.journal.disk.faults
             return "device"
 
     def grant(self, count: int) -> Tuple[int, Optional[str]]:
@@ -421,9 +538,6 @@ class Leases:
         return at, self.cover(self.next)
 
 
-Body = Tuple[int, int]
-
-
 def is_ceiling(total: int, bodies: List[Body], body: Body) -> bool:
     """Whether a body may follow these in the verifier's journal."""
     (ceiling, other), last = body, bodies[-1][0] if bodies else 0
@@ -435,44 +549,9 @@ def is_span(total: int, bodies: List[Body], body: Body) -> bool:
     return body[0] < body[1] <= total
 
 
-def read_bodies(kind: int, disk: Disk, total: int, slots: int) -> List[Body]:
-    """What the slots say up to the first that is not open."""
-    keeps = is_ceiling if kind == 1 else is_span
-    bodies: List[Body] = []
-    bad = None
-    while len(bodies) < slots:
-        at = 64 + 32 * len(bodies)
-        slot = disk.read(at, 32)
-        if len(slot) < 32:
-            raise Stopped(f"refused Short 1 {64 + 32 * slots} {at + len(slot)}", 3)
-        if slot[31] != 0x5A:
-            break
-        first, second = struct.unpack("<QQ", slot[:16])
-        if bad is None and not keeps(total, bodies, (first, second)):
-            bad = len(bodies)
-        bodies.append((first, second))
-    if bad is not None:
-        raise Stopped(f"refused BadBody 3 {bad}", 3)
-    return bodies
-
-
-def open_bodies(kind: int, disk: Disk, total: int) -> Tuple[int, List[Body]]:
-    """How many slots a journal has, and what those say that are open."""
-    disk.choose()
-    disk.sync()
-    header = disk.read(0, 64)
-    if len(header) < 64:
-        raise Stopped(f"refused Short 1 64 {len(header)}", 3)
-    place = first_wrong(kind, header, total)
-    if place is not None:
-        raise Stopped(f"refused BadHeader 2 {place}", 3)
-    return slots_of(header), read_bodies(kind, disk, total, slots_of(header))
-
-
 def open_leases(disk: Disk, total: int) -> Leases:
     try:
-        _, bodies = open_bodies(1, disk, total)
-        return Leases(disk, total, len(bodies), bodies[-1][0] if bodies else 0)
+        return Leases(Journal(disk, 1, total), total)
     except DiskFailed:
         raise Stopped(f"journal failed {disk.faults}", 5) from None
 
@@ -482,24 +561,38 @@ def first_met(spans: List[Body], start: int, end: int) -> Optional[Body]:
     return next((span for span in spans if span[0] < end and start < span[1]), None)
 
 
-class Claims:
-    """The claims of a journal that is open."""
+def merged(spans: List[Body]) -> List[Body]:
+    """The ranges that have the units of these spans, which are apart: no two of them touch, and they rise."""
+    ranges: List[Body] = []
+    for start, end in sorted(spans):
+        if ranges and ranges[-1][1] == start:
+            start = ranges.pop()[0]
+        ranges.append((start, end))
+    return ranges
 
-    def __init__(self, disk: Disk, total: int, slots: int, spans: List[Body]):
-        self.disk, self.total, self.slots, self.spans = disk, total, slots, spans
+
+class Claims:
+    """The claims of a journal that is open, as merged ranges."""
+
+    def __init__(self, journal: Journal, total: int):
+        self.journal, self.total, self.ranges = journal, total, merged(journal.bodies)
 
     def claim(self, start: int, count: int) -> Optional[str]:
         """Claims these units, or gives the outcome by which they are refused."""
         end = start + count
         if end > self.total:
             return f"out-of-range total={self.total}"
-        earlier = first_met(self.spans, start, end)
+        earlier = first_met(self.ranges, start, end)
         if earlier:
             return "overlap earlier={}..{}".format(*earlier)
-        if len(self.spans) == self.slots:
-            return f"full slots={self.slots}"
+        ranges = merged(self.ranges + [(start, end)])
+        if self.journal.is_full() and len(ranges) > self.journal.slots:
+            return f"full slots={self.journal.slots}"
         try:
-            put_slot(self.disk, len(self.spans), (start, end))
+            if self.journal.is_full():
+                self.journal.compact(ranges)
+            else:
+                self.journal.put((start, end))
         except DiskFailed:
             return "device"
         return None
@@ -508,12 +601,12 @@ class Claims:
 def open_claims(disk: Disk, total: int) -> Claims:
     """The claims of a journal: once all keep the rule each is read again, and compared with those before."""
     try:
-        slots, bodies = open_bodies(0, disk, total)
-        for slot, (start, end) in enumerate(bodies):
-            disk.read(64 + 32 * slot, 16)
-            if first_met(bodies[:slot], start, end):
+        journal = Journal(disk, 0, total)
+        for slot, (start, end) in enumerate(journal.bodies):
+            disk.read(journal.active.at + 32 * (slot + 1), 16)
+            if first_met(journal.bodies[:slot], start, end):
                 raise Stopped(f"refused BadBody 3 {slot}", 3)
-        return Claims(disk, total, slots, bodies)
+        return Claims(journal, total)
     except DiskFailed:
         raise Stopped(f"journal failed {disk.faults}", 5) from None
 

@@ -20,7 +20,7 @@ import dealt_files
 import program
 from auditor import audit
 from chacha import word
-from common import KEY, P, VERIFIER_COINS, dealt_correlations, element, frame, from_word, sha256
+from common import CODE_SEED, KEY, P, PROVER_COINS, VERIFIER_COINS, dealt_correlations, element, frame, from_word, sha256
 from ends import MOST_RECEIVED, MOST_UNITS, End, Job, Link, hold, prove, verify
 from published import ADDER, AND_GATE, FIVE_GATES, SESSIONS, log_of
 from session import LONG, Claim, Extended, accepted, carried, sent_by_prover, sent_by_verifier, session
@@ -211,13 +211,22 @@ def outside_of(scenario: Scenario, kind: int) -> program.Outside:
     text = CIRCUITS[name] + scenario.words.get("tail", "").replace("_", " ").encode()
     params, total = scenario.params(), scenario.number("units", 1)
     numbers = (0, 0, 0, 0) if params is None else (1, params.height, params.trees, params.base)
-    prover, verifier = dealt_files.deal(dealt_files.Params(*numbers, total))
+    prover, verifier = dealt_by(dealt_files.Params(*numbers, total))
     files = {"x.prover": prover, "x.verifier": verifier, name: text.ljust(scenario.number("size", 0), b"\n")}
     files["statements"] = scenario.words.get("statements", "").replace("+", " ").replace("/", "\n").encode()
     files["log"] = bytes.fromhex(scenario.words.get("log", ""))
     fails = [scenario.number(f"{each}-fails", 0) for each in ("shelf", "sink", "door")]
     disk = program.Disk(journal_of(scenario, kind, total), scenario.number("disk-fails", 0))
     return program.Outside(files, disk, *fails)
+
+
+def dealt_by(params: dealt_files.Params) -> Tuple[bytes, bytes]:
+    """The dealt files, or where there are very many units their headers: of these alone a run's lines speak."""
+    if params.total <= 4096:
+        return dealt_files.deal(params)
+    keys = (PROVER_COINS, VERIFIER_COINS)
+    prover, verifier = (dealt_files.header(side, params, key, CODE_SEED) for side, key in enumerate(keys))
+    return prover, verifier
 
 
 def bodies_of(scenario: Scenario, kind: int, total: int) -> Iterator[Tuple[int, int]]:
@@ -232,12 +241,27 @@ def bodies_of(scenario: Scenario, kind: int, total: int) -> Iterator[Tuple[int, 
 
 
 def journal_of(scenario: Scenario, kind: int, total: int) -> bytes:
-    """A journal of this kind, with slots that are open, cut, and with a byte that is another."""
-    new = dealt_files.journal(kind, total)
-    bodies = bodies_of(scenario, kind, total)
-    journal = new[:64] + b"".join(struct.pack("<QQ", *body) + bytes(15) + b"\x5a" for body in bodies)
-    size = scenario.number("journal-size", len(new))
-    return changed(scenario, "journal-set", journal.ljust(size, b"\0")[:size])
+    """A journal of this kind, with its areas and bodies, cut, and with a byte that is another."""
+    bodies = list(bodies_of(scenario, kind, total))
+    spent = (total, 0) if kind == 1 else (0, total)
+    areas = scenario.words.get("areas", "two")
+    data = b""
+    if areas != "two":
+        new = dealt_files.one_area(kind, total, given_number(scenario, "slots"), 0x5A * (areas == "moved"))
+        data = new[:64] + dealt_files.area(0, bodies if areas == "one" else [spent], len(new) // 32 - 2)[32:]
+    if areas != "one":
+        slots = scenario.number("slots", dealt_files.own_slots(kind, total))
+        heads = [int(each) for each in scenario.words.get("heads", "1,0").split(",")]
+        active = heads[1] > heads[0]
+        says = [bodies if second == active else [spent] * (heads[second] > 0) for second in (0, 1)]
+        data += dealt_files.header_of(kind, total, slots)
+        data += b"".join(dealt_files.area(head, said, slots) for head, said in zip(heads, says))
+    size = scenario.number("journal-size", len(data))
+    return changed(scenario, "journal-set", data.ljust(size, b"\0")[:size])
+
+
+def given_number(scenario: Scenario, name: str) -> Optional[int]:
+    return int(scenario.words[name]) if name in scenario.words else None
 
 
 def shown(scenario: Scenario, outside: program.Outside) -> str:
@@ -581,18 +605,19 @@ def limits() -> List[Scenario]:
 
 def journals() -> List[Scenario]:
     """Journals that are refused: the disk fails, or they are short, or a byte of their header or of a body is another."""
-    scenarios = [run(SERVE, disk_fails=number) for number in range(1, 6)]
+    scenarios = [run(SERVE, disk_fails=number) for number in range(1, 10)]
     scenarios.append(run(SERVE, disk_fails=1, door_fails=1))
     scenarios.append(run("serve here x.prover and.txt 1 --sessions 1", disk_fails=1))
     circuit = "too_many_inputs.txt"
     scenarios.append(run(f"serve here x.verifier {circuit} 1 --sessions 1", circuit=circuit, disk_fails=1))
-    scenarios += [run(SERVE, journal_size=size, show="disk") for size in (0, 63, 64, 95, 97)]
-    scenarios += [run(SERVE, units=32, ceilings=ceilings, journal_size=96) for ceilings in (0, 16)]
-    headers = ["0:0", "7:50", "8:0", "9:1", "15:255", "16:2", "23:1", "24:0", "24:2", "31:1", "32:0", "63:0"]
+    scenarios += [run(SERVE, journal_size=size, show="disk") for size in (0, 63, 64, 65, 95, 96, 128, 190, 191, 193)]
+    scenarios += [run(SERVE, units=32, ceilings=ceilings, journal_size=size) for ceilings in (0, 16) for size in (96, 160, 255)]
+    scenarios += [run(SERVE, journal_size=64, disk_fails=number) for number in range(3, 14)]
+    headers = ["0:0", "7:50", "8:0", "8:1", "8:2", "8:4", "9:1", "15:255", "15:90", "16:2", "23:1", "24:0", "24:2", "31:1", "32:0", "63:0"]
     scenarios += [run(SERVE, journal_set=place, show="disk") for place in headers]
-    scenarios += [run(SERVE, units=32, ceilings=16, journal_set=place) for place in ("64:17", "64:0", "65:1", "71:1", "72:1", "79:1", "80:1")]
-    scenarios += [run(SERVE, units=32, ceilings=32, journal_set=place) for place in ("96:16", "64:32", "127:91")]
-    return scenarios + [run(SERVE, units=20, ceilings=20, journal_set=place) for place in ("96:20", "96:19", "96:32")]
+    scenarios += [run(SERVE, units=32, ceilings=16, journal_set=place) for place in ("96:17", "96:0", "97:1", "103:1", "104:1", "111:1", "112:1")]
+    scenarios += [run(SERVE, units=32, ceilings=32, journal_set=place) for place in ("128:16", "96:32", "159:91")]
+    return scenarios + [run(SERVE, units=20, ceilings=20, journal_set=place) for place in ("128:20", "128:19", "128:32")]
 
 
 def served(peers: int, sessions: Optional[int] = None, **words: object) -> Scenario:
@@ -612,15 +637,15 @@ def leases() -> List[Scenario]:
     scenarios += [served(4, **TEN_UNITS, units=25, show="disk"), served(2, **TEN_UNITS, units=9, show="disk")]
     scenarios += [served(1, units=32, ceilings=16, start=16, show="disk"), served(1, units=16, ceilings=16, start=16, show="disk")]
     scenarios.append(served(5, units=20, ceilings=16, start=16, show="disk"))
-    scenarios.append(served(1, units=32, journal_size=96, show="disk"))
+    scenarios.append(served(1, units=32, journal_size=160, show="disk"))
     return scenarios + [served(2, **TEN_UNITS, units=36, ceilings=16, start=16, show="disk")]
 
 
 def failing_services() -> List[Scenario]:
     """Services of several sessions in which calls of the disk, the door and the output fail, or one peer is not honest."""
-    scenarios = [served(2, units=32, disk_fails=number, show="disk") for number in range(1, 10)]
-    scenarios += [served(3, **TEN_UNITS, units=32, disk_fails=number, show="disk") for number in range(9, 14)]
-    scenarios += [served(2, **TEN_UNITS, units=16, disk_fails=5), served(3, disk_fails=5)]
+    scenarios = [served(2, units=32, disk_fails=number, show="disk") for number in range(1, 14)]
+    scenarios += [served(3, **TEN_UNITS, units=32, disk_fails=number, show="disk") for number in range(12, 18)]
+    scenarios += [served(2, **TEN_UNITS, units=16, disk_fails=9), served(3, disk_fails=9)]
     scenarios += [served(2, units=32, door_fails=number) for number in range(1, 6)]
     scenarios += [served(2, units=32, outputs=0, door_fails=3), served(3, door_fails=4), served(2, units=32, sink_fails=1)]
     for peer in range(3):
@@ -637,7 +662,7 @@ def logged_services() -> List[Scenario]:
     scenarios += [served(3, units=32, **shown), served(3, units=2, **shown), served(3, units=32, peer=1, keep=102, **shown)]
     scenarios += [served(3, units=32, shelf_fails=number, **shown) for number in range(1, 7)]
     scenarios += [served(3, units=2, shelf_fails=number, **shown) for number in (3, 4, 5)]
-    scenarios += [served(3, disk_fails=5, **shown), served(2, units=32, shelf_fails=4, sink_fails=1, **shown)]
+    scenarios += [served(3, disk_fails=9, **shown), served(2, units=32, shelf_fails=4, sink_fails=1, **shown)]
     scenarios.append(line("service", logs="x.verifier", show="x.verifier,x.verifier.0"))
     words = {"ceilings": 16, "start": 16, "units": 32, "logs": "k", "show": "k.16,k.17,disk"}
     return scenarios + [served(2, **words)]
@@ -708,7 +733,7 @@ def taken_units() -> List[Scenario]:
     for claims, start in spans + [("0..10", 0)]:
         scenarios.append(proof(**TEN_TREES, claims=claims, start=start, show="disk"))
     scenarios.append(proof(**TEN_TREES, claims="0..4", keep=0, more=grant(9, 2, LONG)))
-    one_slot = {"units": 4, "claims": "0..1", "journal_set": "24:1", "show": "disk"}
+    one_slot = {"units": 4, "claims": "0..1", "slots": 1, "show": "disk"}
     scenarios += [proof(**one_slot, start=start) for start in (0, 1, 3)]
     scenarios.append(proof(**one_slot, keep=0, more=grant(4, 1, LONG)))
     return scenarios + [proof(units=2, claims="0..1+1..2", start=1), proof(claims="0..1")]
@@ -730,15 +755,15 @@ def wrong_verdicts() -> List[Scenario]:
 def failing_proofs() -> List[Scenario]:
     """Proofs in which a call of the link, the disk, the door, the shelf or the output fails."""
     scenarios = [proof(fail="1..9", show="disk"), proof(fail="1..13", **ONE_TREE, show="disk")]
-    scenarios += [proof(disk_fails=number, show="disk") for number in range(1, 10)]
+    scenarios += [proof(disk_fails=number, show="disk") for number in range(1, 14)]
     claims = {"claims": "0..1+6..8", "start": 3}
-    scenarios += [proof(**TEN_TREES, **claims, disk_fails=number, show="disk") for number in range(1, 14)]
+    scenarios += [proof(**TEN_TREES, **claims, disk_fails=number, show="disk") for number in range(1, 20)]
     scenarios += [proof(door_fails=number, show="disk") for number in (1, 2)]
     scenarios += [proof(shelf_fails=number, show="disk") for number in (1, 2, 3)]
     scenarios += [proof(sink_fails=number) for number in (1, 2)] + [proof(disk_fails=1, door_fails=1)]
     scenarios += [proof(keep=keep, sink_fails=1) for keep in (0, 34)] + [proof(fail="1..2", sink_fails=1)]
-    scenarios += [proof(disk_fails=5, sink_fails=1), proof(claims="0..1", sink_fails=1)]
-    return scenarios + [proof(disk_fails=8, fail="5..6")]
+    scenarios += [proof(disk_fails=9, sink_fails=1), proof(claims="0..1", sink_fails=1)]
+    return scenarios + [proof(disk_fails=12, fail="5..6")]
 
 
 def flipped(word: str, place: int) -> str:
@@ -794,22 +819,80 @@ def words_of_no_proof() -> List[Scenario]:
 
 def journals_of_claims() -> List[Scenario]:
     """Journals of claims: the disk fails, or they are short, or a byte of the header or a claim is wrong."""
-    scenarios = [run(PROVE, disk_fails=number) for number in range(1, 6)]
+    scenarios = [run(PROVE, disk_fails=number) for number in range(1, 10)]
     scenarios.append(run(PROVE, disk_fails=1, door_fails=1))
-    scenarios += [run(PROVE, units=4, claims="1..2+3..4", disk_fails=number) for number in range(1, 10)]
-    scenarios += [proof(journal_size=size, show="disk") for size in (0, 63, 64, 95, 97)]
+    scenarios += [run(PROVE, units=4, claims="1..2+3..4", disk_fails=number) for number in range(1, 16)]
+    scenarios += [proof(journal_size=size, show="disk") for size in (0, 63, 64, 65, 95, 96, 128, 190, 191, 193)]
     for claims in ("0..1", "0..1+2..3", "3..3+4..5", "0..2+1..3"):
-        scenarios += [proof(units=10, claims=claims, journal_size=size, start=4) for size in (127, 128)]
-    headers = ["0:0", "7:50", "8:1", "9:1", "15:255", "16:2", "23:1", "24:0", "24:2", "27:15", "27:16"]
+        scenarios += [proof(units=10, claims=claims, journal_size=size, start=4) for size in (128, 447, 767, 769)]
+    headers = ["0:0", "7:50", "8:0", "8:1", "8:3", "8:4", "9:1", "15:255", "15:90", "16:2", "23:1", "24:0", "24:2", "27:15", "27:16"]
     headers += ["28:1", "31:1", "32:0", "63:0"]
     scenarios += [proof(journal_set=place, show="disk") for place in headers]
-    bodies = ["24:2", "24:0", "64:1", "71:1", "72:0", "72:2", "79:1"]
+    bodies = ["24:2", "24:0", "96:1", "103:1", "104:0", "104:2", "111:1"]
     scenarios += [proof(claims="0..1", journal_set=place) for place in bodies]
     wrong = ["2..2", "3..2", "0..11", "10..11", "0..4+3..5", "3..5+0..4", "0..4+0..4", "0..10+4..5"]
     wrong += ["0..4+3..5+7..7", "7..7+0..4+3..5"]
     scenarios += [proof(units=10, claims=claims, start=5, show="disk") for claims in wrong]
-    places = ["80:1", "94:255", "95:91", "95:0", "127:90"]
+    places = ["112:1", "126:255", "127:91", "127:0", "159:90"]
     return scenarios + [proof(units=10, claims="0..4", journal_set=place, show="disk") for place in places]
+
+
+def areas() -> List[Scenario]:
+    """Journals of one area, which are refused; and journals of two areas behind one that was migrated."""
+    scenarios = [run(words, areas="one", show="disk") for words in (SERVE, PROVE)]
+    scenarios += [served(1, units=32, ceilings=16, start=16, areas="one", show="disk"), served(1, areas="one", disk_fails=4)]
+    scenarios += [proof(units=4, claims="0..1", start=1, areas="one", show="disk"), proof(areas="one", disk_fails=4)]
+    scenarios += [served(2, units=units, areas="moved", show="disk") for units in (1, 32)]
+    scenarios.append(served(2, units=40, ceilings=16, start=16, areas="moved", heads="1,2", show="disk"))
+    scenarios += [proof(areas="moved", show="disk"), proof(units=4, claims="1..2+3..4", start=2, areas="moved", show="disk")]
+    scenarios.append(proof(units=4, claims="1..2+3..4", start=0, slots=2, areas="moved", heads="2,3", show="disk"))
+    for words in (SERVE, PROVE):
+        scenarios += [run(words, areas="moved", journal_size=size) for size in (63, 64, 95, 96, 97, 159, 160, 161, 286, 287, 289)]
+        places = ["0:0", "8:2", "8:3", "14:1", "15:0", "15:91", "16:2", "24:0", "24:2", "32:0", "63:0"]
+        places += ["96:0", "104:0", "104:1", "104:4", "111:90", "112:2", "120:0", "120:2", "128:0", "191:0", "160:0", "160:2", "287:90"]
+        scenarios += [run(words, areas="moved", journal_set=place) for place in places]
+    scenarios += [run(words, areas="moved", disk_fails=number) for words in (SERVE, PROVE) for number in range(1, 10)]
+    scenarios += [served(1, areas="moved", disk_fails=number, show="disk") for number in range(9, 14)]
+    return scenarios + [proof(areas="moved", disk_fails=number, show="disk") for number in range(9, 14)]
+
+
+def heads() -> List[Scenario]:
+    """Journals whose second area counts, or neither does, or a generation is one that there may not be."""
+    most = 2**64 - 1
+    scenarios = [run(words, heads=heads, show="disk") for words in (SERVE, PROVE) for heads in ("0,0", "2,0", "0,2", f"{most},0", "0,1", "1,1")]
+    for words in (SERVE, PROVE):
+        scenarios += [run(words, journal_set=place) for place in ("64:0", "64:2", "71:1", "95:0", "95:91", "128:1", "159:90")]
+        scenarios += [run(words, heads="0,1", journal_set=place) for place in ("95:90", "128:0", "135:128", "159:0", "159:89")]
+    given = {"units": 40, "ceilings": 32, "start": 32, "show": "disk"}
+    scenarios += [served(1, **given, heads=heads) for heads in ("1,2", "2,1", "2,2", "33,1", "1,33", "34,33", "33,34", f"{most},1")]
+    scenarios += [served(1, **given, heads="1,2", disk_fails=number) for number in range(6, 16)]
+    given = {"units": 9, "claims": "0..2+3..4", "start": 5, "show": "disk"}
+    scenarios += [proof(**given, heads=heads) for heads in ("1,2", "2,1", "2,2", "4,1", "1,4", "5,4", "4,5", f"1,{most}")]
+    return scenarios + [proof(**given, heads="1,2", disk_fails=number) for number in range(6, 20)]
+
+
+def full_claims() -> List[Scenario]:
+    """Proofs over journals whose slots are all in use: the ranges are written anew, unless they are too many."""
+    scenarios = []
+    for start in range(10):
+        scenarios.append(proof(units=10, slots=2, claims="3..4+6..7", start=start, show="disk"))
+        scenarios.append(proof(units=10, slots=3, claims="7..9+0..2+4..5", start=start, show="disk"))
+    joined = {"units": 10, "slots": 2, "claims": "0..1+1..2", "show": "disk"}
+    scenarios += [proof(**joined, start=start) for start in (1, 2, 5, 9, 10)]
+    scenarios += [proof(**joined, start=5, disk_fails=number) for number in range(1, 21)]
+    scenarios += [proof(**joined, start=5, heads=heads) for heads in ("1,2", "2,1", "0,3", "3,3", "3,0", "2,3", "4,3")]
+    scenarios += [proof(**joined, start=5, heads="2,3", disk_fails=number) for number in range(12, 24)]
+    scenarios += [proof(**joined, start=5, areas="moved", heads="0,2", disk_fails=number) for number in range(12, 22)]
+    scenarios += [proof(units=1, slots=3), proof(units=10, slots=2, claims="0..4+5..10", start=4, show="disk")]
+    for claims, start in (("0..5+25..32", 5), ("0..5+15..20", 5), ("0..2+20..21", 5)):
+        scenarios.append(proof(**TEN_UNITS, units=32, slots=2, claims=claims, start=start, show="disk"))
+    return scenarios + [proof(**TEN_UNITS, units=32, slots=1, claims="10..12", start=start, show="disk") for start in (0, 12, 13)]
+
+
+def full_ceilings() -> List[Scenario]:
+    """Services over journals whose slots are all in use, which then say the next ceiling alone."""
+    many = {"files": "1,1,10", "ceilings": 65536, "start": 65536, "show": "disk"}
+    return [served(10, **many, units=65568), served(2, **many, units=65552, heads="1,2", disk_fails=8205)]
 
 
 def statement_line(**words: object) -> str:
@@ -980,6 +1063,7 @@ def all_scenarios() -> List[Scenario]:
     parts += [false_proofs(), stopped_proofs(), words_of_no_proof(), journals_of_claims()]
     parts += [public_sessions(), several_statements(), public_runs(), generated_runs(), public_ends(), audits()]
     parts += [many_services(), statement_files(), audit_runs()]
+    parts += [areas(), heads(), full_claims(), full_ceilings()]
     return [scenario for part in parts for scenario in part]
 
 

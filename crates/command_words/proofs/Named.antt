@@ -11,7 +11,7 @@ use Rattle.command_words.specs.Found.{Form, IsReadBy, read_by}
 use Rattle.command_words.specs.Forms.{IsReadAs, form_named}
 use Rattle.command_words.specs.Names.{meant_by}
 use Rattle.command_words.specs.declared.names.Name.{Name}
-use Rattle.command_words.specs.declared.names.Name.TheVariants.{Rehearse, Eval, Deal, Serve, ServeMany, Prove, Audit}
+use Rattle.command_words.specs.declared.names.Name.TheVariants.{Rehearse, Eval, Deal, Serve, ServeMany, Prove, Audit, Migrate}
 use Rattle.command_words.specs.Words.{Ask, IsRead, asked, texts}
 use Rattle.command_words.specs.declared.words.Command.{Command}
 use Rattle.command_words.proofs.Inversions.{none_gives}
@@ -81,7 +81,8 @@ nothing_read words first begins other =
     let e = differs first (codes "serve-many") (other ServeMany) in
     let f = differs first (codes "prove") (other Prove) in
     let g = differs first (codes "audit") (other Audit) in
-    let none : asked (first ∷ drop 1 words) ≡ None = rw (a, b, c, d, e, f, g) (always_none (arranged (drop 1 words))) in
+    let h = differs first (codes "migrate") (other Migrate) in
+    let none : asked (first ∷ drop 1 words) ≡ None = rw (a, b, c, d, e, f, g, h) (always_none (arranged (drop 1 words))) in
     record {
       valid = λ {ask} h. none_gives (sym none ∙ sym (ap asked begins) ∙ h);
       other = λ {ask} h. none_gives h;

@@ -9,10 +9,10 @@ use Rattle.clap.specs.Takes.{default_passes, is_valid}
 use Rattle.clap.specs.Simple.{Shape, built, is_simple}
 use Rattle.command_words.specs.Arguments.{Flag, Valued, is_flag, kind_of}
 use Rattle.command_words.specs.Found.{Form, names_of, told}
-use Rattle.command_words.specs.Forms.{audit_form, deal_form, eval_form, prove_form, rehearse_form, serve_form, serve_many_form}
+use Rattle.command_words.specs.Forms.{audit_form, deal_form, eval_form, migrate_form, prove_form, rehearse_form, serve_form, serve_many_form}
 use Rattle.command_words.specs.Names.{meant_by}
 use Rattle.command_words.specs.declared.names.Name.{Name}
-use Rattle.command_words.specs.declared.names.Name.TheVariants.{Rehearse, Eval, Deal, Serve, ServeMany, Prove, Audit}
+use Rattle.command_words.specs.declared.names.Name.TheVariants.{Rehearse, Eval, Deal, Serve, ServeMany, Prove, Audit, Migrate}
 use Rattle.command_words.proofs.Rows.{same_text}
 use Rattle.command_words.proofs.Steps.{flag, place, valued}
 use Rattle.command_words.proofs.Walks.{KnowsName, KnowsNames, KnowsPlaces, are_apart, is_among, is_apart}
@@ -100,6 +100,8 @@ known_of Prove = known_form prove_form refl refl refl refl refl refl refl (λ ro
     (known_valued _ _ (codes "--public") refl refl refl refl refl refl refl refl, tt) refl refl refl
 known_of Audit = known_form audit_form refl refl refl refl refl refl refl (λ rows. refl) (refl, refl, (refl, refl, (refl, refl, (refl, refl, (refl, refl, tt))))) refl (omega arith)
     (known_valued _ _ (codes "--public") refl refl refl refl refl refl refl refl, tt) refl refl refl
+known_of Migrate = known_form migrate_form refl refl refl refl refl refl refl (λ rows. refl) (refl, refl, (refl, refl, tt)) refl (omega arith)
+    tt refl refl refl
 
 -- and so are the names of its options
 pub are_names_of : (name : Name) → AreNames (names_of (meant_by name).form) (meant_by name).form.valued
@@ -110,3 +112,4 @@ are_names_of Serve = record { kinds = (refl, (refl, (refl, (refl, (refl, tt)))))
 are_names_of ServeMany = record { kinds = (refl, (refl, (refl, (refl, tt)))); apart = refl; covered = refl }
 are_names_of Prove = record { kinds = (refl, tt); apart = refl; covered = refl }
 are_names_of Audit = record { kinds = (refl, tt); apart = refl; covered = refl }
+are_names_of Migrate = record { kinds = tt; apart = refl; covered = refl }

@@ -3,12 +3,12 @@ use Rattle.std.proofs.Common.{◌≡◌, ◌∙◌, ◌≤◌, ℕ, List, [], �
 use Rattle.std.specs.Option.{option_map}
 use Rattle.command_words.specs.Arguments.{Word, option_named}
 use Rattle.command_words.specs.Found.{names_of, read_by}
-use Rattle.command_words.specs.Forms.{audit_form, deal_form, eval_form, form_named, prove_form, serve_form, serve_many_form}
+use Rattle.command_words.specs.Forms.{audit_form, deal_form, eval_form, form_named, migrate_form, prove_form, serve_form, serve_many_form}
 use Rattle.command_words.specs.Names.{meant_by}
 use Rattle.command_words.specs.declared.names.Name.{Name}
-use Rattle.command_words.specs.declared.names.Name.TheVariants.{Rehearse, Eval, Deal, Serve, ServeMany, Prove, Audit}
-use Rattle.command_words.specs.Given.{Given, audit_given, deal_given, eval_given, params_given, prove_given, serve_given, serve_many_given, service_given}
-use Rattle.command_words.specs.Words.{Ask, asked, audit_of, deal_of, deal_options, eval_of, generate_of, generate_options, length_of, params_of, prove_of, public_option, rehearse_of, rehearse_options, section_of, serve_many_of, serve_many_options, serve_of, serve_options_of, served_options, service_of, stand_once_among}
+use Rattle.command_words.specs.declared.names.Name.TheVariants.{Rehearse, Eval, Deal, Serve, ServeMany, Prove, Audit, Migrate}
+use Rattle.command_words.specs.Given.{Given, audit_given, deal_given, eval_given, migrate_given, params_given, prove_given, serve_given, serve_many_given, service_given}
+use Rattle.command_words.specs.Words.{Ask, asked, audit_of, deal_of, deal_options, eval_of, generate_of, generate_options, length_of, migrate_of, params_of, prove_of, public_option, rehearse_of, rehearse_options, section_of, serve_many_of, serve_many_options, serve_of, serve_options_of, served_options, service_of, stand_once_among}
 use Rattle.command_words.proofs.Walks.{IsSaid}
 use Rattle.command_words.proofs.Inversions.{if_gives, if_some, none_gives, step_gives}
 use Rattle.command_words.proofs.ReadBy.{Reads}
@@ -216,6 +216,34 @@ audit_once (circuit ∷ outputs ∷ prover ∷ verifier ∷ log ∷ word ∷ pos
 pub audit_reads : Reads audit_form.places (names_of audit_form) audit_given audit_of
 audit_reads = record { same = audit_same; few = audit_few; once = audit_once }
 
+-- ---- `migrate`
+
+migrate_same : (positional : List (List ℕ)) → migrate_given positional ≡ migrate_of positional []
+migrate_same [] = refl
+migrate_same (side ∷ []) = refl
+migrate_same (side ∷ file ∷ []) = refl
+migrate_same (side ∷ file ∷ word ∷ positional) = refl
+
+migrate_few : (positional : List (List ℕ)) (options : List Word) (ask : Ask) → migrate_of positional options ≡ Some ask → length positional ≤ 2
+migrate_few [] options ask e = omega arith
+migrate_few (side ∷ []) options ask e = omega arith
+migrate_few (side ∷ file ∷ []) options ask e = omega arith
+migrate_few (side ∷ file ∷ word ∷ positional) options ask e = none_gives e
+
+migrate_once : (positional : List (List ℕ)) (options : List Word) (ask : Ask) → migrate_of positional options ≡ Some ask → stand_once_among [] options ≡ true
+migrate_once positional [] ask e = refl
+migrate_once [] (option ∷ options) ask e = none_gives e
+migrate_once (side ∷ []) (option ∷ options) ask e = none_gives e
+migrate_once (side ∷ file ∷ []) (option ∷ options) ask e = none_gives e
+migrate_once (side ∷ file ∷ word ∷ positional) (option ∷ options) ask e = none_gives e
+
+pub migrate_reads : Reads migrate_form.places (names_of migrate_form) (λ given. migrate_given) migrate_of
+migrate_reads = record {
+  same = λ given positional options said. migrate_same positional ∙ ap (migrate_of positional) (sym (no_options options said.once));
+  few = migrate_few;
+  once = migrate_once;
+}
+
 -- ---- by name
 
 -- a command's words are read so, and its name stands for that
@@ -232,3 +260,4 @@ by_name Serve = record { reads = serve_reads; asks = λ others. refl; form = ref
 by_name ServeMany = record { reads = serve_many_reads; asks = λ others. refl; form = refl }
 by_name Prove = record { reads = prove_reads; asks = λ others. refl; form = refl }
 by_name Audit = record { reads = audit_reads; asks = λ others. refl; form = refl }
+by_name Migrate = record { reads = migrate_reads; asks = λ others. refl; form = refl }

@@ -2,9 +2,9 @@
 use Rattle.std.specs.Prelude.{ℕ, ◌≤◌, string_bytes}
 use Rattle.std.specs.Option.{option_map}
 use Rattle.zk_model.specs.Files.{AreParams}
-use Rattle.command_words.specs.Words.{Ask, rehearse, rehearse_ask, generate, generate_ask, eval, eval_ask, deal, deal_ask, serve, serve_ask, serve_many, serve_many_ask, ServeOptions, serve_options, prove, prove_ask, audit, audit_ask}
+use Rattle.command_words.specs.Words.{Ask, rehearse, rehearse_ask, generate, generate_ask, eval, eval_ask, deal, deal_ask, serve, serve_ask, serve_many, serve_many_ask, ServeOptions, serve_options, prove, prove_ask, audit, audit_ask, migrate, migrate_ask}
 use Rattle.command_words.specs.declared.words.Command.{Command}
-use Rattle.command_words.specs.declared.words.Command.TheVariants.{Rehearse, RehearseGenerated, Eval, Deal, Serve, ServeMany, Prove, Audit}
+use Rattle.command_words.specs.declared.words.Command.TheVariants.{Rehearse, RehearseGenerated, Eval, Deal, Serve, ServeMany, Prove, Audit, Migrate}
 use Rattle.command_words.specs.declared.words.ServedOptions.{ServedOptions}
 use Rattle.command_words.specs.declared.words.TheConstants.{MAX_SESSIONS}
 use Rattle.zk_model.specs.declared.limits.TheConstants.{MAX_GENERATED_GATES, MAX_PASSES, MAX_SECTION_LENGTH}
@@ -28,6 +28,7 @@ ask_of (Prove address file circuit public bits outputs) =
     prove (prove_ask (string_bytes address) (string_bytes file) (string_bytes circuit) public.items bits.items outputs.items)
 ask_of (Audit circuit public outputs prover verifier log) =
     audit (audit_ask (string_bytes circuit) public.items outputs.items (string_bytes prover) (string_bytes verifier) (string_bytes log))
+ask_of (Migrate side file) = migrate (migrate_ask side (string_bytes file))
 
 -- a section has so many products
 pub record IsSectionSize (section : ℕ) : Type 0 where
@@ -53,3 +54,4 @@ IsWithinLimits (Serve address file circuit public outputs options) = AreServeLim
 IsWithinLimits (ServeMany address file statements options) = AreServeLimits (named_options options)
 IsWithinLimits (Prove address file circuit public bits outputs) = Unit {0}
 IsWithinLimits (Audit circuit public outputs prover verifier log) = Unit {0}
+IsWithinLimits (Migrate side file) = Unit {0}

@@ -54,6 +54,13 @@ audit_form = record {
   flags = [];
 }
 
+abbrev pub migrate_form : Form
+migrate_form = record {
+  places = codes "SIDE" ∷ codes "FILE" ∷ [];
+  valued = [];
+  flags = [];
+}
+
 -- the form of the command of this name
 abbrev pub form_named : List ℕ → Option Form
 form_named name =
@@ -64,6 +71,7 @@ form_named name =
     else if bytes_eq name (codes "serve-many") then Some serve_many_form
     else if bytes_eq name (codes "prove") then Some prove_form
     else if bytes_eq name (codes "audit") then Some audit_form
+    else if bytes_eq name (codes "migrate") then Some migrate_form
     else None
 
 -- clap takes the words as those of a command, and some valid words of the same command, which clap reads to the same matches, ask for this

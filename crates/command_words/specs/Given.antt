@@ -9,7 +9,7 @@ use Rattle.command_words.specs.BitWords.{bits_of}
 use Rattle.command_words.specs.Numbers.{number_within}
 use Rattle.command_words.specs.declared.words.TheConstants.{MAX_SESSIONS}
 use Rattle.command_words.specs.Found.{flag_value}
-use Rattle.command_words.specs.Words.{Ask, ServeOptions, audit, audit_ask, deal, deal_ask, eval, eval_ask, generate, generate_ask, length_of, loadable, of_kind, prove, prove_ask, public_of, rehearse, rehearse_ask, serve, serve_ask, serve_many, serve_many_ask, serve_options, workers_of}
+use Rattle.command_words.specs.Words.{Ask, ServeOptions, audit, audit_ask, deal, deal_ask, eval, eval_ask, generate, generate_ask, length_of, loadable, migrate, migrate_ask, of_kind, prove, prove_ask, public_of, rehearse, rehearse_ask, serve, serve_ask, serve_many, serve_many_ask, serve_options, side_of, workers_of}
 
 -- what is given under an id
 abbrev pub Given : Type 0
@@ -81,3 +81,7 @@ audit_given given (circuit ∷ outputs ∷ prover ∷ verifier ∷ log ∷ []) =
     option_and_then (λ public. option_map (λ claimed. audit (audit_ask circuit public claimed prover verifier log))
     (bits_of outputs)) (public_of (given (codes "public")))
 audit_given given positional = None
+
+abbrev pub migrate_given : List (List ℕ) → Option Ask
+migrate_given (side ∷ file ∷ []) = option_map (λ read. migrate (migrate_ask read file)) (side_of side)
+migrate_given positional = None

@@ -8,6 +8,7 @@ use Rattle.zk_model.specs.FileFaults.{file_length}
 use Rattle.zk_model.specs.declared.Kind.{Kind}
 use Rattle.zk_model.specs.declared.Kind.TheVariants.{Direct, Extended}
 use Rattle.zk_model.specs.declared.Params.{Params}
+use Rattle.zk_model.specs.declared.Side.{Side}
 use Rattle.zk_model.specs.declared.Side.TheVariants.{Prover, Verifier}
 use Rattle.zk_model.specs.declared.limits.TheConstants.{FILE_LIMIT}
 use Rattle.command_words.specs.BitWords.{bits_of}
@@ -125,6 +126,14 @@ abbrev pub audit_ask : List ℕ → List Bool → List Bool → List ℕ → Lis
 audit_ask circuit public outputs prover verifier log =
     record { circuit = circuit; public = public; outputs = outputs; prover = prover; verifier = verifier; log = log }
 
+-- what the words of a migration name: which side's dealt file it is, and the file
+pub record MigrateAsk : Type 0 where
+  pub side : Side
+  pub file : List ℕ
+
+abbrev pub migrate_ask : Side → List ℕ → MigrateAsk
+migrate_ask side file = record { side = side; file = file }
+
 -- what can be asked for
 pub data Ask : Type 0 where
   rehearse : RehearseAsk → Ask
@@ -135,6 +144,7 @@ pub data Ask : Type 0 where
   serve_many : ServeManyAsk → Ask
   prove : ProveAsk → Ask
   audit : AuditAsk → Ask
+  migrate : MigrateAsk → Ask
 
 -- each option has one of these names, and no two the same
 abbrev pub stand_once_among : List (List ℕ) → List Word → Bool
@@ -307,6 +317,18 @@ audit_of (circuit ∷ outputs ∷ prover ∷ verifier ∷ log ∷ []) options =
     else None
 audit_of positional options = None
 
+-- the side that a word names
+abbrev pub side_of : List ℕ → Option Side
+side_of word =
+    if bytes_eq word (codes "prover") then Some Prover
+    else if bytes_eq word (codes "verifier") then Some Verifier
+    else None
+
+-- `migrate SIDE FILE`
+abbrev pub migrate_of : List (List ℕ) → List Word → Option Ask
+migrate_of (side ∷ file ∷ []) [] = option_map (λ read. migrate (migrate_ask read file)) (side_of side)
+migrate_of positional options = None
+
 -- what the words ask for, if they are valid
 abbrev pub asked : List (List ℕ) → Option Ask
 asked [] = None
@@ -318,6 +340,7 @@ asked (name ∷ words) = option_and_then (λ parts.
     else if bytes_eq name (codes "serve-many") then serve_many_of parts.0 parts.1
     else if bytes_eq name (codes "prove") then prove_of parts.0 parts.1
     else if bytes_eq name (codes "audit") then audit_of parts.0 parts.1
+    else if bytes_eq name (codes "migrate") then migrate_of parts.0 parts.1
     else None) (arranged words)
 
 -- these valid words ask for it

@@ -22,6 +22,8 @@ usage:
       proves to a verifier over TCP
   zk audit CIRCUIT OUTPUTS PROVERFILE VERIFIERFILE LOG [--public BITS]
       finds the inputs that an accepted session fixes, or why it fixes none
+  zk migrate SIDE FILE
+      brings the journal of a dealt file that an earlier version made to the form of this one
   zk COMMAND --help
       says more about a command
   zk --version
@@ -145,6 +147,19 @@ statuses: 0 the inputs are found, 1 they are not, 3 a file, the log or a number 
   failed, 7 memory was missing
 ";
 
+const MIGRATE: &str = "\
+usage: zk migrate SIDE FILE
+
+Migrates FILE.journal, the journal of the dealt file FILE, in place: from the form of one area, as earlier versions made
+it, to that of two areas, which `zk prove` and `zk serve` need. SIDE is `prover` or `verifier`, whose file it is. A crash
+at any moment leaves a journal that says the same, and a second migration changes nothing.
+
+example: zk migrate prover /tmp/demo.prover
+
+statuses: 0 migrated, now or before, 3 the file or the journal is refused, 4 a file or the output failed, 5 the journal
+  failed, 7 memory was missing
+";
+
 const VERSION: &str = "zk 1.0\n";
 
 /// The help that the words ask for: `--help`, `-h`, `--version` or `-V` alone, or `--help` after a command's name. No valid words do.
@@ -183,6 +198,7 @@ fn command_help(name: &str) -> Option<&'static str>
         "serve-many" => Some(SERVE_MANY),
         "prove" => Some(PROVE),
         "audit" => Some(AUDIT),
+        "migrate" => Some(MIGRATE),
         _ => None,
     }
 }

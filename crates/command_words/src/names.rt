@@ -8,7 +8,8 @@ ghost use Rattle.command_words.specs.declared.names.Name.{Name};
 
 use crate::found::{Arguments, Form};
 use crate::readings::{
-    audit_found, deal_found, eval_found, prove_found, rehearse_found, serve_found, serve_many_found,
+    audit_found, deal_found, eval_found, migrate_found, prove_found, rehearse_found, serve_found,
+    serve_many_found,
 };
 use crate::words::Command;
 use std::alloc::{AllocError, Global};
@@ -23,6 +24,7 @@ pub enum Name {
     ServeMany,
     Prove,
     Audit,
+    Migrate,
 }
 
 impl Name {
@@ -39,6 +41,7 @@ impl Name {
             "serve-many" => Some(Name::ServeMany),
             "prove" => Some(Name::Prove),
             "audit" => Some(Name::Audit),
+            "migrate" => Some(Name::Migrate),
             _ => None,
         }
     }
@@ -71,6 +74,7 @@ impl Name {
                 &["CIRCUIT", "OUTPUTS", "PROVERFILE", "VERIFIERFILE", "LOG"],
                 &["public"],
             ),
+            Name::Migrate => Form::plain(&["SIDE", "FILE"], &[]),
         }
     }
 
@@ -89,6 +93,7 @@ impl Name {
             Name::ServeMany => serve_many_found(alloc, found),
             Name::Prove => prove_found(alloc, found),
             Name::Audit => audit_found(alloc, found),
+            Name::Migrate => migrate_found(alloc, found),
         }
     }
 }

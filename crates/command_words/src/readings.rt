@@ -1,9 +1,9 @@
 // What a command's words ask for, from what clap found in them.
 ghost use Rattle.std.specs.Prelude.{◌≡◌, ◌≤◌, ◌^◌, ◌-◌, ◌↔◌, map, codes, IfOk, IfSome, IsTrue};
 ghost use Rattle.std.specs.Option.{option_map, option_and_then};
-ghost use Rattle.command_words.specs.Words.{length_of, public_of, workers_of, direct_params, extended_of};
+ghost use Rattle.command_words.specs.Words.{length_of, public_of, side_of, workers_of, direct_params, extended_of};
 ghost use Rattle.command_words.specs.Found.{given_by};
-ghost use Rattle.command_words.specs.Given.{kind_given, generate_given, rehearse_given, eval_given, params_given, deal_given, service_given, serve_given, serve_many_given, prove_given, audit_given};
+ghost use Rattle.command_words.specs.Given.{kind_given, generate_given, rehearse_given, eval_given, params_given, deal_given, service_given, serve_given, serve_many_given, prove_given, audit_given, migrate_given};
 ghost use Rattle.command_words.specs.Numbers.{number_within};
 ghost use Rattle.command_words.specs.Commands.{ask_of, named_options, AreServeLimits, IsWithinLimits, IsSectionSize};
 ghost use Rattle.command_words.specs.declared.words.TheConstants.{MAX_SESSIONS};
@@ -289,6 +289,33 @@ pub fn audit_found(alloc: Global, found: &Arguments) -> Result<Option<Command>, 
         verifier,
         log,
     }))
+}
+
+/// A migration.
+pub fn migrate_found(alloc: Global, found: &Arguments) -> Result<Option<Command>, AllocError>
+    ensures asked { IfOk result (λ command. option_map ask_of command
+        ≡ migrate_given (map (λ p. p.now) found.now.positional.items)) }
+    ensures limits { IfOk result (λ command. IfSome command IsWithinLimits) }
+{
+    let [side, file] = found.positional.as_slice() else {
+        return Ok(None);
+    };
+    let Some(side) = read_side(side) else {
+        return Ok(None);
+    };
+    let file = String::from_str(alloc, file)?;
+    Ok(Some(Command::Migrate { side, file }))
+}
+
+/// The side that a word names.
+fn read_side(word: &str) -> Option<Side>
+    ensures { result ≡ side_of word.now }
+{
+    match word {
+        "prover" => Some(Side::Prover),
+        "verifier" => Some(Side::Verifier),
+        _ => None,
+    }
 }
 
 /// A dealing.

@@ -10,7 +10,7 @@ ghost use Rattle.command_words.specs.Words.{texts, IsRead};
 use crate::found::find_words;
 use crate::names::Name;
 use std::alloc::{AllocError, Global};
-use zk_model::{Kind, Params};
+use zk_model::{Kind, Params, Side};
 
 /// How many sessions a run serves at most.
 pub const MAX_SESSIONS: u32 = 65_536;
@@ -86,6 +86,11 @@ pub enum Command {
         prover: String,
         verifier: String,
         log: String,
+    },
+    /// `migrate SIDE FILE`
+    Migrate {
+        side: Side,
+        file: String,
     },
 }
 

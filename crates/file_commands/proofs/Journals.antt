@@ -1,7 +1,9 @@
 -- Journals that are opened, or refused, and what is kept of them.
-use Rattle.std.proofs.Common.{◌≡◌, ◌⊎◌, ◌≤◌, ℕ, List, refl, sym, ◌∙◌, subst, inl, inr, arith, Some}
+use Rattle.std.proofs.Common.{◌≡◌, ◌⊎◌, ◌≤◌, ◌∷◌, [], ℕ, List, refl, sym, ◌∙◌, subst, inl, inr, arith, Some}
 use Rattle.zk_port.specs.Counts.{Rose}
-use Rattle.zk_port.specs.Disks.{DiskState, LeavesOnly}
+use Rattle.zk_port.specs.Disks.{DiskState, LeavesOnly, Stays}
+use Rattle.zk_port.specs.Logs.{appended}
+use Rattle.lease_journal.proofs.Moments.{stays_then}
 use Rattle.lease_journal.specs.declared.fault.StartFault.{StartFault}
 use Rattle.lease_journal.specs.declared.fault.StartFault.TheVariants as start
 use Rattle.lease_words.specs.declared.pass.Pass.{Pass}
@@ -30,6 +32,24 @@ untouched disk = record {
   };
   still = refl;
 }
+
+-- a file that is chosen, and whose journal is then read
+pub opens_then : (name : List ℕ) {old middle new : DiskState} → ((t : ℕ) (c : List ℕ) → t ≤ old.moment → old.images c → old.images_since t c)
+    → middle.chosen ≡ appended (name ∷ []) old.chosen → Stays (record old { chosen = middle.chosen }) middle → middle.faults ≡ old.faults
+    → Stays middle new → new.faults ≡ middle.faults → OpensJournal name (disk_change old new)
+opens_then name counts chosen takes no_fault reads none =
+    let stays = stays_then counts takes reads in
+    record {
+      chosen = reads.chosen ∙ chosen;
+      stays = record {
+        chosen = refl;
+        content = stays.content;
+        room = stays.room;
+        crash = stays.crash;
+        time = record { later = stays.time.later; nothing_else = stays.time.nothing_else; keeps = stays.time.keeps };
+      };
+      still = none ∙ no_fault;
+    }
 
 -- a journal that is opened is read alone
 pub opened_is_read : (name : List ℕ) (disk : DiskChange) → OpensJournal name disk → OnlyReads name disk

@@ -5,3 +5,5 @@ pub mod EvalOutcomes
 pub mod Journals
 pub mod Means
 pub mod Storing
+pub mod MigrateOutcomes
+pub mod Migrating

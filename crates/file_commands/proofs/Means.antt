@@ -26,7 +26,7 @@ line_answers status text answer sink high (inl whole) = inl whole.0
 line_answers status text answer sink high (inr (inl fault)) = inl (fault.0 ∙ high_stays status high)
 line_answers status text answer sink high (inr (inr short)) = inr short.0
 
-file_status : (fault : FileFault) → (stop_status (stop.BadFile fault) ≡ 3) ⊎ (stop_status (stop.BadFile fault) ≡ 7)
+pub file_status : (fault : FileFault) → (stop_status (stop.BadFile fault) ≡ 3) ⊎ (stop_status (stop.BadFile fault) ≡ 7)
 file_status file.BadMagic = inl refl
 file_status file.BadKind = inl refl
 file_status file.BadParam = inl refl

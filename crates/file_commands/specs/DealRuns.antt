@@ -6,7 +6,8 @@ use Rattle.hex.specs.Hex.{encode_lower}
 use Rattle.zk_model.specs.Dealing.{dealt_prover, dealt_verifier}
 use Rattle.zk_model.specs.FileBytes.{prover_file_bytes, verifier_file_bytes}
 use Rattle.zk_model.specs.Files as model
-use Rattle.zk_model.specs.Journals.{blank_journal_bytes, ceiling_slots, claim_slots}
+use Rattle.zk_model.specs.Journals.{claim_slots}
+use Rattle.zk_model.specs.Twins.{blank_twin_bytes, twin_ceiling_slots}
 use Rattle.zk_model.specs.declared.JournalKind.TheVariants.{Claims, Ceilings}
 use Rattle.zk_model.specs.declared.Kind.{Kind}
 use Rattle.zk_model.specs.declared.Kind.TheVariants.{Direct, Extended}
@@ -35,9 +36,9 @@ abbrev pub content : Stored → model.ProverFile → model.VerifierFile → List
 content file.ProverFile prover verifier = prover_file_bytes prover
 content file.VerifierFile prover verifier = verifier_file_bytes verifier
 content file.ProverJournal prover verifier =
-    blank_journal_bytes Claims prover.id prover.params.total (claim_slots prover.params.total)
+    blank_twin_bytes Claims prover.id prover.params.total (claim_slots prover.params.total)
 content file.VerifierJournal prover verifier =
-    blank_journal_bytes Ceilings prover.id prover.params.total (ceiling_slots prover.params.total)
+    blank_twin_bytes Ceilings prover.id prover.params.total (twin_ceiling_slots prover.params.total)
 
 -- which bytes are stored under which name, in order
 abbrev pub file_stores : List ℕ → model.ProverFile → model.VerifierFile → List (List ℕ × List ℕ)

@@ -1,19 +1,22 @@
 -- What becomes of a journal over a run that opens it.
-use Rattle.std.specs.Prelude.{◌≡◌, ◌≢◌, ◌⊎◌, ◌+◌, ◌*◌, ◌≤◌, ◌++◌, ◌∷◌, [], ℕ, List, codes, Option, Some, IfSome, IsSomeAnd}
-use Rattle.zk_model.specs.Journals.{IsTidy, Stands, ceiling_slots, slots_at}
-use Rattle.zk_model.specs.declared.JournalKind.TheVariants.{Ceilings, Claims}
+use Rattle.std.specs.Prelude.{◌≡◌, ◌≢◌, ◌⊎◌, ◌+◌, ◌≤◌, ◌++◌, ◌∷◌, [], ℕ, List, codes, Option, Some, IfSome, IsSomeAnd}
+use Rattle.zk_model.specs.Migrations.{moved_slots, one_area_end}
+use Rattle.zk_model.specs.Twins.{HoldsTwin, twin_length}
+use Rattle.zk_model.specs.declared.JournalKind.{JournalKind}
+use Rattle.zk_model.specs.declared.JournalKind.TheVariants.{Claims}
 use Rattle.zk_model.specs.declared.Span.{Span}
 use Rattle.zk_port.specs.Counts.{Rose}
 use Rattle.zk_port.specs.Disks.{DiskState, Stays, LeavesOnly}
 use Rattle.zk_port.specs.Images.{Only}
 use Rattle.zk_port.specs.Logs.{appended, NotesOnce}
 use Rattle.claim_store.specs.Causes.{StoreCause}
-use Rattle.claim_store.specs.Claims.{AreClaims, SaysClaims}
+use Rattle.claim_store.specs.Claims.{SaysClaims}
 use Rattle.claim_store.specs.declared.fault.StoreFault.TheVariants as store
-use Rattle.lease_journal.specs.Causes.{SaysSlots, StartCause}
+use Rattle.lease_journal.specs.Causes.{SaysSlots}
 use Rattle.lease_journal.specs.declared.fault.StartFault.{StartFault}
 use Rattle.lease_journal.specs.declared.fault.StartFault.TheVariants as start
-use Rattle.lease_store.specs.Ceilings.{FindsCeiling, SaysCeiling}
+use Rattle.twin_journal.specs.Starts.{IsTidyFile, SaysTwinSlots}
+use Rattle.lease_store.specs.Ceilings.{CeilingStartCause, FindsCeiling, SaysCeiling}
 use Rattle.file_commands.specs.declared.refusal.Refusal.{Refusal}
 use Rattle.file_commands.specs.declared.refusal.Refusal.TheVariants.{JournalFailed, JournalShort, JournalHeader, JournalBody, NoMemory}
 
@@ -25,11 +28,15 @@ pub record DiskChange : Type 1 where
 abbrev pub disk_change : DiskState → DiskState → DiskChange
 disk_change old new = record { old = old; new = new }
 
--- A disk on which a journal may be opened: where it tells its content, no slot after the first closed one is open, as in a journal that
--- stores alone have written; and it has room for the slots that the header says.
+-- A disk on which a journal of either side may be opened, or migrated: where it tells its content, in the area that counts no slot after
+-- the first closed one is open, as in a journal that stores alone have written; and it has room for the slots that the header says,
+-- and behind a journal of one area for the journal that it is migrated to.
 pub record IsJournalDisk (disk : DiskState) : Type 0 where
-  pub tidy : (bytes : List ℕ) → disk.content ≡ Some bytes → IsTidy 64 (slots_at bytes) bytes
-  pub room : (size : ℕ) → disk.room ≡ Some size → (slots : ℕ) → SaysSlots disk.content slots → 64 + 32 * slots ≤ size
+  pub tidy : (kind : JournalKind) (bytes : List ℕ) → disk.content ≡ Some bytes → IsTidyFile kind bytes
+  pub room : (size : ℕ) → disk.room ≡ Some size → (kind : JournalKind) (begin slots : ℕ) → SaysTwinSlots kind disk.content begin slots
+      → begin + twin_length slots ≤ size
+  pub grown : (size : ℕ) → disk.room ≡ Some size → (kind : JournalKind) (total slots : ℕ) → SaysSlots disk.content slots
+      → one_area_end slots + twin_length (moved_slots kind total slots) ≤ size
 
 -- the name of a dealt file's journal
 abbrev pub journal_name : List ℕ → List ℕ
@@ -74,7 +81,7 @@ pub record KeepsCeiling (name id : List ℕ) (total base ceiling mark : ℕ) (di
 
 -- the fault that a disk's content has as a journal of ceilings of this id and total, where it is known
 abbrev pub IsCeilingsFault : List ℕ → ℕ → DiskState → StartFault → Type 0
-IsCeilingsFault id total disk fault = (bytes : List ℕ) → disk.content ≡ Some bytes → StartCause Ceilings id total bytes fault
+IsCeilingsFault id total disk fault = (bytes : List ℕ) → disk.content ≡ Some bytes → CeilingStartCause id total bytes fault
 
 -- the fault that a disk's content has as a journal of claims of this id and total, where it is known
 abbrev pub IsClaimsFault : List ℕ → ℕ → DiskState → StartFault → Type 0
@@ -103,7 +110,6 @@ start_refusal (start.BadBody slot) count = JournalBody slot
 pub record LeavesUnits (id : List ℕ) (total units : ℕ) (content : Option (List ℕ)) : Type 0 where
   pub bytes : List ℕ
   pub known : content ≡ Some bytes
-  pub stands : Stands Ceilings id total (ceiling_slots total) bytes
   pub base : ℕ
   pub says : SaysCeiling id total base bytes
   pub enough : base + units ≤ total
@@ -112,8 +118,8 @@ pub record LeavesUnits (id : List ℕ) (total units : ℕ) (content : Option (Li
 pub record HasClaims (id : List ℕ) (total : ℕ) (content : Option (List ℕ)) : Type 0 where
   pub bytes : List ℕ
   pub known : content ≡ Some bytes
+  pub begin : ℕ
   pub slots : ℕ
-  pub stands : Stands Claims id total slots bytes
+  pub holds : HoldsTwin Claims id total begin slots bytes
   pub claims : List Span
-  pub says : SaysClaims slots claims bytes
-  pub sound : AreClaims total claims
+  pub says : SaysClaims total begin slots claims bytes

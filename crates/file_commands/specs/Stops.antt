@@ -79,7 +79,7 @@ file_line file.NoMemory = codes "memory\n"
 
 -- the line that is written
 abbrev pub stop_line : Refusal → List ℕ
-stop_line stop.Usage = codes "usage: zk deal, eval, rehearse, prove, serve, serve-many or audit\n"
+stop_line stop.Usage = codes "usage: zk deal, eval, rehearse, prove, serve, serve-many, migrate or audit\n"
 stop_line (stop.BadText fault) = fault_line fault
 stop_line (stop.BadFile fault) = file_line fault
 stop_line (stop.TooLong limit) = refused_line (codes "TooLong 0") limit

@@ -15,8 +15,9 @@ ghost use Rattle.file_commands.specs.declared.refusal.Refusal.TheVariants as sto
 use crate::refusal::Refusal;
 use crate::saying::{say, say_memory, say_stop};
 use dealer_files::{ProverFile, VerifierFile, deal};
-use lease_journal::{JournalKind, blank, ceiling_slots, claim_slots};
+use lease_journal::claim_slots;
 use std::alloc::{AllocError, Global};
+use twin_journal::{JournalKind, blank_twin, twin_ceiling_slots};
 use zk_model::{Kind, Params};
 use zk_port::{PortFault, Shelf, Sink};
 
@@ -65,7 +66,7 @@ fn content(
         Stored::ProverFile => prover.encode(alloc),
         Stored::VerifierFile => verifier.encode(alloc),
         Stored::ProverJournal => {
-            blank(
+            blank_twin(
                 alloc,
                 JournalKind::Claims,
                 &prover.id(),
@@ -74,12 +75,12 @@ fn content(
             )
         }
         Stored::VerifierJournal => {
-            blank(
+            blank_twin(
                 alloc,
                 JournalKind::Ceilings,
                 &prover.id(),
                 total,
-                ceiling_slots(total),
+                twin_ceiling_slots(total),
             )
         }
     }

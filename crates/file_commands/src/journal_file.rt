@@ -1,9 +1,10 @@
 // The journal of a dealt file.
-ghost use Rattle.std.specs.Prelude.{◌≡◌, ◌≤◌, ℕ, List, All, IfOk, IfErr, length, string_bytes};
-ghost use Rattle.zk_model.specs.Journals.{HasHeader, IsHeaded};
-ghost use Rattle.zk_model.specs.declared.JournalKind.TheVariants.{Ceilings, Claims};
+ghost use Rattle.std.specs.Prelude.{◌≡◌, ◌-◌, ◌^◌, ◌<◌, ◌≤◌, ℕ, List, All, IfOk, IfErr, length, string_bytes};
+ghost use Rattle.zk_model.specs.ClaimedRanges.{RiseFrom};
+ghost use Rattle.zk_model.specs.Twins.{HoldsTwin};
+ghost use Rattle.zk_model.specs.declared.JournalKind.TheVariants.{Claims};
 ghost use Rattle.zk_model.specs.declared.limits.TheConstants.{MAX_PASSES};
-ghost use Rattle.lease_store.specs.Ceilings.{SaysCeiling};
+ghost use Rattle.lease_store.specs.Ceilings.{HasCeilingHeader, SaysCeiling};
 ghost use Rattle.lease_store.specs.Desks.{Begins};
 ghost use Rattle.lease_store.specs.Leases.{IsPassAt};
 ghost use Rattle.session_pool.specs.Notes.{IsUnused};
@@ -11,26 +12,26 @@ ghost use Rattle.file_commands.specs.Journals.{IsJournalDisk, JournalStop, Opens
 ghost use Rattle.file_commands.specs.Journals.{IsClaimsFault};
 ghost use Rattle.file_commands.specs.Journals.{IsCeilingsFault};
 ghost use Rattle.zk_port.specs.Images.{Only};
-ghost use Rattle.claim_store.specs.Claims.{AreClaims, AreDurable, SaysClaims};
+ghost use Rattle.claim_store.specs.Claims.{AreClaims, AreDurable, AreInUse, SaysClaims};
 
 use crate::refusal::Refusal;
 use claim_store::ClaimStore;
 use dealer_files::{ProverFile, VerifierFile};
-use lease_journal::StartFault;
 use lease_store::{LeaseParts, StoreFault};
 use lease_words::Pass;
 use std::alloc::{AllocError, Global};
+use twin_journal::StartFault;
 use zk_port::Disk;
 
 /// The name of a file's journal.
-fn name_of(alloc: Global, file: &str) -> Result<String, AllocError>
+pub fn name_of(alloc: Global, file: &str) -> Result<String, AllocError>
     ensures { IfOk result (λ name. string_bytes name ≡ journal_name file.now) }
 {
     Ok(format!(in alloc; "{file}.journal")?)
 }
 
 /// Why a journal is not opened on a disk whose calls have failed so often.
-fn start_stop(fault: StartFault, count: u64) -> Refusal
+pub fn start_stop(fault: StartFault, count: u64) -> Refusal
     ensures { result ≡ start_refusal fault count }
 {
     match fault {
@@ -60,7 +61,7 @@ pub fn open_ceilings<B: Disk>(
         → SaysCeiling file.now.id file.now.params.total r.0.base bytes) }
     ensures total { IfOk result (λ r. r.0.total ≡ file.now.params.total) }
     ensures header { IfOk result (λ r. (bytes : List ℕ) → (B.state r.0.disk).content ≡ Some bytes
-        → HasHeader Ceilings file.now.id r.0.total bytes) }
+        → HasCeilingHeader file.now.id r.0.total bytes) }
     ensures begins { IfOk result (λ r. Begins (B.state r.0.disk) (B.state r.0.disk)) }
     ensures passes { IfOk result (λ r. All (IsPassAt r.0.table r.0.total) r.1.items) }
     ensures unused { IfOk result (λ r. All IsUnused r.1.items) }
@@ -101,13 +102,18 @@ pub fn open_claims<B: Disk>(
         (disk_change (B.state journal) (B.state store.disk))) }
     ensures since { IfOk result (λ _. (image : List ℕ)
         → (B.state journal).images_since (B.state journal).moment image → (B.state journal).images image) }
+    ensures holds { IfOk result (λ store. (bytes : List ℕ) → (B.state journal).content ≡ Some bytes
+        → HoldsTwin Claims file.now.id file.now.params.total store.begin store.slots bytes) }
     ensures says { IfOk result (λ store. (bytes : List ℕ) → (B.state journal).content ≡ Some bytes
-        → IsHeaded Claims file.now.id file.now.params.total store.slots bytes
-        × SaysClaims store.slots store.claims bytes) }
+        → SaysClaims file.now.params.total store.begin store.slots store.claims bytes) }
+    ensures in_use { IfOk result (λ store. (bytes : List ℕ) → (B.state journal).content ≡ Some bytes
+        → AreInUse store.begin store.slots store.used bytes) }
     ensures durable { IfOk result (λ store. AreDurable B.state store) }
     ensures only { IfOk result (λ store. Only (B.state store.disk).content (B.state store.disk).images) }
     ensures sound { IfOk result (λ store. AreClaims file.now.params.total store.claims) }
+    ensures rising { IfOk result (λ store. RiseFrom 0 store.claims) }
     ensures total { IfOk result (λ store. store.total ≡ file.now.params.total) }
+    ensures small { IfOk result (λ store. store.total < 2 ^ 64 - 1) }
     ensures whole { IfOk result (λ store. store.fault ≡ 0) }
     ensures reads { IfErr result (λ e. OnlyReads (journal_name name.now)
         (disk_change (B.state journal) (B.state e.1))) }

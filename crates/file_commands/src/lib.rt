@@ -1,4 +1,4 @@
-//! What commands load, open, say and stop by; and the commands that hold no session: `deal` and `eval`.
+//! What commands load, open, say and stop by; and the commands that hold no session: `deal`, `eval` and `migrate`.
 //!
 //! `proof_audit` has `audit`, and `zk_cli` the other commands and the top call.
 #![tactic(auto)]
@@ -8,6 +8,7 @@ mod deal_command;
 mod dealt_file;
 mod eval_command;
 mod journal_file;
+mod migrate_command;
 mod refusal;
 mod saying;
 
@@ -18,5 +19,6 @@ pub use deal_command::run_deal;
 pub use dealt_file::{load_prover, load_verifier};
 pub use eval_command::run_eval;
 pub use journal_file::{open_ceilings, open_claims};
+pub use migrate_command::run_migrate;
 pub use refusal::Refusal;
 pub use saying::{say, say_memory, say_stop};

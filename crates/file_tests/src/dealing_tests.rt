@@ -1,15 +1,15 @@
 // Dealt files and journals against values that the program did not make, and every fault of a file.
-use crate::vectors::{FILE_ID, FILES, JOURNALS, TWINS};
+use crate::vectors::{FILE_ID, FILES, JOURNALS};
 use dealer_files::FileFault::{
     BadDigest, BadElement, BadKind, BadMagic, BadParam, Length, ZeroKey,
 };
 use dealer_files::{FileFault, NotDealt, Pads, deal, dealt, decode_prover, decode_verifier};
-use lease_journal::{JournalKind, blank, ceiling_slots, claim_slots};
+use lease_journal::claim_slots;
 use mersenne_field::{Fe, Pair};
 use sha2::{Digest, Sha256};
 use std::alloc::{AllocError, Global};
 use std::test::Fail;
-use twin_journal::{blank_twin, twin_ceiling_slots};
+use twin_journal::{JournalKind, blank_twin, twin_ceiling_slots};
 use zk_coins::CoinBox;
 use zk_model::{Kind, Params, Side, Span};
 
@@ -51,9 +51,9 @@ fn new_journal(alloc: Global, kind: JournalKind, total: u32) -> Result<Vec<u8>, 
     let total = u64::from(total);
     let slots = match kind {
         JournalKind::Claims => claim_slots(total),
-        JournalKind::Ceilings => ceiling_slots(total),
+        JournalKind::Ceilings => twin_ceiling_slots(total),
     };
-    blank(alloc, kind, &FILE_ID, total, slots)
+    blank_twin(alloc, kind, &FILE_ID, total, slots)
 }
 
 /// SHA-256 of these bytes, in hex.
@@ -77,25 +77,6 @@ fn dealt_files_and_journals_are_those_computed_apart(rt: HostRuntime) -> Result<
     }
     for (kind, total, length, digest) in JOURNALS {
         let journal = new_journal(alloc, kind, total)?;
-        assert_eq!(rt; journal.len(), length, "{kind:?} {total}");
-        assert_eq!(rt;
-            digest_of(alloc, &journal)?.as_str(),
-            digest,
-            "{kind:?} {total}"
-        );
-    }
-    Ok(())
-}
-
-#[test]
-fn new_journals_of_two_areas_are_those_computed_apart(rt: HostRuntime) -> Result<(), Fail> {
-    let alloc = rt.alloc();
-    for (kind, total, length, digest) in TWINS {
-        let slots = match kind {
-            JournalKind::Claims => claim_slots(total),
-            JournalKind::Ceilings => twin_ceiling_slots(total),
-        };
-        let journal = blank_twin(alloc, kind, &FILE_ID, total, slots.min(4096))?;
         assert_eq!(rt; journal.len(), length, "{kind:?} {total}");
         assert_eq!(rt;
             digest_of(alloc, &journal)?.as_str(),

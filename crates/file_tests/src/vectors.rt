@@ -1,6 +1,6 @@
 // Bytes that the program did not make. At the top of the repository `python3 vectors/and_gate.py --rust` prints the id, and
 // `python3 vectors/dealt_files.py --rust` the rows with digests.
-use lease_journal::JournalKind::{self, Ceilings, Claims};
+use zk_model::JournalKind::{self, Ceilings, Claims};
 use zk_model::Kind::{self, Direct, Extended};
 use zk_model::Side::{self, Prover, Verifier};
 
@@ -40,35 +40,7 @@ pub const FILES: [(Kind, Side, usize, &str); 4] = [
 ];
 
 /// New journals of so many units with that id: how many bytes they have, and SHA-256 of these.
-pub const JOURNALS: [(JournalKind, u32, usize, &str); 4] = [
-    (
-        Claims,
-        1,
-        96,
-        "0190f6cf904928dc0366dc2e5402ed8848900b231082144d7ee14a624e0f85db",
-    ),
-    (
-        Claims,
-        5000,
-        131136,
-        "8934cf274f1725baa7d5d934583e64c513d3d17b313eeb0602888038a7ae6fb2",
-    ),
-    (
-        Ceilings,
-        1,
-        96,
-        "9eefcf57df6a4b3e92ae3ad4ec51437799aaec8671eeabea36af2d53406f6557",
-    ),
-    (
-        Ceilings,
-        100,
-        288,
-        "9f8b697c952e1e4e4f4e883ce9f2f5bd3e22e7b65e9d7fade6c48d0da5c1a9a1",
-    ),
-];
-
-/// New journals of two areas over so many units: how many bytes they have, and their SHA-256.
-pub const TWINS: [(JournalKind, u64, usize, &str); 3] = [
+pub const JOURNALS: [(JournalKind, u32, usize, &str); 5] = [
     (
         Claims,
         1,
@@ -83,8 +55,20 @@ pub const TWINS: [(JournalKind, u64, usize, &str); 3] = [
     ),
     (
         Ceilings,
+        1,
+        192,
+        "2e3a0ca4feef697116404a4d874e588e9d49dbf49d73e5f5888819f1c298874c",
+    ),
+    (
+        Ceilings,
         100,
         576,
         "4fdd2b9691a7034f69d17116eaa072ce299929166c43817ffe76ab5708be7f2b",
+    ),
+    (
+        Ceilings,
+        70000,
+        262272,
+        "f52ce2bf849f24f038aca8e65c6f1ad14433ec7db7f98d3aac99481f238541b2",
     ),
 ];

@@ -1,28 +1,44 @@
 // What stands there before a session: dealt files, and a new journal of theirs.
-ghost use Rattle.std.specs.Prelude.{IfOk};
+ghost use Rattle.std.specs.Prelude.{◌≡◌, IfOk};
+ghost use Rattle.zk_model.specs.Twins.{twin_begin, twin_slots_at};
+ghost use Rattle.twin_journal.specs.Starts.{IsTidyFile};
 ghost use Rattle.file_commands.specs.Journals.{IsJournalDisk};
 
 use crate::run_tests::{AND, SEED, words_of};
 use crate::vectors::FILE_ID;
-use lease_journal::{JournalKind, blank, blank_says_nothing};
 use memory_ports::{MemoryDoor, MemoryShelf, MemorySink, NoFault, ScriptedLink, SureDisk};
 use std::alloc::{AllocError, Global};
 use std::collections::BTreeMap;
 use std::sync::Wait;
 use std::test::Fail;
 use std::thread::Threads;
+use twin_journal::{JournalKind, blank_twin, blank_twin_is_new, says_what_it_recovers};
 use zk_cli::run_zk;
 use zk_port::{Disk, QuietGate};
 
 pub type Files = MemoryShelf<NoFault>;
 
-/// A disk that never fails, with a new journal of one slot of the dealt files.
+/// A new journal of the dealt files, with areas of one slot.
+fn new_bytes(alloc: Global, kind: JournalKind) -> Result<Vec<u8>, AllocError>
+    ensures tidy { IfOk result (λ bytes. (either : JournalKind) → IsTidyFile either bytes.items) }
+    ensures begins { IfOk result (λ bytes. (either : JournalKind) → twin_begin either bytes.items ≡ 0) }
+    ensures says { IfOk result (λ bytes. twin_slots_at 0 bytes.items ≡ 1) }
+{
+    blank_twin_is_new();
+    says_what_it_recovers();
+    let bytes = blank_twin(alloc, kind, &FILE_ID, 4, 1)?;
+    Ok(bytes)
+}
+
+/// Room for a journal with areas of one slot, and for one of one area of as many with that which it is migrated to.
+const ROOM: usize = 96 + 64 + 64 * 4097;
+
+/// A disk that never fails, with a new journal of the dealt files.
 pub fn new_journal(alloc: Global, kind: JournalKind) -> Result<SureDisk, AllocError>
     ensures { IfOk result (λ disk. IsJournalDisk (⟦<SureDisk as Disk>⟧.state disk)) }
 {
-    blank_says_nothing();
-    let bytes = blank(alloc, kind, &FILE_ID, 4, 1)?;
-    let disk = SureDisk::new(bytes, 64 + 32)?;
+    let bytes = new_bytes(alloc, kind)?;
+    let disk = SureDisk::new(bytes, ROOM)?;
     Ok(disk)
 }
 

@@ -1,7 +1,6 @@
 // Both ends of a session in one process, over a connection of this machine.
 use crate::given::{Files, dealt, new_journal};
 use crate::run_tests::{SEED, words_of};
-use lease_journal::JournalKind;
 use memory_ports::{MemorySink, NoFault};
 use port_os::TcpDoor;
 use std::alloc::{AllocError, Global};
@@ -10,6 +9,7 @@ use std::sync::Wait;
 use std::test::Fail;
 use std::thread::{self, Threads, join};
 use std::time::{Clock, Duration};
+use twin_journal::JournalKind;
 use zk_cli::{Finish, run_zk};
 use zk_port::{QuietGate, Sink};
 

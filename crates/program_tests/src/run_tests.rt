@@ -13,7 +13,7 @@ pub const AND: &str = "1 3\n2 1 1\n1 1\n\n2 1 0 1 2 AND\n";
 
 const AND_LINES: &str = "outputs 1\nproducts 3 sections 3 correlations 6 units 1\naccepted\n";
 
-const USAGE: &str = "usage: zk deal, eval, rehearse, prove, serve, serve-many or audit\n";
+const USAGE: &str = "usage: zk deal, eval, rehearse, prove, serve, serve-many, migrate or audit\n";
 
 /// The seed of all runs.
 pub const SEED: [u8; 32] = [7; 32];

@@ -2,19 +2,19 @@
 use crate::given::{dealt, new_journal};
 use crate::peers::HonestPeer;
 use crate::run_tests::{CountingGate, SEED, words_of};
-use lease_journal::JournalKind;
 use memory_ports::{MemoryDoor, MemorySink, NoFault, Together};
 use std::alloc::{AllocError, Global};
 use std::sync::atomic::Ordering;
 use std::sync::{Barrier, Wait};
 use std::test::Fail;
 use std::thread::Threads;
+use twin_journal::JournalKind;
 use zk_cli::{Finish, Part, run_zk};
 use zk_model::Span;
 use zk_port::{Gate, Sink};
 
-/// Where the first slot of a journal begins.
-const SLOT: usize = 64;
+/// Where the first slot of a journal begins: that of its first area.
+const SLOT: usize = 96;
 
 type Peers = MemoryDoor<HonestPeer, NoFault>;
 
@@ -117,7 +117,7 @@ fn sessions_are_held_at_once(rt: HostRuntime) -> Result<(), Fail> {
             Some([4, 0].as_slice()),
             "{word}"
         );
-        assert_eq!(rt; ran.journal.last(), Some(&0x5A), "{word}");
+        assert_eq!(rt; ran.journal.get(SLOT + 31), Some(&0x5A), "{word}");
     }
     Ok(())
 }

@@ -1,65 +1,97 @@
 -- Runs over one file's journal of claims, one after the other.
-use Rattle.std.proofs.Common.{◌≡◌, ◌<◌, ◌++◌, ◌∷◌, [], ℕ, List, length, get_or, refl, ap, ◌∙◌, subst, inl, inr, arith}
-use Rattle.std.proofs.Math.ListN.{get_or-append}
+use Rattle.std.proofs.Common.{◌≡◌, ◌<◌, ◌≤◌, ◌+◌, ◌++◌, ◌∷◌, [], ℕ, max, List, length, get_or, true, false, Bool, ◌||◌, refl, ap, sym, ◌∙◌, subst, inl, inr, arith}
+use Rattle.std.proofs.lemmas.Bool.{cases_lt}
 use Rattle.std.proofs.Math.Seq.{get_or-append_seam}
-use Rattle.std.proofs.Common.{append_assoc}
+use Rattle.std.proofs.Math.ListN.{get_or-append}
 use Rattle.std.proofs.lemmas.List.{length-append}
+use Rattle.zk_model.specs.ClaimedRanges.{AreMerged, has_unit, is_claimed}
 use Rattle.zk_model.specs.declared.Span.{Span}
-use Rattle.lease_core.specs.Spans.{IsApart}
-use Rattle.claim_store.specs.Claims.{AreClaims, BytesSayOneList, SaysClaims, SaysOldOrNew}
+use Rattle.lease_core.specs.Spans.{IsApart, meets_any}
+use Rattle.claim_store.specs.Claims.{AreClaims, BytesSayOneList, SaysClaims, SaysMore, SaysOldOrNew}
+use Rattle.claim_store.proofs.Starting.{not_met}
+use Rattle.claim_store.proofs.Units.{unit_met, within_unit}
 use Rattle.run_laws.specs.RunsInTurn.{ClaimsUp, RunsClaimOnce}
 
-pub nothing_more : (claims : List Span) → claims ≡ claims ++ []
-nothing_more [] = refl
-nothing_more (claim ∷ claims) = ap (λ (more : List Span). claim ∷ more) (nothing_more claims)
+-- what holds by the second of two holds by more
+or_more : (first second more : Bool) → (second ≡ true → more ≡ true) → (first || second) ≡ true → (first || more) ≡ true
+or_more true second more up is = refl
+or_more false second more up is = up is
 
-keeps_up : (slots : ℕ) (claims : List Span) (s : Span) (first image : List ℕ) → SaysClaims slots claims first
-    → SaysOldOrNew slots claims s image → ClaimsUp slots first image
-keeps_up slots claims s first image said (inl old) = record {
+-- a unit of claims is one with a span more
+unit_behind : (claims : List Span) (s : Span) (unit : ℕ) → is_claimed claims unit ≡ true → is_claimed (claims ++ s ∷ []) unit ≡ true
+unit_behind [] s unit is = cc
+unit_behind (claim ∷ claims) s unit is =
+    or_more (has_unit unit claim) (is_claimed claims unit) (is_claimed (claims ++ s ∷ []) unit) (unit_behind claims s unit) is
+
+or_second : (first second : Bool) → second ≡ true → (first || second) ≡ true
+or_second true second is = refl
+or_second false second is = is
+
+-- and a unit of that span
+unit_last : (claims : List Span) (s : Span) (unit : ℕ) → has_unit unit s ≡ true → is_claimed (claims ++ s ∷ []) unit ≡ true
+unit_last [] s unit is = rw is refl
+unit_last (claim ∷ claims) s unit is =
+    or_second (has_unit unit claim) (is_claimed (claims ++ s ∷ []) unit) (unit_last claims s unit is)
+
+keeps_up : (total begin slots : ℕ) (claims : List Span) (s : Span) (first image : List ℕ) → SaysClaims total begin slots claims first
+    → SaysOldOrNew total begin slots claims s image → ClaimsUp total begin slots first image
+keeps_up total begin slots claims s first image said (inl old) = record { claims = claims; more = claims; says = said; finds = old; grows = λ unit is. is }
+keeps_up total begin slots claims s first image said (inr new) = record {
   claims = claims;
-  more = [];
+  more = new.ranges;
   says = said;
-  finds = subst (λ (list : List Span). SaysClaims slots list image) (nothing_more claims) old;
+  finds = new.says;
+  grows = λ unit is. new.merged.same unit ∙ unit_behind claims s unit is;
 }
-keeps_up slots claims s first image said (inr new) = record { claims = claims; more = s ∷ []; says = said; finds = new }
 
-in_turn : BytesSayOneList → (slots : ℕ) (first middle last : List ℕ) → ClaimsUp slots first middle → ClaimsUp slots middle last
-    → ClaimsUp slots first last
-in_turn law slots first middle last one other = record {
+in_turn : BytesSayOneList → (total begin slots : ℕ) (first middle last : List ℕ) → ClaimsUp total begin slots first middle → ClaimsUp total begin slots middle last
+    → ClaimsUp total begin slots first last
+in_turn law total begin slots first middle last one other = record {
   claims = one.claims;
-  more = one.more ++ other.more;
+  more = other.more;
   says = one.says;
-  finds = subst (λ (list : List Span). SaysClaims slots list last)
-      (ap (λ (list : List Span). list ++ other.more) (law slots middle other.claims (one.claims ++ one.more) other.says one.finds)
-      ∙ append_assoc one.claims one.more other.more) other.finds;
+  finds = other.finds;
+  grows = λ unit is. other.grows unit (subst (λ (list : List Span). is_claimed list unit ≡ true)
+      (law total begin slots middle one.more other.claims one.finds other.says) (one.grows unit is));
 }
 
--- of a list of claims, one and the last are apart
-apart_in : (total : ℕ) (claims more : List Span) (claimed last : Span) → AreClaims total (((claims ++ claimed ∷ []) ++ more) ++ last ∷ [])
-    → IsApart claimed last
-apart_in total claims more claimed last sound =
-    let front : List Span = claims ++ claimed ∷ [] in
-    let before : List Span = front ++ more in
-    let d : Span = last in
-    let front_size = length-append claims (claimed ∷ []) in
-    let before_size = length-append front more in
-    let whole_size = length-append before (last ∷ []) in
-    let below_front : length claims < length front = omega (arith, front_size) in
-    let below_before : length claims < length before = omega (arith, front_size, before_size) in
-    let first : get_or (before ++ last ∷ []) (length claims) d ≡ claimed =
-    get_or-append before (last ∷ []) d (length claims) below_before ∙ get_or-append front more d (length claims) below_front
-    ∙ get_or-append_seam claims claimed [] d in
-    let second : get_or (before ++ last ∷ []) (length before) d ≡ last = get_or-append_seam before last [] d in
-    subst (λ (p : Span × Span). IsApart p.0 p.1) (λ i. (first i, second i))
-    (sound.apart (length claims) (length before) d below_before (omega (arith, whole_size)))
+-- the last of a list of claims meets none of the others
+pub last_apart : (total : ℕ) (claims : List Span) (s : Span) → AreClaims total (claims ++ s ∷ []) → meets_any s claims ≡ false
+last_apart total claims s sound = not_met s claims (λ k d below.
+    let whole = length-append claims (s ∷ []) in
+    let first : get_or (claims ++ s ∷ []) k d ≡ get_or claims k d = get_or-append claims (s ∷ []) d k below in
+    let second : get_or (claims ++ s ∷ []) (length claims) d ≡ s = get_or-append_seam claims s [] d in
+    subst (λ (p : Span × Span). IsApart p.0 p.1) (λ i. (first i, second i)) (sound.apart k (length claims) d below (omega (arith, whole))))
+
+-- spans without a common unit are apart, where the second has one
+no_common : (one other : Span) → one.start < one.end → other.start < other.end → ((unit : ℕ) → has_unit unit one ≡ true → has_unit unit other ≡ true → ⊥) → IsApart one other
+no_common one other some more none = elim (cases_lt other.start one.end) [
+  | inr before ↦ inl before
+  | inl meets ↦ (elim (cases_lt one.start other.end) [
+    | inr behind ↦ inr behind
+    | inl both ↦ absurd (none (max one.start other.start)
+        (within_unit (max one.start other.start) one (omega arith) (omega (arith, meets, some)))
+        (within_unit (max one.start other.start) other (omega arith) (omega (arith, both, more))))
+  ])
+]
 
 pub runs_claim_once : BytesSayOneList → RunsClaimOnce
 runs_claim_once law = record {
   keeps_up = keeps_up;
   in_turn = in_turn law;
-  apart = λ total slots claims later_claims claimed later_claimed image later said kept later_said sound.
-      let began = law slots image kept.claims (claims ++ claimed ∷ []) kept.says said in
-      let same : later_claims ≡ (claims ++ claimed ∷ []) ++ kept.more =
-      law slots later later_claims (kept.claims ++ kept.more) later_said kept.finds ∙ ap (λ (list : List Span). list ++ kept.more) began in
-      apart_in total claims kept.more claimed later_claimed (subst (λ (list : List Span). AreClaims total (list ++ later_claimed ∷ [])) same sound);
+  apart = λ total begin slots claims later_claims claimed later_claimed image later some said kept later_said sound.
+      let none = last_apart total later_claims later_claimed sound in
+      let ends = sound.within (length later_claims) later_claimed (let whole = length-append later_claims (later_claimed ∷ []) in omega (arith, whole)) in
+      let last = get_or-append_seam later_claims later_claimed [] later_claimed in
+      let own : later_claimed.start < later_claimed.end = subst (λ (s : Span). s.start < s.end) last ends.0 in
+      no_common claimed later_claimed some own (λ unit one other.
+      let in_image : is_claimed said.ranges unit ≡ true = said.merged.same unit ∙ unit_last claims claimed unit one in
+      let began : is_claimed kept.claims unit ≡ true =
+      subst (λ (list : List Span). is_claimed list unit ≡ true) (law total begin slots image said.ranges kept.claims said.says kept.says) in_image in
+      let now : is_claimed later_claims unit ≡ true =
+      subst (λ (list : List Span). is_claimed list unit ≡ true) (law total begin slots later kept.more later_claims kept.finds later_said) (kept.grows unit began) in
+      true_not_false (sym (unit_met later_claimed later_claims unit other now) ∙ none));
 }
+  where
+    true_not_false : true ≡ false → ⊥
+    true_not_false e = cc

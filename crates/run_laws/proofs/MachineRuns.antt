@@ -1,5 +1,5 @@
 -- Runs over one file's journals, as events of the lease machine.
-use Rattle.std.proofs.Common.{◌≡◌, ◌⊎◌, inl, inr, ℕ, zero, suc, ◌+◌, ◌<◌, ◌≤◌, true, false, cond, ◌&&◌, List, [], ◌∷◌, ◌++◌, length, get_or, refl, sym, ap, ◌∙◌, subst, arith, Option, None, Some, nat_eq, nat_le, nat_lt, All, append_assoc}
+use Rattle.std.proofs.Common.{◌≡◌, ◌⊎◌, inl, inr, ℕ, zero, suc, ◌+◌, ◌<◌, ◌≤◌, true, false, not, cond, ◌&&◌, List, [], ◌∷◌, ◌++◌, length, get_or, refl, sym, ap, ◌∙◌, subst, arith, Option, None, Some, nat_eq, nat_le, nat_lt, All, append_assoc}
 use Rattle.std.specs.Prelude.{AllPairs, ◌%◌}
 use Rattle.std.specs.List.Sorted.{IsNonDecreasingBy}
 use Rattle.std.proofs.Math.ListN.{get_or-append}
@@ -10,6 +10,7 @@ use Rattle.std.proofs.lemmas.List.{length-append}
 use Rattle.std.proofs.lemmas.List.Folds.{list_any_none}
 use Rattle.zk_model.specs.Journals.{AreSound, body_before, keeps_rule}
 use Rattle.zk_model.specs.declared.JournalKind.TheVariants.{Ceilings}
+use Rattle.zk_model.specs.ClaimedRanges.{AreMerged}
 use Rattle.zk_model.specs.declared.Span.{Span}
 use Rattle.lease_core.specs.Machine.{Machine, after_all, durable, is_possible, last_of, machine_at_first}
 use Rattle.lease_core.specs.Spans.{IsApart, meets, meets_any}
@@ -20,10 +21,17 @@ use Rattle.claim_store.specs.Claims.{AreClaims}
 use Rattle.session_pool.specs.Notes.{AreApart}
 use Rattle.run_laws.specs.RunsInTurn.{IsGranted}
 use Rattle.session_verifier.specs.NoteLines.{start_of}
-use Rattle.run_laws.specs.MachineRuns.{AreInTurn, ClaimsAreEvents, EventsLead, HasClaimed, IsDown, IsMachineOf, PastRun, RunLeaves, RunsAreEvents, RunsLeave, all_granted, granted_spans}
+use Rattle.run_laws.specs.MachineRuns.{AreInTurn, ClaimsAreEvents, EventsLead, HasClaimed, HasRanges, IsDown, IsMachineOf, PastRun, RunLeaves, RunsAreEvents, RunsLeave, all_granted, granted_spans}
 use Rattle.run_laws.proofs.Eras.{IsCeiling, Serves, ServesBelow, at_once, by_event, grant, raise_to, then}
-use Rattle.run_laws.proofs.ClaimsInTurn.{nothing_more}
-use Rattle.run_laws.proofs.RunsInTurn.{one_ceiling, says_found}
+use Rattle.claim_store.proofs.Joining.{merged_self, merged_through}
+use Rattle.claim_store.proofs.Meeting.{claims_more}
+use Rattle.claim_store.proofs.Units.{rising_have_units, same_met}
+use Rattle.run_laws.proofs.ClaimsInTurn.{last_apart}
+use Rattle.lease_store.proofs.Finding.{one_ceiling, says_found}
+
+nothing_more : (claims : List Span) → claims ≡ claims ++ []
+nothing_more [] = refl
+nothing_more (claim ∷ claims) = ap (λ (more : List Span). claim ∷ more) (nothing_more claims)
 
 -- ---- the ceilings that journals say
 
@@ -264,15 +272,27 @@ claims_on total claims (s ∷ more) m has sound =
 
 pub claims_are_events : ClaimsAreEvents
 claims_are_events = record {
-  begins = λ total claims sound.
-      let led = claims_on total [] claims (machine_at_first total 1)
+  begins = λ total ranges sound rising.
+      let led = claims_on total [] ranges (machine_at_first total 1)
       (record { reached = reached_first total 1; total_is = refl; claims_are = refl }) sound in
-      (_, led.led);
+      (_, record { claims = ranges; has = led.led; sound = sound; merged = merged_self ranges rising });
   one_run = next;
 } where
-  next : (total : ℕ) (claims later : List Span) (claimed : Span) (m : Machine) → HasClaimed total claims m
-      → (later ≡ claims) ⊎ (later ≡ claims ++ claimed ∷ []) → AreClaims total later → EventsLead m (HasClaimed total later)
-  next total claims later claimed m has (inl same) sound = at_once m (subst (λ (spans : List Span). HasClaimed total spans m) (sym same) has)
-  next total claims later claimed m has (inr one) sound =
-      then m (claim total claims [] claimed m has (subst (AreClaims total) one sound)) (λ n led.
-      at_once n (subst (λ (spans : List Span). HasClaimed total spans n) (sym one) led))
+  next : (total : ℕ) (ranges later : List Span) (claimed : Span) (m : Machine) → HasRanges total ranges m
+      → (later ≡ ranges) ⊎ (AreMerged (ranges ++ claimed ∷ []) later × AreClaims total (ranges ++ claimed ∷ [])) → EventsLead m (HasRanges total later)
+  next total ranges later claimed m has (inl same) = at_once m (subst (λ (spans : List Span). HasRanges total spans m) (sym same) has)
+  next total ranges later claimed m has (inr one) =
+      then m (claim total has.claims [] claimed m has.has more) (λ n led.
+      at_once n (record { claims = has.claims ++ claimed ∷ []; has = led; sound = more; merged = merged_through has.claims ranges later claimed has.merged one.0 }))
+    where
+      last : (claimed.start < claimed.end) × (claimed.end ≤ total)
+      last = subst (λ (s : Span). (s.start < s.end) × (s.end ≤ total)) (get_or-append_seam ranges claimed [] claimed)
+          (one.1.within (length ranges) claimed (let size = length-append ranges (claimed ∷ []) in omega (arith, size)))
+
+      none : meets_any claimed has.claims ≡ false
+      none = same_met claimed has.claims ranges last.0 (λ k d below. (has.sound.within k d below).0) (rising_have_units 0 ranges has.merged.rising)
+          (λ unit. sym (has.merged.same unit))
+          ∙ last_apart total ranges claimed one.1
+
+      more : AreClaims total (has.claims ++ claimed ∷ [])
+      more = claims_more total has.claims claimed has.sound last.0 last.1 (ap not none)

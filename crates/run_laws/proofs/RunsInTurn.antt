@@ -1,35 +1,10 @@
 -- Runs over one file's journal, one after the other.
-use Rattle.std.proofs.Common.{◌≡◌, ◌≤◌, ℕ, List, get_or, true, Option, None, Some, refl, inl, sym, ap, ◌∙◌, arith}
-use Rattle.std.proofs.lemmas.Bool.Decides.{nat_tests}
-use Rattle.zk_model.specs.Journals.{body_before, ceiling_slots, keeps_rule}
-use Rattle.zk_model.specs.declared.JournalKind.TheVariants.{Ceilings}
+use Rattle.std.proofs.Common.{◌≡◌, ◌≤◌, ℕ, List, Option, None, Some, inl, arith}
 use Rattle.zk_model.specs.declared.Span.{Span}
-use Rattle.lease_journal.proofs.Sound.{recovers_same}
 use Rattle.lease_store.specs.Ceilings.{FindsCeiling, SaysCeiling, last_ceiling}
+use Rattle.lease_store.proofs.Finding.{one_ceiling, says_found}
 use Rattle.session_pool.specs.Notes.{AreApart}
 use Rattle.run_laws.specs.RunsInTurn.{IsGranted, KeepsUp, RunsGrantOnce}
-
--- a journal says one ceiling at most
-pub one_ceiling : (id : List ℕ) (total a b : ℕ) (bytes : List ℕ) → SaysCeiling id total a bytes → SaysCeiling id total b bytes → a ≡ b
-one_ceiling id total a b bytes one other =
-    sym one.last
-    ∙ ap last_ceiling (recovers_same 64 (ceiling_slots total) bytes one.bodies other.bodies one.says.recovered other.says.recovered)
-    ∙ other.last
-
--- the second number of a ceiling that keeps the rule
-second : (total before : ℕ) (body : ℕ × ℕ) → keeps_rule Ceilings total before body ≡ true → body.1 ≡ 0
-second total before body keeps = grind (arith, nat_tests)
-
--- bytes in which a ceiling is found say one, which is no lower
-pub says_found : (id : List ℕ) (total ceiling : ℕ) (first bytes : List ℕ) (found : FindsCeiling id total ceiling first bytes)
-    → SaysCeiling id total (last_ceiling found.bodies) bytes
-says_found id total ceiling first bytes found = record {
-  bodies = found.bodies;
-  says = found.says;
-  last = refl;
-  seconds = λ place below.
-      second total (body_before found.bodies place).0 (get_or found.bodies place (0, 0)) (found.says.sound place below);
-}
 
 keeps_up : (id : List ℕ) (total base ceiling : ℕ) (first image : List ℕ) → SaysCeiling id total base first → base ≤ ceiling
     → FindsCeiling id total ceiling first image → KeepsUp id total first image

@@ -1,6 +1,7 @@
 -- Runs over one file's journals, one after the other, as events of the lease machine.
 use Rattle.std.specs.Prelude.{◌≡◌, ◌⊎◌, ℕ, ◌+◌, ◌<◌, ◌≤◌, true, false, List, [], ◌∷◌, ◌++◌, Option, None, Some, All, AllPairs}
 use Rattle.std.specs.List.Sorted.{IsNonDecreasingBy}
+use Rattle.zk_model.specs.ClaimedRanges.{AreMerged, RiseFrom}
 use Rattle.zk_model.specs.declared.Span.{Span}
 use Rattle.zk_model.specs.declared.limits.TheConstants.{MAX_UNITS}
 use Rattle.lease_core.specs.Kept.{IsReached}
@@ -106,9 +107,17 @@ pub record HasClaimed (total : ℕ) (claims : List Span) (m : Machine) : Type 0 
   pub total_is : m.total ≡ total
   pub claims_are : m.claims ≡ claims
 
--- A run of `prove` is the machine's event `Claim`, or none: where a journal says claims of which no two have a unit in common, a machine
--- has these; and where the next run finds the same, or one more, events lead to a machine that has them.
+-- one whose claims have these merged ranges
+pub record HasRanges (total : ℕ) (ranges : List Span) (m : Machine) : Type 0 where
+  pub claims : List Span
+  pub has : HasClaimed total claims m
+  pub sound : AreClaims total claims
+  pub merged : AreMerged claims ranges
+
+-- A run of `prove` is the machine's event `Claim`, or none: where a journal says ranges, a machine has claims of these ranges; and where
+-- the next run finds the same, or those of one claim more, events lead to a machine that has claims of them.
 pub record ClaimsAreEvents : Type 0 where
-  pub begins : (total : ℕ) (claims : List Span) → AreClaims total claims → (m : Machine) × HasClaimed total claims m
-  pub one_run : (total : ℕ) (claims later : List Span) (claimed : Span) (m : Machine) → HasClaimed total claims m
-      → (later ≡ claims) ⊎ (later ≡ claims ++ claimed ∷ []) → AreClaims total later → EventsLead m (HasClaimed total later)
+  pub begins : (total : ℕ) (ranges : List Span) → AreClaims total ranges → RiseFrom 0 ranges → (m : Machine) × HasRanges total ranges m
+  pub one_run : (total : ℕ) (ranges later : List Span) (claimed : Span) (m : Machine) → HasRanges total ranges m
+      → (later ≡ ranges) ⊎ (AreMerged (ranges ++ claimed ∷ []) later × AreClaims total (ranges ++ claimed ∷ []))
+      → EventsLead m (HasRanges total later)

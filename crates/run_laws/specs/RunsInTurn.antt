@@ -1,10 +1,11 @@
 -- Runs over one file's journals, one after the other.
-use Rattle.std.specs.Prelude.{ℕ, ◌<◌, ◌≤◌, ◌∷◌, [], ◌++◌, List, All, Option}
+use Rattle.std.specs.Prelude.{◌≡◌, ℕ, ◌<◌, ◌≤◌, ◌∷◌, [], ◌++◌, List, true, All, Option}
+use Rattle.zk_model.specs.ClaimedRanges.{is_claimed}
 use Rattle.zk_model.specs.declared.Span.{Span}
 use Rattle.zk_model.specs.declared.limits.TheConstants.{MAX_UNITS}
 use Rattle.lease_core.specs.Spans.{IsApart}
 use Rattle.lease_store.specs.Ceilings.{FindsCeiling, SaysCeiling}
-use Rattle.claim_store.specs.Claims.{AreClaims, SaysClaims, SaysOldOrNew}
+use Rattle.claim_store.specs.Claims.{AreClaims, SaysClaims, SaysMore, SaysOldOrNew}
 use Rattle.session_pool.specs.Notes.{AreApart, IsBetween}
 
 -- ---- journals of ceilings
@@ -38,22 +39,23 @@ pub record RunsGrantOnce : Type 0 where
 
 -- ---- journals of claims
 
--- bytes say claims, and later ones the same, and maybe more behind them
-pub record ClaimsUp (slots : ℕ) (first later : List ℕ) : Type 0 where
+-- bytes say ranges of claims, and later ones ranges that have all their units
+pub record ClaimsUp (total begin slots : ℕ) (first later : List ℕ) : Type 0 where
   pub claims : List Span
   pub more : List Span
-  pub says : SaysClaims slots claims first
-  pub finds : SaysClaims slots (claims ++ more) later
+  pub says : SaysClaims total begin slots claims first
+  pub finds : SaysClaims total begin slots more later
+  pub grows : (unit : ℕ) → is_claimed claims unit ≡ true → is_claimed more unit ≡ true
 
 -- What follows for runs over one file's journal of claims, one after the other, from `KeepsClaims` of each. A run's journal keeps up with
 -- what it began with, whatever a crash leaves; so does what many of them leave. And where a run begins with bytes that keep up with what
 -- an earlier one left once its units were claimed, no unit is claimed by both.
 pub record RunsClaimOnce : Type 0 where
-  pub keeps_up : (slots : ℕ) (claims : List Span) (s : Span) (first image : List ℕ)
-      → SaysClaims slots claims first → SaysOldOrNew slots claims s image → ClaimsUp slots first image
-  pub in_turn : (slots : ℕ) (first middle last : List ℕ)
-      → ClaimsUp slots first middle → ClaimsUp slots middle last → ClaimsUp slots first last
-  pub apart : (total slots : ℕ) (claims later_claims : List Span) (claimed later_claimed : Span) (image later : List ℕ)
-      → SaysClaims slots (claims ++ claimed ∷ []) image → ClaimsUp slots image later
-      → SaysClaims slots later_claims later → AreClaims total (later_claims ++ later_claimed ∷ [])
+  pub keeps_up : (total begin slots : ℕ) (claims : List Span) (s : Span) (first image : List ℕ)
+      → SaysClaims total begin slots claims first → SaysOldOrNew total begin slots claims s image → ClaimsUp total begin slots first image
+  pub in_turn : (total begin slots : ℕ) (first middle last : List ℕ)
+      → ClaimsUp total begin slots first middle → ClaimsUp total begin slots middle last → ClaimsUp total begin slots first last
+  pub apart : (total begin slots : ℕ) (claims later_claims : List Span) (claimed later_claimed : Span) (image later : List ℕ)
+      → claimed.start < claimed.end → SaysMore total begin slots claims claimed image → ClaimsUp total begin slots image later
+      → SaysClaims total begin slots later_claims later → AreClaims total (later_claims ++ later_claimed ∷ [])
       → IsApart claimed later_claimed

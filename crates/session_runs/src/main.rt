@@ -45,6 +45,9 @@
 //! | `words=WORD,WORD..` | its words; `BITS` stands for the private bits of the circuit's inputs | of a service and of a proof those of the scenario |
 //! | `tail=TEXT` | text behind the circuit's, in which `_` is a space | none |
 //! | `size=N` | the size up to which line feeds follow the circuit's text | its own |
+//! | `areas=AREAS` | the journal has `one` area, or `two`, or it was `moved`: two areas behind a journal of one that was migrated | `two` |
+//! | `slots=N` | how many slots an area has | those of a new one |
+//! | `heads=A,B` | the generations in the heads of the first area and the second, 0 in one that is closed | `1,0` |
 //! | `ceilings=N` | the ceilings up to this one stand in the verifier's journal | none |
 //! | `claims=A..B+C..D..` | these claims stand in the prover's journal, in this order, whether they may or not | none |
 //! | `journal-size=N` | how many bytes the journal has | its own |
@@ -53,6 +56,9 @@
 //! | `statements=TEXT` | the text of the file `statements`, in which `+` is a space, and `/` the end of a line; a service is then that of `serve-many` | empty |
 //! | `log=HEX` | the bytes of the file `log` | none |
 //! | `show=NAME,NAME..` | the files of which the line says how many bytes stand there, and SHA-256 of them; `disk` for the disk | none |
+//!
+//! Ceilings and claims stand in the area that counts. The other, where its head is open, says that all units are spent, and so does the
+//! journal of one area behind which one was moved.
 //!
 //! What a service is asked for, and who calls. Each peer is honest over the units after those of the peer before, the first from
 //! `start` on; the words of the peer's bytes and of its link are about one of them:
@@ -78,6 +84,7 @@
 #![tactic(auto)]
 
 mod audits;
+mod journals;
 mod piece_link;
 mod program_ends;
 mod runs;

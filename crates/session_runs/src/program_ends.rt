@@ -5,10 +5,10 @@ use crate::scenario::Scenario;
 use crate::sessions::{Case, cases_of, link_of};
 use anyhow::Result;
 use command_words::write_bits;
-use lease_journal::JournalKind;
 use std::alloc::Global;
 use std::sync::Wait;
 use std::thread::Threads;
+use twin_journal::JournalKind;
 
 /// A scenario, its public bits, and the outputs that are claimed in it.
 #[derive(Clone, Copy)]

@@ -1,7 +1,8 @@
 // Runs of the program over files, an output, a door and a journal's disk in memory.
+use crate::journals::journal_of;
 use crate::piece_link::{PieceLink, plan_of};
 use crate::say::{Bits, Ending, Hex, Logged, Units, prover_ending, verifier_ending};
-use crate::scenario::{Journaled, Outside, Scenario, read_numbers};
+use crate::scenario::{Outside, Scenario};
 use crate::scene::{input_bits, params_of};
 use crate::sessions::SEED;
 use anyhow::{Error, Result};
@@ -9,7 +10,6 @@ use bristol_reader::read;
 use command_words::write_bits;
 use dealer_files::{ProverFile, VerifierFile, deal};
 use frame_link::Log;
-use lease_journal::{JournalKind, blank, ceiling_slots, claim_slots};
 use memory_ports::{FailAt, MemoryDisk, MemoryDoor, MemoryShelf, MemorySink, QuietDisk};
 use session_prover::ProverNote;
 use session_verifier::SessionNote;
@@ -19,6 +19,7 @@ use std::collections::BTreeMap;
 use std::fmt;
 use std::sync::Wait;
 use std::thread::Threads;
+use twin_journal::JournalKind;
 use zk_cli::{Finish, Part, Rehearsal, run_zk};
 use zk_model::Span;
 use zk_port::{QuietGate, Shelf};
@@ -29,7 +30,7 @@ pub type Peers = MemoryDoor<PieceLink, FailAt>;
 /// How many bytes a file has at most of which a line says something.
 const MOST_SHOWN: u64 = 1 << 30;
 
-/// How many calls a disk has room for.
+/// How many calls a disk has room for, beside one for each 32 bytes.
 const DISK_CALLS: usize = 100;
 
 /// The circuit's text, with more behind it, where `_` is a space, and line feeds up to a size.
@@ -49,71 +50,6 @@ fn circuit_text(alloc: Global, scenario: &Scenario<'_>) -> Result<Vec<u8>> {
 pub struct Given {
     files: BTreeMap<String, Vec<u8>>,
     journal: Vec<u8>,
-}
-
-/// The bodies of the slots in which ceilings of so many units stand, up to this one.
-fn ceiling_bodies(alloc: Global, total: u64, ceilings: u64) -> Result<Vec<(u64, u64)>> {
-    let mut bodies = Vec::new(alloc);
-    for slot in 0..ceilings.div_ceil(16) {
-        let ceiling = total.min(slot.saturating_mul(16).saturating_add(16));
-        bodies.push((ceiling, 0))?;
-    }
-    Ok(bodies)
-}
-
-/// The bodies of the slots in which these claims stand, as `0..4+5..6`.
-fn claim_bodies(alloc: Global, claims: &str) -> Result<Vec<(u64, u64)>> {
-    let mut bodies = Vec::new(alloc);
-    for claim in claims.split('+').filter(|claim| !claim.is_empty()) {
-        let claim = read_numbers(claim)?;
-        bodies.push((claim.from, claim.to))?;
-    }
-    Ok(bodies)
-}
-
-/// A journal in whose first slots these bodies stand, which has so many bytes, and one byte that is another.
-fn journal_bytes(
-    mut bytes: Vec<u8>,
-    bodies: &[(u64, u64)],
-    journal: &Journaled<'_>,
-) -> Result<Vec<u8>> {
-    let length = bytes.len();
-    bytes.truncate(64);
-    for (first, second) in bodies {
-        bytes.extend_from_slice(&first.to_le_bytes())?;
-        bytes.extend_from_slice(&second.to_le_bytes())?;
-        bytes.extend_from_slice(&[0; 15])?;
-        bytes.push(0x5A)?;
-    }
-    bytes.resize(journal.size.unwrap_or(length), 0)?;
-    if let Some((place, byte)) = journal.set {
-        match bytes.get_mut(place as usize) {
-            Some(there) => *there = byte,
-            None => return Err(Error::msg("no such place")),
-        }
-    }
-    Ok(bytes)
-}
-
-/// The journal of this kind that belongs to a dealt file.
-fn journal_of(
-    alloc: Global,
-    journal: &Journaled<'_>,
-    kind: JournalKind,
-    file: &VerifierFile,
-) -> Result<Vec<u8>> {
-    let (id, total) = (file.id(), file.total());
-    match kind {
-        JournalKind::Claims => {
-            let new = blank(alloc, kind, &id, total, claim_slots(total))?;
-            journal_bytes(new, &claim_bodies(alloc, journal.claims)?, journal)
-        }
-        JournalKind::Ceilings => {
-            let new = blank(alloc, kind, &id, total, ceiling_slots(total))?;
-            let bodies = ceiling_bodies(alloc, total, journal.ceilings)?;
-            journal_bytes(new, &bodies, journal)
-        }
-    }
 }
 
 /// Puts these bytes under a name.
@@ -314,7 +250,8 @@ pub fn empty_door(alloc: Global, scenario: &Scenario<'_>) -> Result<Peers> {
 /// A disk that tells nothing of what it has, which is this.
 fn disk_of(alloc: Global, bytes: Vec<u8>, disk_fails: u64) -> Result<QuietDisk<FailAt>> {
     let plan = plan_of(alloc, disk_fails)?;
-    let disk = MemoryDisk::new(alloc, bytes, 0, DISK_CALLS, plan)?;
+    let calls = DISK_CALLS + bytes.len() / 32;
+    let disk = MemoryDisk::new(alloc, bytes, 0, calls, plan)?;
     Ok(QuietDisk { disk })
 }
 

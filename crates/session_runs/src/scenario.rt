@@ -61,10 +61,25 @@ pub struct Peer<'a> {
     pub set: Option<(u64, u8)>,
 }
 
-/// A journal: ceilings up to this one stand in the verifier's, and these claims in the prover's; how many bytes it has, where these are
-/// not all; and one byte in place of another.
+/// Which areas a journal has.
+#[derive(Clone, Copy)]
+pub enum Areas {
+    /// One.
+    One,
+    /// Two.
+    Two,
+    /// Two, behind a journal of one area that was migrated.
+    Moved,
+}
+
+/// A journal: its areas, how many slots an area has, where these are not those of a new one, and the generations in the heads of two
+/// areas, 0 in one that is closed; ceilings up to this one stand in the verifier's, and these claims in the prover's; how many bytes it
+/// has, where these are not all; and one byte in place of another.
 #[derive(Clone, Copy)]
 pub struct Journaled<'a> {
+    pub areas: Areas,
+    pub slots: Option<u64>,
+    pub heads: (u64, u64),
     pub ceilings: u64,
     pub claims: &'a str,
     pub size: Option<usize>,
@@ -151,6 +166,9 @@ fn plain(end: End) -> Scenario<'static> {
             tail: "",
             size: 0,
             journal: Journaled {
+                areas: Areas::Two,
+                slots: None,
+                heads: (1, 0),
                 ceilings: 0,
                 claims: "",
                 size: None,
@@ -238,10 +256,41 @@ fn read_set(text: &str) -> Result<(u64, u8)> {
     Ok((place.parse::<u64>()?, byte.parse::<u8>()?))
 }
 
+/// The name of a journal's areas.
+fn read_areas(text: &str) -> Result<Areas> {
+    match text {
+        "one" => Ok(Areas::One),
+        "two" => Ok(Areas::Two),
+        "moved" => Ok(Areas::Moved),
+        _ => Err(Error::msg("no such areas")),
+    }
+}
+
+/// Two generations, as `1,2`.
+fn read_heads(text: &str) -> Result<(u64, u64)> {
+    let (first, second) = halves(text, ",")?;
+    Ok((first.parse::<u64>()?, second.parse::<u64>()?))
+}
+
 /// Has each number of a range change something.
 fn set_sweep(scenario: &mut Scenario<'_>, sweep: Sweep, numbers: &str) -> Result<()> {
     scenario.sweep = sweep;
     scenario.numbers = read_numbers(numbers)?;
+    Ok(())
+}
+
+/// Sets what a word names, of a journal.
+fn set_journal<'a>(journal: &mut Journaled<'a>, name: &str, value: &'a str) -> Result<()> {
+    match name {
+        "areas" => journal.areas = read_areas(value)?,
+        "slots" => journal.slots = Some(value.parse::<u64>()?),
+        "heads" => journal.heads = read_heads(value)?,
+        "ceilings" => journal.ceilings = value.parse::<u64>()?,
+        "claims" => journal.claims = value,
+        "journal-size" => journal.size = Some(value.parse::<usize>()?),
+        "journal-set" => journal.set = Some(read_set(value)?),
+        _ => return Err(Error::msg("no such word")),
+    }
     Ok(())
 }
 
@@ -255,14 +304,10 @@ fn set_outside<'a>(outside: &mut Outside<'a>, name: &str, value: &'a str) -> Res
         "sink-fails" => outside.sink_fails = value.parse::<u64>()?,
         "door-fails" => outside.door_fails = value.parse::<u64>()?,
         "disk-fails" => outside.disk_fails = value.parse::<u64>()?,
-        "ceilings" => outside.journal.ceilings = value.parse::<u64>()?,
-        "claims" => outside.journal.claims = value,
-        "journal-size" => outside.journal.size = Some(value.parse::<usize>()?),
-        "journal-set" => outside.journal.set = Some(read_set(value)?),
         "show" => outside.show = value,
         "statements" => outside.statements = value,
         "log" => outside.log = value,
-        _ => return Err(Error::msg("no such word")),
+        _ => set_journal(&mut outside.journal, name, value)?,
     }
     Ok(())
 }

@@ -1,19 +1,28 @@
 -- A journal of claims that was opened, and added to as its claimant says.
-use Rattle.std.proofs.Common.{◌≡◌, ◌⊎◌, ◌+◌, ◌<◌, ◌≤◌, ◌++◌, ◌∷◌, [], ℕ, List, Option, None, Some, Result, Ok, Err, IsSomeAnd, IfSome, refl, sym, ap, ◌∙◌, subst, inl, inr, arith}
+use Rattle.std.proofs.Common.{◌≡◌, ◌⊎◌, ◌+◌, ◌-◌, ◌^◌, ◌<◌, ◌≤◌, ◌++◌, ◌∷◌, [], ℕ, List, Option, None, Some, Result, Ok, Err, IsSomeAnd, IfSome, refl, sym, ap, ◌∙◌, subst, inl, inr, arith}
 use Rattle.std.specs.Prelude.{MatchOption}
-use Rattle.zk_model.specs.Journals.{IsHeaded, Stands}
+use Rattle.zk_model.specs.ClaimedRanges.{AreMerged, RiseFrom}
+use Rattle.zk_model.specs.Twins.{HoldsTwin}
 use Rattle.zk_model.specs.declared.JournalKind.TheVariants as kind
 use Rattle.zk_model.specs.declared.Span.{Span}
 use Rattle.zk_port.specs.Counts.{Rose}
 use Rattle.zk_port.specs.Disks.{DiskState, LeavesOnly}
 use Rattle.zk_port.specs.Images.{Only, StepsBy}
 use Rattle.lease_core.specs.Spans.{span}
-use Rattle.claim_store.specs.Claims.{ClaimState, AreClaims, AreDurable, SaysClaims, SaysOldOrNew}
+use Rattle.lease_journal.proofs.Moments.{leaves_also, leaves_both}
+use Rattle.claim_store.specs.Claims.{ClaimState, AreClaims, AreDurable, AreInUse, SaysClaims, SaysOldOrNew, first_met}
+use Rattle.claim_store.proofs.Meeting.{claims_more, none_apart}
 use Rattle.claim_store.specs.declared.ClaimFault.{ClaimFault}
 use Rattle.claim_store.specs.declared.ClaimFault.TheVariants.{Broken, OutOfRange, Overlap, Full, Device, NoMemory}
 use Rattle.session_prover.specs.Stores.{Claims}
-use Rattle.file_commands.specs.ClaimedUnits.{AllFind, AllMayFind, AnswersClaim, FindsClaims, KeepsClaims, LeavesAll, LeavesClaims, LeavesEither, LeavesWhole, MayFind, MovesClaims}
+use Rattle.file_commands.specs.ClaimedUnits.{AllHave, AnswersClaim, FindsClaims, FindsMore, KeepsClaims, LeavesAll, LeavesClaims, MayFind, MovesClaims, Place, asked_span}
 use Rattle.file_commands.specs.Journals.{OpensJournal, disk_change}
+
+-- free units stand after the claims
+free_follow : (total : ℕ) (claims : List Span) (start count : ℕ) (claimed : Span) → claimed ≡ span start (start + count) → start + count ≤ total
+    → first_met (span start (start + count)) claims ≡ None → AreClaims total claims → start < start + count → AreClaims total (claims ++ claimed ∷ [])
+free_follow total claims start count claimed is low apart sound some =
+    subst (λ s. AreClaims total (claims ++ s ∷ [])) (sym is) (claims_more total claims (span start (start + count)) sound some low (none_apart (span start (start + count)) claims apart))
 
 some_of : {X : Type 0} (o : Option X) (x : X) (P : X → Type 0) → o ≡ Some x → IfSome o P → P x
 some_of None x P is if = cc
@@ -39,11 +48,15 @@ by_store {C} {D} store_of disk_state before after store later asked (Some answer
     subst (λ (p : ClaimState D × ClaimState D). IsSomeAnd asked (λ units. Claims disk_state p.0 units.0 units.1 answer p.1))
     (λ i. (from i, sym to i)) moved
 
+-- where a store's journal is
+abbrev pub place_of : {D : Type 0} → ClaimState D → Place
+place_of store = record { begin = store.begin; slots = store.slots }
+
 module _ {D : Type 0} (disk_state : D → DiskState) (old : DiskState) (store : ClaimState D) (name id : List ℕ) (total : ℕ)
     (only_now : (image : List ℕ) → old.images_since old.moment image → old.images image)
     (opens : OpensJournal name (disk_change old (disk_state store.disk)))
-    (says : (bytes : List ℕ) → old.content ≡ Some bytes
-    → IsHeaded kind.Claims id total store.slots bytes × SaysClaims store.slots store.claims bytes)
+    (holds : (bytes : List ℕ) → old.content ≡ Some bytes → HoldsTwin kind.Claims id total store.begin store.slots bytes)
+    (says : (bytes : List ℕ) → old.content ≡ Some bytes → SaysClaims total store.begin store.slots store.claims bytes)
     (only : Only (disk_state store.disk).content (disk_state store.disk).images) where
   abbrev mid : DiskState
   mid = disk_state store.disk
@@ -51,16 +64,16 @@ module _ {D : Type 0} (disk_state : D → DiskState) (old : DiskState) (store : 
   known_mid : (first : List ℕ) → old.content ≡ Some first → mid.content ≡ Some first
   known_mid first known = opens.stays.content ∙ known
 
-  finds_first : (first : List ℕ) → old.content ≡ Some first → FindsClaims id total store.slots store.claims first first
-  finds_first first known = record { header = (says first known).0; says = (says first known).1; stands = λ whole. whole }
+  finds_first : (first : List ℕ) → old.content ≡ Some first → FindsClaims id total (place_of store) store.claims first
+  finds_first first known = record { holds = holds first known; says = says first known }
 
   image_is : (first : List ℕ) → old.content ≡ Some first → (image : List ℕ) → mid.images image → image ≡ first
   image_is first known = some_of mid.content first (λ file. (c : List ℕ) → mid.images c → c ≡ file) (known_mid first known) only
 
-  all_first : (first : List ℕ) → old.content ≡ Some first → AllFind id total store.slots store.claims first mid
+  all_first : (first : List ℕ) → old.content ≡ Some first → AllHave (FindsClaims id total (place_of store) store.claims) mid
   all_first first known = record {
-    read = some_and mid.content first (FindsClaims id total store.slots store.claims first) (known_mid first known) (finds_first first known);
-    durable = λ image some. subst (FindsClaims id total store.slots store.claims first) (sym (image_is first known image some)) (finds_first first known);
+    read = some_and mid.content first (FindsClaims id total (place_of store) store.claims) (known_mid first known) (finds_first first known);
+    durable = λ image some. subst (FindsClaims id total (place_of store) store.claims) (sym (image_is first known image some)) (finds_first first known);
   }
 
   -- a moment before the journal was opened, or this one
@@ -73,7 +86,7 @@ module _ {D : Type 0} (disk_state : D → DiskState) (old : DiskState) (store : 
   now_of : (image : List ℕ) → mid.images_since old.moment image → old.images image
   now_of image since = elim (moment_of old.moment image (omega arith) since) [ inl was ↦ only_now image was | inr now ↦ now ]
 
-  leaves_all : LeavesAll id total store.slots store.claims (disk_change old mid)
+  leaves_all : LeavesAll id total (place_of store) store.claims (disk_change old mid)
   leaves_all = record {
     left = all_first;
     any_moment = record {
@@ -101,26 +114,10 @@ module _ {D : Type 0} (disk_state : D → DiskState) (old : DiskState) (store : 
         ];
       }
 
-  -- two things that it leaves are left together
-  leaves_both : (P Q : List ℕ → Type 0) (new : DiskState) → LeavesOnly old new (λ image. old.images image ⊎ P image)
-      → LeavesOnly old new (λ image. old.images image ⊎ Q image) → LeavesOnly old new (λ image. old.images image ⊎ (P image × Q image))
-  leaves_both P Q new some other = record {
-    later = some.later;
-    each = λ image since. both image (some.each image since) (other.each image since);
-    before = λ t image earlier since. elim (some.before t image earlier since) [
-      | inl was ↦ inl was
-      | inr first ↦ (elim (other.before t image earlier since) [ inl was ↦ inl was | inr second ↦ inr (both image first second) ])
-    ];
-  }
-    where
-      both : (image : List ℕ) → old.images image ⊎ P image → old.images image ⊎ Q image → old.images image ⊎ (P image × Q image)
-      both image (inl was) second = inl was
-      both image (inr has) (inl was) = inl was
-      both image (inr has) (inr has_too) = inr (has, has_too)
-
-  module _ (later : ClaimState D) (whole : store.fault ≡ 0) (total_is : store.total ≡ total) (closed : AreClaims later.total later.claims)
+  module _ (later : ClaimState D) (whole : store.fault ≡ 0) (total_is : store.total ≡ total) (small : store.total < 2 ^ 64 - 1) (closed : AreClaims later.total later.claims)
       (counts_now : (t : ℕ) (image : List ℕ) → t ≤ (disk_state later.disk).moment → (disk_state later.disk).images image
       → (disk_state later.disk).images_since t image)
+      (sound : AreClaims total store.claims)
       (start count : ℕ) (answer : Result Span ClaimFault) (moved : Claims disk_state store start count answer later) where
     abbrev new : DiskState
     new = disk_state later.disk
@@ -128,14 +125,12 @@ module _ {D : Type 0} (disk_state : D → DiskState) (old : DiskState) (store : 
     abbrev asked : Span
     asked = span start (start + count)
 
-    headed : (first : List ℕ) → old.content ≡ Some first → LeavesOnly mid new (IsHeaded kind.Claims id total store.slots)
-    headed first known = (moved.header id total store.slots).any_moment
-        (λ image some. subst (IsHeaded kind.Claims id total store.slots) (sym (image_is first known image some)) (says first known).0)
+    abbrev one_way : List ℕ → Type 0
+    one_way = MayFind id total (place_of store) store.claims (start, count)
 
-    stand : (first : List ℕ) → old.content ≡ Some first → Stands kind.Claims id total store.slots first
-        → LeavesOnly mid new (Stands kind.Claims id total store.slots)
-    stand first known stands = (moved.stands id total).any_moment
-        (λ image some. subst (Stands kind.Claims id total store.slots) (sym (image_is first known image some)) stands)
+    held : (first : List ℕ) → old.content ≡ Some first → LeavesOnly mid new (HoldsTwin kind.Claims id total store.begin store.slots)
+    held first known = (moved.holds id total).any_moment
+        (λ image some. subst (HoldsTwin kind.Claims id total store.begin store.slots) (sym (image_is first known image some)) (holds first known))
 
     since_mid : (image : List ℕ) → new.images image → new.images_since mid.moment image
     since_mid image some = counts_now mid.moment image moved_later some
@@ -143,103 +138,88 @@ module _ {D : Type 0} (disk_state : D → DiskState) (old : DiskState) (store : 
         moved_later : mid.moment ≤ new.moment
         moved_later = moved.changes.any_moment.later
 
-    -- an image that says these claims
-    image_finds : (first : List ℕ) → old.content ≡ Some first → (list : List Span) (image : List ℕ) → new.images image
-        → SaysClaims store.slots list image → FindsClaims id total store.slots list first image
-    image_finds first known list image some has = record {
-      header = (headed first known).each image (since_mid image some);
-      says = has;
-      stands = λ stands. (stand first known stands).each image (since_mid image some);
-    }
+    -- bytes in which the journal stands find what they say
+    finds_either : (bytes : List ℕ) → HoldsTwin kind.Claims id total store.begin store.slots bytes
+        → SaysOldOrNew total store.begin store.slots store.claims asked bytes → one_way bytes
+    finds_either bytes here (inl has) = inl (record { holds = here; says = has })
+    finds_either bytes here (inr has) = inr (record { ranges = has.ranges; merged = has.merged; finds = record { holds = here; says = has.says } })
 
-    -- and the content
-    content_finds : (first : List ℕ) → old.content ≡ Some first → (list : List Span) (bytes : List ℕ) → new.content ≡ Some bytes
-        → SaysClaims store.slots list bytes → FindsClaims id total store.slots list first bytes
-    content_finds first known list bytes is has = record {
-      header = some_of new.content bytes (IsHeaded kind.Claims id total store.slots) is
-          ((moved.header id total store.slots).content (if_some (IsHeaded kind.Claims id total store.slots) (says first known).0));
-      says = has;
-      stands = λ stands. some_of new.content bytes (Stands kind.Claims id total store.slots) is
-          ((moved.stands id total).content (if_some (Stands kind.Claims id total store.slots) stands));
-    }
-      where
-        if_some : (P : List ℕ → Type 0) → P first → IfSome mid.content P
-        if_some P has = subst (λ (o : Option (List ℕ)). IfSome o P) (sym (known_mid first known)) has
+    said : (bytes : List ℕ) → SaysOldOrNew store.total store.begin store.slots store.claims asked bytes → SaysOldOrNew total store.begin store.slots store.claims asked bytes
+    said bytes has = subst (λ n. SaysOldOrNew n store.begin store.slots store.claims asked bytes) total_is has
 
     bytes_now : (first : List ℕ) → old.content ≡ Some first → (bytes : List ℕ) × (new.content ≡ Some bytes)
     bytes_now first known = goes_on _ mid.content new.content first (known_mid first known) moved.changes.content
 
-    any_moment : (first : List ℕ) → old.content ≡ Some first → LeavesEither id total store.slots store.claims (start, count) old new
-    any_moment first known = leaves_both (IsHeaded kind.Claims id total store.slots) (SaysOldOrNew store.slots store.claims asked) new
-        (leaves_since _ new (headed first known)) (leaves_since _ new (moved.any_moment whole first (known_mid first known)))
+    held_now : (first : List ℕ) → old.content ≡ Some first → (bytes : List ℕ) → new.content ≡ Some bytes → HoldsTwin kind.Claims id total store.begin store.slots bytes
+    held_now first known bytes is = some_of new.content bytes (HoldsTwin kind.Claims id total store.begin store.slots) is
+        ((moved.holds id total).content (subst (λ (o : Option (List ℕ)). IfSome o (HoldsTwin kind.Claims id total store.begin store.slots)) (sym (known_mid first known)) (holds first known)))
 
-    whole_left : (first : List ℕ) → old.content ≡ Some first → LeavesWhole id total store.slots first old new
-    whole_left first known = λ stands. leaves_since _ new (stand first known stands)
+    held_image : (first : List ℕ) → old.content ≡ Some first → (image : List ℕ) → new.images image → HoldsTwin kind.Claims id total store.begin store.slots image
+    held_image first known image some = (held first known).each image (since_mid image some)
+
+    moments : (first : List ℕ) → old.content ≡ Some first → LeavesOnly mid new one_way
+    moments first known =
+        leaves_also (leaves_both (held first known) (moved.any_moment whole small first (known_mid first known)))
+        (λ image both. finds_either image both.0 (said image both.1))
+
+    any_moment : (first : List ℕ) → old.content ≡ Some first → LeavesOnly old new (λ image. old.images image ⊎ one_way image)
+    any_moment first known = leaves_since one_way new (moments first known)
 
     -- ---- by the answer
 
-    either : (first : List ℕ) → old.content ≡ Some first → AllMayFind id total store.slots store.claims (start, count) first new
+    either : (first : List ℕ) → old.content ≡ Some first → AllHave one_way new
     either first known =
         let now = bytes_now first known in
         record {
-          read = some_and new.content now.0 (MayFind id total store.slots store.claims (start, count) first) now.1
-              (of_content now.0 now.1 (some_of new.content now.0 (SaysOldOrNew store.slots store.claims asked) now.1
-              (moved.read whole first (known_mid first known))));
-          durable = λ image some. of_image image some ((moved.any_moment whole first (known_mid first known)).each image (since_mid image some));
+          read = some_and new.content now.0 one_way now.1 (finds_either now.0 (held_now first known now.0 now.1) (said now.0
+              (some_of new.content now.0 (SaysOldOrNew store.total store.begin store.slots store.claims asked) now.1
+              (moved.read whole small first (known_mid first known)))));
+          durable = λ image some. (moments first known).each image (since_mid image some);
         }
-      where
-        of_content : (bytes : List ℕ) → new.content ≡ Some bytes → SaysOldOrNew store.slots store.claims asked bytes
-            → MayFind id total store.slots store.claims (start, count) first bytes
-        of_content bytes is (inl has) = inl (content_finds first known store.claims bytes is has)
-        of_content bytes is (inr has) = inr (content_finds first known (store.claims ++ asked ∷ []) bytes is has)
 
-        of_image : (image : List ℕ) → new.images image → SaysOldOrNew store.slots store.claims asked image
-            → MayFind id total store.slots store.claims (start, count) first image
-        of_image image some (inl has) = inl (image_finds first known store.claims image some has)
-        of_image image some (inr has) = inr (image_finds first known (store.claims ++ asked ∷ []) image some has)
-
-    durable_finds : (list : List Span) → later.claims ≡ list → AreDurable disk_state later → (first : List ℕ) → old.content ≡ Some first
-        → AllFind id total store.slots list first new
-    durable_finds list is durable first known =
+    durable_finds : (claimed : Span) → AreMerged (store.claims ++ claimed ∷ []) later.claims → AreDurable disk_state later → (first : List ℕ) → old.content ≡ Some first
+        → AllHave (FindsMore id total (place_of store) store.claims claimed) new
+    durable_finds claimed merged durable first known =
         let now = bytes_now first known in
-        let has : SaysClaims store.slots list now.0 × ((image : List ℕ) → new.images image → SaysClaims store.slots list image) =
-        subst (λ (p : ℕ × List Span). SaysClaims p.0 p.1 now.0 × ((image : List ℕ) → new.images image → SaysClaims p.0 p.1 image))
-        (λ i. (moved.slots i, is i))
-        (some_of new.content now.0 (λ bytes. SaysClaims later.slots later.claims bytes
-        × ((image : List ℕ) → new.images image → SaysClaims later.slots later.claims image)) now.1 durable) in
+        let has : SaysClaims total store.begin store.slots later.claims now.0 × ((image : List ℕ) → new.images image → SaysClaims total store.begin store.slots later.claims image) =
+        subst (λ (p : ℕ × (ℕ × ℕ)). SaysClaims p.0 p.1.0 p.1.1 later.claims now.0 × ((image : List ℕ) → new.images image → SaysClaims p.0 p.1.0 p.1.1 later.claims image))
+        (λ i. ((moved.total ∙ total_is) i, (moved.begin i, moved.slots i)))
+        (some_of new.content now.0 (λ bytes. SaysClaims later.total later.begin later.slots later.claims bytes
+        × ((image : List ℕ) → new.images image → SaysClaims later.total later.begin later.slots later.claims image)) now.1 durable) in
         record {
-          read = some_and new.content now.0 (FindsClaims id total store.slots list first) now.1 (content_finds first known list now.0 now.1 has.0);
-          durable = λ image some. image_finds first known list image some (has.1 image some);
+          read = some_and new.content now.0 (FindsMore id total (place_of store) store.claims claimed) now.1
+              (record { ranges = later.claims; merged = merged; finds = record { holds = held_now first known now.0 now.1; says = has.0 } });
+          durable = λ image some. record { ranges = later.claims; merged = merged; finds = record { holds = held_image first known image some; says = has.1 image some } };
         }
 
-    same_finds : later ≡ store → (first : List ℕ) → old.content ≡ Some first → AllFind id total store.slots store.claims first new
+    same_finds : later ≡ store → (first : List ℕ) → old.content ≡ Some first → AllHave (FindsClaims id total (place_of store) store.claims) new
     same_finds same first known =
-        subst (λ (s : ClaimState D). AllFind id total store.slots store.claims first (disk_state s.disk)) (sym same) (all_first first known)
+        subst (λ (s : ClaimState D). AllHave (FindsClaims id total (place_of store) store.claims) (disk_state s.disk)) (sym same) (all_first first known)
 
     same_faults : later ≡ store → new.faults ≡ old.faults
     same_faults same = ap (λ (s : ClaimState D). (disk_state s.disk).faults) same ∙ opens.still
 
-  moves : (later : ClaimState D) (whole : store.fault ≡ 0) (total_is : store.total ≡ total) (closed : AreClaims later.total later.claims)
+  moves : (later : ClaimState D) (whole : store.fault ≡ 0) (total_is : store.total ≡ total) (small : store.total < 2 ^ 64 - 1) (closed : AreClaims later.total later.claims)
       (counts_now : (t : ℕ) (image : List ℕ) → t ≤ (disk_state later.disk).moment → (disk_state later.disk).images image
       → (disk_state later.disk).images_since t image)
+      (sound : AreClaims total store.claims)
       (start count : ℕ) (answer : Result Span ClaimFault) (moved : Claims disk_state store start count answer later)
-      → MovesClaims id total store.slots store.claims (start, count) answer (disk_change old (disk_state later.disk))
-  moves later whole total_is closed counts_now start count answer moved = record {
+      → MovesClaims id total (place_of store) store.used store.claims (start, count) answer (disk_change old (disk_state later.disk))
+  moves later whole total_is small closed counts_now sound start count answer moved = record {
     cause = cause_of answer moved;
     left = left_of answer moved;
-    any_moment = any_moment later whole total_is closed counts_now start count answer moved;
-    whole = whole_left later whole total_is closed counts_now start count answer moved;
+    any_moment = any_moment later whole total_is small closed counts_now sound start count answer moved;
   }
     where
       same : (answer : Result Span ClaimFault) → Claims disk_state store start count answer later → later ≡ store
           → (disk_state later.disk).faults ≡ old.faults
-      same answer moved is = same_faults later whole total_is closed counts_now start count answer moved is
+      same answer moved is = same_faults later whole total_is small closed counts_now sound start count answer moved is
 
       cause_of : (answer : Result Span ClaimFault) → Claims disk_state store start count answer later
-          → AnswersClaim total store.slots store.claims (start, count) answer (disk_change old (disk_state later.disk))
+          → AnswersClaim total store.slots store.used store.claims (start, count) answer (disk_change old (disk_state later.disk))
       cause_of (Ok claimed) moved = (
         moved.span,
-        subst (λ (p : ℕ × List Span). AreClaims p.0 p.1) (λ i. ((moved.total ∙ total_is) i, moved.claimed i)) closed,
+        free_follow total store.claims start count claimed moved.span (subst (λ n. start + count ≤ n) total_is moved.free.within) moved.free.apart sound (omega (arith, moved.some)),
         moved.faults ∙ opens.still,
       )
       cause_of (Err Device) moved = subst (λ (n : ℕ). Rose n (disk_state later.disk).faults) opens.still moved.cause.1
@@ -250,50 +230,58 @@ module _ {D : Type 0} (disk_state : D → DiskState) (old : DiskState) (store : 
         same (Err (OutOfRange end)) moved moved.cause.1,
       )
       cause_of (Err (Overlap earlier)) moved = (moved.cause.0.2, same (Err (Overlap earlier)) moved moved.cause.1)
-      cause_of (Err (Full used)) moved = (moved.cause.0.0, moved.cause.0.4, same (Err (Full used)) moved moved.cause.1)
+      cause_of (Err (Full used)) moved = (moved.cause.0.0, moved.cause.0.4, moved.cause.0.5, same (Err (Full used)) moved moved.cause.1)
       cause_of (Err NoMemory) moved = same (Err NoMemory) moved moved.cause.1
 
       kept : (answer : Result Span ClaimFault) → Claims disk_state store start count answer later → later ≡ store
-          → (first : List ℕ) → old.content ≡ Some first → AllFind id total store.slots store.claims first (disk_state later.disk)
-      kept answer moved is = same_finds later whole total_is closed counts_now start count answer moved is
+          → (first : List ℕ) → old.content ≡ Some first → AllHave (FindsClaims id total (place_of store) store.claims) (disk_state later.disk)
+      kept answer moved is = same_finds later whole total_is small closed counts_now sound start count answer moved is
 
       left_of : (answer : Result Span ClaimFault) → Claims disk_state store start count answer later
           → (first : List ℕ) → old.content ≡ Some first
-          → LeavesClaims id total store.slots store.claims (start, count) answer first (disk_state later.disk)
-      left_of (Ok claimed) moved = durable_finds later whole total_is closed counts_now start count (Ok claimed) moved
-          (store.claims ++ claimed ∷ []) moved.claimed moved.durable
-      left_of (Err Device) moved = either later whole total_is closed counts_now start count (Err Device) moved
+          → LeavesClaims id total (place_of store) store.claims (start, count) answer (disk_state later.disk)
+      left_of (Ok claimed) moved = durable_finds later whole total_is small closed counts_now sound start count (Ok claimed) moved
+          claimed moved.claimed (moved.durable small)
+      left_of (Err Device) moved = either later whole total_is small closed counts_now sound start count (Err Device) moved
       left_of (Err (Broken first)) moved = kept (Err (Broken first)) moved moved.cause.1
       left_of (Err (OutOfRange end)) moved = kept (Err (OutOfRange end)) moved moved.cause.1
       left_of (Err (Overlap earlier)) moved = kept (Err (Overlap earlier)) moved moved.cause.1
       left_of (Err (Full used)) moved = kept (Err (Full used)) moved moved.cause.1
       left_of (Err NoMemory) moved = kept (Err NoMemory) moved moved.cause.1
 
-  pub keeps_claims : (later : ClaimState D) (whole : store.fault ≡ 0) (total_is : store.total ≡ total) (sound : AreClaims total store.claims)
+  pub keeps_claims : (later : ClaimState D) (whole : store.fault ≡ 0) (total_is : store.total ≡ total) (small : store.total < 2 ^ 64 - 1) (sound : AreClaims total store.claims)
+      (rising : RiseFrom 0 store.claims)
+      (in_use : (bytes : List ℕ) → old.content ≡ Some bytes → AreInUse store.begin store.slots store.used bytes)
       (closed : AreClaims later.total later.claims)
       (counts_now : (t : ℕ) (image : List ℕ) → t ≤ (disk_state later.disk).moment → (disk_state later.disk).images image
       → (disk_state later.disk).images_since t image)
       (asked : Option (ℕ × ℕ)) (answer : Option (Result Span ClaimFault))
       → MatchOption answer (later ≡ store) (λ a. IsSomeAnd asked (λ units. Claims disk_state store units.0 units.1 a later))
       → KeepsClaims name id total asked answer (disk_change old (disk_state later.disk))
-  keeps_claims later whole total_is sound closed counts_now asked None same =
+  keeps_claims later whole total_is small sound rising in_use closed counts_now asked None same =
       subst (λ (s : ClaimState D). KeepsClaims name id total asked None (disk_change old (disk_state s.disk))) (sym same)
       (record {
         chosen = opens.chosen;
         room = opens.stays.room;
-        slots = store.slots;
+        place = place_of store;
+        used = store.used;
         claims = store.claims;
         sound = sound;
+        rising = rising;
+        in_use = in_use;
         recovered = finds_first;
         moved = leaves_all;
       })
-  keeps_claims later whole total_is sound closed counts_now None (Some answer) moved = absurd moved
-  keeps_claims later whole total_is sound closed counts_now (Some units) (Some answer) moved = record {
+  keeps_claims later whole total_is small sound rising in_use closed counts_now None (Some answer) moved = absurd moved
+  keeps_claims later whole total_is small sound rising in_use closed counts_now (Some units) (Some answer) moved = record {
     chosen = moved.changes.chosen ∙ opens.chosen;
     room = moved.changes.room ∙ opens.stays.room;
-    slots = store.slots;
+    place = place_of store;
+    used = store.used;
     claims = store.claims;
     sound = sound;
+    rising = rising;
+    in_use = in_use;
     recovered = finds_first;
-    moved = moves later whole total_is closed counts_now units.0 units.1 answer moved;
+    moved = moves later whole total_is small closed counts_now sound units.0 units.1 answer moved;
   }

@@ -3,12 +3,12 @@ use Rattle.std.proofs.Common.{◌≡◌, ℕ, List, Option, refl, inl, inr, arit
 use Rattle.bristol_reader.specs.Laws.{OneCircuit}
 use Rattle.zk_port.specs.Changes.{change}
 use Rattle.claim_store.specs.Causes.{ClaimsStartAgain}
-use Rattle.lease_journal.specs.Keeps.{StartsAgain}
+use Rattle.lease_store.specs.Laws.{CeilingsStartAgain}
 use Rattle.zk_port.specs.Disks.{DiskState}
 use Rattle.zk_port.specs.Doors.{DoorState}
 use Rattle.zk_port.specs.Links.{LinkState}
 use Rattle.zk_port.specs.Shelves.{ShelfState}
-use Rattle.command_words.specs.Words.{Ask, rehearse, generate, eval, deal, serve, serve_many, prove, audit}
+use Rattle.command_words.specs.Words.{Ask, rehearse, generate, eval, deal, serve, serve_many, prove, audit, migrate}
 use Rattle.statement_file.specs.Services.{service_asked}
 use Rattle.zk_port.specs.Files.{Files}
 use Rattle.proof_audit.specs.AuditRuns.{IsAuditName}
@@ -46,6 +46,7 @@ shows_nothing L told (serve ask) = tt
 shows_nothing L told (serve_many ask) = tt
 shows_nothing L told (prove ask) = tt
 shows_nothing L told (audit ask) = tt
+shows_nothing L told (migrate ask) = tt
 
 pub grants_nothing : (L : Type 0) (told : Option Files) (ask : Ask) (disk : DiskChange) → GrantsOnceIn {L = L} told ask Plain disk
 grants_nothing L told (rehearse ask) disk = tt
@@ -56,9 +57,10 @@ grants_nothing L told (serve ask) disk = tt
 grants_nothing L told (serve_many ask) disk = tt
 grants_nothing L told (prove ask) disk = tt
 grants_nothing L told (audit ask) disk = tt
+grants_nothing L told (migrate ask) disk = tt
 
 pub meets_memory : {F L B D : Type 0} (shelf_tells : F → ShelfState) (door_tells : D → DoorState) (link_tells : L → LinkState)
-    → OneCircuit → StartsAgain → ClaimsStartAgain → (ask : Ask) (seed : List ℕ) (status : ℕ) (sink : SinkChange) (files : F) (journal : B) (links : D) (disk : DiskState)
+    → OneCircuit → CeilingsStartAgain → ClaimsStartAgain → (ask : Ask) (seed : List ℕ) (status : ℕ) (sink : SinkChange) (files : F) (journal : B) (links : D) (disk : DiskState)
     → Prints (stop_status NoMemory) (stop_line NoMemory) status sink
     → Meets ask seed (disk_change disk disk) (run_of shelf_tells door_tells link_tells status Plain (change files files) sink (change journal journal) (change links links))
 meets_memory {F} {L} {B} {D} shelf_tells door_tells link_tells one law claimed ask seed status sink files journal links disk prints = of_ask ask
@@ -105,6 +107,17 @@ meets_memory {F} {L} {B} {D} shelf_tells door_tells link_tells one law claimed a
       },
       refl,
       record { journal = refl; door = refl },
+    )
+    of_ask (migrate ask) = (
+      record {
+        lines = inr (stops _ (inl (tt, untouched disk)));
+        kept = loads_nothing (IsName ask.file) (shelf_tells files);
+        statuses = inr (inr (inr (inr seven)));
+        means = inr (inr (inr seven));
+        done = λ ready calm. inr seven;
+      },
+      refl,
+      refl,
     )
     of_ask (prove ask) =
         proves link_tells one claimed ask Plain (disk_change disk disk) (change (door_tells links) (door_tells links)) run

@@ -4,7 +4,7 @@ use Rattle.zk_port.specs.Links.{LinkState}
 use Rattle.dealer_files.specs.declared.fault.FileFault.TheVariants as file
 use Rattle.session_prover.specs.declared.note.ProverOutcome.{ProverOutcome}
 use Rattle.session_prover.specs.declared.note.ProverOutcome.TheVariants as ended
-use Rattle.command_words.specs.Words.{Ask, ProveAsk, ServeManyAsk, rehearse, generate, eval, deal, serve, serve_many, prove, audit}
+use Rattle.command_words.specs.Words.{Ask, ProveAsk, ServeManyAsk, rehearse, generate, eval, deal, serve, serve_many, prove, audit, migrate}
 use Rattle.statement_file.specs.Services.{Service, service_asked}
 use Rattle.file_commands.specs.Effects.{DoorChange, Effects, ShelfChange}
 use Rattle.file_commands.specs.Journals.{DiskChange}
@@ -140,6 +140,13 @@ command_two (audit ask) seed disk run meets two = elim meets.0.means [
   | inr (inl one) ↦ (let at = one.0 in omega (arith, at, two))
   | inr (inr (inl three)) ↦ (let at = three.0 in omega (arith, at, two))
   | inr (inr (inr (inl four))) ↦ (let at = four.0 in omega (arith, at, two))
+  | inr (inr (inr (inr seven))) ↦ omega (arith, seven, two)
+]
+command_two (migrate ask) seed disk run meets two = elim meets.0.statuses [
+  | inl zero_is ↦ omega (arith, zero_is, two)
+  | inr (inl three) ↦ omega (arith, three, two)
+  | inr (inr (inl four)) ↦ omega (arith, four, two)
+  | inr (inr (inr (inl five))) ↦ omega (arith, five, two)
   | inr (inr (inr (inr seven))) ↦ omega (arith, seven, two)
 ]
 command_two (serve ask) seed disk run meets two = serve_two (service_asked ask) run.part disk run.door run.effects meets.means two

@@ -13,7 +13,8 @@ use Rattle.zk_model.specs.Transcript.{Grant}
 use Rattle.zk_model.specs.declared.Span.{Span}
 use Rattle.claim_store.specs.declared.ClaimFault.{ClaimFault}
 use Rattle.claim_store.specs.declared.ClaimFault.TheVariants as claim
-use Rattle.claim_store.specs.Causes.{ClaimsStartAgain}
+use Rattle.claim_store.specs.Causes.{AreFew, AreMore, ClaimsStartAgain}
+use Rattle.claim_store.proofs.Units.{ranges_one}
 use Rattle.claim_store.specs.declared.fault.StoreFault.TheVariants as store
 use Rattle.lease_journal.specs.declared.fault.StartFault.{StartFault}
 use Rattle.lease_journal.specs.declared.fault.StartFault.TheVariants as start
@@ -25,7 +26,7 @@ use Rattle.session_prover.specs.declared.note.ProverNote.{ProverNote}
 use Rattle.session_prover.specs.declared.note.ProverOutcome.{ProverOutcome}
 use Rattle.session_prover.specs.declared.note.ProverOutcome.TheVariants as ended
 use Rattle.command_words.specs.Words.{ProveAsk}
-use Rattle.file_commands.specs.ClaimedUnits.{AnswersClaim, KeepsClaims, MovesBy}
+use Rattle.file_commands.specs.ClaimedUnits.{AnswersClaim, KeepsClaims, MovesBy, asked_span}
 use Rattle.file_commands.specs.Journals.{DiskChange, JournalStop, journal_name, IsClaimsFault, HasClaims}
 use Rattle.zk_cli.specs.ProveRuns.{AreFree, HasProveFailed, HoldsAsked, IsProvable, IsProveName, IsSatisfied, IsWithHonestPeer}
 use Rattle.file_commands.specs.Stops.{ConnectStop, PrintsMade, stop_line, stop_status}
@@ -115,7 +116,7 @@ journal_7 law id total disk has calm why cause = of_stop why cause
   where
     refused : (fault : StartFault) → fault ≢ start.Device → IsClaimsFault id total disk.old fault → ⊥
     refused fault other cause =
-        elim (law id total has.slots has.claims has.bytes (store.Journal fault) has.stands has.says has.sound (cause has.bytes has.known)) [
+        elim (law id total has.begin has.slots has.claims has.bytes (store.Journal fault) has.holds has.says (cause has.bytes has.known)) [
           | inl device ↦ other (cc)
           | inr memory ↦ cc
         ]
@@ -155,6 +156,15 @@ some_is_none same = cc
 ok_is_err : {span : Span} {fault : ClaimFault} → ◌≡◌ {A = Option (Result Span ClaimFault)} (Some (Ok span)) (Some (Err fault)) → ⊥
 ok_is_err same = cc
 
+-- ranges are few or more
+few_or_more : (slots : ℕ) (claims : List Span) (s : Span) → AreFew slots claims s → AreMore slots claims s → ⊥
+few_or_more slots claims s few more =
+    let same : few.ranges ≡ more.ranges = ranges_one 0 few.ranges more.ranges few.merged.rising more.merged.rising (λ unit. few.merged.same unit ∙ sym (more.merged.same unit)) in
+    let low = few.few in
+    let high = more.more in
+    let sizes : length few.ranges ≡ length more.ranges = ap length same in
+    omega (arith, low, high, sizes)
+
 -- a claim that was refused had no memory
 refused_memory : {L : Type 0} (link_tells : L → LinkState) (ask : ProveAsk) (note : ProverNote L) (told : Option Files) (disk : DiskChange)
     (door : DoorChange) (asked : HoldsAsked link_tells ask note told disk door)
@@ -169,27 +179,31 @@ refused_memory link_tells ask note told disk door asked has honest calm fault re
     kept : KeepsClaims (journal_name ask.file) job.file.id job.file.params.total asked.holds.claim.asked asked.holds.claim.answer disk
     kept = asked.holds.kept
 
-    of_cause : (given : Grant) → AreFree job.file.params.total kept.slots kept.claims given → (fault : ClaimFault)
-        → AnswersClaim job.file.params.total kept.slots kept.claims (given.start, given.count) (Err fault) disk → fault ≡ claim.NoMemory
+    of_cause : (given : Grant) → AreFree job.file.params.total kept.place.slots kept.used kept.claims given → (fault : ClaimFault)
+        → AnswersClaim job.file.params.total kept.place.slots kept.used kept.claims (given.start, given.count) (Err fault) disk → fault ≡ claim.NoMemory
     of_cause given free (claim.Broken first) cause = absurd cause
     of_cause given free (claim.OutOfRange end) cause = let within = free.within in let beyond = cause.1 in absurd (omega (arith, within, beyond))
     of_cause given free (claim.Overlap earlier) cause = absurd (some_is_none (sym cause.0 ∙ free.apart))
-    of_cause given free (claim.Full used) cause = let room = free.room in let full = cause.1 in absurd (omega (arith, room, full))
+    of_cause given free (claim.Full used) cause = elim free.room [
+      | inl left ↦ absurd (let full = cause.1 in omega (arith, left, full))
+      | inr few ↦ absurd (few_or_more kept.place.slots kept.claims (asked_span (given.start, given.count)) few cause.2)
+    ]
     of_cause given free claim.Device cause = absurd (calm cause)
     of_cause given free claim.NoMemory cause = refl
 
     moved_by : (asked_for : Option (ℕ × ℕ)) (answer : Option (Result Span ClaimFault)) (units : ℕ × ℕ) (fault : ClaimFault)
         → asked_for ≡ Some units → answer ≡ Some (Err fault)
-        → MovesBy job.file.id job.file.params.total kept.slots kept.claims asked_for answer disk
-        → AnswersClaim job.file.params.total kept.slots kept.claims units (Err fault) disk
+        → MovesBy job.file.id job.file.params.total kept.place kept.used kept.claims asked_for answer disk
+        → AnswersClaim job.file.params.total kept.place.slots kept.used kept.claims units (Err fault) disk
     moved_by asked_for answer units fault was answered moved =
         (subst (λ (p : Option (ℕ × ℕ) × Option (Result Span ClaimFault)).
-        MovesBy job.file.id job.file.params.total kept.slots kept.claims p.0 p.1 disk) (λ i. (was i, answered i)) moved).cause
+        MovesBy job.file.id job.file.params.total kept.place kept.used kept.claims p.0 p.1 disk) (λ i. (was i, answered i)) moved).cause
 
-    free_of : (given : Grant) → IsGrantRead job note.log given → AreFree job.file.params.total kept.slots kept.claims given
+    free_of : (given : Grant) → IsGrantRead job note.log given → AreFree job.file.params.total kept.place.slots kept.used kept.claims given
     free_of given read =
         let first = kept.recovered has.bytes has.known in
-        honest.free asked.circuit job asked.proved given read has.bytes has.known kept.slots kept.claims first.header.says first.says
+        honest.free asked.circuit job asked.proved given read has.bytes has.known kept.place.begin kept.place.slots kept.used kept.claims
+        first.holds first.says (kept.in_use has.bytes has.known)
 
     of_asked : IsAskedRight job asked.holds.claim note.log → fault ≡ claim.NoMemory
     of_asked (inl none) = absurd (some_is_none (sym refused ∙ none))

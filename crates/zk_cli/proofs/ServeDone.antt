@@ -16,7 +16,7 @@ use Rattle.zk_port.specs.Disks.{DiskState}
 use Rattle.zk_port.specs.Files.{Files}
 use Rattle.zk_port.specs.Links.{LinkState}
 use Rattle.bristol_reader.specs.Laws.{OneCircuit}
-use Rattle.lease_journal.specs.Keeps.{StartsAgain}
+use Rattle.lease_store.specs.Laws.{CeilingsStartAgain}
 use Rattle.lease_journal.specs.declared.fault.StartFault.TheVariants as start
 use Rattle.lease_store.specs.declared.LeaseFault.{LeaseFault}
 use Rattle.lease_store.specs.declared.LeaseFault.TheVariants as lease
@@ -43,7 +43,8 @@ use Rattle.zk_cli.specs.declared.finish.Part.TheVariants.{Plain, Proved, Rehears
 use Rattle.file_commands.specs.declared.refusal.Refusal.{Refusal}
 use Rattle.file_commands.specs.declared.refusal.Refusal.TheVariants as stop
 use Rattle.file_commands.proofs.Causes.{claim_lacks, file_7}
-use Rattle.zk_cli.proofs.LeaseCauses.{not_refused, refusal_is_told, says_one_ceiling}
+use Rattle.lease_store.proofs.Finding.{one_ceiling}
+use Rattle.zk_cli.proofs.LeaseCauses.{not_refused, refusal_is_told}
 use Rattle.zk_cli.proofs.ServeOutcomes.{either_is, serve_means}
 
 -- ---- why a run stops: for want of memory alone
@@ -66,15 +67,15 @@ lacks_7 one service shelf disk ready calm why lacks =
     (calm claim.circuit (claim, among, refl)) why lacks.cause
 
 -- no journal is refused where one stands that leaves units
-journal_7 : StartsAgain → (id : List ℕ) (total units : ℕ) (disk : DiskChange) → LeavesUnits id total units disk.old.content
+journal_7 : CeilingsStartAgain → (id : List ℕ) (total units : ℕ) (disk : DiskChange) → LeavesUnits id total units disk.old.content
     → ¬ Rose disk.old.faults disk.new.faults → (why : Refusal) → JournalStop (IsCeilingsFault id total disk.old) disk why → stop_status why ≡ 7
 journal_7 law id total units disk leaves calm (stop.JournalFailed count) cause = absurd (calm cause.1)
 journal_7 law id total units disk leaves calm (stop.JournalShort need got) cause =
-    absurd (not_refused law id total leaves.base leaves.bytes (start.Short need got) leaves.stands leaves.says (cause leaves.bytes leaves.known) (λ e. cc))
+    absurd (not_refused law id total leaves.base leaves.bytes (start.Short need got) leaves.says (cause leaves.bytes leaves.known) (λ e. cc))
 journal_7 law id total units disk leaves calm (stop.JournalHeader place) cause =
-    absurd (not_refused law id total leaves.base leaves.bytes (start.BadHeader place) leaves.stands leaves.says (cause leaves.bytes leaves.known) (λ e. cc))
+    absurd (not_refused law id total leaves.base leaves.bytes (start.BadHeader place) leaves.says (cause leaves.bytes leaves.known) (λ e. cc))
 journal_7 law id total units disk leaves calm (stop.JournalBody slot) cause =
-    absurd (not_refused law id total leaves.base leaves.bytes (start.BadBody slot) leaves.stands leaves.says (cause leaves.bytes leaves.known) (λ e. cc))
+    absurd (not_refused law id total leaves.base leaves.bytes (start.BadBody slot) leaves.says (cause leaves.bytes leaves.known) (λ e. cc))
 journal_7 law id total units disk leaves calm stop.NoMemory cause = refl
 journal_7 law id total units disk leaves calm other cause = absurd cause
 
@@ -92,7 +93,7 @@ none_too_large jobs need units few large =
     let same = large.large.units in
     omega (arith, many, same, here)
 
-opening_7 : StartsAgain → (service : Service) (jobs : VerifierJobs) (units : ℕ) (disk : DiskChange) (door : DoorChange) → AreFew jobs
+opening_7 : CeilingsStartAgain → (service : Service) (jobs : VerifierJobs) (units : ℕ) (disk : DiskChange) (door : DoorChange) → AreFew jobs
     → LeavesUnits jobs.first.task.file.id jobs.first.task.file.params.total units disk.old.content → ¬ Rose disk.old.faults disk.new.faults
     → ¬ Rose door.old.listen_faults door.new.listen_faults → (why : Refusal) → OpeningStop service jobs disk door why → stop_status why ≡ 7
 opening_7 law service jobs units disk door few leaves calm quiet (stop.TooLarge need more) cause = absurd (none_too_large jobs need more few cause.0)
@@ -101,7 +102,7 @@ opening_7 law service jobs units disk door few leaves calm quiet other cause = e
   | inr unheard ↦ listen_7 service.address door quiet other unheard
 ]
 
-stop_7 : OneCircuit → StartsAgain → (service : Service) (disk : DiskChange) (door : DoorChange) (run : Effects)
+stop_7 : OneCircuit → CeilingsStartAgain → (service : Service) (disk : DiskChange) (door : DoorChange) (run : Effects)
     → IsServable run.shelf.old.told disk.old service → ¬ HasServeFailed service disk door run → (why : Refusal)
     → ServeStop service run.shelf disk door why → stop_status why ≡ 7
 stop_7 one law service disk door run ready calm why (inl (inl lacks, unasked, unheard)) =
@@ -149,7 +150,7 @@ module _ {L : Type 0} (link_tells : L → LinkState) (service : Service) (notes 
 
   -- the store began at the ceiling that the journal says
   base_is : files.leads.base ≡ leaves.base
-  base_is = says_one_ceiling jobs.first.task.file.id total files.leads.base leaves.base leaves.bytes
+  base_is = one_ceiling jobs.first.task.file.id total files.leads.base leaves.base leaves.bytes
       (files.leads.recovered leaves.bytes leaves.known) leaves.says
 
   size_most : (note : SessionNote L) → units_of_note jobs note ≤ most
@@ -232,7 +233,7 @@ notes_done {L} link_tells service notes disk door run door_failed memory_failed 
     of_means (inr (inr (inr (inr (inl some))))) = absurd (none 6 (λ e. absurd (omega (arith, e))) (λ e. absurd (omega (arith, e))) some.1)
     of_means (inr (inr (inr (inr (inr seven))))) = inr seven
 
-serve_is_done : {L : Type 0} (link_tells : L → LinkState) → OneCircuit → StartsAgain → (service : Service) (part : Part L) (disk : DiskChange) (door : DoorChange)
+serve_is_done : {L : Type 0} (link_tells : L → LinkState) → OneCircuit → CeilingsStartAgain → (service : Service) (part : Part L) (disk : DiskChange) (door : DoorChange)
     (run : Effects) → ServeLines link_tells service part disk door run → ServeMeans service part disk door run
     → IsServable run.shelf.old.told disk.old service → ¬ HasServeFailed service disk door run
     → EachNote part (IsWithHonestPeer link_tells run.shelf.old.told service) → IsDone run.status
@@ -245,7 +246,7 @@ serve_is_done link_tells one law service Plain disk door run says means ready ca
 serve_is_done link_tells one law service (Rehearsed r) disk door run says means ready calm honest = absurd says
 serve_is_done link_tells one law service (Proved note) disk door run says means ready calm honest = absurd says
 
-pub serves : {L : Type 0} (link_tells : L → LinkState) → OneCircuit → StartsAgain → (service : Service) (part : Part L) (disk : DiskChange) (door : DoorChange)
+pub serves : {L : Type 0} (link_tells : L → LinkState) → OneCircuit → CeilingsStartAgain → (service : Service) (part : Part L) (disk : DiskChange) (door : DoorChange)
     (run : Effects) → ServeLines link_tells service part disk door run → OthersStay (IsLogName service.options.logs) run.shelf.old.told run.shelf.new.told
     → OnlyAsks (IsServeName service) run.shelf → Serves link_tells service part disk door run
 serves link_tells one law service part disk door run lines others asked =

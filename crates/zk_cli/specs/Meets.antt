@@ -1,10 +1,11 @@
 -- What a run of the program does for what its words ask for.
 use Rattle.std.specs.Prelude.{◌≡◌, ℕ, List}
 use Rattle.statement_file.specs.Services.{service_asked}
-use Rattle.command_words.specs.Words.{Ask, rehearse, eval, deal, serve, serve_many, prove, generate, audit}
+use Rattle.command_words.specs.Words.{Ask, rehearse, eval, deal, serve, serve_many, prove, generate, audit, migrate}
 use Rattle.proof_audit.specs.AuditRuns.{Audits}
 use Rattle.file_commands.specs.DealRuns.{Deals}
 use Rattle.file_commands.specs.EvalRuns.{Evaluates}
+use Rattle.file_commands.specs.MigrateRuns.{Migrates}
 use Rattle.zk_cli.specs.ProveRuns.{Proves}
 use Rattle.zk_cli.specs.RehearseRuns.{Rehearses, Generates}
 use Rattle.file_commands.specs.Journals.{DiskChange}
@@ -36,6 +37,7 @@ Meets (generate ask) seed disk run = Generates ask seed run.part run.effects × 
 Meets (eval ask) seed disk run = Evaluates ask run.effects × (run.part ≡ Plain) × IsLocal run
 Meets (deal ask) seed disk run = Deals ask seed run.effects × (run.part ≡ Plain) × IsLocal run
 Meets (audit ask) seed disk run = Audits ask run.effects × (run.part ≡ Plain) × IsLocal run
+Meets (migrate ask) seed disk run = Migrates ask disk run.effects × (run.part ≡ Plain) × (run.links.new ≡ run.links.old)
 Meets (serve ask) seed disk run = Serves run.link_tells (service_asked ask) run.part disk run.door run.effects
 Meets (serve_many ask) seed disk run = ServesMany run.link_tells ask run.part disk run.door run.effects
 Meets (prove ask) seed disk run = Proves run.link_tells ask run.part disk run.door run.effects

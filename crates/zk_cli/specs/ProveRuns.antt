@@ -6,7 +6,8 @@ use Rattle.zk_model.specs.Bits.{from_bit}
 use Rattle.zk_model.specs.Circuit.{Circuit, AreWireBits, Satisfies}
 use Rattle.zk_model.specs.Files.{ProverFile}
 use Rattle.zk_model.specs.HonestProver.{IsWitness}
-use Rattle.zk_model.specs.Journals.{slots_at}
+use Rattle.zk_model.specs.Twins.{HoldsTwin}
+use Rattle.zk_model.specs.declared.JournalKind.TheVariants.{Claims}
 use Rattle.zk_model.specs.ServedVerifier.{VerifierTask}
 use Rattle.zk_model.specs.Statement.{Statement}
 use Rattle.zk_model.specs.Transcript.{Grant}
@@ -18,7 +19,8 @@ use Rattle.zk_port.specs.Doors.{after_connect}
 use Rattle.zk_port.specs.Files.{Files}
 use Rattle.zk_port.specs.Links.{LinkState}
 use Rattle.lease_core.specs.Spans.{span}
-use Rattle.claim_store.specs.Claims.{SaysClaims, first_met}
+use Rattle.claim_store.specs.Causes.{AreFew}
+use Rattle.claim_store.specs.Claims.{AreInUse, SaysClaims, first_met}
 use Rattle.dealer_files.specs.Faults.{IsDealtFile}
 use Rattle.session_core.specs.Jobs.{ProverJob, prover_from, prover_of}
 use Rattle.session_rehearsal.specs.Rehearsals.{IsWrongLength}
@@ -227,11 +229,12 @@ abbrev pub HasProveFailed : ProveAsk → DiskChange → DoorChange → Effects �
 HasProveFailed ask disk door run = HasFailed (IsProveName ask) run ⊎ Rose disk.old.faults disk.new.faults
     ⊎ Rose door.old.connect_faults door.new.connect_faults
 
--- the units of a grant are free in a journal of claims: they end at or below the total, no claim has one of them, and a slot is left
-pub record AreFree (total slots : ℕ) (claims : List Span) (given : Grant) : Type 0 where
+-- the units of a grant are free in a journal of claims: they end at or below the total, no claim has one of them, and a slot is left, or
+-- the ranges of the claims and of them are no more than the slots
+pub record AreFree (total slots used : ℕ) (claims : List Span) (given : Grant) : Type 0 where
   pub within : given.start + given.count ≤ total
   pub apart : first_met (span given.start (given.start + given.count)) claims ≡ None
-  pub room : length claims < slots
+  pub room : (used < slots) ⊎ AreFew slots claims (span given.start (given.start + given.count))
 
 -- a session whose link did not fail, whose peer is an honest verifier of what was asked, and in which the units of the grant are free in the
 -- journal that the disk has
@@ -242,8 +245,9 @@ pub record IsWithHonestPeer {L : Type 0} (link_tells : L → LinkState) (told : 
       → (verifier : VerifierTask) × HasHonestPeer job (map from_bit ask.bits) verifier note.outcome note.log
   pub free : (circuit : Circuit) (job : ProverJob) → IsProveJob told ask circuit job
       → (given : Grant) → IsGrantRead job note.log given → (bytes : List ℕ) → disk.content ≡ Some bytes
-      → (slots : ℕ) (claims : List Span) → slots_at bytes ≡ slots → SaysClaims slots claims bytes
-      → AreFree job.file.params.total slots claims given
+      → (begin slots used : ℕ) (claims : List Span) → HoldsTwin Claims job.file.id job.file.params.total begin slots bytes
+      → SaysClaims job.file.params.total begin slots claims bytes → AreInUse begin slots used bytes
+      → AreFree job.file.params.total slots used claims given
 
 -- this holds of the session that was held, if one is handed back
 abbrev pub OfProved : {L : Type 0} → Part L → (ProverNote L → Type 0) → Type 0

@@ -18,8 +18,8 @@ use crate::serve_command::{ServiceWords, run_service};
 use bristol_reader::one_circuit;
 use claim_store::claims_start_again;
 use command_words::{Command, read_words};
-use file_commands::{Refusal, run_deal, run_eval, say_memory, say_stop};
-use lease_journal::starts_again;
+use file_commands::{Refusal, run_deal, run_eval, run_migrate, say_memory, say_stop};
+use lease_store::ceilings_start_again;
 use proof_audit::{AuditWords, run_audit};
 use statement_file::NamedClaim;
 use std::alloc::Global;
@@ -182,6 +182,16 @@ where
                 part: Part::Plain,
             }
         }
+        Command::Migrate { side, file } => {
+            let mut journal = journal;
+            let status = run_migrate(alloc, shelf, &mut journal, out, side, &file);
+            Finish {
+                status,
+                journal,
+                door,
+                part: Part::Plain,
+            }
+        }
     }
 }
 
@@ -204,6 +214,8 @@ where
 /// failed; 5 where the journal failed or is full; 8 where the peer broke the protocol; and with 7.
 /// `audit CIRCUIT OUTPUTS PROVERFILE VERIFIERFILE LOG [--public BITS]` ends with 0 where inputs are found; 1 where something else
 /// is; 3 where a file is refused, the outputs for it, both files or the log; 4 where a load or the output failed; and with 7.
+/// `migrate SIDE FILE` ends with 0 where the journal is migrated, now or before; 3 where the file or the journal is refused; 4
+/// where a load or the output failed; 5 where the journal failed; and with 7.
 pub fn run_zk<R, F, D, B, O, G>(
     rt: &R,
     alloc: Global,
@@ -224,7 +236,7 @@ where
     O: Sink,
     G: Gate + Sync + Drop,
 
-    // The disk is one on which a journal may be opened.
+    // The disk is one on which a journal may be opened, or migrated.
     requires disk { IsJournalDisk (B.state journal) }
 
     // Words of no command; some may be read as what valid words ask for.
@@ -257,7 +269,7 @@ where
         (disk_change (B.state journal) (B.state result.journal)) }
 {
     one_circuit();
-    starts_again();
+    ceilings_start_again();
     claims_start_again();
     match read_words(alloc, words) {
         Ok(Some(command)) => run_command(rt, alloc, command, shelf, journal, door, gate, seed, out),

@@ -17,7 +17,7 @@ use crate::serve_jobs::{fit_jobs, statements_of};
 use bristol_reader::one_circuit;
 use command_words::ServedOptions;
 use file_commands::{Refusal, open_ceilings, say_stop};
-use lease_journal::starts_again;
+use lease_store::ceilings_start_again;
 use session_core::VerifierJobs;
 use session_laws::extracted_shows_outputs;
 use session_pool::{Served, serve_all};
@@ -209,7 +209,7 @@ where
         notes (disk_change (B.state journal) (B.state result.journal))) }
 {
     one_circuit();
-    starts_again();
+    ceilings_start_again();
     extracted_shows_outputs();
     match serve_files(rt, alloc, shelf, words, journal, door, gate) {
         Ok(

@@ -1,17 +1,29 @@
-use Rattle.std.proofs.Common.{◌≡◌, ℕ, List, sym, ap, ◌∙◌, subst, rules}
-use Rattle.zk_model.specs.Journals.{HasHeader}
+use Rattle.std.proofs.Common.{◌≡◌, ◌∷◌, [], ℕ, List, sym, ap, ◌∙◌, subst, rules}
 use Rattle.zk_model.specs.declared.JournalKind.TheVariants.{Ceilings}
 use Rattle.zk_port.specs.Counts.{Rose}
-use Rattle.lease_journal.specs.Causes.{StartCause}
+use Rattle.zk_port.specs.Logs.{appended}
+use Rattle.lease_store.specs.Ceilings.{CeilingStartCause, HasCeilingHeader}
 use Rattle.lease_store.specs.declared.fault.StoreFault.TheVariants as store
-use Rattle.file_commands.specs.Journals.{JournalStop, disk_change, IsCeilingsFault}
+use Rattle.file_commands.specs.Journals.{JournalStop, disk_change, journal_name, IsCeilingsFault}
 use Rattle.file_commands.specs.declared.refusal.Refusal.{Refusal}
-use Rattle.file_commands.proofs.Journals.{stops_start}
+use Rattle.file_commands.proofs.Journals.{opens_then, stops_start}
 use Rattle.file_commands.proofs.journal_file.open_ceilings.Goals as goal
+
+pub start-requires-clause-tidy : goal.start-requires-clause-tidy
+start-requires-clause-tidy g c = λ bytes known. c.requires.disk.tidy Ceilings bytes (sym c.choose.ensures.stays.content ∙ known)
+
+pub returns-in-Ok-start-clause-opens : goal.returns-in-Ok-start-clause-opens
+returns-in-Ok-start-clause-opens g c =
+    let middle = g.B.Disk.state c.choose.new.self in
+    let old = g.B.Disk.state c.args.journal in
+    let chosen : middle.chosen ≡ appended (journal_name c.args.name.now ∷ []) old.chosen = search rules in
+    let still : middle.faults ≡ old.faults = search rules in
+    opens_then (journal_name c.args.name.now) (g.met.B.Disk.counts_now c.args.journal) chosen c.choose.ensures.stays still
+    c.in-Ok-start.ensures.stays c.in-Ok-start.ensures.faults
 
 pub returns-in-Ok-start-clause-header : goal.returns-in-Ok-start-clause-header
 returns-in-Ok-start-clause-header g c = λ bytes known.
-    subst (λ (id : List ℕ). HasHeader Ceilings id c.in-Ok-start.opened.0.total bytes) c.id.ensures.id
+    subst (λ (id : List ℕ). HasCeilingHeader id c.in-Ok-start.opened.0.total bytes) c.id.ensures.id
     (c.in-Ok-start.ensures.header bytes known)
 
 pub returns-clause-stop : goal.returns-clause-stop
@@ -23,7 +35,7 @@ returns-clause-stop g c =
     let is = c.in-Err-Journal-default.field-0-0-is in
     subst (λ (why : Refusal). JournalStop Cause disk why) (sym c.start_stop.ensures)
     (stops_start Cause disk fault c.faults-count-in-Err-Journal-default.result c.faults-count-in-Err-Journal-default.ensures
-    (λ bytes known. subst (λ (n : List ℕ × ℕ). StartCause Ceilings n.0 n.1 bytes fault) (λ i. (c.id.ensures.id i, c.total.ensures.total i))
+    (λ bytes known. subst (λ (n : List ℕ × ℕ). CeilingStartCause n.0 n.1 bytes fault) (λ i. (c.id.ensures.id i, c.total.ensures.total i))
     (c.in-Err-Journal-default.ensures.cause bytes (c.choose.ensures.stays.content ∙ known) fault is))
     (λ device. subst (λ (n : ℕ). Rose n disk.new.faults) still (c.in-Err-Journal-default.ensures.device (is ∙ ap store.Journal device))))
 

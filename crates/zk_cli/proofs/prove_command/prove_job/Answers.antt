@@ -1,6 +1,6 @@
 use Rattle.std.proofs.Common.{◌≡◌, ℕ, List, Some, sym, ap, ◌∙◌, subst}
 use Rattle.zk_model.specs.Files.{ProverFile}
-use Rattle.zk_model.specs.Journals.{IsHeaded}
+use Rattle.zk_model.specs.Twins.{HoldsTwin}
 use Rattle.zk_model.specs.declared.JournalKind.TheVariants as kind
 use Rattle.claim_store.specs.Claims.{AreClaims, SaysClaims}
 use Rattle.file_commands.specs.ClaimedUnits.{KeepsClaims}
@@ -43,10 +43,10 @@ returns-clause-holds g c =
       kept = subst (λ (d : g.row.B.Denot). KeepsClaims name file.id file.params.total claimant.asked claimant.answer
           (disk_change old (g.B.Disk.state d))) (sym c.close-2.ensures.disk)
           (keeps_claims g.B.Disk.state old store name file.id file.params.total opened.since opened.opens
-          (subst (λ (f : ProverFile). (bytes : List ℕ) → old.content ≡ Some bytes
-          → IsHeaded kind.Claims f.id f.params.total store.slots bytes × SaysClaims store.slots store.claims bytes) same opened.says)
-          opened.only later opened.whole (opened.total ∙ ap (λ (f : ProverFile). f.params.total) same)
-          (subst (λ (f : ProverFile). AreClaims f.params.total store.claims) same opened.sound)
+          (subst (λ (f : ProverFile). (bytes : List ℕ) → old.content ≡ Some bytes → HoldsTwin kind.Claims f.id f.params.total store.begin store.slots bytes) same opened.holds)
+          (subst (λ (f : ProverFile). (bytes : List ℕ) → old.content ≡ Some bytes → SaysClaims f.params.total store.begin store.slots store.claims bytes) same opened.says)
+          opened.only later opened.whole (opened.total ∙ ap (λ (f : ProverFile). f.params.total) same) opened.small
+          (subst (λ (f : ProverFile). AreClaims f.params.total store.claims) same opened.sound) opened.rising opened.in_use
           c.close-2.ensures.sound (g.met.B.Disk.counts_now later.disk) claimant.asked claimant.answer
           (by_store (λ s. s.store) g.B.Disk.state c.new-claimant.result claimant store later claimant.asked claimant.answer c.new-claimant.ensures.store
           c.into_store.ensures held.moved));

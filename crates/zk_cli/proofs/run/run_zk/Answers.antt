@@ -15,7 +15,7 @@ returns-in-Ok-Some-clause-usage_2 g c = λ two. absurd (command_two (ask_of c.in
 
 pub returns-in-Err-clause-meets : goal.returns-in-Err-clause-meets
 returns-in-Err-clause-meets g c = λ ask is_asked.
-    meets_memory g.F.Shelf.state g.D.Door.state g.D.Link.Link.state c.one_circuit.ensures c.starts_again.ensures c.claims_start_again.ensures ask
+    meets_memory g.F.Shelf.state g.D.Door.state g.D.Link.Link.state c.one_circuit.ensures c.ceilings_start_again.ensures c.claims_start_again.ensures ask
     c.args.seed.now c.say_memory.result _ c.args.shelf.now c.args.journal c.args.door (g.B.Disk.state c.args.journal) c.say_memory.ensures
 
 pub returns-in-Err-clause-headline : goal.returns-in-Err-clause-headline

@@ -34,7 +34,7 @@ returns-in-Ok-clause-serves g c =
     subst (λ (p : List (SessionNote g.row.D-Link.Denot) × ShelfState × Option (List ℕ)). SaysService p.2 p.0 c.in-Ok.field-0.door_failed
     c.in-Ok.field-0.memory_failed (effects c.say_service-status.result (change p.1 new) sink))
     (λ i. (c.deref.ensures.value i, c.in-Ok.ensures.quiet i, c.as_deref-logs.ensures.value i)) c.say_service-status.ensures in
-    serves g.D.Link.Link.state c.one_circuit.ensures c.starts_again.ensures service _ _ _ run
+    serves g.D.Link.Link.state c.one_circuit.ensures c.ceilings_start_again.ensures service _ _ _ run
     (record {
       door_failed = c.in-Ok.field-0.door_failed;
       memory_failed = c.in-Ok.field-0.memory_failed;
@@ -56,7 +56,7 @@ pub returns-in-Err-clause-serves : goal.returns-in-Err-clause-serves
 returns-in-Err-clause-serves g c =
     let service = service_words c.args.words.now in
     let shelf = change (g.F.Shelf.state c.args.shelf.now) (g.F.Shelf.state c.serve_files.new.shelf) in
-    serves g.D.Link.Link.state c.one_circuit.ensures c.starts_again.ensures service _ _ _ _
+    serves g.D.Link.Link.state c.one_circuit.ensures c.ceilings_start_again.ensures service _ _ _ _
     (record { stop = c.in-Err.field-0.refusal; cause = c.in-Err.ensures.stop; prints = c.say_stop.ensures })
     (others_same (IsLogName service.options.logs) shelf.old.told shelf.new.told c.in-Err.ensures.kept.told)
     (asks_among (IsLoadedName service) (IsServeName service) shelf (λ name is. inl is) c.in-Err.ensures.kept.asked)

@@ -1,10 +1,8 @@
 use Rattle.std.proofs.Common.{◌≡◌, ℕ, List, Some, IfSome, All, length, sym, ap, ◌∙◌, subst, refl}
 use Rattle.zk_model.specs.Files.{VerifierFile}
-use Rattle.zk_model.specs.Journals.{HasHeader}
-use Rattle.zk_model.specs.declared.JournalKind.TheVariants.{Ceilings}
 use Rattle.zk_port.specs.Changes.{change}
 use Rattle.zk_port.specs.Doors.{DoorState}
-use Rattle.lease_store.specs.Ceilings.{SaysCeiling}
+use Rattle.lease_store.specs.Ceilings.{HasCeilingHeader, SaysCeiling}
 use Rattle.session_core.specs.Jobs.{VerifierJobs}
 use Rattle.session_pool.specs.Doors.{Takes}
 use Rattle.session_pool.specs.Notes.{IsLeft, IsNoteOf, IsRefusedAmong}
@@ -29,7 +27,7 @@ pub serve_all-requires-clause-header : goal.serve_all-requires-clause-header
 serve_all-requires-clause-header g c =
     let file : c.file-file.result.now ≡ c.args.jobs.now.first.task.file =
     first_file c.args.jobs.now c.job.result.now c.file-file.result.now c.file-file.ensures.file c.job.ensures in
-    λ _ _ bytes known. subst (λ (id : List ℕ). HasHeader Ceilings id c.in-Ok.opened.0.total bytes)
+    λ _ _ bytes known. subst (λ (id : List ℕ). HasCeilingHeader id c.in-Ok.opened.0.total bytes)
     (ap (λ (f : VerifierFile). f.id) file ∙ sym (ap (λ (j : VerifierJobs). j.first.task.file.id) c.new-session.ensures)) (c.in-Ok.ensures.header bytes known)
 
 pub returns-in-Ok-listen-clause-leads : goal.returns-in-Ok-listen-clause-leads

@@ -1,0 +1,39 @@
+-- A file in which a journal of two areas stands from its first byte on was migrated from neither side's journal of one area.
+use Rattle.std.proofs.Common.{◌≡◌, ◌+◌, ◌*◌, ◌==◌, ◌&&◌, not, nat_le, if◌then◌else◌, ℕ, List, Bool, true, false, length, get_or, refl, ap, sym, subst, ◌∙◌, arith}
+use Rattle.std.proofs.lemmas.Bool.Decides.{nat_tests}
+use Rattle.zk_model.specs.declared.JournalKind.{JournalKind}
+use Rattle.zk_model.specs.declared.JournalKind.TheVariants.{Claims, Ceilings}
+use Rattle.zk_model.specs.Journals.{journal_code, slots_at}
+use Rattle.zk_model.specs.Twins.{IsTwinTidy, TwinStands, are_twin_slots, is_migrated, twin_begin, twin_code, twin_slots_at}
+use Rattle.twin_journal.specs.Starts.{IsTidyFile}
+
+pub begins_first : (kind either : JournalKind) (id : List ℕ) (total slots : ℕ) (bytes : List ℕ) → TwinStands kind id total 0 slots bytes
+    → twin_begin either bytes ≡ 0
+begins_first kind either id total slots bytes stands = ap (λ b. if b then 64 + 32 * slots_at bytes else 0) plain
+  where
+    no_middle : (a b : Bool) → (a && false && b) ≡ false
+    no_middle true b = refl
+    no_middle false b = refl
+
+    code : (kind either : JournalKind) (b : ℕ) → not (b == twin_code kind) ≡ false → (b == journal_code either) ≡ false
+    code Claims Claims b is = grind (arith, nat_tests, is)
+    code Claims Ceilings b is = grind (arith, nat_tests, is)
+    code Ceilings Claims b is = grind (arith, nat_tests, is)
+    code Ceilings Ceilings b is = grind (arith, nat_tests, is)
+
+    other : (get_or bytes 8 0 == journal_code either) ≡ false
+    other = code kind either (get_or bytes 8 0) (stands.header.right 8 (omega arith))
+
+    plain : is_migrated either bytes ≡ false
+    plain = (λ i. nat_le 64 (length bytes) && (other i) && (get_or bytes 15 0 == 90)) ∙ no_middle (nat_le 64 (length bytes)) (get_or bytes 15 0 == 90)
+
+pub tidy_first : (kind either : JournalKind) (id : List ℕ) (total slots : ℕ) (bytes : List ℕ) → TwinStands kind id total 0 slots bytes
+    → IsTwinTidy 0 slots bytes → IsTidyFile either bytes
+tidy_first kind either id total slots bytes stands tidy =
+    subst (λ n. IsTwinTidy n (twin_slots_at n bytes) bytes) (sym (begins_first kind either id total slots bytes stands))
+    (subst (λ n. IsTwinTidy 0 n bytes) (sym stands.says) tidy)
+
+-- areas of one slot may be those of either side's journal of 4 units
+pub one_fits : (kind : JournalKind) → are_twin_slots kind 4 1 ≡ true
+one_fits Claims = refl
+one_fits Ceilings = refl
