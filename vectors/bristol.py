@@ -24,10 +24,10 @@ import re
 import sys
 from typing import List, NamedTuple, Tuple, Union
 
-MOST_GATES = 2**20
-MOST_WIRES = 2**20
+MOST_GATES = 2**24
+MOST_WIRES = 2**24
 MOST_VALUES = 1024
-MOST_BYTES = 2**26
+MOST_BYTES = 2**30
 
 FAULTS = [
     "ShortText",  # the text ends where this token is needed
@@ -181,13 +181,12 @@ def take_circuit(tokens: Tokens) -> Circuit:
     input_sizes = tokens.take_sizes(wires)
     output_sizes = tokens.take_sizes(wires)
     is_set = bytearray(wires)
-    for wire in range(sum(input_sizes)):
-        is_set[wire] = 1
+    is_set[: sum(input_sizes)] = b"\1" * sum(input_sizes)
     gates = [take_gate(tokens, is_set) for _ in range(gate_count)]
     tokens.end()
-    for wire in range(wires - sum(output_sizes), wires):
-        if not is_set[wire]:
-            raise Refused("OutputUnset", wire)
+    unset = is_set.find(0, wires - sum(output_sizes))
+    if unset != -1:
+        raise Refused("OutputUnset", unset)
     return Circuit(wires, input_sizes, output_sizes, gates)
 
 

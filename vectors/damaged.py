@@ -18,7 +18,7 @@ from typing import Callable, Dict, Iterator, List, NamedTuple, Optional, Tuple
 import program
 import reader_trial
 from common import P, sha256
-from dealt_files import Params, deal, journal
+from dealt_files import MAGIC, MOST_UNITS, Params, deal, journal, sealed
 from endings import AND, with_slots
 from ends import Link, hold, verify
 from parties import TINY, Subject
@@ -87,7 +87,8 @@ def params_of(data: bytes) -> Params:
 def are_params(data: bytes) -> bool:
     """Whether a header's numbers are those of a file."""
     kind, height, trees, base, total = params_of(data)
-    if data[11] or any(data[20:24]) or not 1 <= total <= 2**32:
+    most = MOST_UNITS[1 if data[:8] == MAGIC[1] else 2]
+    if data[11] or any(data[20:24]) or not 1 <= total <= most:
         return False
     if kind == 0:
         return not (height or trees or base or any(data[96:128]))
@@ -122,7 +123,7 @@ def judged(side: int, data: bytes) -> Iterator[Tuple[int, int]]:
 
 def file_stop(side: int, data: bytes) -> Optional[str]:
     """The line by which a dealt file of this side is refused."""
-    if data[:8] != b"WQSFILE1":
+    if data[:8] not in MAGIC.values():
         return "refused BadMagic 1\n"
     if len(data) < 128:
         return f"refused Length 4 128 {len(data)}\n"
@@ -230,7 +231,10 @@ def doorless(side: int, name: str) -> List[str]:
 def file_case(draw: random.Random) -> Case:
     """A damaged dealt file, in an audit, or where it is used."""
     kind, side = draw.choice("xw"), draw.randrange(2)
-    data = damaged(draw, whole()[f"{kind}.{'verifier' if side else 'prover'}"])
+    file = whole()[f"{kind}.{'verifier' if side else 'prover'}"]
+    if draw.random() < 0.3:
+        file = sealed(MAGIC[2] + file[8:-32])
+    data = damaged(draw, file)
     if draw.random() < 0.5:
         data = data[:-32] + sha256(data[:-32])
     stop, files = file_stop(side, data), {"dealt": data}

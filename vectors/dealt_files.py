@@ -2,16 +2,19 @@
 """Dealt files and new journals, computed apart from the program that is tested against them.
 
 From a seed of 32 bytes 7 it makes both dealt files of kind direct (1 unit) and of kind extended (1 unit, 1 tree of
-height 1, base 10), and journals with the id of that seed in which nothing is written yet, of two areas as they are dealt,
+height 1, base 10), the same files in the second version, and journals with the id of that seed in which nothing is written yet, of two areas as they are dealt,
 and of one area as they are migrated. Of each it prints how many
 bytes it has, and in hex SHA-256 of the bytes: of a dealt file of all but its last 32, which are that digest.
 
 It follows the formats of `docs/FORMATS.md`, with what `common.py` has of the field, coins and digests.
-Run `python3 vectors/dealt_files.py`; `--rust` prints the rows of the test's tables.
+Run `python3 vectors/dealt_files.py`; `--rust` prints the rows of the test's tables. `--many` makes both files of 65,536 direct
+units instead, the fewest that are dealt in the second version, which takes some minutes of each processor.
 """
+import hashlib
 import struct
 import sys
 from collections import namedtuple
+from multiprocessing import Pool
 
 from common import (
     CODE_SEED,
@@ -30,21 +33,28 @@ DIRECT = Params(kind=0, height=0, trees=0, base=0, total=1)
 EXTENDED = Params(kind=1, height=1, trees=1, base=10, total=1)
 
 
-def header(side, params, coin_key, code_seed):
+# The magic word of each version, and the most units that its files have; up to so many units are dealt in the first version.
+MAGIC = {1: b"WQSFILE1", 2: b"WQSFILE2"}
+MOST_UNITS = {1: 2**32, 2: 2**40}
+DEALT_AS_FIRST = 65_535
+
+
+def header(side, params, coin_key, code_seed, version=None):
+    version = version or (1 if params.total <= DEALT_AS_FIRST else 2)
     numbers = struct.pack("<BBBBIIIQ", side, params.kind, params.height, 0, params.trees, params.base, 0, params.total)
-    return b"WQSFILE1" + numbers + FILE_ID + coin_key + code_seed
+    return MAGIC[version] + numbers + FILE_ID + coin_key + code_seed
 
 
 def sealed(data):
     return data + sha256(data)
 
 
-def deal(params):
-    """The prover's file and the verifier's."""
+def deal(params, version=None):
+    """The prover's file and the verifier's, of the version in which so many units are dealt, or of another."""
     code_seed = CODE_SEED if params.kind == 1 else bytes(32)
     count = params.base + params.trees if params.kind == 1 else 64
-    prover = header(0, params, PROVER_COINS, code_seed)
-    verifier = header(1, params, VERIFIER_COINS, code_seed) + element(KEY)
+    prover = header(0, params, PROVER_COINS, code_seed, version)
+    verifier = header(1, params, VERIFIER_COINS, code_seed, version) + element(KEY)
     for unit in range(params.total):
         for x, m, k in dealt_correlations(unit, count):
             prover += element(x) + element(m)
@@ -53,6 +63,25 @@ def deal(params):
             prover += bytes([bit]) + pads[bit]
             verifier += pads[0] + pads[1]
     return sealed(prover), sealed(verifier)
+
+
+def direct_blocks(unit):
+    """The blocks of a direct unit in both files."""
+    dealt = dealt_correlations(unit, 64)
+    dealt_correlations.cache_clear()
+    return b"".join(element(x) + element(m) for x, m, _ in dealt), b"".join(element(k) for _, _, k in dealt)
+
+
+def many_units(total):
+    """How many bytes both files of so many direct units have, and the digests at their ends."""
+    params = DIRECT._replace(total=total)
+    prover, verifier = (hashlib.sha256(header(side, params, coins, bytes(32))) for side, coins in enumerate((PROVER_COINS, VERIFIER_COINS)))
+    verifier.update(element(KEY))
+    with Pool() as pool:
+        for block, keys in pool.imap(direct_blocks, range(total), 256):
+            prover.update(block)
+            verifier.update(keys)
+    return (160 + 1024 * total, prover.hexdigest()), (168 + 512 * total, verifier.hexdigest())
 
 
 def one_area(kind, total, slots=None, gate=0):
@@ -92,6 +121,12 @@ FILES = [
     ("Extended, Prover", "extended, prover's file", deal(EXTENDED)[0]),
     ("Extended, Verifier", "extended, verifier's file", deal(EXTENDED)[1]),
 ]
+SECOND_VERSION = [
+    ("Direct, Prover", "direct, prover's file of the second version", deal(DIRECT, 2)[0]),
+    ("Direct, Verifier", "direct, verifier's file of the second version", deal(DIRECT, 2)[1]),
+    ("Extended, Prover", "extended, prover's file of the second version", deal(EXTENDED, 2)[0]),
+    ("Extended, Verifier", "extended, verifier's file of the second version", deal(EXTENDED, 2)[1]),
+]
 JOURNALS = [
     ("Claims, 1", "claims of 1 unit", journal(0, 1)),
     ("Claims, 5000", "claims of 5,000 units", journal(0, 5000)),
@@ -109,11 +144,15 @@ assert [len(data) for _, _, data in FILES] == [1184, 680, 353, 288]
 assert [len(data) for _, _, data in JOURNALS] == [192, 64 + 64 * 4097, 192, 576, 64 + 64 * 4097]
 assert [len(data) for _, data in ONE_AREA] == [96, 64 + 32 * 4096, 96, 288]
 
-ROWS = [(row, text, len(data), data[-32:]) for row, text, data in FILES]
+ROWS = [(row, text, len(data), data[-32:]) for row, text, data in FILES + SECOND_VERSION]
 ROWS += [(row, text, len(data), sha256(data)) for row, text, data in JOURNALS]
 
 
 def main():
+    if "--many" in sys.argv[1:]:
+        for name, (length, digest) in zip(("prover", "verifier"), many_units(DEALT_AS_FIRST + 1)):
+            print(f"65,536 direct units, {name}'s file: {length} bytes {digest}")
+        return
     for row, text, length, digest in ROWS:
         if "--rust" in sys.argv[1:]:
             print(f'    ({row}, {length}, "{digest.hex()}"),')

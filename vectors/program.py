@@ -5,19 +5,20 @@ that fail, and the peers that call at the door, or the one to which it connects.
 and what it hands back follow `docs/CLI.md`, its journal `docs/FORMATS.md`, and its sessions `ends.py`.
 Several peers are served by one worker.
 """
+import functools
 import json
 import struct
 from typing import Dict, List, NamedTuple, Optional, Tuple
 
 import bristol
 from auditor import audit
-from common import FILE_ID, sha256
-from dealt_files import Params, deal, header_of, journal, one_area, own_slots
+from common import CODE_SEED, FILE_ID, P, PROVER_COINS, VERIFIER_COINS, sha256
+from dealt_files import MAGIC, MOST_UNITS as MOST_DEALT, Params, area, deal, header, header_of, journal, one_area, own_slots
 from ends import MOST_UNITS, End, Job, Link, prove_by, verify_by
 from generated import MOST_GENERATED, generate
 from session import LONG, Claim, Extended, products_of
 
-FILE_LIMIT = 2**26
+FILE_LIMIT = 2**30
 
 
 class Stopped(Exception):
@@ -220,21 +221,55 @@ def rehearsed(
     return Came(outside.say(lines, 0), f"rehearsed outputs={outputs} need={need} units={units}")
 
 
+def unit_size(side: int, params: Params) -> int:
+    """How many bytes a unit has in a file of this side."""
+    correlations, transfers = (params.base + params.trees, params.trees * params.height) if params.kind else (64, 0)
+    return 8 * correlations + 32 * transfers if side else 16 * correlations + 17 * transfers
+
+
+def file_length(side: int, params: Params) -> int:
+    """How many bytes a file of this side has: the header, the verifier's key, the units and the digest."""
+    return 128 + 8 * side + params.total * unit_size(side, params) + 32
+
+
 def dealt_for(options: Dict[str, str]) -> Params:
-    units = read_number(options["--units"], 1, 2**32)
+    units = read_number(options["--units"], 1, 2**40)
     given = [name for name in ("--trees", "--height", "--base") if name in options]
-    if not given:
-        return Params(0, 0, 0, 0, units)
-    if len(given) < 3:
-        raise ValueError(given)
-    trees, height, base = (int(options[name]) for name in ("--trees", "--height", "--base"))
-    return Params(1, height, trees, base, units)
+    params = Params(0, 0, 0, 0, units)
+    if given:
+        trees = read_number(options["--trees"], 1, 1024)
+        height, base = read_number(options["--height"], 1, 16), read_number(options["--base"], 10, 65536)
+        params = Params(1, height, trees, base, units)
+    if any(file_length(side, params) > FILE_LIMIT for side in (0, 1)):
+        raise ValueError(options)
+    return params
+
+
+class Header(bytes):
+    """The first 128 bytes of a dealt file, where no more of it is asked for. Its length is that of the whole file."""
+
+    length = 0
+
+
+def headers_of(params: Params) -> Tuple[Header, Header]:
+    """The headers of the dealt files."""
+    code_seed = CODE_SEED if params.kind else bytes(32)
+    found = []
+    for side, key in enumerate((PROVER_COINS, VERIFIER_COINS)):
+        found.append(Header(header(side, params, key, code_seed)))
+        found[-1].length = file_length(side, params)
+    return found[0], found[1]
+
+
+def dealt_by(params: Params) -> Tuple[bytes, bytes]:
+    """The dealt files, or where there are very many units their headers: of these alone a run's lines speak."""
+    return deal(params) if params.total <= 4096 else headers_of(params)
 
 
 def run_deal(outside: Outside, words: List[str]) -> Came:
     (name,), options = sorted_words(words, ["--units", "--trees", "--height", "--base"], [])
     params = dealt_for(options)
-    prover, verifier = deal(params)
+    prover, verifier = dealt_by(params)
     outside.store(f"{name}.prover", prover)
     outside.store(f"{name}.verifier", verifier)
     outside.store(f"{name}.prover.journal", journal(0, params.total))
@@ -243,14 +278,70 @@ def run_deal(outside: Outside, words: List[str]) -> Came:
     return Came(outside.say(lines, 0), "plain")
 
 
+def number_at(data: bytes, start: int, size: int = 8) -> int:
+    return int.from_bytes(data[start : start + size], "little")
+
+
+VERSIONS = {word: version for version, word in MAGIC.items()}
+
+
+def are_params(data: bytes) -> bool:
+    """Whether a header's numbers are those of a file of its version."""
+    height, trees, base = data[10], number_at(data, 12, 4), number_at(data, 16, 4)
+    if data[11] or any(data[20:24]) or not 1 <= number_at(data, 24) <= MOST_DEALT[VERSIONS[data[:8]]]:
+        return False
+    if data[9] == 0:
+        return not (height or trees or base or any(data[96:128]))
+    return 1 <= height <= 16 and 1 <= trees <= 1024 and 10 <= base <= 65536
+
+
+def bad_place(side: int, params: Params, data: bytes) -> Optional[int]:
+    """Where the first element begins that is not below the prime, or the first bit that is neither 0 nor 1."""
+    elements = (params.base + params.trees if params.kind else 64) * (2 - side)
+    places = [(128, 8)] * side
+    for unit in range(params.total):
+        at = 128 + 8 * side + unit * unit_size(side, params)
+        places += [(at + 8 * i, 8) for i in range(elements)]
+        places += [(at + 8 * elements + 17 * i, 1) for i in range(params.trees * params.height * (1 - side))]
+    return next((at for at, size in places if number_at(data, at, size) >= (P if size == 8 else 2)), None)
+
+
+@functools.lru_cache(maxsize=None)
+def file_fault(side: int, data: bytes) -> Optional[str]:
+    """The first fault of a whole file of this side."""
+    if data[:8] not in VERSIONS:
+        return "BadMagic 1"
+    if len(data) < 128:
+        return f"Length 4 128 {len(data)}"
+    if data[8] != side or data[9] > 1:
+        return "BadKind 2"
+    if not are_params(data):
+        return "BadParam 3"
+    params = params_at(data)
+    need = file_length(side, params)
+    if len(data) != need:
+        return f"Length 4 {need} {len(data)}"
+    place = bad_place(side, params, data)
+    if place is not None:
+        return f"BadElement 5 {place}"
+    if side and not any(data[128:136]):
+        return "ZeroKey 6"
+    return None if data[-32:] == sha256(data[:-32]) else "BadDigest 7"
+
+
+def params_at(data: bytes) -> Params:
+    return Params(data[9], data[10], number_at(data, 12, 4), number_at(data, 16, 4), number_at(data, 24))
+
+
 def read_dealt(side: int, data: bytes) -> Params:
-    """What a file of this side is dealt for; wrong files are those of another magic and another side."""
-    if data[:8] != b"WQSFILE1":
-        raise Stopped("refused BadMagic 1", 3)
-    if data[8] != side:
-        raise Stopped("refused BadKind 2", 3)
-    number = lambda start, size: int.from_bytes(data[start : start + size], "little")
-    return Params(data[9], data[10], number(12, 4), number(16, 4), number(24, 8))
+    """What a file of this side is dealt for, of either version. Of a header alone the side is judged."""
+    if isinstance(data, Header):
+        fault = None if data[8] == side else "BadKind 2"
+    else:
+        fault = file_fault(side, data)
+    if fault:
+        raise Stopped(f"refused {fault}", 3)
+    return params_at(data)
 
 
 def extended_of(params: Params) -> Optional[Extended]:
@@ -745,6 +836,69 @@ def run_prove(outside: Outside, words: List[str], peers: List[Link]) -> Came:
     return Came(outside.say(line, status), f"proved {outcome} units={end.units} {log_words(end.log)}")
 
 
+# ---- migrations
+
+
+def read_first_bodies(disk: Disk, kind: int, total: int, slots: int) -> List[Body]:
+    """What the slots of a journal of one area say up to the first that is not open. Claims are then read once more."""
+    keeps = is_ceiling if kind == 1 else is_span
+    bodies: List[Body] = []
+    for slot in range(slots):
+        data = disk.read(64 + 32 * slot, 32)
+        if len(data) < 32:
+            raise Stopped(f"refused Short 1 {64 + 32 * slots} {64 + 32 * slot + len(data)}", 3)
+        if data[31] != 0x5A:
+            break
+        bodies.append(struct.unpack("<QQ", data[:16]))
+    wrong = [slot for slot, body in enumerate(bodies) if not keeps(total, bodies[:slot], body)]
+    if wrong:
+        raise Stopped(f"refused BadBody 3 {wrong[0]}", 3)
+    for slot, (start, end) in enumerate(bodies if kind == 0 else []):
+        disk.read(64 + 32 * slot, 16)
+        if first_met(bodies[:slot], start, end):
+            raise Stopped(f"refused BadBody 3 {slot}", 3)
+    return bodies
+
+
+def lay(disk: Disk, begin: int, kind: int, total: int, slots: int, bodies: List[Body]) -> None:
+    """Writes a journal of two areas that begins there: its header, the head of its first area, and what is left in slots of 32 bytes."""
+    disk.write(begin, header_of(kind, total, slots))
+    rest = area(1, bodies, slots) + area(0, [], slots)
+    for at in range(0, len(rest), 32):
+        disk.write(begin + 64 + at, rest[at : at + 32])
+    disk.sync()
+
+
+def migrate(disk: Disk, kind: int, total: int) -> Optional[int]:
+    """How many slots are in use of the journal of two areas that now stands behind that of one, or none where it was there before."""
+    disk.choose()
+    disk.sync()
+    found = disk.read(0, 64)
+    if len(found) < 64:
+        raise Stopped(f"refused Short 1 64 {len(found)}", 3)
+    check_header(found[:15] + b"\0" + found[16:], one_area(kind, total, 0), kind, -(-total // 16))
+    if found[15] == 0x5A:
+        return None
+    slots = slots_of(found)
+    bodies = read_first_bodies(disk, kind, total, slots)
+    left = merged(bodies) if kind == 0 else bodies[-1:]
+    lay(disk, 64 + 32 * slots, kind, total, slots if kind == 0 else own_slots(kind, total), left)
+    disk.write(15, b"\x5a")
+    disk.sync()
+    return len(left)
+
+
+def run_migrate(outside: Outside, words: List[str]) -> Came:
+    (side, name), _ = sorted_words(words, [], [])
+    kind = ["prover", "verifier"].index(side)
+    total = read_dealt(kind, outside.load(name)).total
+    try:
+        used = migrate(outside.disk, kind, total)
+    except DiskFailed:
+        raise Stopped(f"journal failed {outside.disk.faults}", 5) from None
+    return Came(outside.say("already migrated\n" if used is None else f"migrated {used}\n", 0), "plain")
+
+
 # How an audit says what it finds: its line, and its status.
 FOUND = {
     "inputs": ("inputs {0}", 0),
@@ -770,7 +924,7 @@ def run_audit(outside: Outside, words: List[str]) -> Came:
 
 def run(outside: Outside, words: List[str], peers: List[Link]) -> Came:
     """What comes of these words, with these peers at the door, or the first of them to connect to."""
-    commands = {"eval": run_eval, "rehearse": run_rehearse, "deal": run_deal, "audit": run_audit}
+    commands = {"eval": run_eval, "rehearse": run_rehearse, "deal": run_deal, "audit": run_audit, "migrate": run_migrate}
     parties = {"serve": run_serve, "serve-many": run_serve_many, "prove": run_prove}
     try:
         if words[0] in parties:

@@ -29,10 +29,10 @@ MOST_BITS = 100_000  # in a word of the command line, of which Linux passes no l
 
 BLANKS = [b" ", b"\t", b"\r", b"\n"]
 
-NUMBERS = [0, 1, 2, 3, 4, 7, 8, 9, 10, 255, 256, 1023, 1024, 1025, 2**16, 2**20 - 1, 2**20, 2**20 + 1, 2**31]
+NUMBERS = [0, 1, 2, 3, 4, 7, 8, 9, 10, 255, 256, 1023, 1024, 1025, 2**16, 2**20, 2**24 - 1, 2**24, 2**24 + 1, 2**31]
 NUMBERS += [2**32 - 1, 2**32, 2**32 + 1, 2**63, 2**64 - 1, 2**64, 2**64 + 1, 2**64 + 2, 2**128 + 1, 10**40]
 SPELLINGS = [b"%d" % number for number in NUMBERS]
-SPELLINGS += [b"00", b"01", b"0002", b"0" * 300, b"0" * 300 + b"1", b"0" * 25 + b"1048577", b"1" + b"0" * 400]
+SPELLINGS += [b"00", b"01", b"0002", b"0" * 300, b"0" * 300 + b"1", b"0" * 25 + b"16777217", b"1" + b"0" * 400]
 SPELLINGS += [b"9" * 5000]
 
 # Numbers elsewhere, or nearly.
@@ -166,8 +166,8 @@ def draw_damaged(draw: Random) -> bytes:
 
 def draw_header(draw: Random) -> bytes:
     """A header whose numbers are about their limits, and nothing behind it, mostly."""
-    wires = draw.choice([0, 1, 10, 1024, 2**20, 2**20, 2**20 + 1, 2**32])
-    header = [draw.choice([0, 0, 0, 1, 2**20, 2**20 + 1]), wires]
+    wires = draw.choice([0, 1, 10, 1024, 2**20, 2**24, 2**24 + 1, 2**32])
+    header = [draw.choice([0, 0, 0, 1, 2**24, 2**24 + 1]), wires]
     for _ in range(2):
         values = draw.choice([0, 1, 2, 3, 1023, 1024, 1025])
         sizes = [wires // values if values else 0] * values
@@ -260,11 +260,14 @@ LARGE: List[Callable[[], bytes]] = [
     lambda: chain(2**20 + 1, 2**20, "1 9"),
     lambda: chain(2**20, 2**20 + 1, "1 9"),
     lambda: chain(2**20, 2**20, "1 9")[:-4],
-    lambda: b"0 1048576 2 1048575 1 1 1",
-    lambda: b"0 1048576 1024 " + b"1024 " * 1024 + b"0",
-    lambda: b"0 1048576 1024 " + b"1024 " * 1023 + b"1025 0",
-    lambda: b"0 1048576 1025 " + b"1 " * 1025 + b"0",
-    lambda: b"0 1048576 0 1025 " + b"1 " * 1025,
+    lambda: b"16777216 16777216 1 9",
+    lambda: b"16777217 16777216 1 9",
+    lambda: b"16777216 16777217 1 9",
+    lambda: b"0 16777216 2 16777215 1 1 1",
+    lambda: b"0 16777216 1024 " + b"16384 " * 1024 + b"0",
+    lambda: b"0 16777216 1024 " + b"16384 " * 1023 + b"16385 0",
+    lambda: b"0 16777216 1025 " + b"1 " * 1025 + b"0",
+    lambda: b"0 16777216 0 1025 " + b"1 " * 1025,
     lambda: b"0 0 1024 " + b"0 " * 1024 + b"1024 " + b"0 " * 1024,
     lambda: b"0" * 1_000_000 + b" 1 1 1 1 1",
     lambda: b"0 1 1 1 1 1" + b"0" * 1_000_000,
@@ -273,7 +276,7 @@ LARGE: List[Callable[[], bytes]] = [
     lambda: b"0 1 1 1 1 1" + b" " * (bristol.MOST_BYTES - 11),
     lambda: b"0 1 1 1 1 1" + b" " * (bristol.MOST_BYTES - 10),
     lambda: b"0 1 1 1 1 1" + b" " * (bristol.MOST_BYTES - 12) + b"1",
-    lambda: b"1 " * (bristol.MOST_BYTES // 2),
+    lambda: b"1 " * 2**25,
 ]
 
 

@@ -20,7 +20,7 @@ import dealt_files
 import program
 from auditor import audit
 from chacha import word
-from common import CODE_SEED, KEY, P, PROVER_COINS, VERIFIER_COINS, dealt_correlations, element, frame, from_word, sha256
+from common import KEY, P, VERIFIER_COINS, dealt_correlations, element, frame, from_word, sha256
 from ends import MOST_RECEIVED, MOST_UNITS, End, Job, Link, hold, prove, verify
 from published import ADDER, AND_GATE, FIVE_GATES, SESSIONS, log_of
 from session import LONG, Claim, Extended, accepted, carried, sent_by_prover, sent_by_verifier, session
@@ -211,8 +211,9 @@ def outside_of(scenario: Scenario, kind: int) -> program.Outside:
     text = CIRCUITS[name] + scenario.words.get("tail", "").replace("_", " ").encode()
     params, total = scenario.params(), scenario.number("units", 1)
     numbers = (0, 0, 0, 0) if params is None else (1, params.height, params.trees, params.base)
-    prover, verifier = dealt_by(dealt_files.Params(*numbers, total))
-    files = {"x.prover": prover, "x.verifier": verifier, name: text.ljust(scenario.number("size", 0), b"\n")}
+    dealt = zip(("x.prover", "x.verifier"), program.dealt_by(dealt_files.Params(*numbers, total)), pairs_of(scenario, "versions", "1,1"))
+    files = {side: damaged(scenario, in_version(data, version)) for side, data, version in dealt}
+    files[name] = text.ljust(scenario.number("size", 0), b"\n")
     files["statements"] = scenario.words.get("statements", "").replace("+", " ").replace("/", "\n").encode()
     files["log"] = bytes.fromhex(scenario.words.get("log", ""))
     fails = [scenario.number(f"{each}-fails", 0) for each in ("shelf", "sink", "door")]
@@ -220,13 +221,28 @@ def outside_of(scenario: Scenario, kind: int) -> program.Outside:
     return program.Outside(files, disk, *fails)
 
 
-def dealt_by(params: dealt_files.Params) -> Tuple[bytes, bytes]:
-    """The dealt files, or where there are very many units their headers: of these alone a run's lines speak."""
-    if params.total <= 4096:
-        return dealt_files.deal(params)
-    keys = (PROVER_COINS, VERIFIER_COINS)
-    prover, verifier = (dealt_files.header(side, params, key, CODE_SEED) for side, key in enumerate(keys))
-    return prover, verifier
+def pairs_of(scenario: Scenario, name: str, default: str) -> Tuple[int, int]:
+    """The two numbers of a word."""
+    first, second = map(int, scenario.words.get(name, default).split(","))
+    return first, second
+
+
+def in_version(data: bytes, version: int) -> bytes:
+    """A dealt file, with its digest, as one of this version."""
+    if isinstance(data, program.Header):
+        return data
+    return dealt_files.sealed(b"WQSFILE%d" % version + data[8:-32])
+
+
+def damaged(scenario: Scenario, data: bytes) -> bytes:
+    """A dealt file, in which some bytes are others."""
+    if "damage" not in scenario.words:
+        return data
+    bad = bytearray(data)
+    for change in scenario.words["damage"].split("+"):
+        place, byte = map(int, change.split(":"))
+        bad[place] = byte
+    return bytes(bad)
 
 
 def bodies_of(scenario: Scenario, kind: int, total: int) -> Iterator[Tuple[int, int]]:
@@ -251,7 +267,7 @@ def journal_of(scenario: Scenario, kind: int, total: int) -> bytes:
         data = new[:64] + dealt_files.area(0, bodies if areas == "one" else [spent], len(new) // 32 - 2)[32:]
     if areas != "one":
         slots = scenario.number("slots", dealt_files.own_slots(kind, total))
-        heads = [int(each) for each in scenario.words.get("heads", "1,0").split(",")]
+        heads = pairs_of(scenario, "heads", "1,0")
         active = heads[1] > heads[0]
         says = [bodies if second == active else [spent] * (heads[second] > 0) for second in (0, 1)]
         data += dealt_files.header_of(kind, total, slots)
@@ -267,13 +283,20 @@ def given_number(scenario: Scenario, name: str) -> Optional[int]:
 def shown(scenario: Scenario, outside: program.Outside) -> str:
     words = ""
     files = {**outside.files, "disk": bytes(outside.disk.data)}
-    for name in filter(None, scenario.words.get("show", "").split(",")):
-        words += f" {name}={len(files[name])},{sha256(files[name]).hex()}" if name in files else f" {name}=none"
+    for shown_name in filter(None, scenario.words.get("show", "").split(",")):
+        name, _, most = shown_name.partition(":")
+        if name not in files:
+            words += f" {shown_name}=none"
+            continue
+        data = files[name]
+        count = data.length if isinstance(data, program.Header) else len(data)
+        assert most or not isinstance(data, program.Header), shown_name
+        words += f" {shown_name}={count},{sha256(data[: int(most or count)]).hex()}"
     return words
 
 
 def run_line(scenario: Scenario, name: str, words: List[str], peers: List[Link]) -> str:
-    outside = outside_of(scenario, 0 if words[0] == "prove" else 1)
+    outside = outside_of(scenario, 0 if words[0] == "prove" or words[:2] == ["migrate", "prover"] else 1)
     came = program.run(outside, words, peers)
     written = program.quoted(outside.written)
     return f"{name}status={came.status} written={written} {came.part}{shown(scenario, outside)}"
@@ -577,7 +600,15 @@ def large_runs() -> List[Scenario]:
     for name, section in (("many", 1), ("more", 1), ("most", LONG), ("too_many", LONG)):
         circuit = f"{name}_inputs.txt"
         scenarios.append(run(f"rehearse {circuit} BITS --section {section}", circuit=circuit))
-    return scenarios + [run(REHEARSE, size=size) for size in (2**26, 2**26 + 1)]
+    return scenarios + [run(REHEARSE, size=size) for size in (2**26, 2**26 + 1)] + large_texts()
+
+
+def large_texts() -> List[Scenario]:
+    """Texts of circuits whose numbers are at their limits, or above."""
+    texts = ["16777217+3/", "16777216+3/", "0+16777217/", "16777217+16777217/", "0+16777216+1+16777217/", "1048577+3/", "0+1048577+1+1+0/"]
+    texts += ["0+16777216+1+16777216+1+16777216/", "0+16777216+1+0+1+1/", "1+16777216+1+16777215+1+1+1+1+0+16777215+INV/"]
+    texts += ["2+16777216+1+16777215+1+1+1+1+0+16777215+INV+1+1+0+16777216+INV/"]
+    return [run("eval statements none", statements=text) for text in texts]
 
 
 SERVE = "serve here x.verifier and.txt 1 --sessions 1"
@@ -593,6 +624,35 @@ def stopped_services() -> List[Scenario]:
     circuit = "too_many_inputs.txt"
     scenarios.append(run(f"serve here x.verifier {circuit} 1 --sessions 1", circuit=circuit))
     return scenarios + [run("serve here x.verifier long_chain.txt 1 --sessions 1", circuit="long_chain.txt")]
+
+
+def dealings() -> List[Scenario]:
+    """Files that are dealt, at the ends of what may be asked for: the version is the second from 65,536 units on."""
+    shown = "x.prover:128,x.verifier:128,x.prover.journal,x.verifier.journal"
+    scenarios = [run(f"deal x --units {units} --trees 1 --height 1 --base 10", show=shown) for units in (65535, 65536)]
+    words = ["1048576", "4294967296", "4294967297", "1099511627776", "1099511627777", "65536 --trees 1 --height 1 --base 1023"]
+    return scenarios + [run(f"deal x --units {each}") for each in words]
+
+
+def versions() -> List[Scenario]:
+    """Dealt files of both versions: sessions and audits over them, and headers whose totals are at their limits."""
+    log = b"".join(accepted(line("verifier").job().claim, None, LONG)).hex()
+    scenarios = []
+    for pair in ("1,2", "2,1", "2,2"):
+        scenarios += [line("service", versions=pair, show="disk"), proof(versions=pair, show="disk")]
+        scenarios += [line("service", **ONE_TREE, versions=pair), proof(**ONE_TREE, versions=pair)]
+        scenarios += [run(AUDIT, log=log, versions=pair), run(AUDIT, log=log, versions=pair, units=2)]
+        scenarios += [run(words, areas="one", versions=pair, show="disk") for words in MIGRATE.values()]
+    for words in (SERVE, PROVE):
+        scenarios += [run(words, versions=f"{version},{version}") for version in (0, 3)]
+        for version in (1, 2):
+            given = {"versions": f"{version},{version}"}
+            totals = ["24:0", "24:0+28:1", "24:1+28:1", "24:0+29:1", "24:1+29:1", "31:1"]
+            scenarios += [run(words, **given, damage=total) for total in totals]
+            scenarios += [run(words, **given, **ONE_TREE, damage=total) for total in totals]
+            scenarios += [run(words, **given, damage=place) for place in ("7:48", "11:1", "20:1", "96:1", "9:2", "135:255", "151:32", "159:32")]
+            scenarios += [run(words, **given, **ONE_TREE, damage=place) for place in ("10:17", "10:0", "15:1", "16:9", "18:2", "200:1", "9:0")]
+    return scenarios
 
 
 def limits() -> List[Scenario]:
@@ -710,6 +770,25 @@ def honest_proofs() -> List[Scenario]:
     # The hello has the digest of the text as it stands, with what is behind its last gate.
     scenarios += [proof(tail="_"), proof(size=4096)]
     return scenarios + [proof(circuit="more_inputs.txt", section=1)]
+
+
+def refused_sends() -> List[Scenario]:
+    """Sessions and services in which the send of a refusal fails, the third call of the link: they end as if it was sent."""
+    none = sha256(b"").hex()
+    # A hello of another id, circuit or outputs, and one in the long form of another version, of other public bits, or of none.
+    greetings = [("set", "5:0"), ("set", "37:0"), ("set", "69:0"), ("set", "101:2")]
+    long_hello = frame(1, HELLO[5:101] + bytes([2])).hex()
+    scenarios = []
+    for end, number in (("verifier", "3..5"), ("service", "3..5")):
+        scenarios += [line(end, **{name: value}, fail=number) for name, value in greetings]
+        for version, digest in (("01", none), ("02", none[::-1]), ("02", none)):
+            more = "01" + "81000000" + long_hello[10:-2] + version + digest
+            scenarios.append(line(end, keep=0, more=more, fail=number))
+    scenarios += [line("service", statements=BOTH, set=place, fail="3..5") for place in ("5:0", "37:0", "101:2")]
+    # No units are left, or the journal fails in this lease or failed in one before.
+    scenarios += [served(2, peer=1, fail="3..5", show="disk"), served(3, 3, peer=2, fail="3..5"), served(2, **ONE_TREE, peer=1, fail="3..5")]
+    scenarios += [served(2, units=32, disk_fails=9, peer=peer, fail="3..5", show="disk") for peer in (0, 1)]
+    return scenarios + [served(1, disk_fails=number, fail="3..4") for number in range(8, 14)]
 
 
 def unsuited_grants() -> List[Scenario]:
@@ -946,6 +1025,84 @@ def statement_files() -> List[Scenario]:
 AUDIT = "audit and.txt 1 x.prover x.verifier log"
 
 
+MIGRATE = {side: f"migrate {side} x.{side}" for side in ("prover", "verifier")}
+FIRST_CLAIMS = {"units": 4, "claims": "3..4+0..1", "areas": "one", "show": "disk"}
+FIRST_CEILINGS = {"units": 40, "ceilings": 32, "areas": "one", "show": "disk"}
+
+
+def migrations() -> List[Scenario]:
+    """Runs of `migrate`: journals of one area that say nothing, something, or have all slots in use, and ones that were migrated."""
+    by_prover, by_verifier = MIGRATE["prover"], MIGRATE["verifier"]
+    scenarios = []
+    for claims in ("", "0..1", "9..10", "0..1+2..3", "2..3+0..1", "0..1+1..2", "5..9+0..2+2..5+9..10", "8..9+6..7+4..5+2..3+0..1"):
+        given = {"claims": claims} if claims else {}
+        scenarios.append(run(by_prover, units=10, **given, areas="one", show="disk"))
+        scenarios += [run(by_prover, units=10, slots=slots, **given, areas="one", show="disk") for slots in (5, 12)]
+    scenarios += [run(by_prover, units=2, claims=claims, areas="one", show="disk") for claims in ("0..1+1..2", "1..2+0..1", "0..2")]
+    scenarios += [run(by_prover, units=10, slots=1, areas="one", show="disk"), run(by_prover, **FIRST_CLAIMS, **ONE_TREE_FILES)]
+    scenarios += [run(by_verifier, units=units, areas="one", show="disk") for units in (1, 16, 17, 100)]
+    for units, ceilings in ((1, 1), (16, 16), (20, 16), (20, 20), (40, 16), (40, 32), (40, 40), (100, 64), (100, 100)):
+        scenarios.append(run(by_verifier, units=units, ceilings=ceilings, areas="one", show="disk"))
+    scenarios += [run(by_verifier, **FIRST_CEILINGS, slots=slots) for slots in (1, 2, 4, 5)]
+    moved = {"areas": "moved", "show": "disk"}
+    scenarios += [run(words, **moved) for words in (by_prover, by_verifier)]
+    scenarios += [run(by_prover, units=4, claims="1..2+3..4", **moved), run(by_verifier, units=40, ceilings=16, **moved)]
+    scenarios += [run(words, areas="two", show="disk") for words in (by_prover, by_verifier)]
+    return scenarios + damaged_migrations() + failing_migrations() + words_of_no_migration()
+
+
+ONE_TREE_FILES = {"files": "1,1,10"}
+
+
+def damaged_migrations() -> List[Scenario]:
+    """Migrations of journals that are short, or of which a byte of the header or of a body is another."""
+    scenarios = []
+    for words, given, file in ((MIGRATE["prover"], FIRST_CLAIMS, 192), (MIGRATE["verifier"], FIRST_CEILINGS, 160)):
+        for place in [*range(15), *range(16, 24), *range(28, 64)]:
+            scenarios += [run(words, **given, journal_set=f"{place}:{byte}") for byte in (3, 128)]
+        scenarios += [run(words, **given, journal_set=f"15:{byte}") for byte in (0, 1, 2, 89, 90, 91, 128, 165, 255)]
+        scenarios += [run(words, **given, journal_set=place) for place in ("24:0", "24:1", "24:2", "24:5", "27:16")]
+        for areas, sizes in (("one", (0, 1, 63, 64, 65, 95, 96, 97, 127, 128, 159, 160, 191, 193)), ("moved", (63, 64, 95, 96, 200))):
+            scenarios += [run(words, **{**given, "areas": areas}, journal_size=size) for size in sizes]
+        # Bytes behind the old journal are written over, up to the end of the new one, and bytes behind that stay.
+        behind = (file, file + 63, file + 200, 600)
+        scenarios += [run(words, **given, journal_size=601, journal_set=f"{place}:7") for place in behind]
+        places = ["64:7", "79:1", "80:1", "94:255", "95:0", "95:91", "127:0", "127:91", "159:90", "159:0"]
+        scenarios += [run(words, **given, journal_set=place) for place in places]
+    # Where all slots are in use, the file ends before one more.
+    full = {"units": 2, "claims": "0..1+1..2", "areas": "one", "show": "disk"}
+    scenarios += [run(MIGRATE["prover"], **full, journal_set=place) for place in ("24:1", "24:3", "25:1", "26:128", "27:15", "27:16")]
+    for place in ("64:17", "64:0", "65:1", "71:1", "72:1", "96:16", "96:48", "96:40", "96:17"):
+        scenarios.append(run(MIGRATE["verifier"], **FIRST_CEILINGS, journal_set=place))
+    wrong = ["2..2", "3..2", "0..11", "10..11", "0..4+3..5", "3..5+0..4", "0..4+0..4", "0..10+4..5", "0..2+2..4+1..3"]
+    wrong += ["0..4+3..5+7..7", "7..7+0..4+3..5", "0..1+4..5+2..9+3..4"]
+    return scenarios + [run(MIGRATE["prover"], units=10, claims=claims, areas="one", show="disk") for claims in wrong]
+
+
+def failing_migrations() -> List[Scenario]:
+    """Migrations in which a call of the disk, the shelf or the output fails, and dealt files that are missing, damaged or the other side's."""
+    by_prover, by_verifier = MIGRATE["prover"], MIGRATE["verifier"]
+    scenarios = [run(by_prover, **FIRST_CLAIMS, disk_fails=number) for number in range(1, 25)]
+    scenarios += [run(by_verifier, **FIRST_CEILINGS, disk_fails=number) for number in range(1, 20)]
+    scenarios += [run(words, areas="moved", disk_fails=number, show="disk") for words in (by_prover, by_verifier) for number in range(1, 5)]
+    for side, given in (("prover", FIRST_CLAIMS), ("verifier", FIRST_CEILINGS)):
+        other = {"prover": "verifier", "verifier": "prover"}[side]
+        scenarios += [run(f"migrate {side} {file}", **given) for file in ("missing", f"x.{other}", "and.txt", "")]
+        scenarios += [run(MIGRATE[side], **given, **{name: 1}) for name in ("shelf_fails", "sink_fails", "door_fails")]
+        scenarios += [run(MIGRATE[side], **given, shelf_fails=1, disk_fails=1), run(MIGRATE[side], **given, disk_fails=1, sink_fails=1)]
+        for damage in ("0:0", "7:51", "8:2", "9:1", "11:1", "24:5", "24:3", "28:1", "31:1", "40:0", "128:255+135:255", "300:1"):
+            scenarios.append(run(MIGRATE[side], **given, damage=damage))
+    return scenarios
+
+
+def words_of_no_migration() -> List[Scenario]:
+    """Words of `migrate` that ask for nothing, and others that say the same."""
+    words = ["migrate", "migrate prover", "migrate prover x.prover x.prover", "migrate both x.prover", "migrate Prover x.prover", "migrate x.prover prover"]
+    words += ["migrate prover x.prover --units 4", "migrate --prover x.prover", "migrate  x.prover", "migrate prover -x", "migrates prover x.prover"]
+    same = ["migrate -- prover x.prover", "migrate prover -- x.prover", "migrate prover x.prover --"]
+    return [run(each, **FIRST_CLAIMS) for each in words + same]
+
+
 def audit_runs() -> List[Scenario]:
     """Runs of `audit`: what each answer prints, files that are refused, calls that fail, and words of no audit."""
     log = b"".join(accepted(line("verifier").job().claim, None, LONG)).hex()
@@ -1063,7 +1220,8 @@ def all_scenarios() -> List[Scenario]:
     parts += [false_proofs(), stopped_proofs(), words_of_no_proof(), journals_of_claims()]
     parts += [public_sessions(), several_statements(), public_runs(), generated_runs(), public_ends(), audits()]
     parts += [many_services(), statement_files(), audit_runs()]
-    parts += [areas(), heads(), full_claims(), full_ceilings()]
+    parts += [areas(), heads(), full_claims(), full_ceilings(), refused_sends()]
+    parts += [dealings(), versions(), migrations()]
     return [scenario for part in parts for scenario in part]
 
 

@@ -75,6 +75,7 @@ FAULTS = [
     ("short_text.txt", "11", "ShortText", 2),
     ("bad_number.txt", "11", "BadNumber", 11),
     ("too_large.txt", "1", "TooLarge", 1),
+    ("too_many_gates.txt", "1", "TooLarge", 0),
     ("bad_gate.txt", "11", "BadGate", 12),
     ("bad_constant.txt", "none", "BadConstant", 7),
     ("wire_range.txt", "111", "WireRange", 4),
@@ -126,9 +127,11 @@ WRONG_WORDS = [
     "deal x y --units 1",
     "deal x --units",
     "deal x --units 0",
-    "deal x --units 65536",
+    "deal x --units 1048576",
     "deal x --units 4294967296",
     "deal x --units 4294967297",
+    "deal x --units 1099511627776",
+    "deal x --units 1099511627777",
     "deal x --units 18446744073709551617",
     "deal x --units 1 --units 1",
     "deal x --units 1 --trees 1",
@@ -183,6 +186,9 @@ WRONG_WORDS = [
     "rehearse and.txt 11 --logs l",
     "deal x --units 1 --sessions 1",
     "audit x",
+    "migrate z.prover",
+    "migrate both z.prover",
+    "migrate prover z.prover z.prover",
 ]
 
 
@@ -261,6 +267,19 @@ def rehearse_run(case: Case, section: Optional[int] = 1, extended: bool = False,
     words = f"rehearse {case.file} {case.bits[public:] or 'none'}" + (f" --section {section}" if section else "")
     words += (" --extended" if extended else "") + (f" --public {case.bits[:public]}" if public else "")
     return Run(words, [f"outputs {case.outputs}", counts, "accepted"], 0)
+
+
+def migrations() -> List[Run]:
+    """Migrations over journals that are dealt, which have two areas, and over a file that has none."""
+    given: List[Tuple[str, List[str], int]] = [
+        ("prover z.prover", ["refused BadHeader 2 8"], 3),
+        ("verifier y.verifier", ["refused BadHeader 2 8"], 3),
+        ("verifier z.prover", ["refused BadKind 2"], 3),
+        ("prover and.txt", ["refused BadMagic 1"], 3),
+        ("prover missing", ["failed shelf"], 4),
+        (f"verifier {ALONE}", ["journal failed 1"], 5),
+    ]
+    return [Run(f"migrate {words}", lines, status) for words, lines, status in given]
 
 
 def other_forms() -> List[Run]:
@@ -361,6 +380,8 @@ def dealings() -> List[Run]:
     """Files that are dealt, at the ends of what may be asked for."""
     given = [
         ("deal x --units 1", "1 direct"),
+        # The first number of units whose files are of the second version, and the last one before.
+        ("deal x --units 65536", "65536 direct"),
         ("deal x --units 65535", "65535 direct"),
         ("deal --units 0001 y --base 10 --trees 1 --height 1", "1 extended"),
         ("deal y --units 1 --trees 1024 --height 16 --base 65536", "1 extended"),
@@ -461,7 +482,7 @@ def all_runs() -> List[Run]:
         runs += [eval_run(case.file, case.bits, case.outputs, 0), rehearse_run(case)]
     runs += [eval_run(case.file, case.bits, case.outputs, 0) for case in aes]
     runs += [rehearse_run(aes[1])] + refusals() + orders() + sections() + extensions() + public_bits() + dealings()
-    return runs + services() + proofs() + audits() + other_forms() + too_large()
+    return runs + services() + proofs() + audits() + migrations() + other_forms() + too_large()
 
 
 def alone() -> bytes:

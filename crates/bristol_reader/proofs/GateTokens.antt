@@ -106,11 +106,11 @@ pair_wanted flags p0 p1 p2 p3 a b c fault one two three is = λ start takes.
     name_wanted flags 2 (one.exact ∷ two.exact ∷ three.exact ∷ []) start p3 fault (inr refl) refl (all_three p0 p1 p2 p3 a b c one two three start takes) is
 
 -- a number below the number of flags is exact
-exact_below : (flags : List Bool) (shown exact : ℕ) → length flags ≤ 2 ^ 20 → shown ≡ min exact greatest → shown < length flags → exact ≡ shown
+exact_below : (flags : List Bool) (shown exact : ℕ) → length flags ≤ 2 ^ 24 → shown ≡ min exact greatest → shown < length flags → exact ≡ shown
 exact_below flags shown exact few is below = omega arith
 
 -- its tokens are those of its gate
-pub pair_taken : (flags : List Bool) (p0 p1 p2 p3 p4 : Place) (a b c : Placed) (text : BinaryGate) (gate : GateRow) → length flags ≤ 2 ^ 20 → TakesNumber p0 p1 a → TakesNumber p1 p2 b → TakesNumber p2 p3 c
+pub pair_taken : (flags : List Bool) (p0 p1 p2 p3 p4 : Place) (a b c : Placed) (text : BinaryGate) (gate : GateRow) → length flags ≤ 2 ^ 24 → TakesNumber p0 p1 a → TakesNumber p1 p2 b → TakesNumber p2 p3 c
     → Takes (name (pair_text text) ∷ []) p3 p4 → gate ≡ pair_gate text a.number b.number c.number → FitsFlags flags gate
     → BehindNumbers 2 p0 (λ start. Takes (gate_lexemes gate) start p4)
 pair_taken flags p0 p1 p2 p3 p4 a b c text gate few one two three named is fits = λ start takes.
@@ -182,7 +182,7 @@ pub single_wanted : (flags : List Bool) (p0 p1 p2 : Place) (a c : Placed) (fault
 single_wanted flags p0 p1 p2 a c fault one two is = λ start takes.
     name_wanted flags 1 (one.exact ∷ two.exact ∷ []) start p2 fault (inl refl) refl (two_wires 1 one.exact start p1 p2 c two (one_wire 1 start p0 p1 a one takes)) is
 
-pub single_taken : (flags : List Bool) (p0 p1 p2 p3 : Place) (a c : Placed) (text : UnaryGate) (gate : GateRow) → length flags ≤ 2 ^ 20 → TakesNumber p0 p1 a → TakesNumber p1 p2 c
+pub single_taken : (flags : List Bool) (p0 p1 p2 p3 : Place) (a c : Placed) (text : UnaryGate) (gate : GateRow) → length flags ≤ 2 ^ 24 → TakesNumber p0 p1 a → TakesNumber p1 p2 c
     → Takes (name (single_text text) ∷ []) p2 p3 → MayBeInput flags text a → gate ≡ single_gate text a.number c.number → FitsFlags flags gate
     → BehindNumbers 1 p0 (λ start. Takes (gate_lexemes gate) start p3)
 single_taken flags p0 p1 p2 p3 a c text gate few one two named may is fits = λ start takes.

@@ -50,9 +50,9 @@ unfolding behind_list
 list_left sizes behind = behind_numbers sizes behind
 
 -- the numbers of gates and of wires
-pub numbers_passed : (whole gates wires : ℕ) (left : List Lexeme) → gates ≤ 2 ^ 20 → wires ≤ 2 ^ 20
+pub numbers_passed : (whole gates wires : ℕ) (left : List Lexeme) → gates ≤ 2 ^ 24 → wires ≤ 2 ^ 24
     → read_lexemes whole (number gates ∷ number wires ∷ left) ≡ read_lists whole gates wires left
-numbers_passed whole gates wires left gates_most wires_most = rw (passes gates (2 ^ 20) _ gates_most, passes wires (2 ^ 20) _ wires_most)
+numbers_passed whole gates wires left gates_most wires_most = rw (passes gates (2 ^ 24) _ gates_most, passes wires (2 ^ 24) _ wires_most)
 
 -- the circuit's numbers, and gates
 abbrev pub headed : ℕ → Values → List GateRow → Circuit
@@ -71,7 +71,7 @@ second_wrong : (whole gates wires : ℕ) (left second : List Lexeme) (fault : Re
 second_wrong whole gates wires left second fault right then wrong = rw (right, then, wrong)
 
 -- a whole header
-pub header_passed : (whole gates wires : ℕ) (values : Values) (behind : List Lexeme) → gates ≤ 2 ^ 20 → wires ≤ 2 ^ 20
+pub header_passed : (whole gates wires : ℕ) (values : Values) (behind : List Lexeme) → gates ≤ 2 ^ 24 → wires ≤ 2 ^ 24
     → length values.inputs ≤ 1024 → length values.outputs ≤ 1024 → sum values.inputs ≤ wires → sum values.outputs ≤ wires
     → read_lexemes whole (header_lexemes gates wires values ++ behind) ≡ read_gates whole gates (headed wires values []) behind
 header_passed whole gates wires values behind gates_most wires_most few_inputs few_outputs inputs_within outputs_within =

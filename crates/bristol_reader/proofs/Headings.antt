@@ -45,20 +45,20 @@ list_wants gates wires lists start more behind want (headers.one_size values siz
       want_is = is;
     })
 
-pub gates_fault : (a : Place) (fault : ReadFault) → next_fault (a_count (2 ^ 20)) a ≡ Some fault → IsFaultBehind HeaderWants a fault
-gates_fault a fault is = fault_here HeaderWants [] (a_count (2 ^ 20)) a a fault (record { left = refl; taken = omega arith }) (first_number refl refl) is
+pub gates_fault : (a : Place) (fault : ReadFault) → next_fault (a_count (2 ^ 24)) a ≡ Some fault → IsFaultBehind HeaderWants a fault
+gates_fault a fault is = fault_here HeaderWants [] (a_count (2 ^ 24)) a a fault (record { left = refl; taken = omega arith }) (first_number refl refl) is
 
-pub wires_fault : (a b : Place) (gates : ℕ) (fault : ReadFault) → gates ≤ 2 ^ 20 → Takes (number gates ∷ []) a b → next_fault (a_count (2 ^ 20)) b ≡ Some fault
+pub wires_fault : (a b : Place) (gates : ℕ) (fault : ReadFault) → gates ≤ 2 ^ 24 → Takes (number gates ∷ []) a b → next_fault (a_count (2 ^ 24)) b ≡ Some fault
     → IsFaultBehind HeaderWants a fault
-wires_fault a b gates fault few takes is = fault_here HeaderWants (number gates ∷ []) (a_count (2 ^ 20)) a b fault takes (second_number gates few refl refl) is
+wires_fault a b gates fault few takes is = fault_here HeaderWants (number gates ∷ []) (a_count (2 ^ 24)) a b fault takes (second_number gates few refl refl) is
 
-pub inputs_fault : (a b c : Place) (gates wires : ℕ) (fault : ReadFault) → gates ≤ 2 ^ 20 → wires ≤ 2 ^ 20 → Takes (number gates ∷ []) a b → Takes (number wires ∷ []) b c
+pub inputs_fault : (a b c : Place) (gates wires : ℕ) (fault : ReadFault) → gates ≤ 2 ^ 24 → wires ≤ 2 ^ 24 → Takes (number gates ∷ []) a b → Takes (number wires ∷ []) b c
     → IsFaultBehind (ListWants wires) c fault → IsFaultBehind HeaderWants a fault
 inputs_fault a b c gates wires fault few most one two is =
     fault_later (ListWants wires) HeaderWants (start_lexemes gates wires []) a c fault (takes_start a b c gates wires one two)
     (list_wants gates wires [] (record { gates_most = few; wires_most = most; few = All-from_recursion (λ (l : List ℕ). length l ≤ 1024) [] tt; within = All-from_recursion (λ (l : List ℕ). sum l ≤ wires) [] tt }) (omega arith)) is
 
-pub outputs_fault : (a b c d : Place) (gates wires total : ℕ) (fault : ReadFault) → gates ≤ 2 ^ 20 → wires ≤ 2 ^ 20 → Takes (number gates ∷ []) a b → Takes (number wires ∷ []) b c
+pub outputs_fault : (a b c d : Place) (gates wires total : ℕ) (fault : ReadFault) → gates ≤ 2 ^ 24 → wires ≤ 2 ^ 24 → Takes (number gates ∷ []) a b → Takes (number wires ∷ []) b c
     → total ≤ wires → TakesList c d total → IsFaultBehind (ListWants wires) d fault → IsFaultBehind HeaderWants a fault
 outputs_fault a b c d gates wires total fault few most one two within list is =
     let lists : List (List ℕ) = list.sizes ∷ [] in
@@ -74,7 +74,7 @@ outputs_fault a b c d gates wires total fault few most one two within list is =
       within = All-from_recursion (λ (l : List ℕ). sum l ≤ wires) lists (omega (arith, list.total_is), tt);
     }) (omega arith)) is
 
-pub header_taken : (a b c d e : Place) (header : Header) → header.gates ≤ 2 ^ 20 → header.wires ≤ 2 ^ 20 → Takes (number header.gates ∷ []) a b → Takes (number header.wires ∷ []) b c
+pub header_taken : (a b c d e : Place) (header : Header) → header.gates ≤ 2 ^ 24 → header.wires ≤ 2 ^ 24 → Takes (number header.gates ∷ []) a b → Takes (number header.wires ∷ []) b c
     → header.inputs ≤ header.wires → TakesList c d header.inputs → header.outputs ≤ header.wires → TakesList d e header.outputs → TakesHeader a e header
 header_taken a b c d e header few most one two ins inputs outs outputs =
     let values : Values = record { inputs = inputs.sizes; outputs = outputs.sizes } in

@@ -41,7 +41,7 @@ header_outcome whole before behind want fault (first_number there wants) is =
     ap (λ l. read_lexemes whole (l ++ behind)) there ∙ rw wrong
 header_outcome whole before behind want fault (second_number n most there wants) is =
     let wrong = ap (λ w. token_fault whole w behind) (sym wants) ∙ is in
-    ap (λ l. read_lexemes whole (l ++ behind)) there ∙ rw (passes n (2 ^ 20) _ most, wrong)
+    ap (λ l. read_lexemes whole (l ++ behind)) there ∙ rw (passes n (2 ^ 24) _ most, wrong)
 header_outcome whole before behind want fault (a_list w) is =
     let wrong = ap (λ w. token_fault whole w behind) (sym w.want_is) ∙ is in
     ap (λ l. read_lexemes whole (l ++ behind)) w.before_is

@@ -163,5 +163,5 @@ read_lists whole gates wires left =
 
 abbrev pub read_lexemes : ℕ → List Lexeme → Outcome
 read_lexemes whole left =
-    unless (first_of (token_fault whole (a_count (2 ^ 20)) left) (token_fault whole (a_count (2 ^ 20)) (tail left)))
+    unless (first_of (token_fault whole (a_count (2 ^ 24)) left) (token_fault whole (a_count (2 ^ 24)) (tail left)))
     (read_lists whole (head_number left) (head_number (tail left)) (tail (tail left)))

@@ -28,16 +28,16 @@ use Rattle.bristol_reader.proofs.Wanted.{said_number}
 
 -- ---- numbers and names
 
--- a number of at most seven digits
-pub below : (i n : ℕ) → i < 8 → n < 10 ^ i → n < 10 ^ 7
+-- a number of at most eight digits
+pub below : (i n : ℕ) → i < 9 → n < 10 ^ i → n < 10 ^ 8
 below i n few small =
     let some : 0 < 10 = omega arith in
-    let most : i ≤ 7 = omega arith in
-    let power : 10 ^ i ≤ 10 ^ 7 = pow-le-pow_right {n = 10} some {i = i} {j = 7} most in
+    let most : i ≤ 8 = omega arith in
+    let power : 10 ^ i ≤ 10 ^ 8 = pow-le-pow_right {n = 10} some {i = i} {j = 8} most in
     omega arith
 
 -- the text after a number and the blank that ends it
-pub starts_number : (text : List ℕ) (i n : ℕ) → n < 10 ^ 7 → IsEnded text (record { length = i; word = Number n })
+pub starts_number : (text : List ℕ) (i n : ℕ) → n < 10 ^ 8 → IsEnded text (record { length = i; word = Number n })
     → StartsNumber text n (take (length text - (i + 1)) (drop (i + 1) text))
 starts_number text i n small is =
     let said = said_number (lexeme (take i text)) n is.is.word_is in
@@ -254,7 +254,7 @@ pair_places before after line is =
     }
 
 -- the tokens of a line are those of its gate
-pair_line_taken : (flags : List Bool) (before after : Place) (line : PairLine) (gate : GateRow) → length flags ≤ 2 ^ 20 → IsPairLine before after line
+pair_line_taken : (flags : List Bool) (before after : Place) (line : PairLine) (gate : GateRow) → length flags ≤ 2 ^ 24 → IsPairLine before after line
     → gate ≡ pair_gate line.name line.a.number line.b.number line.out.number → FitsFlags flags gate → Takes (gate_lexemes gate) before after
 pair_line_taken flags before after line gate few is row fits =
     let at = pair_places before after line is in
@@ -268,7 +268,7 @@ pair_line_wrong flags before after line fault is wrong =
     pair_wrong flags at.p0 at.p1 at.p2 at.p3 after line.a line.b line.out line.name fault at.three.one at.three.two at.three.three at.named wrong before at.begins
 
 -- what was read of such a line
-pub pair_read : (flags : List Bool) (before after : Place) (line : PairLine) (read : Result GateRow ReadFault) → length flags ≤ 2 ^ 20 → IsPairLine before after line
+pub pair_read : (flags : List Bool) (before after : Place) (line : PairLine) (read : Result GateRow ReadFault) → length flags ≤ 2 ^ 24 → IsPairLine before after line
     → IfOk read (λ gate. gate ≡ pair_gate line.name line.a.number line.b.number line.out.number) → IfOk read (FitsFlags flags) → IfErr read (IsWrongPair flags line.name line.a line.b line.out)
     → IsRead flags before after read
 pair_read flags before after line (Ok gate) few is row fits wrong = (pair_line_taken flags before after line gate few is row fits, fits)
@@ -298,7 +298,7 @@ single_places before after line is =
       named = record { left = refl; taken = omega (arith, is.takes.taken) };
     }
 
-single_line_taken : (flags : List Bool) (before after : Place) (line : SingleLine) (gate : GateRow) → length flags ≤ 2 ^ 20 → IsSingleLine before after line
+single_line_taken : (flags : List Bool) (before after : Place) (line : SingleLine) (gate : GateRow) → length flags ≤ 2 ^ 24 → IsSingleLine before after line
     → MayBeInput flags line.name line.input → gate ≡ single_gate line.name line.input.number line.out.number → FitsFlags flags gate → Takes (gate_lexemes gate) before after
 single_line_taken flags before after line gate few is may row fits =
     let at = single_places before after line is in
@@ -310,7 +310,7 @@ single_line_wrong flags before after line fault is wrong =
     let at = single_places before after line is in
     single_wrong flags at.p0 at.p1 at.p2 after line.input line.out line.name fault at.one at.two at.named wrong before at.begins
 
-pub single_read : (flags : List Bool) (before after : Place) (line : SingleLine) (read : Result GateRow ReadFault) → length flags ≤ 2 ^ 20 → IsSingleLine before after line
+pub single_read : (flags : List Bool) (before after : Place) (line : SingleLine) (read : Result GateRow ReadFault) → length flags ≤ 2 ^ 24 → IsSingleLine before after line
     → IfOk read (λ gate. gate ≡ single_gate line.name line.input.number line.out.number) → IfOk read (λ _. MayBeInput flags line.name line.input) → IfOk read (FitsFlags flags)
     → IfErr read (IsWrongSingle flags line.name line.input line.out) → IsRead flags before after read
 single_read flags before after line (Ok gate) few is row may fits wrong = (single_line_taken flags before after line gate few is may row fits, fits)

@@ -186,22 +186,22 @@ takes_ended rest taken before scanned view is = record {
 
 -- ---- a short number
 
-short_byte : (text front : List ℕ) (i : ℕ) → front ≡ take 8 text → i < 8 → get_or front i 0 ≡ get_or text i 0
-short_byte text front i same within = ap (λ l. get_or l i 0) same ∙ get_or-take 8 text i 0 within
+short_byte : (text front : List ℕ) (i : ℕ) → front ≡ take 9 text → i < 9 → get_or front i 0 ≡ get_or text i 0
+short_byte text front i same within = ap (λ l. get_or l i 0) same ∙ get_or-take 9 text i 0 within
 
 -- one digit more
-pub short_digit : (text front : List ℕ) (i value digit : ℕ) → front ≡ take 8 text → 8 ≤ length text → i < 8 → digit < 10 → get_or front i 0 ≡ digit + 48 → AreScanned (take i text) true value
+pub short_digit : (text front : List ℕ) (i value digit : ℕ) → front ≡ take 9 text → 9 ≤ length text → i < 9 → digit < 10 → get_or front i 0 ≡ digit + 48 → AreScanned (take i text) true value
     → value < 10 ^ i → AreScanned (take (i + 1) text) true (value * 10 + digit) × (value * 10 + digit < 10 ^ (i + 1))
 short_digit text front i value digit same enough within below byte_is far small =
     let is : get_or text i 0 ≡ digit + 48 = sym (short_byte text front i same within) ∙ byte_is in
     let some : 0 < 10 = omega arith in
-    let few : i ≤ 7 = omega arith in
-    let power : 10 ^ i ≤ 10 ^ 7 = pow-le-pow_right {n = 10} some {i = i} {j = 7} few in
+    let few : i ≤ 8 = omega arith in
+    let power : 10 ^ i ≤ 10 ^ 8 = pow-le-pow_right {n = 10} some {i = i} {j = 8} few in
     let is_digit_is : is_digit (digit + 48) ≡ true = (λ j. le-leb 48 (digit + 48) (omega arith) j && le-leb (digit + 48) 57 (omega arith) j) in
     (scan_digit text i true true value (value * 10 + digit) (omega arith) (ap is_digit is ∙ is_digit_is) refl (omega (arith, is)) far, rw (add-one, pow-suc) (omega arith))
 
 -- its end
-pub short_ended : (text front : List ℕ) (i value : ℕ) → front ≡ take 8 text → 8 ≤ length text → i < 8 → 0 < i → is_blank (get_or front i 0) ≡ true → AreScanned (take i text) true value
+pub short_ended : (text front : List ℕ) (i value : ℕ) → front ≡ take 9 text → 9 ≤ length text → i < 9 → 0 < i → is_blank (get_or front i 0) ≡ true → AreScanned (take i text) true value
     → IsEnded text (record { length = i; word = Number value })
 short_ended text front i value same enough within some blank far = record {
   some = some;

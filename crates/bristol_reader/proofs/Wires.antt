@@ -26,13 +26,13 @@ flagged_within [] wire is = cc
 flagged_within (flag ∷ flags) zero is = omega arith
 flagged_within (flag ∷ flags) (suc wire) is = omega (arith, flagged_within flags wire is)
 
-shown_flag : (flags : List Bool) (shown exact : ℕ) → length flags ≤ 2 ^ 20 → shown ≡ min exact greatest → flag_of flags shown ≡ flag_of flags exact
+shown_flag : (flags : List Bool) (shown exact : ℕ) → length flags ≤ 2 ^ 24 → shown ≡ min exact greatest → flag_of flags shown ≡ flag_of flags exact
 shown_flag flags shown exact few is = elim (cases_lt exact greatest) [
   | inl small ↦ ap (flag_of flags) (omega arith)
   | inr large ↦ get_or_past flags shown false (omega arith) ∙ sym (get_or_past flags exact false (omega arith))
 ]
 
-shown_range : (wires shown exact : ℕ) → wires ≤ 2 ^ 20 → shown ≡ min exact greatest → nat_le wires shown ≡ nat_le wires exact
+shown_range : (wires shown exact : ℕ) → wires ≤ 2 ^ 24 → shown ≡ min exact greatest → nat_le wires shown ≡ nat_le wires exact
 shown_range wires shown exact few is = elim (cases_lt exact greatest) [
   | inl small ↦ ap (nat_le wires) (omega arith)
   | inr large ↦ le-leb wires shown (omega arith) ∙ sym (le-leb wires exact (omega arith))
@@ -40,7 +40,7 @@ shown_range wires shown exact few is = elim (cases_lt exact greatest) [
 
 -- ---- one wire
 
-may_read : (flags : List Bool) (begun : Circuit) (placed : Placed) (exact token : ℕ) (text : List ℕ) → length flags ≤ 2 ^ 20 → AreFlags flags begun → IsPlaced placed exact token
+may_read : (flags : List Bool) (begun : Circuit) (placed : Placed) (exact token : ℕ) (text : List ℕ) → length flags ≤ 2 ^ 24 → AreFlags flags begun → IsPlaced placed exact token
     → bytes_eq text (codes "EQ") ≡ false → flag_of flags placed.number ≡ true → MayRead text begun exact
 may_read flags begun placed exact token text few are is wire on = inr (wire, are.set exact (sym (shown_flag flags placed.number exact few is.number_is) ∙ on))
 
@@ -48,7 +48,7 @@ may_read flags begun placed exact token text few are is wire on = inr (wire, are
 abbrev IsUnread : Circuit → List ℕ → ℕ → ℕ → ReadFault → Type 0
 IsUnread begun text exact token fault = (¬ MayRead text begun exact) × (fault ≡ read_fault text begun exact token)
 
-may_not_read : (flags : List Bool) (begun : Circuit) (placed : Placed) (exact token : ℕ) (text : List ℕ) (fault : ReadFault) → length flags ≤ 2 ^ 20 → AreFlags flags begun
+may_not_read : (flags : List Bool) (begun : Circuit) (placed : Placed) (exact token : ℕ) (text : List ℕ) (fault : ReadFault) → length flags ≤ 2 ^ 24 → AreFlags flags begun
     → IsPlaced placed exact token → bytes_eq text (codes "EQ") ≡ false → IsNoSetWire flags placed fault → IsUnread begun text exact token fault
 may_not_read flags begun placed exact token text fault few are is wire wrong =
     let range : nat_le (length flags) placed.number ≡ nat_le begun.wires exact =
@@ -61,7 +61,7 @@ may_not_read flags begun placed exact token text fault few are is wire wrong =
           ∙ sym (ap (λ b. if b then BadConstant token else if nat_le begun.wires exact then WireRange token else ReadBeforeSet token) wire),
     )
 
-may_not_set : (flags : List Bool) (begun : Circuit) (placed : Placed) (exact token : ℕ) (fault : ReadFault) → length flags ≤ 2 ^ 20 → AreFlags flags begun
+may_not_set : (flags : List Bool) (begun : Circuit) (placed : Placed) (exact token : ℕ) (fault : ReadFault) → length flags ≤ 2 ^ 24 → AreFlags flags begun
     → IsPlaced placed exact token → IsNoFreeWire flags placed fault → MayNotSet begun exact token fault
 may_not_set flags begun placed exact token fault few are is (inl wrong) =
     beyond (omega (arith, are.whole, wrong.0, is.number_is)) (wrong.1 ∙ ap WireRange is.token_is)
@@ -71,13 +71,13 @@ may_not_set flags begun placed exact token fault few are is (inr wrong) =
 
 -- ---- the input of a gate that has one
 
-may_be_input : (flags : List Bool) (begun : Circuit) (name : UnaryGate) (placed : Placed) (exact token : ℕ) → length flags ≤ 2 ^ 20 → AreFlags flags begun
+may_be_input : (flags : List Bool) (begun : Circuit) (name : UnaryGate) (placed : Placed) (exact token : ℕ) → length flags ≤ 2 ^ 24 → AreFlags flags begun
     → IsPlaced placed exact token → MayBeInput flags name placed → MayRead (single_text name) begun exact
 may_be_input flags begun single.Inv placed exact token few are is may = may_read flags begun placed exact token (codes "INV") few are is refl may
 may_be_input flags begun single.Eqw placed exact token few are is may = may_read flags begun placed exact token (codes "EQW") few are is refl may
 may_be_input flags begun single.Eq placed exact token few are is may = inl (refl, omega (arith, is.number_is))
 
-may_not_be_input : (flags : List Bool) (begun : Circuit) (name : UnaryGate) (placed : Placed) (exact token : ℕ) (fault : ReadFault) → length flags ≤ 2 ^ 20 → AreFlags flags begun
+may_not_be_input : (flags : List Bool) (begun : Circuit) (name : UnaryGate) (placed : Placed) (exact token : ℕ) (fault : ReadFault) → length flags ≤ 2 ^ 24 → AreFlags flags begun
     → IsPlaced placed exact token → MayNotBeInput flags name placed fault → IsUnread begun (single_text name) exact token fault
 may_not_be_input flags begun single.Inv placed exact token fault few are is wrong = may_not_read flags begun placed exact token (codes "INV") fault few are is refl wrong
 may_not_be_input flags begun single.Eqw placed exact token fault few are is wrong = may_not_read flags begun placed exact token (codes "EQW") fault few are is refl wrong
@@ -104,14 +104,14 @@ input_fault begun said token number x at fault stands before not place = record 
 
 -- ---- a gate with one input
 
-pub wrong_input : (set : List Bool) (name : UnaryGate) (input out : Placed) (fault : ReadFault) → length set ≤ 2 ^ 20 → MayNotBeInput set name input fault
+pub wrong_input : (set : List Bool) (name : UnaryGate) (input out : Placed) (fault : ReadFault) → length set ≤ 2 ^ 24 → MayNotBeInput set name input fault
     → IsWrongSingle set name input out fault
 wrong_input set name input out fault few wrong = λ token x z at_x at_z begun are.
     let not = may_not_be_input set begun name input x (token + 2) fault few are at_x wrong in
     inl (input_fault begun (record { reads = x ∷ []; sets = z; text = single_text name }) token 0 x (token + 2) fault refl
     (All-from_recursion (MayRead (single_text name) begun) [] tt) not (omega arith))
 
-pub wrong_single : (set : List Bool) (name : UnaryGate) (input out : Placed) (fault : ReadFault) → length set ≤ 2 ^ 20 → MayBeInput set name input → IsNoFreeWire set out fault
+pub wrong_single : (set : List Bool) (name : UnaryGate) (input out : Placed) (fault : ReadFault) → length set ≤ 2 ^ 24 → MayBeInput set name input → IsNoFreeWire set out fault
     → IsWrongSingle set name input out fault
 wrong_single set name input out fault few may wrong = λ token x z at_x at_z begun are.
     inr (record {
@@ -125,13 +125,13 @@ no_constant : (name : BinaryGate) → bytes_eq (pair_text name) (codes "EQ") ≡
 no_constant pair.And = refl
 no_constant pair.Xor = refl
 
-pub wrong_first : (set : List Bool) (name : BinaryGate) (a b out : Placed) (fault : ReadFault) → length set ≤ 2 ^ 20 → IsNoSetWire set a fault → IsWrongPair set name a b out fault
+pub wrong_first : (set : List Bool) (name : BinaryGate) (a b out : Placed) (fault : ReadFault) → length set ≤ 2 ^ 24 → IsNoSetWire set a fault → IsWrongPair set name a b out fault
 wrong_first set name a b out fault few wrong = λ token x y z at_x at_y at_z begun are.
     let not = may_not_read set begun a x (token + 2) (pair_text name) fault few are at_x (no_constant name) wrong in
     inl (input_fault begun (record { reads = x ∷ y ∷ []; sets = z; text = pair_text name }) token 0 x (token + 2) fault refl
     (All-from_recursion (MayRead (pair_text name) begun) [] tt) not (omega arith))
 
-pub wrong_second : (set : List Bool) (name : BinaryGate) (a b out : Placed) (fault : ReadFault) → length set ≤ 2 ^ 20 → flag_of set a.number ≡ true → IsNoSetWire set b fault
+pub wrong_second : (set : List Bool) (name : BinaryGate) (a b out : Placed) (fault : ReadFault) → length set ≤ 2 ^ 24 → flag_of set a.number ≡ true → IsNoSetWire set b fault
     → IsWrongPair set name a b out fault
 wrong_second set name a b out fault few on wrong = λ token x y z at_x at_y at_z begun are.
     let not = may_not_read set begun b y (token + 3) (pair_text name) fault few are at_y (no_constant name) wrong in
@@ -139,7 +139,7 @@ wrong_second set name a b out fault few on wrong = λ token x y z at_x at_y at_z
     (All-from_recursion (MayRead (pair_text name) begun) (x ∷ []) (may_read set begun a x (token + 2) (pair_text name) few are at_x (no_constant name) on, tt))
     not (omega arith))
 
-pub wrong_pair : (set : List Bool) (name : BinaryGate) (a b out : Placed) (fault : ReadFault) → length set ≤ 2 ^ 20 → flag_of set a.number ≡ true → flag_of set b.number ≡ true
+pub wrong_pair : (set : List Bool) (name : BinaryGate) (a b out : Placed) (fault : ReadFault) → length set ≤ 2 ^ 24 → flag_of set a.number ≡ true → flag_of set b.number ≡ true
     → IsNoFreeWire set out fault → IsWrongPair set name a b out fault
 wrong_pair set name a b out fault few on too wrong = λ token x y z at_x at_y at_z begun are.
     inr (record {

@@ -8,7 +8,7 @@ use Rattle.bristol_reader.specs.Wants.{IsPlaced, numbers_of, pair_text, single_t
 
 -- the first token of a text is this number, and this is the text after it
 pub record StartsNumber (text : List ℕ) (n : ℕ) (behind : List ℕ) : Type 0 where
-  pub small : n < 10 ^ 7
+  pub small : n < 10 ^ 8
   pub shorter : length behind < length text
   pub left : left_of text ≡ number n ∷ left_of behind
 

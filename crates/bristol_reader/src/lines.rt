@@ -1,5 +1,5 @@
 // Lines of gates that are read at once. A plain line has one space between tokens, as most have, and any blanks after the
-// name; a spaced one has any blanks anywhere. What is neither, as a number of eight digits, is read token by token.
+// name; a spaced one has any blanks anywhere. What is neither, as a number of nine digits, is read token by token.
 ghost use Rattle.std.specs.Prelude.{◌≡◌, ◌+◌, ◌<◌, ◌≤◌, true, [], ◌∷◌, ◌++◌, IfSome, length, take};
 ghost use Rattle.zk_model.specs.Bristol.{is_blank, tokens};
 ghost use Rattle.bristol_reader.specs.Wants.{pair_text, single_text};
@@ -68,12 +68,12 @@ fn next_token<const SPACED: bool>(text: &[u8]) -> &[u8]
     text
 }
 
-/// The number that a text begins with, if it has at most seven digits and its end after it, and the text after that.
+/// The number that a text begins with, if it has at most eight digits and its end after it, and the text after that.
 #[inline(always)]
 fn number_here<const SPACED: bool>(text: &[u8]) -> Option<(u32, &[u8])>
     ensures { IfSome result (λ r. StartsNumber text.now r.0 r.1.now) }
 {
-    let front = text.first_chunk::<8>()?;
+    let front = text.first_chunk::<9>()?;
     let mut value = 0;
     for (i, byte) in front.iter().enumerate() {
         let digit = digit_value(*byte);

@@ -19,7 +19,7 @@ use std::alloc::Global;
 ///
 /// # Errors
 ///
-/// `Fault` where the text is that of no circuit of at most 2^20 gates, 2^20 wires, and 1,024 values of inputs and of
+/// `Fault` where the text is that of no circuit of at most 2^24 gates, 2^24 wires, and 1,024 values of inputs and of
 /// outputs, with the text's first fault: that of the first token that is not what is wanted there, gate by gate, and
 /// in each gate before the faults of its wires, which go in their order; after all those that of the lowest output
 /// that is not set. `NoMemory` where memory runs out.

@@ -10,7 +10,7 @@ use Rattle.zk_model.specs.Bits.{from_bit, digits_of}
 use Rattle.zk_model.specs.Field.{IsElement}
 use Rattle.zk_model.specs.Circuit.{output_wire}
 use Rattle.circuit_laws.specs.Circuits.{CircuitIsStatement}
-use Rattle.frame_laws.proofs.Octets.{sha256_octets}
+use Rattle.zk_model.proofs.Octets.{sha256_octets}
 use Rattle.circuit_laws.proofs.BitsSolve.{bit_element}
 use Rattle.circuit_laws.proofs.CircuitIsProgram.{circuit_is_program}
 

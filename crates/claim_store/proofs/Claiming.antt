@@ -34,17 +34,17 @@ if_also : {P Q : List ℕ → Type 0} (o : Option (List ℕ)) → IfSome o P →
 if_also None none wider = tt
 if_also (Some bytes) p wider = wider bytes p
 
+-- bodies that have these ranges say them
+ranges_said : (total begin slots generation : ℕ) (claims : List Span) (bodies : List (ℕ × ℕ)) (bytes : List ℕ) → HaveRanges total claims generation bodies
+    → SaysTwin begin slots generation bodies bytes → SaysClaims total begin slots claims bytes
+ranges_said total begin slots generation claims bodies bytes have says =
+    record { generation = generation; bodies = bodies; says = says; may_have = have.may_have; sound = have.sound; merged = have.merged }
+
 -- what is known of the content says the claims
 says_of : {D : Type 0} (disk_state : D → DiskState) (journal : TwinState D) (total : ℕ) (claims : List Span) (bytes : List ℕ)
     → AreKnown disk_state journal total claims bytes → SaysClaims total journal.begin journal.slots claims bytes
-says_of disk_state journal total claims bytes known = record {
-  generation = journal.generation;
-  bodies = known.bodies;
-  says = record { second = journal.second; area = known.kept.area };
-  may_have = known.have.may_have;
-  sound = known.have.sound;
-  merged = known.have.merged;
-}
+says_of disk_state journal total claims bytes known =
+    ranges_said total journal.begin journal.slots journal.generation claims known.bodies bytes known.have (record { second = journal.second; area = known.kept.area })
 
 -- what a store keeps says that its claims are durable
 pub durable_of : {D : Type 0} (disk_state : D → DiskState) (journal : TwinState D) (total : ℕ) (claims : List Span) → IsKept disk_state journal total claims
@@ -154,32 +154,15 @@ module _ (total : ℕ) (claims : List Span) (s : Span) (sound : AreClaims total 
     pub old_or_new : (begin slots used : ℕ) (image : List ℕ)
         → twins.SaysOldOrNew begin slots generation bodies (next_generation used slots generation) (next_bodies used slots bodies s (with_span s claims)) image
         → SaysOldOrNew total begin slots claims s image
-    old_or_new begin slots used image one = ⊎_elim old new one.says where
-      old : SaysTwin begin slots generation bodies image → SaysOldOrNew total begin slots claims s image
-      old says = inl (record {
-        generation = generation;
-        bodies = bodies;
-        says = says;
-        may_have = have.may_have;
-        sound = have.sound;
-        merged = have.merged;
-      })
-
-      new : SaysTwin begin slots (next_generation used slots generation) (next_bodies used slots bodies s (with_span s claims)) image → SaysOldOrNew total begin slots claims s image
-      new says =
-          let next = have_next used slots in
-          inr (record {
-            ranges = with_span s claims;
-            merged = with_merged;
-            says = record {
-              generation = next_generation used slots generation;
-              bodies = next_bodies used slots bodies s (with_span s claims);
-              says = says;
-              may_have = next.may_have;
-              sound = next.sound;
-              merged = next.merged;
-            };
-          })
+    old_or_new begin slots used image one = ⊎_elim
+        (λ says. inl (ranges_said total begin slots generation claims bodies image have says))
+        (λ says. inr (record {
+          ranges = with_span s claims;
+          merged = with_merged;
+          says = ranges_said total begin slots (next_generation used slots generation) (with_span s claims) (next_bodies used slots bodies s (with_span s claims)) image
+              (have_next used slots) says;
+        }))
+        one.says
 
 -- ---- the store
 

@@ -1,5 +1,5 @@
 -- Ranges with a span that meets none of them.
-use Rattle.std.proofs.Common.{◌≡◌, ℕ, suc, ◌+◌, ◌-◌, ◌<◌, ◌≤◌, ◌⊎◌, inl, inr, max, Bool, true, false, ◌||◌, List, [], ◌∷◌, ◌++◌, length, get_or, sum_by, All, nat_eq, nat_lt, refl, ap, sym, ◌∙◌, arith}
+use Rattle.std.proofs.Common.{◌≡◌, ℕ, suc, ◌+◌, ◌-◌, ◌<◌, ◌≤◌, ◌⊎◌, inl, inr, max, Bool, true, false, ◌||◌, List, [], ◌∷◌, ◌++◌, length, get_or, sum_by, All, nat_eq, nat_lt, if◌then◌else◌, refl, ap, sym, ◌∙◌, arith}
 use Rattle.std.proofs.lemmas.Bool.{or_parts, and_cases, ltb-true, ltb-false, lt-ltb, le-ltb, eqb-true, eqb-false}
 use Rattle.std.proofs.lemmas.Bool.Decides.{nat_tests}
 use Rattle.std.proofs.lemmas.List.Folds.{list_any-append}
@@ -16,14 +16,21 @@ apart_of r s none = by (and_cases (nat_lt r.start s.end) (nat_lt s.start r.end) 
   by (inl e) = inr (ltb-false r.start s.end e)
   by (inr e) = inl (ltb-false s.start r.end e)
 
+-- a span touches the next one, or not
+by_touch : (a b : ℕ) (P : Bool → Type 0) → (a ≡ b → P true) → ((a ≡ b → ⊥) → P false) → P (nat_eq a b)
+by_touch a b P touch apart = by (nat_eq a b) refl where
+  by : (t : Bool) → nat_eq a b ≡ t → P (nat_eq a b)
+  by true e = rw e (touch (eqb-true a b e))
+  by false e = rw e (apart (eqb-false a b e))
+
 -- ---- they rise
 
 before_rises : (low : ℕ) (s : Span) (ranges : List Span) → low ≤ s.start → s.start < s.end → RiseFrom s.end ranges → RiseFrom low (before_ranges s ranges)
 before_rises low s [] above some rise = (above, some, tt)
-before_rises low s (r ∷ ranges) above some rise = by (nat_eq s.end r.start) refl where
-  by : (b : Bool) → nat_eq s.end r.start ≡ b → RiseFrom low (before_ranges s (r ∷ ranges))
-  by true e = rw e (above, omega (arith, some, rise.0, rise.1), rise.2)
-  by false e = rw e (above, some, (omega (arith, eqb-false s.end r.start e, rise.0), rise.1, rise.2))
+before_rises low s (r ∷ ranges) above some rise = by_touch s.end r.start
+    (λ t. RiseFrom low (if t then span s.start r.end ∷ ranges else s ∷ r ∷ ranges))
+    (λ touch. (above, omega (arith, touch, some, rise.1), rise.2))
+    (λ apart. (above, some, (omega (arith, apart, rise.0), rise.1, rise.2)))
 
 -- those after a range that ends before a span, or where it starts, lie behind it, where they don't meet it
 behind_span : (low : ℕ) (s : Span) (ranges : List Span) → RiseFrom low ranges → s.start < low → meets_any s ranges ≡ false → RiseFrom s.end ranges
@@ -36,21 +43,17 @@ behind_span low s (r ∷ ranges) rise below none = by (apart_of r s (or_parts (m
 among_rises : (low : ℕ) (s : Span) (ranges : List Span) → low ≤ s.start → s.start < s.end → RiseFrom low ranges → meets_any s ranges ≡ false
     → ((d : Span) → 0 < length ranges → s.start ≤ (get_or ranges 0 d).end) → RiseFrom low (among_ranges s ranges)
 among_rises low s [] above some rise none reach = (above, some, tt)
-among_rises low s (r ∷ ranges) above some rise none reach = by (nat_eq r.end s.start) refl where
-  rest : meets_any s ranges ≡ false
-  rest = (or_parts (meets r s) (meets_any s ranges) none).1
+among_rises low s (r ∷ ranges) above some rise none reach = by_touch r.end s.start
+    (λ t. RiseFrom low (if t then before_ranges (span r.start s.end) ranges else before_ranges s (r ∷ ranges)))
+    (λ touch. before_rises low (span r.start s.end) ranges rise.0 (omega (arith, rise.1, touch, some)) (behind_span (r.end + 1) s ranges rise.2 (omega (arith, touch)) rest))
+    (λ apart. before_rises low s (r ∷ ranges) above some (ahead (apart_of r s (or_parts (meets r s) (meets_any s ranges) none).0) apart))
+  where
+    rest : meets_any s ranges ≡ false
+    rest = (or_parts (meets r s) (meets_any s ranges) none).1
 
-  ahead : IsApart r s → (r.end ≡ s.start → ⊥) → RiseFrom s.end (r ∷ ranges)
-  ahead (inl e) apart = absurd (omega (arith, e, apart, reach r (omega arith)))
-  ahead (inr e) apart = (e, rise.1, rise.2)
-
-  by : (b : Bool) → nat_eq r.end s.start ≡ b → RiseFrom low (among_ranges s (r ∷ ranges))
-  by true e =
-      let touch : r.end ≡ s.start = eqb-true r.end s.start e in
-      rw e (before_rises low (span r.start s.end) ranges rise.0 (omega (arith, rise.1, touch, some))
-      (behind_span (r.end + 1) s ranges rise.2 (omega (arith, touch)) rest))
-  by false e = rw e (before_rises low s (r ∷ ranges) above some
-      (ahead (apart_of r s (or_parts (meets r s) (meets_any s ranges) none).0) (eqb-false r.end s.start e)))
+    ahead : IsApart r s → (r.end ≡ s.start → ⊥) → RiseFrom s.end (r ∷ ranges)
+    ahead (inl e) apart = absurd (omega (arith, e, apart, reach r (omega arith)))
+    ahead (inr e) apart = (e, rise.1, rise.2)
 
 pub with_rises : (low : ℕ) (s : Span) (ranges : List Span) → low ≤ s.start → s.start < s.end → RiseFrom low ranges → meets_any s ranges ≡ false
     → RiseFrom low (with_span s ranges)
@@ -102,25 +105,23 @@ joined_units unit a b c ranges low high =
 
 before_units : (s : Span) (ranges : List Span) (unit : ℕ) → s.start < s.end → HaveEnds ranges → is_claimed (before_ranges s ranges) unit ≡ is_claimed (s ∷ ranges) unit
 before_units s [] unit some all = refl
-before_units s (r ∷ ranges) unit some all = by (nat_eq s.end r.start) refl where
-  by : (b : Bool) → nat_eq s.end r.start ≡ b → is_claimed (before_ranges s (r ∷ ranges)) unit ≡ is_claimed (s ∷ r ∷ ranges) unit
-  by true e =
-      let touch : s.end ≡ r.start = eqb-true s.end r.start e in
-      rw e (joined_units unit s.start s.end r.end ranges (omega (arith, some)) (omega (arith, touch, all.0))
-      ∙ ap (λ n. is_claimed (s ∷ span n r.end ∷ ranges) unit) touch)
-  by false e = rw e refl
+before_units s (r ∷ ranges) unit some all = by_touch s.end r.start
+    (λ t. is_claimed (if t then span s.start r.end ∷ ranges else s ∷ r ∷ ranges) unit ≡ is_claimed (s ∷ r ∷ ranges) unit)
+    (λ touch.
+    joined_units unit s.start s.end r.end ranges (omega (arith, some)) (omega (arith, touch, all.0))
+    ∙ ap (λ n. is_claimed (s ∷ span n r.end ∷ ranges) unit) touch)
+    (λ apart. refl)
 
 among_units : (s : Span) (ranges : List Span) (unit : ℕ) → s.start < s.end → HaveEnds ranges → is_claimed (among_ranges s ranges) unit ≡ is_claimed (s ∷ ranges) unit
 among_units s [] unit some all = refl
-among_units s (r ∷ ranges) unit some all = by (nat_eq r.end s.start) refl where
-  by : (b : Bool) → nat_eq r.end s.start ≡ b → is_claimed (among_ranges s (r ∷ ranges)) unit ≡ is_claimed (s ∷ r ∷ ranges) unit
-  by true e =
-      let touch : r.end ≡ s.start = eqb-true r.end s.start e in
-      rw e (before_units (span r.start s.end) ranges unit (omega (arith, all.0, touch, some)) all.1
-      ∙ joined_units unit r.start r.end s.end ranges all.0 (omega (arith, touch, some))
-      ∙ ap (λ n. is_claimed (r ∷ span n s.end ∷ ranges) unit) touch
-      ∙ or_swap (has_unit unit r) (has_unit unit s) (is_claimed ranges unit))
-  by false e = rw e (before_units s (r ∷ ranges) unit some all)
+among_units s (r ∷ ranges) unit some all = by_touch r.end s.start
+    (λ t. is_claimed (if t then before_ranges (span r.start s.end) ranges else before_ranges s (r ∷ ranges)) unit ≡ is_claimed (s ∷ r ∷ ranges) unit)
+    (λ touch.
+    before_units (span r.start s.end) ranges unit (omega (arith, all.0, touch, some)) all.1
+    ∙ joined_units unit r.start r.end s.end ranges all.0 (omega (arith, touch, some))
+    ∙ ap (λ n. is_claimed (r ∷ span n s.end ∷ ranges) unit) touch
+    ∙ or_swap (has_unit unit r) (has_unit unit s) (is_claimed ranges unit))
+    (λ apart. before_units s (r ∷ ranges) unit some all)
 
 pub with_units : (s : Span) (ranges : List Span) (unit : ℕ) → s.start < s.end → HaveEnds ranges → is_claimed (with_span s ranges) unit ≡ is_claimed (s ∷ ranges) unit
 with_units s [] unit some all = refl
@@ -167,33 +168,31 @@ units_of spans = sum_by (λ s. s.end - s.start) spans
 
 before_count : (s : Span) (ranges : List Span) → s.start < s.end → HaveEnds ranges → units_of (before_ranges s ranges) ≡ (s.end - s.start) + units_of ranges
 before_count s [] some all = sum_by-cons (λ (c : Span). c.end - c.start) s []
-before_count s (r ∷ ranges) some all = by (nat_eq s.end r.start) refl where
-  by : (b : Bool) → nat_eq s.end r.start ≡ b → units_of (before_ranges s (r ∷ ranges)) ≡ (s.end - s.start) + units_of (r ∷ ranges)
-  by true e = rw e (omega (
-    arith,
-    some,
-    all.0,
-    eqb-true s.end r.start e,
-    sum_by-cons (λ (c : Span). c.end - c.start) (span s.start r.end) ranges,
-    sum_by-cons (λ (c : Span). c.end - c.start) r ranges,
-  ))
-  by false e = rw e (sum_by-cons (λ (c : Span). c.end - c.start) s (r ∷ ranges))
+before_count s (r ∷ ranges) some all = by_touch s.end r.start
+    (λ t. units_of (if t then span s.start r.end ∷ ranges else s ∷ r ∷ ranges) ≡ (s.end - s.start) + units_of (r ∷ ranges))
+    (λ touch. omega (
+      arith,
+      some,
+      all.0,
+      touch,
+      sum_by-cons (λ (c : Span). c.end - c.start) (span s.start r.end) ranges,
+      sum_by-cons (λ (c : Span). c.end - c.start) r ranges,
+    ))
+    (λ apart. sum_by-cons (λ (c : Span). c.end - c.start) s (r ∷ ranges))
 
 among_count : (s : Span) (ranges : List Span) → s.start < s.end → HaveEnds ranges → units_of (among_ranges s ranges) ≡ (s.end - s.start) + units_of ranges
 among_count s [] some all = sum_by-cons (λ (c : Span). c.end - c.start) s []
-among_count s (r ∷ ranges) some all = by (nat_eq r.end s.start) refl where
-  by : (b : Bool) → nat_eq r.end s.start ≡ b → units_of (among_ranges s (r ∷ ranges)) ≡ (s.end - s.start) + units_of (r ∷ ranges)
-  by true e =
-      let touch : r.end ≡ s.start = eqb-true r.end s.start e in
-      rw e (omega (
-        arith,
-        some,
-        all.0,
-        touch,
-        before_count (span r.start s.end) ranges (omega (arith, all.0, touch, some)) all.1,
-        sum_by-cons (λ (c : Span). c.end - c.start) r ranges,
-      ))
-  by false e = rw e (before_count s (r ∷ ranges) some all)
+among_count s (r ∷ ranges) some all = by_touch r.end s.start
+    (λ t. units_of (if t then before_ranges (span r.start s.end) ranges else before_ranges s (r ∷ ranges)) ≡ (s.end - s.start) + units_of (r ∷ ranges))
+    (λ touch. omega (
+      arith,
+      some,
+      all.0,
+      touch,
+      before_count (span r.start s.end) ranges (omega (arith, all.0, touch, some)) all.1,
+      sum_by-cons (λ (c : Span). c.end - c.start) r ranges,
+    ))
+    (λ apart. before_count s (r ∷ ranges) some all)
 
 pub with_count : (s : Span) (ranges : List Span) → s.start < s.end → HaveEnds ranges → units_of (with_span s ranges) ≡ (s.end - s.start) + units_of ranges
 with_count s [] some all = sum_by-cons (λ (c : Span). c.end - c.start) s []
@@ -214,17 +213,14 @@ with_units_count s ranges some rise = with_count s ranges some (ends_of 0 ranges
 -- one range more at most
 before_length : (s : Span) (ranges : List Span) → length (before_ranges s ranges) ≤ length ranges + 1
 before_length s [] = omega arith
-before_length s (r ∷ ranges) = by (nat_eq s.end r.start) refl where
-  by : (b : Bool) → nat_eq s.end r.start ≡ b → length (before_ranges s (r ∷ ranges)) ≤ length (r ∷ ranges) + 1
-  by true e = rw e (omega arith)
-  by false e = rw e (omega arith)
+before_length s (r ∷ ranges) = by_touch s.end r.start (λ t. length (if t then span s.start r.end ∷ ranges else s ∷ r ∷ ranges) ≤ length (r ∷ ranges) + 1)
+    (λ touch. omega arith) (λ apart. omega arith)
 
 among_length : (s : Span) (ranges : List Span) → length (among_ranges s ranges) ≤ length ranges + 1
 among_length s [] = omega arith
-among_length s (r ∷ ranges) = by (nat_eq r.end s.start) refl where
-  by : (b : Bool) → nat_eq r.end s.start ≡ b → length (among_ranges s (r ∷ ranges)) ≤ length (r ∷ ranges) + 1
-  by true e = rw e (omega (arith, before_length (span r.start s.end) ranges))
-  by false e = rw e (before_length s (r ∷ ranges))
+among_length s (r ∷ ranges) = by_touch r.end s.start
+    (λ t. length (if t then before_ranges (span r.start s.end) ranges else before_ranges s (r ∷ ranges)) ≤ length (r ∷ ranges) + 1)
+    (λ touch. omega (arith, before_length (span r.start s.end) ranges)) (λ apart. before_length s (r ∷ ranges))
 
 pub with_length : (s : Span) (ranges : List Span) → length (with_span s ranges) ≤ length ranges + 1
 with_length s [] = omega arith

@@ -1,5 +1,5 @@
 // Ranges as the bodies of a journal.
-ghost use Rattle.std.specs.Prelude.{◌≡◌, ◌∷◌, [], ℕ, List, drop, length, ◌≤◌};
+ghost use Rattle.std.specs.Prelude.{◌≡◌, drop};
 ghost use Rattle.claim_store.specs.Claims.{bodies_of};
 
 use twin_journal::Bodies;

@@ -1,5 +1,5 @@
 // Ranges of units that rise, no two of which touch.
-ghost use Rattle.std.specs.Prelude.{◌≡◌, ◌<◌, ◌≤◌, ◌+◌, ◌++◌, ◌∷◌, [], ℕ, length, take, drop, slice_index_or, OnOk};
+ghost use Rattle.std.specs.Prelude.{◌≡◌, ◌<◌, ◌≤◌, ◌+◌, ◌++◌, ◌∷◌, ℕ, length, take, drop, slice_index_or, OnOk};
 ghost use Rattle.zk_model.specs.ClaimedRanges.{RiseFrom};
 ghost use Rattle.zk_model.specs.declared.Span.{Span};
 ghost use Rattle.claim_store.specs.Claims.{first_met, may_follow};

@@ -1,5 +1,5 @@
 // How claims are read from a journal.
-ghost use Rattle.std.specs.Prelude.{◌≡◌, ◌<◌, ◌≤◌, ◌+◌, ℕ, List, length, Some, IfOk, IfErr, OnOk};
+ghost use Rattle.std.specs.Prelude.{◌≡◌, ◌<◌, ◌≤◌, ℕ, List, length, Some, IfOk, IfErr, OnOk};
 ghost use Rattle.zk_port.specs.Disks.{Stays};
 ghost use Rattle.zk_model.specs.ClaimedRanges.{AreMerged, RiseFrom};
 ghost use Rattle.zk_model.specs.Journals.{first_bodies};

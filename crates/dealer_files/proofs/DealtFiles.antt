@@ -1,5 +1,5 @@
 -- The two files that a seed gives are files: everything has its length and its range.
-use Rattle.std.proofs.Common.{◌≡◌, ℕ, zero, suc, ◌+◌, ◌*◌, ◌/◌, ◌%◌, ◌<◌, Bool, true, false, List, [], ◌∷◌, ◌++◌, map, length, if◌then◌else◌, refl, ap, sym, ◌∙◌, subst, arith}
+use Rattle.std.proofs.Common.{◌≡◌, ℕ, zero, suc, ◌+◌, ◌*◌, ◌/◌, ◌%◌, ◌<◌, ◌≤◌, nat_le, rules, Bool, true, false, List, [], ◌∷◌, ◌++◌, map, length, if◌then◌else◌, refl, ap, sym, ◌∙◌, subst, arith}
 use Rattle.std.proofs.Math.Dec.{eqb-suc-zero}
 use Rattle.std.specs.Prelude.{All}
 use Rattle.std.specs.List.{range_with_len, AllByRecursion}
@@ -12,11 +12,13 @@ use Rattle.zk_model.specs.Bytes.{LeftRight, AreBothBytes, AreBytes}
 use Rattle.zk_model.specs.Mac.{fitting_key}
 use Rattle.zk_model.specs.Coins.{coin_word}
 use Rattle.zk_model.specs.Extension.{choice_of}
-use Rattle.zk_model.specs.Dealing.{some_key, stream_bytes, pad_at, dealt_pair, dealt_pairs, dealt_pads, dealt_transfer, dealt_key, dealt_code_seed, by_transfer, dealt_prover_unit, dealt_verifier_unit, dealt_prover, dealt_verifier}
-use Rattle.zk_model.specs.Files.{IsCodeSeed, IsProverUnit, IsVerifierUnit, IsProverFile, IsVerifierFile, AreParams, AreTransfers, dealt_per_unit}
+use Rattle.zk_model.specs.Dealing.{some_key, stream_bytes, pad_at, dealt_pair, dealt_pairs, dealt_pads, dealt_transfer, dealt_key, dealt_code_seed, dealt_version, by_transfer, dealt_prover_unit, dealt_verifier_unit, dealt_prover, dealt_verifier}
+use Rattle.zk_model.specs.Files.{IsCodeSeed, IsProverUnit, IsVerifierUnit, IsProverFile, IsVerifierFile, AreParams, AreTransfers, dealt_per_unit, most_units}
+use Rattle.zk_model.specs.declared.FileVersion.TheVariants.{First, Second}
 use Rattle.zk_model.specs.declared.Kind.{Kind}
 use Rattle.zk_model.specs.declared.Kind.TheVariants.{Direct, Extended}
 use Rattle.zk_model.specs.declared.Params.{Params}
+use Rattle.zk_model.specs.declared.limits.TheConstants.{MAX_DEALT_AS_FIRST, MAX_DEALT_UNITS}
 use Rattle.dealer_files.proofs.DealtPairs.{some_key_set}
 
 -- ---- bytes
@@ -118,10 +120,19 @@ verifier_unit_is params seed unit = record {
 
 -- ---- files
 
+-- so many units are dealt in a version that has room for them
+dealt_most : (total : ℕ) → total ≤ MAX_DEALT_UNITS → total ≤ most_units (dealt_version total)
+dealt_most total most = by_size (nat_le total MAX_DEALT_AS_FIRST) refl
+  where
+    by_size : (few : Bool) → nat_le total MAX_DEALT_AS_FIRST ≡ few → total ≤ most_units (if few then First else Second)
+    by_size true is = let low : total ≤ MAX_DEALT_AS_FIRST = search (rules, is) in omega (arith, low)
+    by_size false is = most
+
 -- the prover's file is one
 pub prover_file_is : (params : Params) (seed : List ℕ) → AreParams params → IsProverFile (dealt_prover params seed)
 prover_file_is params seed are = record {
   params = are;
+  most = dealt_most params.total are.total;
   id = stream_octets seed 0;
   coin_key = stream_octets seed 1;
   code_seed = code_seed_is params.kind seed;
@@ -138,6 +149,7 @@ key_element (suc element) is =
 pub verifier_file_is : (params : Params) (seed : List ℕ) → AreParams params → IsVerifierFile (dealt_verifier params seed)
 verifier_file_is params seed are = record {
   params = are;
+  most = dealt_most params.total are.total;
   key = key_element (from_word (coin_word seed 4 0)) (word_element (coin_word seed 4 0));
   key_set = some_key_set (from_word (coin_word seed 4 0));
   id = stream_octets seed 0;

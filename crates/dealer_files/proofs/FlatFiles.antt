@@ -7,7 +7,8 @@ use Rattle.std.proofs.lemmas.List.FromFn.{length-map-range_with_len}
 use Rattle.zk_model.specs.Bytes.{LeftRight}
 use Rattle.zk_model.specs.Mac.{Pair, fitting_key}
 use Rattle.zk_model.specs.Files.{Transfer, ProverUnit, VerifierUnit, span_pairs, span_dealt_keys, prover_unit, verifier_unit, unit_transfers, unit_pads, dealt_per_unit}
-use Rattle.zk_model.specs.Dealing.{by_transfer, dealt_pair, dealt_pairs, dealt_pads, dealt_transfer, dealt_key, dealt_code_seed, stream_bytes, dealt_prover_unit, dealt_verifier_unit, dealt_prover, dealt_verifier}
+use Rattle.zk_model.specs.Dealing.{by_transfer, dealt_pair, dealt_pairs, dealt_pads, dealt_transfer, dealt_key, dealt_code_seed, dealt_version, stream_bytes, dealt_prover_unit, dealt_verifier_unit, dealt_prover, dealt_verifier}
+use Rattle.zk_model.specs.declared.FileVersion.{FileVersion}
 use Rattle.zk_model.specs.declared.Params.{Params}
 use Rattle.zk_model.specs.declared.Span.{Span}
 use Rattle.dealer_files.specs.Flat.{piece, transfers_per_unit, unit_by_unit, trees_of, flat_prover_unit, flat_verifier_unit, flat_prover, flat_verifier, AreWhole}
@@ -49,12 +50,13 @@ trees_at params item items are unit below =
 -- ---- files
 
 -- flat lists of the dealt pairs and transfers are the prover's dealt file
-pub prover_is : (params : Params) (seed id coin_key code_seed : List ℕ) (pairs : List Pair) (transfers : List Transfer)
-    → id ≡ stream_bytes seed 0 → coin_key ≡ stream_bytes seed 1 → code_seed ≡ dealt_code_seed params.kind seed
+pub prover_is : (version : FileVersion) (params : Params) (seed id coin_key code_seed : List ℕ) (pairs : List Pair) (transfers : List Transfer)
+    → version ≡ dealt_version params.total → id ≡ stream_bytes seed 0 → coin_key ≡ stream_bytes seed 1 → code_seed ≡ dealt_code_seed params.kind seed
     → pairs ≡ flat_map (dealt_pairs params seed) (range_with_len 0 params.total)
     → transfers ≡ unit_by_unit params (dealt_transfer seed)
-    → flat_prover params id coin_key code_seed pairs transfers ≡ dealt_prover params seed
-prover_is params seed id coin_key code_seed pairs transfers at_id at_key at_seed are made = λ i. record {
+    → flat_prover version params id coin_key code_seed pairs transfers ≡ dealt_prover params seed
+prover_is version params seed id coin_key code_seed pairs transfers at_version at_id at_key at_seed are made = λ i. record {
+  version = at_version i;
   id = at_id i;
   params = params;
   coin_key = at_key i;
@@ -67,13 +69,14 @@ prover_is params seed id coin_key code_seed pairs transfers at_id at_key at_seed
 }
 
 -- and of the keys that fit the pairs and both pads the verifier's
-pub verifier_is : (params : Params) (seed id coin_key code_seed : List ℕ) (key : ℕ) (pairs : List Pair) (keys : List ℕ) (pads : List LeftRight)
-    → id ≡ stream_bytes seed 0 → coin_key ≡ stream_bytes seed 2 → code_seed ≡ dealt_code_seed params.kind seed → key ≡ dealt_key seed
+pub verifier_is : (version : FileVersion) (params : Params) (seed id coin_key code_seed : List ℕ) (key : ℕ) (pairs : List Pair) (keys : List ℕ) (pads : List LeftRight)
+    → version ≡ dealt_version params.total → id ≡ stream_bytes seed 0 → coin_key ≡ stream_bytes seed 2 → code_seed ≡ dealt_code_seed params.kind seed → key ≡ dealt_key seed
     → keys ≡ map (fitting_key key) pairs
     → pairs ≡ flat_map (dealt_pairs params seed) (range_with_len 0 params.total)
     → pads ≡ unit_by_unit params (dealt_pads seed)
-    → flat_verifier params id coin_key code_seed key keys pads ≡ dealt_verifier params seed
-verifier_is params seed id coin_key code_seed key pairs keys pads at_id at_key at_seed is fit are made = λ i. record {
+    → flat_verifier version params id coin_key code_seed key keys pads ≡ dealt_verifier params seed
+verifier_is version params seed id coin_key code_seed key pairs keys pads at_version at_id at_key at_seed is fit are made = λ i. record {
+  version = at_version i;
   id = at_id i;
   params = params;
   coin_key = at_key i;
@@ -119,37 +122,37 @@ verifier_whole params seed key pairs keys pads fit are made = record {
 -- ---- spans
 
 -- the pairs of a span are a range of the flat list
-pub span_pairs_are : (params : Params) (id coin_key code_seed : List ℕ) (pairs : List Pair) (transfers : List Transfer) (span : Span)
+pub span_pairs_are : (version : FileVersion) (params : Params) (id coin_key code_seed : List ℕ) (pairs : List Pair) (transfers : List Transfer) (span : Span)
     → span.start ≤ span.end → span.end ≤ params.total
     → slice_range pairs (dealt_per_unit params * span.start) (dealt_per_unit params * span.end)
-    ≡ span_pairs (flat_prover params id coin_key code_seed pairs transfers) span
-span_pairs_are params id coin_key code_seed pairs transfers span order within =
+    ≡ span_pairs (flat_prover version params id coin_key code_seed pairs transfers) span
+span_pairs_are version params id coin_key code_seed pairs transfers span order within =
     sym (joined_parts {A = Pair} {U = ProverUnit} (λ unit. unit.pairs) (flat_prover_unit params pairs transfers) (record { pairs = []; trees = [] })
     (dealt_per_unit params) params.total pairs span.start span.end (λ u. refl) order within)
 
 -- and so are the keys
-pub span_keys_are : (params : Params) (id coin_key code_seed : List ℕ) (key : ℕ) (keys : List ℕ) (pads : List LeftRight) (span : Span)
+pub span_keys_are : (version : FileVersion) (params : Params) (id coin_key code_seed : List ℕ) (key : ℕ) (keys : List ℕ) (pads : List LeftRight) (span : Span)
     → span.start ≤ span.end → span.end ≤ params.total
     → slice_range keys (dealt_per_unit params * span.start) (dealt_per_unit params * span.end)
-    ≡ span_dealt_keys (flat_verifier params id coin_key code_seed key keys pads) span
-span_keys_are params id coin_key code_seed key keys pads span order within =
+    ≡ span_dealt_keys (flat_verifier version params id coin_key code_seed key keys pads) span
+span_keys_are version params id coin_key code_seed key keys pads span order within =
     sym (joined_parts {A = ℕ} {U = VerifierUnit} (λ unit. unit.keys) (flat_verifier_unit params keys pads) (record { keys = []; trees = [] })
     (dealt_per_unit params) params.total keys span.start span.end (λ u. refl) order within)
 
 -- the transfers of a unit are a range of the flat list, and so are both pads
-pub unit_transfers_are : (params : Params) (id coin_key code_seed : List ℕ) (pairs : List Pair) (transfers : List Transfer) (unit : ℕ) → AreWhole params pairs transfers
+pub unit_transfers_are : (version : FileVersion) (params : Params) (id coin_key code_seed : List ℕ) (pairs : List Pair) (transfers : List Transfer) (unit : ℕ) → AreWhole params pairs transfers
     → unit < params.total
     → slice_range transfers (transfers_per_unit params * unit) (transfers_per_unit params * (unit + 1))
-    ≡ unit_transfers (prover_unit (flat_prover params id coin_key code_seed pairs transfers) unit)
-unit_transfers_are params id coin_key code_seed pairs transfers unit whole below =
+    ≡ unit_transfers (prover_unit (flat_prover version params id coin_key code_seed pairs transfers) unit)
+unit_transfers_are version params id coin_key code_seed pairs transfers unit whole below =
     unit_items_are {A = Transfer} {U = ProverUnit} params (λ unit. unit.trees) (flat_prover_unit params pairs transfers)
     (record { pairs = []; trees = [] }) transfers unit whole.transfers below (λ u. refl)
 
-pub unit_pads_are : (params : Params) (id coin_key code_seed : List ℕ) (key : ℕ) (keys : List ℕ) (pads : List LeftRight) (unit : ℕ) → AreWhole params keys pads
+pub unit_pads_are : (version : FileVersion) (params : Params) (id coin_key code_seed : List ℕ) (key : ℕ) (keys : List ℕ) (pads : List LeftRight) (unit : ℕ) → AreWhole params keys pads
     → unit < params.total
     → slice_range pads (transfers_per_unit params * unit) (transfers_per_unit params * (unit + 1))
-    ≡ unit_pads (verifier_unit (flat_verifier params id coin_key code_seed key keys pads) unit)
-unit_pads_are params id coin_key code_seed key keys pads unit whole below =
+    ≡ unit_pads (verifier_unit (flat_verifier version params id coin_key code_seed key keys pads) unit)
+unit_pads_are version params id coin_key code_seed key keys pads unit whole below =
     unit_items_are {A = LeftRight} {U = VerifierUnit} params (λ unit. unit.trees) (flat_verifier_unit params keys pads)
     (record { keys = []; trees = [] }) pads unit whole.transfers below (λ u. refl)
 

@@ -1,5 +1,5 @@
 -- Blocks that are read one after another, and where the first fault stands.
-use Rattle.std.proofs.Common.{◌≡◌, ℕ, zero, suc, ◌+◌, ◌*◌, ◌<◌, ◌≤◌, List, [], ◌∷◌, ◌++◌, length, flat_map, take, drop, refl, ap, sym, ◌∙◌, arith, subst, inl, inr, length-append, length-drop, mul-le-mul_left}
+use Rattle.std.proofs.Common.{◌≡◌, ℕ, zero, suc, ◌+◌, ◌*◌, ◌^◌, ◌<◌, ◌≤◌, List, [], ◌∷◌, ◌++◌, length, flat_map, take, drop, refl, ap, sym, ◌∙◌, arith, subst, inl, inr, length-append, length-drop, mul-le-mul_left, mul-le-mul_right}
 use Rattle.std.specs.Prelude.{◌⊎◌, All, slice_index}
 use Rattle.std.proofs.lemmas.List.{take_all, drop-drop}
 use Rattle.std.proofs.lemmas.List.Elements.{All-from_recursion, All-append}
@@ -10,12 +10,23 @@ use Rattle.zk_model.specs.FileFaults.{word64_at, params_at, block_length, block_
 use Rattle.zk_model.specs.declared.Params.{Params}
 use Rattle.zk_model.specs.declared.Side.{Side}
 use Rattle.zk_model.specs.declared.Side.TheVariants.{Prover, Verifier}
+use Rattle.zk_model.specs.declared.limits.TheConstants.{MAX_DEALT_UNITS}
 use Rattle.dealer_files.specs.Flat.{piece, transfers_per_unit}
 use Rattle.dealer_files.specs.Faults.{HasBody, IsFirstFault}
 use Rattle.dealer_files.specs.Reading.{Spelled, a_pair, a_transfer, AreAppended, AreElements, AreBits, IsElementFault, IsElementFaultOr, IsBitFaultOr, IsUnitInRange, AreBlocks}
 use Rattle.dealer_files.specs.declared.fault.FileFault.{FileFault}
 use Rattle.dealer_files.specs.declared.fault.FileFault.TheVariants.{BadMagic, BadKind, BadParam, Length, BadElement, ZeroKey, BadDigest, NoMemory}
 use Rattle.dealer_files.proofs.ReadItems.{le_or_more}
+
+-- ---- places
+
+-- a unit's block begins at a place that a word can name
+pub start_fits : (size unit total : ℕ) → size ≤ 2 ^ 21 → unit < total → total ≤ MAX_DEALT_UNITS → size * unit ≤ 2 ^ 61
+start_fits size unit total small below most =
+    let first : size * unit ≤ 2 ^ 21 * unit = mul-le-mul_right unit small in
+    let few : unit ≤ 2 ^ 40 = omega (arith, below, most) in
+    let second : 2 ^ 21 * unit ≤ 2 ^ 21 * 2 ^ 40 = mul-le-mul_left (2 ^ 21) few in
+    omega (arith, first, second)
 
 -- ---- pieces
 

@@ -10,9 +10,10 @@ use Rattle.sha2.specs.Sha256.{sha256}
 use Rattle.zk_model.specs.Field.{IsElement}
 use Rattle.zk_model.specs.Bytes.{LeftRight, AreBytes, element_bytes}
 use Rattle.zk_model.specs.Mac.{Pair}
-use Rattle.zk_model.specs.Files.{Transfer, AreParams, AreTransfers, IsCodeSeed, IsProverUnit, IsVerifierUnit, IsProverFile, IsVerifierFile, dealt_per_unit}
-use Rattle.zk_model.specs.FileBytes.{kind_code, params_bytes, header_bytes, prover_unit_bytes, verifier_unit_bytes, prover_file_bytes, verifier_file_bytes, sealed}
-use Rattle.zk_model.specs.FileFaults.{side_code, kind_of, params_at, block_length, block_start, HasDigest}
+use Rattle.zk_model.specs.Files.{Transfer, AreParams, AreTransfers, IsCodeSeed, IsProverUnit, IsVerifierUnit, IsProverFile, IsVerifierFile, dealt_per_unit, most_units}
+use Rattle.zk_model.specs.FileBytes.{kind_code, magic_word, params_bytes, header_bytes, prover_unit_bytes, verifier_unit_bytes, prover_file_bytes, verifier_file_bytes, sealed}
+use Rattle.zk_model.specs.FileFaults.{side_code, kind_of, params_at, version_at, block_length, block_start, HasDigest}
+use Rattle.zk_model.specs.declared.FileVersion.{FileVersion}
 use Rattle.zk_model.specs.declared.Params.{Params}
 use Rattle.zk_model.specs.declared.Side.{Side}
 use Rattle.zk_model.specs.declared.Side.TheVariants.{Prover, Verifier}
@@ -63,11 +64,11 @@ params_are side bytes params head same spelled =
         ∷ ap (λ p. p.height) same i ∷ sym head.params.gap i ∷ [])
         ∙ three_at 9 bytes (omega (arith, head.header))
 
-pub header_is : (side : Side) (bytes : List ℕ) (params : Params) (id coin_key code_seed : List ℕ) → HasHead side bytes → params ≡ params_at bytes
+pub header_is : (side : Side) (bytes : List ℕ) (version : FileVersion) (params : Params) (id coin_key code_seed : List ℕ) → HasHead side bytes → version ≡ version_at bytes → params ≡ params_at bytes
     → SpellsNumbers bytes params → id ≡ take 32 (drop 32 bytes) → coin_key ≡ take 32 (drop 64 bytes) → code_seed ≡ take 32 (drop 96 bytes)
-    → header_bytes (side_code side) params id coin_key code_seed ≡ take 128 bytes
-header_is side bytes params id coin_key code_seed head same spelled first second third =
-    (λ i. sym head.magic i ++ code i ++ params_are side bytes params head same spelled i ++ first i ++ second i ++ third i)
+    → header_bytes version (side_code side) params id coin_key code_seed ≡ take 128 bytes
+header_is side bytes version params id coin_key code_seed head of same spelled first second third =
+    (λ i. (ap magic_word of ∙ sym head.magic) i ++ code i ++ params_are side bytes params head same spelled i ++ first i ++ second i ++ third i)
     ∙ ap (λ l. l ++ take 23 (drop 9 bytes) ++ take 32 (drop 32 bytes) ++ take 32 (drop 64 bytes) ++ take 32 (drop 96 bytes)) (sym (take-add 8 1 bytes))
     ∙ ap (λ l. l ++ take 32 (drop 32 bytes) ++ take 32 (drop 64 bytes) ++ take 32 (drop 96 bytes)) (sym (take-add 9 23 bytes))
     ∙ ap (λ l. l ++ take 32 (drop 64 bytes) ++ take 32 (drop 96 bytes)) (sym (take-add 32 32 bytes))
@@ -195,12 +196,12 @@ joined_blocks side params bytes spell start each =
     size = block_length side params
 
 -- the prover's file spells the bytes
-pub prover_spelled : (bytes : List ℕ) (params : Params) (id coin_key code_seed : List ℕ) (pairs : List Pair) (transfers : List Transfer)
+pub prover_spelled : (bytes : List ℕ) (version : FileVersion) (params : Params) (id coin_key code_seed : List ℕ) (pairs : List Pair) (transfers : List Transfer)
     → HasBody Prover bytes → HasDigest bytes → params ≡ params_at bytes
-    → header_bytes 0 params id coin_key code_seed ≡ take 128 bytes
+    → header_bytes version 0 params id coin_key code_seed ≡ take 128 bytes
     → AreBlocks a_pair a_transfer Prover params bytes params.total pairs transfers
-    → prover_file_bytes (flat_prover params id coin_key code_seed pairs transfers) ≡ bytes
-prover_spelled bytes params id coin_key code_seed pairs transfers body digest same header blocks =
+    → prover_file_bytes (flat_prover version params id coin_key code_seed pairs transfers) ≡ bytes
+prover_spelled bytes version params id coin_key code_seed pairs transfers body digest same header blocks =
     sealed_is Prover bytes _ body digest
     ((λ i. header i ++ units i) ∙ sym (take-add 128 (block_length Prover params * params.total) bytes)
     ∙ ap (λ p. take (block_start Prover p p.total) bytes) same)
@@ -214,6 +215,11 @@ prover_spelled bytes params id coin_key code_seed pairs transfers body digest sa
     units = made ∙ joined_blocks Prover params bytes (λ unit. prover_unit_bytes (flat_prover_unit params pairs transfers unit)) 128
         (unit_spelled a_pair a_transfer Prover params bytes pairs transfers blocks)
 
+-- there are no more units than the version allows
+most_read : (version : FileVersion) (params : Params) (bytes : List ℕ) → version ≡ version_at bytes → params ≡ params_at bytes
+    → (params_at bytes).total ≤ most_units (version_at bytes) → params.total ≤ most_units version
+most_read version params bytes of same most = rw (of, same) most
+
 -- its units are a prover's
 prover_unit_is : (params : Params) (bytes : List ℕ) (pairs : List Pair) (transfers : List Transfer) → AreBlocks a_pair a_transfer Prover params bytes params.total pairs transfers
     → (unit : ℕ) → unit < params.total → IsProverUnit params (flat_prover_unit params pairs transfers unit)
@@ -221,13 +227,14 @@ prover_unit_is params bytes pairs transfers blocks unit below =
     let whole = units_whole a_pair a_transfer Prover params bytes pairs transfers blocks unit below in record { count = whole.0; elements = whole.1; trees = whole.2 }
 
 -- and is a prover's file
-pub prover_is_read : (bytes : List ℕ) (params : Params) (id coin_key code_seed : List ℕ) (pairs : List Pair) (transfers : List Transfer)
-    → HasBody Prover bytes → params ≡ params_at bytes → AreBytes 32 id → AreBytes 32 coin_key → code_seed ≡ take 32 (drop 96 bytes)
+pub prover_is_read : (bytes : List ℕ) (version : FileVersion) (params : Params) (id coin_key code_seed : List ℕ) (pairs : List Pair) (transfers : List Transfer)
+    → HasBody Prover bytes → version ≡ version_at bytes → params ≡ params_at bytes → AreBytes 32 id → AreBytes 32 coin_key → code_seed ≡ take 32 (drop 96 bytes)
     → AreBlocks a_pair a_transfer Prover params bytes params.total pairs transfers
-    → IsProverFile (flat_prover params id coin_key code_seed pairs transfers)
-prover_is_read bytes params id coin_key code_seed pairs transfers body same is_id is_key seed blocks =
+    → IsProverFile (flat_prover version params id coin_key code_seed pairs transfers)
+prover_is_read bytes version params id coin_key code_seed pairs transfers body of same is_id is_key seed blocks =
     let head = head_read Prover bytes params code_seed body same seed in record {
       params = head.0;
+      most = most_read version params bytes of same body.head.params.most;
       id = is_id;
       coin_key = is_key;
       code_seed = head.1;
@@ -238,12 +245,12 @@ prover_is_read bytes params id coin_key code_seed pairs transfers body same is_i
 -- ---- the verifier's file
 
 -- the verifier's file spells the bytes
-pub verifier_spelled : (bytes : List ℕ) (params : Params) (id coin_key code_seed : List ℕ) (key : ℕ) (keys : List ℕ) (pads : List LeftRight)
+pub verifier_spelled : (bytes : List ℕ) (version : FileVersion) (params : Params) (id coin_key code_seed : List ℕ) (key : ℕ) (keys : List ℕ) (pads : List LeftRight)
     → HasBody Verifier bytes → HasDigest bytes → params ≡ params_at bytes
-    → header_bytes 1 params id coin_key code_seed ≡ take 128 bytes → element_bytes key ≡ take 8 (drop 128 bytes)
+    → header_bytes version 1 params id coin_key code_seed ≡ take 128 bytes → element_bytes key ≡ take 8 (drop 128 bytes)
     → AreBlocks an_element both_pads Verifier params bytes params.total keys pads
-    → verifier_file_bytes (flat_verifier params id coin_key code_seed key keys pads) ≡ bytes
-verifier_spelled bytes params id coin_key code_seed key keys pads body digest same header spelled blocks =
+    → verifier_file_bytes (flat_verifier version params id coin_key code_seed key keys pads) ≡ bytes
+verifier_spelled bytes version params id coin_key code_seed key keys pads body digest same header spelled blocks =
     sealed_is Verifier bytes _ body digest
     ((λ i. ((λ j. header j ++ spelled j) ∙ sym (take-add 128 8 bytes)) i ++ units i)
     ∙ sym (take-add 136 (block_length Verifier params * params.total) bytes)
@@ -262,13 +269,14 @@ verifier_unit_is params bytes keys pads blocks unit below =
     let whole = units_whole an_element both_pads Verifier params bytes keys pads blocks unit below in record { count = whole.0; elements = whole.1; trees = whole.2 }
 
 -- and is a verifier's file
-pub verifier_is_read : (bytes : List ℕ) (params : Params) (id coin_key code_seed : List ℕ) (key : ℕ) (keys : List ℕ) (pads : List LeftRight)
-    → HasBody Verifier bytes → params ≡ params_at bytes → AreBytes 32 id → AreBytes 32 coin_key → code_seed ≡ take 32 (drop 96 bytes)
+pub verifier_is_read : (bytes : List ℕ) (version : FileVersion) (params : Params) (id coin_key code_seed : List ℕ) (key : ℕ) (keys : List ℕ) (pads : List LeftRight)
+    → HasBody Verifier bytes → version ≡ version_at bytes → params ≡ params_at bytes → AreBytes 32 id → AreBytes 32 coin_key → code_seed ≡ take 32 (drop 96 bytes)
     → IsElement key → key ≢ 0 → AreBlocks an_element both_pads Verifier params bytes params.total keys pads
-    → IsVerifierFile (flat_verifier params id coin_key code_seed key keys pads)
-verifier_is_read bytes params id coin_key code_seed key keys pads body same is_id is_key seed element set blocks =
+    → IsVerifierFile (flat_verifier version params id coin_key code_seed key keys pads)
+verifier_is_read bytes version params id coin_key code_seed key keys pads body of same is_id is_key seed element set blocks =
     let head = head_read Verifier bytes params code_seed body same seed in record {
       params = head.0;
+      most = most_read version params bytes of same body.head.params.most;
       id = is_id;
       coin_key = is_key;
       key = element;

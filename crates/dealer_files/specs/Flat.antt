@@ -4,6 +4,7 @@ use Rattle.std.specs.List.{range_with_len}
 use Rattle.zk_model.specs.Bytes.{LeftRight}
 use Rattle.zk_model.specs.Mac.{Pair}
 use Rattle.zk_model.specs.Files.{Transfer, ProverUnit, VerifierUnit, ProverFile, VerifierFile, dealt_per_unit}
+use Rattle.zk_model.specs.declared.FileVersion.{FileVersion}
 use Rattle.zk_model.specs.declared.Params.{Params}
 use Rattle.dealer_files.specs.declared.head.Head.{Head}
 
@@ -37,8 +38,9 @@ flat_verifier_unit params keys pads unit =
     record { keys = piece (dealt_per_unit params) keys unit; trees = trees_of params pads unit }
 
 -- the prover's file
-abbrev pub flat_prover : Params → List ℕ → List ℕ → List ℕ → List Pair → List Transfer → ProverFile
-flat_prover params id coin_key code_seed pairs transfers = record {
+abbrev pub flat_prover : FileVersion → Params → List ℕ → List ℕ → List ℕ → List Pair → List Transfer → ProverFile
+flat_prover version params id coin_key code_seed pairs transfers = record {
+  version = version;
   id = id;
   params = params;
   coin_key = coin_key;
@@ -47,8 +49,9 @@ flat_prover params id coin_key code_seed pairs transfers = record {
 }
 
 -- the verifier's file
-abbrev pub flat_verifier : Params → List ℕ → List ℕ → List ℕ → ℕ → List ℕ → List LeftRight → VerifierFile
-flat_verifier params id coin_key code_seed key keys pads = record {
+abbrev pub flat_verifier : FileVersion → Params → List ℕ → List ℕ → List ℕ → ℕ → List ℕ → List LeftRight → VerifierFile
+flat_verifier version params id coin_key code_seed key keys pads = record {
+  version = version;
   id = id;
   params = params;
   coin_key = coin_key;
@@ -64,7 +67,7 @@ pub record AreWhole {A B : Type 0} (params : Params) (items : List A) (others : 
 
 -- the files of these headers
 abbrev pub prover_of : Head → List Pair → List Transfer → ProverFile
-prover_of head pairs transfers = flat_prover head.params head.id head.coin_key head.code_seed pairs transfers
+prover_of head pairs transfers = flat_prover head.version head.params head.id head.coin_key head.code_seed pairs transfers
 
 abbrev pub verifier_of : Head → ℕ → List ℕ → List LeftRight → VerifierFile
-verifier_of head key keys pads = flat_verifier head.params head.id head.coin_key head.code_seed key keys pads
+verifier_of head key keys pads = flat_verifier head.version head.params head.id head.coin_key head.code_seed key keys pads

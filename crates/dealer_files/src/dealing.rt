@@ -3,7 +3,7 @@ ghost use Rattle.std.specs.Prelude.{◌≡◌, ◌+◌, ◌*◌, ◌/◌, ◌<�
 ghost use Rattle.std.specs.List.{range_with_len};
 ghost use Rattle.std.specs.Int.{w64, to_le_bytes};
 ghost use Rattle.zk_model.specs.Mac.{fitting_key};
-ghost use Rattle.zk_model.specs.Dealing.{dealt_key, dealt_code_seed, dealt_pairs, dealt_pads, dealt_transfer, dealt_prover, dealt_verifier};
+ghost use Rattle.zk_model.specs.Dealing.{dealt_key, dealt_code_seed, dealt_version, dealt_pairs, dealt_pads, dealt_transfer, dealt_prover, dealt_verifier};
 ghost use Rattle.zk_model.specs.Files.{AreParams, IsProverFile, IsVerifierFile, AreDealt};
 ghost use Rattle.dealer_files.specs.Flat.{unit_by_unit};
 ghost use Rattle.dealer_files.specs.Words.{word_pair, word_pads, word_transfer};
@@ -16,11 +16,12 @@ use crate::verifier_file::VerifierFile;
 use mersenne_field::{Fe, Pair};
 use std::alloc::{AllocError, Global};
 use zk_coins::CoinBox;
-use zk_model::{Kind, Params};
+use zk_model::{FileVersion, Kind, MAX_DEALT_AS_FIRST, Params};
 
 /// The two files that a seed of 32 bytes gives: for the prover values x and MACs m, and for the verifier keys
 /// `m + x * key` (vector OLE: Weng, Yang, Katz and Wang, Wolverine, IEEE S&P 2021). In kind extended also two random pads
-/// for each transfer, of which the prover gets the one that a random bit names. Each stream of coins is walked once.
+/// for each transfer, of which the prover gets the one that a random bit names. Up to 65,535 units are dealt in the first version
+/// of files, more in the second. Each stream of coins is walked once.
 ///
 /// # Errors
 ///
@@ -43,7 +44,9 @@ pub fn deal(
     let DealtTransfers { transfers, pads } = deal_transfers(alloc, &coins, params)?;
     let id = coins.bytes(0);
     let code_seed = deal_code_seed(&coins, params.kind);
+    let version = version_for(params.total);
     let head = Head {
+        version,
         params: *params,
         id,
         coin_key: coins.bytes(1),
@@ -53,6 +56,17 @@ pub fn deal(
     let coin_key = coins.bytes(2);
     let verifier = VerifierFile::new(Head { coin_key, ..head }, key, keys, pads);
     Ok((prover, verifier))
+}
+
+/// The version in which so many units are dealt.
+fn version_for(total: u64) -> FileVersion
+    ensures { result ≡ dealt_version total }
+{
+    if total <= MAX_DEALT_AS_FIRST {
+        FileVersion::First
+    } else {
+        FileVersion::Second
+    }
 }
 
 /// The verifier's one key, which is not 0.

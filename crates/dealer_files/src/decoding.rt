@@ -27,6 +27,7 @@ struct ProverBlocks {
 }
 
 /// Reads the blocks of a prover's file.
+#[tactic(auto, using(crate::proofs::ReadBlocks::start_fits))]
 fn read_prover_blocks(
     alloc: Global,
     bytes: &[u8],
@@ -91,6 +92,7 @@ fn read_key(bytes: &[u8]) -> Result<Fe, FileFault>
 }
 
 /// Reads the blocks of a verifier's file, whose key is in range.
+#[tactic(auto, using(crate::proofs::ReadBlocks::start_fits))]
 fn read_verifier_blocks(
     alloc: Global,
     bytes: &[u8],

@@ -3,7 +3,7 @@ ghost use Rattle.std.specs.Prelude.{◌≡◌, ◌++◌, flat_map, OnOk};
 ghost use Rattle.zk_model.specs.Bytes.{element_bytes};
 ghost use Rattle.zk_model.specs.FileBytes.{header_bytes, params_bytes, pair_bytes, transfer_bytes, pads_bytes, kind_code, sealed};
 
-use crate::head::Head;
+use crate::head::{Head, magic_word};
 use crate::transfer::{Pads, Transfer};
 use mersenne_field::{Fe, Pair};
 use sha2::{Digest, Sha256};
@@ -13,9 +13,9 @@ use zk_model::{Kind, Params};
 /// Appends the first 128 bytes of a file.
 pub(crate) fn push_header(bytes: &mut Vec<u8>, side: u8, head: &Head) -> Result<(), AllocError>
     ensures { OnOk result (bytes.new.items ≡ bytes.old.items
-        ++ header_bytes side head.now.params head.now.id head.now.coin_key head.now.code_seed) }
+        ++ header_bytes head.now.version side head.now.params head.now.id head.now.coin_key head.now.code_seed) }
 {
-    bytes.extend_from_slice(b"WQSFILE1")?;
+    bytes.extend_from_slice(magic_word(head.version))?;
     bytes.push(side)?;
     push_params(bytes, &head.params)?;
     bytes.extend_from_slice(&head.id)?;

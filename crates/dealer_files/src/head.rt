@@ -1,9 +1,9 @@
 // The header of a file, read.
 ghost use Rattle.std.specs.Int.{w32, w64, to_le_bytes};
 ghost use Rattle.std.specs.Prelude.{◌≡◌, ◌*◌, ◌^◌, ◌<◌, ◌≤◌, ◌+◌, ◌↔◌, length, take, drop, slice_index, replicate, codes, IsTrue, IfOk, IfErr};
-ghost use Rattle.zk_model.specs.Files.{AreParams, AreWithinLimits, IsCodeSeed};
-ghost use Rattle.zk_model.specs.FileBytes.{header_bytes};
-ghost use Rattle.zk_model.specs.FileFaults.{side_code, params_at, word32_at, word64_at, block_length, file_length, HasMagic, IsOfSide, HasParams, HasDigest};
+ghost use Rattle.zk_model.specs.Files.{AreParams, AreWithinLimits, IsCodeSeed, most_units};
+ghost use Rattle.zk_model.specs.FileBytes.{header_bytes, magic_word};
+ghost use Rattle.zk_model.specs.FileFaults.{side_code, params_at, version_at, word32_at, word64_at, block_length, file_length, HasMagic, IsOfSide, HasParams, HasDigest};
 ghost use Rattle.zk_model.specs.Bytes.{AreBytes, element_bytes};
 ghost use Rattle.zk_model.specs.Field.{prime, IsElement};
 ghost use Rattle.dealer_files.specs.declared.fault.FileFault.TheVariants as fault;
@@ -13,11 +13,15 @@ use crate::fault::FileFault;
 use crate::unit::{dealt_per_unit, transfers_per_unit};
 use mersenne_field::Fe;
 use sha2::{Digest, Sha256};
-use zk_model::{Kind, MAX_BASE, MAX_DEALT_UNITS, MAX_HEIGHT, MAX_TREES, Params, Side};
+use zk_model::{
+    FileVersion, Kind, MAX_BASE, MAX_DEALT_UNITS, MAX_FIRST_UNITS, MAX_HEIGHT, MAX_TREES, Params,
+    Side,
+};
 
-/// What a header says: what a file was made for, its id, the key of its side's coins, and the seed of the code.
+/// What a header says: the version, what a file was made for, its id, the key of its side's coins, and the seed of the code.
 #[derive(Clone, Copy, Debug)]
 pub(crate) struct Head {
+    pub version: FileVersion,
     pub params: Params,
     pub id: [u8; 32],
     pub coin_key: [u8; 32],
@@ -124,11 +128,43 @@ fn is_code_seed(kind: Kind, seed: &[u8; 32]) -> bool
     }
 }
 
-/// Whether bytes begin with the magic word.
+/// The magic word of a version.
+pub(crate) fn magic_word(version: FileVersion) -> &'static [u8; 8]
+    ensures { result.now ≡ magic_word version }
+{
+    match version {
+        FileVersion::First => b"WQSFILE1",
+        FileVersion::Second => b"WQSFILE2",
+    }
+}
+
+/// The version that the eighth byte names.
+fn version_of(bytes: &[u8]) -> FileVersion
+    requires { 8 ≤ length bytes.now }
+    ensures { result ≡ version_at bytes.now }
+{
+    if bytes[7] == b'2' {
+        FileVersion::Second
+    } else {
+        FileVersion::First
+    }
+}
+
+/// Whether bytes begin with a magic word.
 fn has_magic(bytes: &[u8]) -> bool
     ensures { IsTrue result ↔ HasMagic bytes.now }
 {
-    bytes.starts_with(b"WQSFILE1")
+    bytes.len() >= 8 && bytes.starts_with(magic_word(version_of(bytes)))
+}
+
+/// The most units that a file of a version has.
+fn most_units(version: FileVersion) -> u64
+    ensures { result ≡ most_units version }
+{
+    match version {
+        FileVersion::First => MAX_FIRST_UNITS,
+        FileVersion::Second => MAX_DEALT_UNITS,
+    }
 }
 
 /// Whether a header is of this side and of a kind that there is.
@@ -149,6 +185,7 @@ fn has_params(bytes: &[u8]) -> bool
     bytes[11] == 0
         && bytes[20..24] == [0; 4]
         && are_params(&params)
+        && params.total <= most_units(version_of(bytes))
         && is_code_seed(params.kind, &bytes_at(bytes, 96))
 }
 
@@ -181,6 +218,7 @@ pub fn file_length(side: Side, params: &Params) -> u64
 /// Reads the header, and tests the length of the file by it.
 pub(crate) fn read_head(bytes: &[u8], side: Side) -> Result<Head, FileFault>
     ensures head { IfOk result (λ _. HasBody side bytes.now) }
+    ensures version { IfOk result (λ head. head.version ≡ version_at bytes.now) }
     ensures params { IfOk result (λ head. head.params ≡ params_at bytes.now) }
     ensures spelled { IfOk result (λ head. SpellsNumbers bytes.now head.params) }
     ensures id { IfOk result (λ head. head.id ≡ take 32 (drop 32 bytes.now)) }
@@ -208,6 +246,7 @@ pub(crate) fn read_head(bytes: &[u8], side: Side) -> Result<Head, FileFault>
         return Err(FileFault::Length { need, got });
     }
     Ok(Head {
+        version: version_of(bytes),
         params,
         id: bytes_at(bytes, 32),
         coin_key: bytes_at(bytes, 64),

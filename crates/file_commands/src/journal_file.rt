@@ -1,5 +1,5 @@
 // The journal of a dealt file.
-ghost use Rattle.std.specs.Prelude.{◌≡◌, ◌-◌, ◌^◌, ◌<◌, ◌≤◌, ℕ, List, All, IfOk, IfErr, length, string_bytes};
+ghost use Rattle.std.specs.Prelude.{◌≡◌, ◌⊎◌, ◌-◌, ◌^◌, ◌<◌, ◌≤◌, ℕ, List, All, IfOk, IfErr, OnOk, OnErr, length, string_bytes};
 ghost use Rattle.zk_model.specs.ClaimedRanges.{RiseFrom};
 ghost use Rattle.zk_model.specs.Twins.{HoldsTwin};
 ghost use Rattle.zk_model.specs.declared.JournalKind.TheVariants.{Claims};
@@ -11,7 +11,9 @@ ghost use Rattle.session_pool.specs.Notes.{IsUnused};
 ghost use Rattle.file_commands.specs.Journals.{IsJournalDisk, JournalStop, OpensJournal, OnlyReads, disk_change, journal_name, start_refusal};
 ghost use Rattle.file_commands.specs.Journals.{IsClaimsFault};
 ghost use Rattle.file_commands.specs.Journals.{IsCeilingsFault};
+ghost use Rattle.zk_port.specs.Counts.{Rose};
 ghost use Rattle.zk_port.specs.Images.{Only};
+ghost use Rattle.file_commands.specs.declared.refusal.Refusal.TheVariants as stops;
 ghost use Rattle.claim_store.specs.Claims.{AreClaims, AreDurable, AreInUse, SaysClaims};
 
 use crate::refusal::Refusal;
@@ -24,10 +26,30 @@ use twin_journal::StartFault;
 use zk_port::Disk;
 
 /// The name of a file's journal.
-pub fn name_of(alloc: Global, file: &str) -> Result<String, AllocError>
+fn name_of(alloc: Global, file: &str) -> Result<String, AllocError>
     ensures { IfOk result (λ name. string_bytes name ≡ journal_name file.now) }
 {
     Ok(format!(in alloc; "{file}.journal")?)
+}
+
+/// Takes the journal of the file of this name from now on.
+pub fn choose_journal<B: Disk>(alloc: Global, journal: &mut B, name: &str) -> Result<(), Refusal>
+    ensures opens { OnOk result (OpensJournal (journal_name name.now)
+        (disk_change (B.state journal.old) (B.state journal.new))) }
+    ensures reads { OnErr result (OnlyReads (journal_name name.now)
+        (disk_change (B.state journal.old) (B.state journal.new))) }
+    ensures stop { IfErr result (λ stop. (stop ≡ stops.NoMemory)
+        ⊎ ((stop ≡ stops.JournalFailed (B.state journal.new).faults)
+        × Rose (B.state journal.old).faults (B.state journal.new).faults)) }
+{
+    let Ok(name) = name_of(alloc, name) else {
+        return Err(Refusal::NoMemory);
+    };
+    if journal.choose(&name).is_err() {
+        let count = journal.faults();
+        return Err(Refusal::JournalFailed { count });
+    }
+    Ok(())
 }
 
 /// Why a journal is not opened on a disk whose calls have failed so often.
@@ -73,12 +95,8 @@ pub fn open_ceilings<B: Disk>(
         (IsCeilingsFault file.now.id file.now.params.total (B.state journal))
         (disk_change (B.state journal) (B.state e.1)) e.0) }
 {
-    let Ok(name) = name_of(alloc, name) else {
-        return Err((Refusal::NoMemory, journal));
-    };
-    if journal.choose(&name).is_err() {
-        let count = journal.faults();
-        return Err((Refusal::JournalFailed { count }, journal));
+    if let Err(refusal) = choose_journal(alloc, &mut journal, name) {
+        return Err((refusal, journal));
     }
     match LeaseParts::start(alloc, journal, &file.id(), file.total(), passes) {
         Ok(opened) => Ok(opened),
@@ -121,12 +139,8 @@ pub fn open_claims<B: Disk>(
         (IsClaimsFault file.now.id file.now.params.total (B.state journal))
         (disk_change (B.state journal) (B.state e.1)) e.0) }
 {
-    let Ok(name) = name_of(alloc, name) else {
-        return Err((Refusal::NoMemory, journal));
-    };
-    if journal.choose(&name).is_err() {
-        let count = journal.faults();
-        return Err((Refusal::JournalFailed { count }, journal));
+    if let Err(refusal) = choose_journal(alloc, &mut journal, name) {
+        return Err((refusal, journal));
     }
     match ClaimStore::start(alloc, journal, &file.id(), file.total()) {
         Ok(store) => Ok(store),

@@ -1,17 +1,15 @@
 // `migrate SIDE FILE`
-ghost use Rattle.std.specs.Prelude.{◌≡◌, ◌⊎◌, IfOk, IfErr, OnOk, OnErr, string_bytes};
+ghost use Rattle.std.specs.Prelude.{◌≡◌, IfOk, IfErr, OnOk, string_bytes};
 ghost use Rattle.zk_port.specs.Changes.{change};
-ghost use Rattle.zk_port.specs.Counts.{Rose};
 ghost use Rattle.command_words.specs.Words.{migrate_ask};
 ghost use Rattle.file_commands.specs.Effects.{IsName, OnlyLoads, effects};
-ghost use Rattle.file_commands.specs.Journals.{IsJournalDisk, OnlyReads, OpensJournal, disk_change, journal_name};
+ghost use Rattle.file_commands.specs.Journals.{IsJournalDisk, disk_change, journal_name};
 ghost use Rattle.file_commands.specs.MigrateRuns.{HasMigrated, IsDealtAt, MigrateStop, Migrates};
 ghost use Rattle.file_commands.specs.MigrateRuns.{MigratesJournal, MigrationStop, journal_kind, moved_line};
 ghost use Rattle.file_commands.specs.Stops.{FileStop, PrintsMade};
-ghost use Rattle.file_commands.specs.declared.refusal.Refusal.TheVariants as stops;
 
 use crate::dealt_file::{load_prover, load_verifier};
-use crate::journal_file::{name_of, start_stop};
+use crate::journal_file::{choose_journal, start_stop};
 use crate::refusal::Refusal;
 use crate::saying::{say, say_memory, say_stop};
 use claim_store::StoreFault;
@@ -66,26 +64,6 @@ fn load_dealt<F: Shelf>(
             Err(refusal) => Err(refusal),
         },
     }
-}
-
-/// Takes the journal of the file of this name from now on.
-fn choose_journal<B: Disk>(alloc: Global, journal: &mut B, name: &str) -> Result<(), Refusal>
-    ensures opens { OnOk result (OpensJournal (journal_name name.now)
-        (disk_change (B.state journal.old) (B.state journal.new))) }
-    ensures reads { OnErr result (OnlyReads (journal_name name.now)
-        (disk_change (B.state journal.old) (B.state journal.new))) }
-    ensures stop { IfErr result (λ stop. (stop ≡ stops.NoMemory)
-        ⊎ ((stop ≡ stops.JournalFailed (B.state journal.new).faults)
-        × Rose (B.state journal.old).faults (B.state journal.new).faults)) }
-{
-    let Ok(name) = name_of(alloc, name) else {
-        return Err(Refusal::NoMemory);
-    };
-    if journal.choose(&name).is_err() {
-        let count = journal.faults();
-        return Err(Refusal::JournalFailed { count });
-    }
-    Ok(())
 }
 
 /// Migrates the journal of a dealt file of this side and name.

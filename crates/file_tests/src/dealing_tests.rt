@@ -1,5 +1,5 @@
 // Dealt files and journals against values that the program did not make, and every fault of a file.
-use crate::vectors::{FILE_ID, FILES, JOURNALS};
+use crate::vectors::{FILE_ID, FILES, JOURNALS, MANY_UNITS, SECOND_VERSION};
 use dealer_files::FileFault::{
     BadDigest, BadElement, BadKind, BadMagic, BadParam, Length, ZeroKey,
 };
@@ -87,6 +87,52 @@ fn dealt_files_and_journals_are_those_computed_apart(rt: HostRuntime) -> Result<
     Ok(())
 }
 
+#[test]
+fn many_units_are_dealt_in_the_second_version(rt: HostRuntime) -> Result<(), Fail> {
+    let alloc = rt.alloc();
+    let params = Params {
+        total: 65_536,
+        ..DIRECT
+    };
+    let (prover, verifier) = deal(alloc, &params, &SEED)?;
+    for (side, length, digest) in MANY_UNITS {
+        let file = match side {
+            Side::Prover => prover.encode(alloc)?,
+            Side::Verifier => verifier.encode(alloc)?,
+        };
+        assert_eq!(rt; file.len(), length, "{side:?}");
+        let (front, end) = file.split_at(file.len().saturating_sub(32));
+        assert_eq!(rt; hex::encode(alloc, end)?.as_str(), digest, "{side:?}");
+        assert_eq!(rt; digest_of(alloc, front)?.as_str(), digest, "{side:?}");
+    }
+    Ok(())
+}
+
+/// What encoding gives of the file that bytes are read as.
+fn encoded_again(alloc: Global, side: Side, bytes: &[u8]) -> Result<Vec<u8>, FileFault> {
+    match side {
+        Side::Prover => Ok(decode_prover(alloc, bytes)?.encode(alloc)?),
+        Side::Verifier => Ok(decode_verifier(alloc, bytes)?.encode(alloc)?),
+    }
+}
+
+/// The file of the first version, with another magic word and the digest at its end that was computed apart.
+#[test]
+fn files_of_the_second_version_keep_it(rt: HostRuntime) -> Result<(), Fail> {
+    let alloc = rt.alloc();
+    for (kind, side, digest) in SECOND_VERSION {
+        let mut file = dealt_file(alloc, kind, side)?;
+        file.truncate(file.len().saturating_sub(32));
+        for byte in file.iter_mut().skip(7).take(1) {
+            *byte = b'2';
+        }
+        file.extend_from_slice(&hex::decode(alloc, digest)?)?;
+        let again = encoded_again(alloc, side, &file)?;
+        assert_eq!(rt; again.as_slice(), file.as_slice(), "{kind:?} {side:?}");
+    }
+    Ok(())
+}
+
 /// The prime as 8 bytes, which is no element.
 const PRIME: &[u8] = &[0xff, 0xff, 0xff, 0xff, 0xff, 0xff, 0xff, 0x1f];
 
@@ -112,7 +158,17 @@ const HEADER: &[Rows] = &[
         &[(11, &[1]), (20, &[1]), (21, &[1]), (22, &[1]), (23, &[1])],
     ),
     (BadParam, &[(24, &[0]), (24, &[1, 0, 0, 0, 1]), (31, &[1])]),
-    (BadDigest, &[(32, &[0]), (64, &[0])]),
+    (BadDigest, &[(7, b"2"), (32, &[0]), (64, &[0])]),
+    (BadMagic, &[(7, b"3"), (6, b"F")]),
+];
+
+/// Bytes 7 to 31 of the prover's direct file of the second version: as many units as it may have, and one more.
+const SECOND_MOST: &[u8] = &[
+    b'2', 0, 0, 0, 0, 0, 0, 0, 0, 0, 0, 0, 0, 0, 0, 0, 0, 0, 0, 0, 0, 0, 1, 0, 0,
+];
+
+const SECOND_TOO_MANY: &[u8] = &[
+    b'2', 0, 0, 0, 0, 0, 0, 0, 0, 0, 0, 0, 0, 0, 0, 0, 0, 1, 0, 0, 0, 0, 1, 0, 0,
 ];
 
 /// Of kind direct: the other kind, height, trees, base, code seed.
@@ -140,9 +196,10 @@ const EXTENDED_HEADER: &[Rows] = &[
     (BadDigest, &[(96, &[0])]),
 ];
 
-/// Of kind direct, the prover's: the other side, elements, the digest.
+/// Of kind direct, the prover's: the other side, the total of the second version, elements, the digest.
 const DIRECT_PROVER: &[Rows] = &[
     (BadKind, &[(8, &[1])]),
+    (BadParam, &[(7, SECOND_TOO_MANY)]),
     (BadElement { place: 128 }, &[(128, PRIME)]),
     (BadElement { place: 136 }, &[(136, PRIME)]),
     (BadElement { place: 1144 }, &[(1144, PRIME)]),
@@ -203,11 +260,12 @@ const EXTENDED_VERIFIER: &[Rows] = &[
 /// place on.
 type LengthRows = (u64, &'static [(usize, usize, &'static [u8])]);
 
-/// Of kind direct: also the total at its upper end.
+/// Of kind direct: also the total at its upper end, in both versions.
 const DIRECT_PROVER_LENGTHS: &[LengthRows] = &[
     (128, &[(8, 0, &[]), (127, 8, &[1])]),
     (1184, &[(128, 0, &[]), (1183, 128, PRIME), (1185, 0, &[])]),
     (4_398_046_511_264, &[(1184, 24, &[0, 0, 0, 0, 1])]),
+    (1_125_899_906_842_784, &[(1184, 7, SECOND_MOST)]),
 ];
 
 const DIRECT_VERIFIER_LENGTHS: &[LengthRows] = &[

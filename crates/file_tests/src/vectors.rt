@@ -39,6 +39,45 @@ pub const FILES: [(Kind, Side, usize, &str); 4] = [
     ),
 ];
 
+/// The same files in the second version: SHA-256 of all but the last 32 bytes.
+pub const SECOND_VERSION: [(Kind, Side, &str); 4] = [
+    (
+        Direct,
+        Prover,
+        "a4ac7c751fc98641ac17088011279cfd31b3dc88e1f9fdd1957473693f327a4a",
+    ),
+    (
+        Direct,
+        Verifier,
+        "639e86a1a411801c665d3ca96b664d86d7ec8923f69df0e458b205a4517c382f",
+    ),
+    (
+        Extended,
+        Prover,
+        "24441890411eadd761e9794c2375d9748eca121d6d87c943df44d00f60780e9a",
+    ),
+    (
+        Extended,
+        Verifier,
+        "523cc7620be9cb91397730b8da0835ffa9b7723329eaa74a69eeeffb9c735fd7",
+    ),
+];
+
+/// The files of kind direct with 65,536 units, the fewest that are dealt in the second version: how many bytes they have, and SHA-256 of
+/// all but the last 32, which `python3 vectors/dealt_files.py --many` prints.
+pub const MANY_UNITS: [(Side, usize, &str); 2] = [
+    (
+        Prover,
+        67_109_024,
+        "491bff85d2b08df875554093e1ae33cd2eb11d3fcea9146d47f2d40628bad7cd",
+    ),
+    (
+        Verifier,
+        33_554_600,
+        "99ce4ab17968a5dac732553bdb839681f9991214055a51ef34b327dbfdbddbb3",
+    ),
+];
+
 /// New journals of so many units with that id: how many bytes they have, and SHA-256 of these.
 pub const JOURNALS: [(JournalKind, u32, usize, &str); 5] = [
     (

@@ -1,5 +1,4 @@
 pub mod Codes
-pub mod Octets
 pub mod Hellos
 pub mod FrameCodes
 pub mod OneTranscript

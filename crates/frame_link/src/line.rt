@@ -82,7 +82,7 @@ impl<L: Link> Line<L> {
         requires open { IsTrue self.old.is_open }
         requires idle { self.old.reading.expected ≡ None }
         requires short { IsShortPlace place }
-        requires fits { self.old.reading.received + 2 ^ 25 ≤ 2 ^ 64 }
+        requires fits { self.old.reading.received + 2 ^ 29 ≤ 2 ^ 64 }
         ensures arrives { IfOk result (λ frame. Arrives place (frame_value frame) self.old self.new) }
         ensures fails { IfErr result (λ fault. Fails place fault self.old self.new) }
     {

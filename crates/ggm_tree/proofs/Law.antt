@@ -3,7 +3,7 @@ use Rattle.std.proofs.Common.{◌≡◌, ℕ, zero, suc, ◌+◌, ◌*◌, ◌^�
 use Rattle.std.specs.List.{range_with_len}
 use Rattle.std.proofs.lemmas.List.{length-set}
 use Rattle.std.proofs.lemmas.List.FromFn.{length-map-range_with_len, get_or-map-range_with_len}
-use Rattle.frame_laws.proofs.Octets.{node_bytes}
+use Rattle.zk_model.proofs.Octets.{node_bytes}
 use Rattle.tree_laws.proofs.Grown.{grown_halves}
 use Rattle.tree_laws.proofs.Punctured.{one_punctured}
 use Rattle.tree_laws.proofs.Xors.{same_range}

@@ -1,2 +1,3 @@
 pub mod BehindIt
 pub mod Sound
+pub mod Onward

@@ -1,15 +1,20 @@
 -- What a migration does to a disk, and why it is refused.
-use Rattle.std.specs.Prelude.{◌≡◌, ◌⊎◌, ℕ, ◌<◌, List, length, Option, None, Some, IfSome, true, nat_eq, if◌then◌else◌}
+use Rattle.std.specs.Prelude.{◌≡◌, ◌⊎◌, ℕ, ◌+◌, ◌<◌, ◌≤◌, List, length, Option, None, Some, IfSome, Result, IfOk, IfErr, OnOk, true, nat_eq, if◌then◌else◌}
 use Rattle.zk_port.specs.Disks.{DiskState, LeavesOnly, Stays}
+use Rattle.zk_port.specs.Images.{HasDiskRoom, Only}
 use Rattle.zk_model.specs.declared.JournalKind.{JournalKind}
 use Rattle.zk_model.specs.declared.JournalKind.TheVariants.{Claims}
 use Rattle.zk_model.specs.ClaimedRanges.{claims_of}
-use Rattle.zk_model.specs.Migrations.{SaysEither, SaysMoved, SaysOneArea, SaysTheSame, moved_slots}
-use Rattle.zk_model.specs.Twins.{HasMovedHeader, is_migrated}
+use Rattle.zk_model.specs.Migrations.{SaysEither, SaysMoved, SaysOneArea, SaysTheSame, moved_slots, one_area_end}
+use Rattle.zk_model.specs.Journals.{are_slots}
+use Rattle.zk_model.specs.Twins.{HasMovedHeader, is_migrated, twin_length}
+use Rattle.zk_model.specs.declared.limits.TheConstants.{MAX_SLOTS}
 use Rattle.lease_core.specs.Spans.{AreApart, meets_any}
 use Rattle.lease_journal.specs.Causes.{OneAreaCause}
 use Rattle.lease_journal.specs.OneAreas.{IsOneArea}
+use Rattle.lease_journal.specs.Scans.{HasRead}
 use Rattle.lease_journal.specs.declared.fault.StartFault.TheVariants as start
+use Rattle.claim_store.specs.Causes.{HasReadCause}
 use Rattle.claim_store.specs.Claims.{AreClaims, claim_at, first_claims}
 use Rattle.claim_store.specs.declared.fault.StoreFault.{StoreFault}
 use Rattle.claim_store.specs.declared.fault.StoreFault.TheVariants as store
@@ -69,6 +74,31 @@ MigrationCause kind id total bytes (store.Journal (start.Short need got)) = OneA
 MigrationCause kind id total bytes (store.Journal (start.BadHeader place)) = OneAreaCause kind id total bytes (start.BadHeader place)
 MigrationCause kind id total bytes (store.Journal (start.BadBody slot)) =
     OneAreaCause kind id total bytes (start.BadBody slot) ⊎ ((kind ≡ Claims) × HasMeeting id total bytes slot)
+
+-- what was read of a journal of one area on a disk whose content is synced and that has room for the journal behind it
+pub record IsThere (kind : JournalKind) (id : List ℕ) (total slots used : ℕ) (last : ℕ × ℕ) (disk : DiskState) : Type 0 where
+  pub bounded : slots ≤ MAX_SLOTS
+  pub within : used ≤ slots
+  pub may_be : are_slots kind total slots ≡ true
+  pub read : HasRead kind total used last
+  pub stands : (bytes : List ℕ) → disk.content ≡ Some bytes → IsOneArea kind id total slots used last bytes
+  pub synced : Only disk.content disk.images
+  pub room : HasDiskRoom (one_area_end slots + twin_length (moved_slots kind total slots)) disk.room
+
+-- a disk has these bytes, and in them stands a journal of one area, of so many slots, that says these bodies and ends at a place
+pub record EndsAt (kind : JournalKind) (id : List ℕ) (total end slots : ℕ) (bodies : List (ℕ × ℕ)) (bytes : List ℕ) (disk : DiskState) : Type 0 where
+  pub content : disk.content ≡ Some bytes
+  pub place : end ≡ one_area_end slots
+  pub says : SaysOneArea kind id total slots bodies bytes
+
+-- what a call does that moves such a journal on, and says how many bodies the new one has
+pub record MovesOver (kind : JournalKind) (id : List ℕ) (total : ℕ) (old new : DiskState) (result : Result ℕ StoreFault) : Type 0 where
+  pub done : IfOk result (λ count. (bytes : List ℕ) → old.content ≡ Some bytes → IsDone kind id total bytes count new)
+  pub moves : (bytes : List ℕ) → old.content ≡ Some bytes → MovesSafely kind id total bytes old new
+  pub durable : OnOk result (Only new.content new.images)
+  pub chosen : new.chosen ≡ old.chosen
+  pub cause : IfErr result (λ e. (bytes : List ℕ) → old.content ≡ Some bytes → MigrationCause kind id total bytes e)
+  pub faults : HasReadCause old.faults new.faults result
 
 -- ---- what may be migrated
 

@@ -18,8 +18,8 @@ mod moving;
 mod reading;
 
 pub use claim_store::StoreFault;
-use lease_journal::{OneArea, read_one_area};
-use migrating::move_on;
+use lease_journal::{JournalName, OneArea, read_one_area};
+use migrating::{Found, move_on};
 use std::alloc::Global;
 use zk_model::JournalKind;
 use zk_port::Disk;
@@ -62,12 +62,17 @@ pub fn migrate<B: Disk>(
         → MigrationCause kind id.now total bytes e) }
     ensures faults { HasReadCause (B.state disk.old).faults (B.state disk.new).faults result }
 {
-    let (slots, used, last) = match read_one_area(disk, kind, id, total) {
-        Ok(OneArea::Here { slots, used, last }) => (slots, used, last),
+    let found = match read_one_area(disk, kind, id, total) {
+        Ok(OneArea::Here { slots, used, last }) => Found { slots, used, last },
         Ok(OneArea::Moved) => return Ok(Moved::Already),
         Err(fault) => return Err(StoreFault::Journal(fault)),
     };
-    match move_on(alloc, disk, kind, id, total, slots, used, last) {
+    let name = JournalName {
+        kind,
+        id: *id,
+        total,
+    };
+    match move_on(alloc, disk, name, found) {
         Ok(used) => Ok(Moved::Done { used }),
         Err(fault) => Err(fault),
     }

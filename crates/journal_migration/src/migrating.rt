@@ -1,70 +1,81 @@
 // How each side's journal is migrated.
-ghost use Rattle.std.specs.Prelude.{◌≡◌, ◌≤◌, ◌+◌, ◌*◌, ℕ, List, length, true, Some, IfOk, IfErr, OnOk};
-ghost use Rattle.zk_port.specs.Images.{HasDiskRoom, Only};
-ghost use Rattle.zk_model.specs.Journals.{are_slots};
-ghost use Rattle.zk_model.specs.Migrations.{moved_slots, one_area_end};
-ghost use Rattle.zk_model.specs.Twins.{twin_length};
+ghost use Rattle.std.specs.Prelude.{◌≡◌, ◌≤◌, ℕ, List, length, Some};
+ghost use Rattle.zk_model.specs.Journals.{AreSound, first_bodies};
+ghost use Rattle.zk_model.specs.Migrations.{SaysTheSame, moved_slots};
 ghost use Rattle.zk_model.specs.declared.JournalKind.TheVariants as kind;
-ghost use Rattle.zk_model.specs.declared.limits.TheConstants.{MAX_SLOTS};
-ghost use Rattle.lease_journal.specs.Scans.{HasRead};
-ghost use Rattle.lease_journal.specs.OneAreas.{IsOneArea};
-ghost use Rattle.claim_store.specs.Causes.{HasReadCause};
-ghost use Rattle.journal_migration.specs.Migrating.{IsDone, MigrationCause, MovesSafely, next_ceiling};
+ghost use Rattle.journal_migration.specs.Migrating.{IsThere, MovesOver, next_ceiling};
 
 use crate::moving::move_behind;
 use crate::reading::read_claims;
 use claim_store::StoreFault;
 use claim_store::merged::Merged;
 use std::alloc::Global;
-use twin_journal::{OneBody, StartFault, twin_ceiling_slots};
+use twin_journal::{Bodies, JournalName, NewTwin, OneBody, StartFault, twin_ceiling_slots};
 use zk_model::JournalKind;
 use zk_port::{Disk, Failed};
 
-/// Moves a journal of claims on, of which this was read: the new one has as many slots, and the ranges of the claims. It
-/// says how many these are.
-fn move_claims<B: Disk>(
-    alloc: Global,
-    disk: &mut B,
-    id: &[u8; 32],
-    total: u64,
-    slots: u64,
-    used: u64,
-) -> Result<u64, StoreFault>
-    requires bounded { slots ≤ MAX_SLOTS }
-    requires within { used ≤ slots }
-    requires slots { are_slots kind.Claims total slots ≡ true }
-    requires stands { (bytes : List ℕ) → (B.state disk.old).content ≡ Some bytes → (last : ℕ × ℕ)
-        × IsOneArea kind.Claims id.now total slots used last bytes }
-    requires synced { Only (B.state disk.old).content (B.state disk.old).images }
-    requires room { HasDiskRoom (one_area_end slots + twin_length slots) (B.state disk.old).room }
-    ensures done { IfOk result (λ count. (bytes : List ℕ) → (B.state disk.old).content ≡ Some bytes
-        → IsDone kind.Claims id.now total bytes count (B.state disk.new)) }
-    ensures moves { (bytes : List ℕ) → (B.state disk.old).content ≡ Some bytes
-        → MovesSafely kind.Claims id.now total bytes (B.state disk.old) (B.state disk.new) }
-    ensures durable { OnOk result (Only (B.state disk.new).content (B.state disk.new).images) }
-    ensures chosen { (B.state disk.new).chosen ≡ (B.state disk.old).chosen }
-    ensures cause { IfErr result (λ e. (bytes : List ℕ) → (B.state disk.old).content ≡ Some bytes
-        → MigrationCause kind.Claims id.now total bytes e) }
-    ensures faults { HasReadCause (B.state disk.old).faults (B.state disk.new).faults result }
+/// What was read of a journal of one area: how many slots it has and are in use, and the body in the last of these.
+#[derive(Clone, Copy)]
+pub struct Found {
+    pub slots: u64,
+    pub used: u64,
+    pub last: (u64, u64),
+}
+
+/// How many slots an area of the new journal has.
+fn moved_slots(name: JournalName, slots: u64) -> u64
+    ensures { result ≡ moved_slots name.kind name.total slots }
 {
-    let ranges = match read_claims(alloc, disk, used, total) {
-        Ok(ranges) => ranges,
-        Err(fault) => return Err(fault),
+    match name.kind {
+        JournalKind::Claims => slots,
+        JournalKind::Ceilings => twin_ceiling_slots(name.total),
+    }
+}
+
+/// Moves a journal on to one with these bodies, which say the same.
+fn move_bodies<B: Disk, F: Bodies>(
+    disk: &mut B,
+    name: JournalName,
+    found: Found,
+    next: &mut F,
+) -> Result<u64, StoreFault>
+    requires there { IsThere name.kind name.id name.total found.slots found.used found.last
+        (B.state disk.old) }
+    requires few { length (F.rest next.old) ≤ moved_slots name.kind name.total found.slots }
+    requires sound { AreSound name.kind name.total (F.rest next.old) }
+    requires same { (bytes : List ℕ) → (B.state disk.old).content ≡ Some bytes
+        → SaysTheSame name.kind (first_bodies 64 found.used bytes) (F.rest next.old) }
+    ensures { MovesOver name.kind name.id name.total (B.state disk.old) (B.state disk.new) result }
+{
+    let twin = NewTwin {
+        name,
+        begin: 64 + 32 * found.slots,
+        slots: moved_slots(name, found.slots),
     };
-    let begin = 64 + 32 * slots;
-    let mut next = Merged::new(&ranges);
-    match move_behind(
-        disk,
-        begin,
-        JournalKind::Claims,
-        id,
-        total,
-        slots,
-        &mut next,
-    ) {
+    match move_behind(disk, twin, next) {
         Ok(count) => Ok(count),
         Err(Failed) => Err(StoreFault::Journal(StartFault::Device)),
     }
+}
+
+/// Moves a journal of claims on: the new one has the ranges of the claims.
+fn move_claims<B: Disk>(
+    alloc: Global,
+    disk: &mut B,
+    name: JournalName,
+    found: Found,
+) -> Result<u64, StoreFault>
+    requires kind { name.kind ≡ kind.Claims }
+    requires there { IsThere name.kind name.id name.total found.slots found.used found.last
+        (B.state disk.old) }
+    ensures { MovesOver name.kind name.id name.total (B.state disk.old) (B.state disk.new) result }
+{
+    let ranges = match read_claims(alloc, disk, found.used, name.total) {
+        Ok(ranges) => ranges,
+        Err(fault) => return Err(fault),
+    };
+    let mut next = Merged::new(&ranges);
+    move_bodies(disk, name, found, &mut next)
 }
 
 /// The body of the last ceiling, where there is one.
@@ -77,82 +88,22 @@ fn next_ceiling(ceiling: u64) -> Option<(u64, u64)>
     Some((ceiling, 0))
 }
 
-/// Moves a journal of ceilings on, of which this was read: the new one has the last ceiling, if there is one. It says how
-/// many bodies that is.
-fn move_ceilings<B: Disk>(
-    disk: &mut B,
-    id: &[u8; 32],
-    total: u64,
-    slots: u64,
-    used: u64,
-    last: (u64, u64),
-) -> Result<u64, StoreFault>
-    requires bounded { slots ≤ MAX_SLOTS }
-    requires slots { are_slots kind.Ceilings total slots ≡ true }
-    requires read { HasRead kind.Ceilings total used last }
-    requires stands { (bytes : List ℕ) → (B.state disk.old).content ≡ Some bytes
-        → IsOneArea kind.Ceilings id.now total slots used last bytes }
-    requires synced { Only (B.state disk.old).content (B.state disk.old).images }
-    requires room { HasDiskRoom (one_area_end slots + twin_length (moved_slots kind.Ceilings total slots))
-        (B.state disk.old).room }
-    ensures done { IfOk result (λ count. (bytes : List ℕ) → (B.state disk.old).content ≡ Some bytes
-        → IsDone kind.Ceilings id.now total bytes count (B.state disk.new)) }
-    ensures moves { (bytes : List ℕ) → (B.state disk.old).content ≡ Some bytes
-        → MovesSafely kind.Ceilings id.now total bytes (B.state disk.old) (B.state disk.new) }
-    ensures durable { OnOk result (Only (B.state disk.new).content (B.state disk.new).images) }
-    ensures chosen { (B.state disk.new).chosen ≡ (B.state disk.old).chosen }
-    ensures cause { IfErr result (λ e. (bytes : List ℕ) → (B.state disk.old).content ≡ Some bytes
-        → MigrationCause kind.Ceilings id.now total bytes e) }
-    ensures faults { HasReadCause (B.state disk.old).faults (B.state disk.new).faults result }
-{
-    let begin = 64 + 32 * slots;
-    let mut next = OneBody::new(next_ceiling(last.0));
-    match move_behind(
-        disk,
-        begin,
-        JournalKind::Ceilings,
-        id,
-        total,
-        twin_ceiling_slots(total),
-        &mut next,
-    ) {
-        Ok(count) => Ok(count),
-        Err(Failed) => Err(StoreFault::Journal(StartFault::Device)),
-    }
-}
-
-/// Moves a journal of one area on, of which this was read, and says how many bodies the new one has.
+/// Moves a journal on: one of claims to their ranges, one of ceilings to the last of them, if there is one. It says how
+/// many bodies the new one has.
 pub fn move_on<B: Disk>(
     alloc: Global,
     disk: &mut B,
-    kind: JournalKind,
-    id: &[u8; 32],
-    total: u64,
-    slots: u64,
-    used: u64,
-    last: (u64, u64),
+    name: JournalName,
+    found: Found,
 ) -> Result<u64, StoreFault>
-    requires bounded { slots ≤ MAX_SLOTS }
-    requires within { used ≤ slots }
-    requires slots { are_slots kind total slots ≡ true }
-    requires read { HasRead kind total used last }
-    requires stands { (bytes : List ℕ) → (B.state disk.old).content ≡ Some bytes
-        → IsOneArea kind id.now total slots used last bytes }
-    requires synced { Only (B.state disk.old).content (B.state disk.old).images }
-    requires room { HasDiskRoom (one_area_end slots + twin_length (moved_slots kind total slots))
-        (B.state disk.old).room }
-    ensures done { IfOk result (λ count. (bytes : List ℕ) → (B.state disk.old).content ≡ Some bytes
-        → IsDone kind id.now total bytes count (B.state disk.new)) }
-    ensures moves { (bytes : List ℕ) → (B.state disk.old).content ≡ Some bytes
-        → MovesSafely kind id.now total bytes (B.state disk.old) (B.state disk.new) }
-    ensures durable { OnOk result (Only (B.state disk.new).content (B.state disk.new).images) }
-    ensures chosen { (B.state disk.new).chosen ≡ (B.state disk.old).chosen }
-    ensures cause { IfErr result (λ e. (bytes : List ℕ) → (B.state disk.old).content ≡ Some bytes
-        → MigrationCause kind id.now total bytes e) }
-    ensures faults { HasReadCause (B.state disk.old).faults (B.state disk.new).faults result }
+    requires { IsThere name.kind name.id name.total found.slots found.used found.last (B.state disk.old) }
+    ensures { MovesOver name.kind name.id name.total (B.state disk.old) (B.state disk.new) result }
 {
-    match kind {
-        JournalKind::Claims => move_claims(alloc, disk, id, total, slots, used),
-        JournalKind::Ceilings => move_ceilings(disk, id, total, slots, used, last),
+    match name.kind {
+        JournalKind::Claims => move_claims(alloc, disk, name, found),
+        JournalKind::Ceilings => {
+            let mut next = OneBody::new(next_ceiling(found.last.0));
+            move_bodies(disk, name, found, &mut next)
+        }
     }
 }

@@ -1,5 +1,5 @@
 -- Why a journal refuses, and what stands in one that is kept.
-use Rattle.std.specs.Prelude.{◌≡◌, ◌⊎◌, ℕ, ◌+◌, ◌*◌, ◌^◌, ◌<◌, ◌≤◌, List, length, Option, Some, None, false, Result, OnOk, IsErrOf}
+use Rattle.std.specs.Prelude.{◌≡◌, ◌⊎◌, ℕ, ◌+◌, ◌*◌, ◌<◌, ◌≤◌, List, length, Option, Some, None, false, Result, OnOk, IsErrOf}
 use Rattle.zk_port.specs.Counts.{Rose}
 use Rattle.zk_port.specs.Disks.{DiskState}
 use Rattle.zk_model.specs.declared.JournalKind.{JournalKind}
@@ -61,13 +61,6 @@ ScanCause at slots bytes start.Device = Unit {0}
 ScanCause at slots bytes (start.Short need got) = (need ≡ at + 32 * slots) × (got ≡ length bytes) × IsCut at slots bytes
 ScanCause at slots bytes (start.BadHeader place) = ⊥
 ScanCause at slots bytes (start.BadBody bad) = ⊥
-
--- why there is no header
-abbrev pub HeaderCause : JournalKind → List ℕ → ℕ → List ℕ → StartFault → Type 0
-HeaderCause kind id total bytes start.Device = Unit {0}
-HeaderCause kind id total bytes (start.Short need got) = (need ≡ 64) × (got ≡ length bytes) × (length bytes < 64)
-HeaderCause kind id total bytes (start.BadHeader place) = IsFirstMovedWrong kind id total bytes place
-HeaderCause kind id total bytes (start.BadBody bad) = ⊥
 
 -- Why a journal of one area is not read: the first of these that holds. No slot is judged of one that was migrated.
 abbrev pub OneAreaCause : JournalKind → List ℕ → ℕ → List ℕ → StartFault → Type 0

@@ -1,5 +1,5 @@
 -- What calls keep of a journal.
-use Rattle.std.specs.Prelude.{◌≡◌, ℕ, ◌+◌, ◌<◌, List, length, true, IfSome}
+use Rattle.std.specs.Prelude.{◌≡◌, ℕ, ◌+◌, ◌<◌, List, length, IfSome}
 use Rattle.zk_port.specs.Disks.{DiskState, LeavesOnly}
 use Rattle.zk_port.specs.Images.{ImagesFollow, IsOutside, IsTorn, StepsBy}
 use Rattle.lease_journal.specs.Steps.{TornFrom}

@@ -4,3 +4,4 @@ pub mod Scans
 pub mod Keeps
 pub mod OneAreas
 pub mod Laws
+pub mod Headers

@@ -1,5 +1,5 @@
 -- What stands in a file of a journal of one area.
-use Rattle.std.specs.Prelude.{◌≡◌, ℕ, ◌+◌, ◌*◌, ◌≤◌, List, length, None, true, false}
+use Rattle.std.specs.Prelude.{◌≡◌, ℕ, ◌≤◌, List, None, true, false}
 use Rattle.zk_model.specs.declared.JournalKind.{JournalKind}
 use Rattle.zk_model.specs.declared.limits.TheConstants.{MAX_SLOTS}
 use Rattle.zk_model.specs.Journals.{AreUsed, IsFirstBad, are_slots, last_body, slots_at}

@@ -1,14 +1,14 @@
 // An area of a journal: slots of 32 bytes from a place on.
-ghost use Rattle.std.specs.Prelude.{◌≡◌, ◌<◌, ◌≤◌, ◌+◌, ◌*◌, ◌^◌, ◌++◌, ℕ, List, length, Option, Some, None, IfOk, IfErr, IfSome, OnOk, OnErr, true, false, not, ◌&&◌, ◌||◌, ◌==◌, if◌then◌else◌, get_or, nat_lt, nat_le};
+ghost use Rattle.std.specs.Prelude.{◌≡◌, ◌<◌, ◌≤◌, ◌+◌, ◌*◌, ◌^◌, ℕ, List, length, Option, Some, None, IfOk, IfErr, IfSome, OnOk, ◌&&◌, ◌||◌, ◌==◌};
 ghost use Rattle.std.specs.Option.{option_map};
 ghost use Rattle.zk_port.specs.Counts.{HasDiskCause};
 ghost use Rattle.zk_port.specs.Disks.{LeavesOnly, Stays};
-ghost use Rattle.zk_port.specs.Images.{HasDiskRoom, IsTorn, Only, StepsBy};
+ghost use Rattle.zk_port.specs.Images.{HasDiskRoom, Only};
 ghost use Rattle.zk_model.specs.Journals.{AreUsed, IsOldOrNew, SameWhere, body_at, first_bodies, keeps_rule, number_at};
 ghost use Rattle.lease_journal.specs.Causes.{HasStartCause, SlotSays, SlotCause, IsScanned, ScanCause};
 ghost use Rattle.lease_journal.specs.Keeps.{ChangesAt, IsSpared, Keeps};
 ghost use Rattle.lease_journal.specs.Scans.{next_bad, HasRead};
-ghost use Rattle.lease_journal.specs.Steps.{TornFrom, IsReady, slot_written, body_bytes};
+ghost use Rattle.lease_journal.specs.Steps.{IsReady, slot_written, body_bytes};
 ghost use Rattle.lease_journal.specs.declared.fault.StartFault.TheVariants as start;
 ghost use Rattle.zk_model.specs.declared.limits.TheConstants.{MAX_SLOTS};
 

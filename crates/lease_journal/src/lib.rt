@@ -8,6 +8,9 @@
 //! slot has two numbers, its body, 15 bytes that nothing reads, and a byte that is 0x5A once the slot is open. The bodies
 //! of the first slots that are open, up to the first that is not, are what an area says.
 //!
+//! The header of a journal of two areas has the same form, with another byte of the kind: `header` makes, reads and judges
+//! both, each by the name of its journal (`JournalName`).
+//!
 //! A body is put by `area::store_slot`: it is written, synced, its slot opened, and synced, so that a crash at any moment
 //! leaves the area with the body or without.
 #![tactic(auto)]
@@ -23,6 +26,7 @@ mod one_area;
 pub mod storing;
 
 pub use fault::{JournalFault, StartFault};
+pub use header::JournalName;
 pub use one_area::{OneArea, read_one_area};
 pub use zk_model::JournalKind;
 use zk_model::MAX_CLAIM_SLOTS;

@@ -1,5 +1,5 @@
 // How a journal of one area is read.
-ghost use Rattle.std.specs.Prelude.{◌≡◌, ℕ, List, Some, None, true, IfOk, IfErr, OnOk};
+ghost use Rattle.std.specs.Prelude.{◌≡◌, ℕ, List, Some, IfOk, IfErr, OnOk};
 ghost use Rattle.zk_port.specs.Disks.{Stays};
 ghost use Rattle.zk_port.specs.Images.{Only};
 ghost use Rattle.lease_journal.specs.Causes.{HasStartCause, OneAreaCause};
@@ -7,7 +7,7 @@ ghost use Rattle.lease_journal.specs.OneAreas.{FindsOneArea, IsBounded};
 
 use crate::area::{Scan, read_slots};
 use crate::fault::StartFault;
-use crate::header::{FirstHeader, read_header};
+use crate::header::{FirstHeader, JournalName, read_header};
 use zk_model::JournalKind;
 use zk_port::{Disk, Failed};
 
@@ -52,7 +52,12 @@ pub fn read_one_area<B: Disk>(
     if let Err(Failed) = disk.sync() {
         return Err(StartFault::Device);
     }
-    let FirstHeader { slots, is_moved } = match read_header(disk, kind, id, total) {
+    let name = JournalName {
+        kind,
+        id: *id,
+        total,
+    };
+    let FirstHeader { slots, is_moved } = match read_header(disk, name) {
         Ok(header) => header,
         Err(fault) => return Err(fault),
     };

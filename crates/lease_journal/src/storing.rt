@@ -1,5 +1,5 @@
 // Bytes that are written and synced, and numbers.
-ghost use Rattle.std.specs.Prelude.{◌≡◌, ◌<◌, ◌≤◌, ◌+◌, ◌*◌, ◌^◌, ◌++◌, ℕ, List, length, Option, Some, None, IfOk, IfErr, IfSome, OnOk, OnErr, true, false, not, ◌&&◌, ◌||◌, ◌==◌, if◌then◌else◌, get_or, nat_lt, nat_le};
+ghost use Rattle.std.specs.Prelude.{◌≡◌, ◌<◌, ◌≤◌, ◌+◌, length, OnOk};
 ghost use Rattle.std.specs.Option.{option_map};
 ghost use Rattle.zk_port.specs.Counts.{HasDiskCause};
 ghost use Rattle.zk_port.specs.Images.{HasDiskRoom, Only, written_at};

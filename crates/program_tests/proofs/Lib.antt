@@ -1,1 +1,2 @@
 pub mod PlainFiles
+pub mod Fitting

@@ -267,5 +267,5 @@ as_seen prover task statement s pairs side known same audited =
     (are_seen prover task statement s pairs side known same audited, side_same prover task statement s pairs side known same)
 
 -- few sections
-pub few_sections : (n g : ℕ) → 1 ≤ g → n ≤ 1048576 → part_count n g < 2 ^ 32
+pub few_sections : (n g : ℕ) → 1 ≤ g → n ≤ 16777216 → part_count n g < 2 ^ 32
 few_sections n g some few = div_below (n + (g - 1)) g (2 ^ 32) some (omega (arith, some, few))

@@ -74,7 +74,7 @@ impl<'a> LogReader<'a> {
     pub fn next(&mut self, place: Expect) -> Result<Option<Frame>, AuditFault>
         requires between { IsBetween self.old }
         requires short { IsShortPlace place }
-        requires fits { self.old.decoder.received + 2 ^ 25 ≤ 2 ^ 64 }
+        requires fits { self.old.decoder.received + 2 ^ 29 ≤ 2 ^ 64 }
         ensures takes { IfOk result (λ read. IfSome read (λ frame.
             TakesFrame place (frame_value frame) self.old self.new)) }
         ensures early { IfOk result (λ read. IfNone read (StopsEarly place self.old.rest.now)) }

@@ -79,16 +79,16 @@ pub holding_within : (place : Expect) (held : Held) → Holds place held → len
 holding_within place held holds = held_within place held.start.items held.elements.items held.part.items holds.begun
 
 -- a frame is short
-frame_short : (place : Expect) (bytes : List ℕ) → IsShortPlace place → length bytes ≤ frame_length place bytes → length bytes ≤ 2 ^ 24 + 5
+frame_short : (place : Expect) (bytes : List ℕ) → IsShortPlace place → length bytes ≤ frame_length place bytes → length bytes ≤ 2 ^ 28 + 5
 frame_short place bytes short within = by_length (cases_lt (told_at place) (length bytes))
   where
-    by_length : (told_at place < length bytes) ⊎ (length bytes ≤ told_at place) → length bytes ≤ 2 ^ 24 + 5
+    by_length : (told_at place < length bytes) ⊎ (length bytes ≤ told_at place) → length bytes ≤ 2 ^ 28 + 5
     by_length (inl some) = omega (arith, within, length_told place bytes some, short_payload place (told place bytes) short)
     by_length (inr early) = omega (arith, early, told_early place)
 
 -- little is taken
 pub taken_most : (place : Expect) (received : ℕ) (bad : Option BadFrame) (taken : ℕ) (held : Held) (pair_room : ℕ)
-    → IsUnderWay place received bad taken held pair_room → taken ≤ 2 ^ 24 + 5
+    → IsUnderWay place received bad taken held pair_room → taken ≤ 2 ^ 28 + 5
 taken_most place received bad taken held pair_room under =
     let most = under.most in
     let short = frame_short place (bytes_of held) under.holds.short (holding_within place held under.holds) in

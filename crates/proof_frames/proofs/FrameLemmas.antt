@@ -48,11 +48,11 @@ elements_more elements i element old before now a within at far pushed is_a =
 
 -- the payloads of short frames
 pub short_elements : (frame : model.Frame) (kind : FrameKind) (elements given : List ℕ) → IsShort frame → frame_spelling frame ≡ frame_bytes kind (flat_map element_bytes elements)
-    → given ≡ elements → 8 * length given ≤ 2 ^ 24
+    → given ≡ elements → 8 * length given ≤ 2 ^ 28
 short_elements frame kind elements given short is same =
     omega (arith, short, ap length is, length-elements elements, ap length same)
 
-pub short_sums : (frame : model.Frame) (sums given : List (ℕ × ℕ)) → IsShort frame → frame ≡ model.sums sums → given ≡ sums → 16 * length given ≤ 2 ^ 24
+pub short_sums : (frame : model.Frame) (sums given : List (ℕ × ℕ)) → IsShort frame → frame ≡ model.sums sums → given ≡ sums → 16 * length given ≤ 2 ^ 28
 short_sums frame sums given short is same =
     omega (arith, short, ap (λ f. length (frame_spelling f)) is, length-sums sums, ap length same)
 

@@ -94,15 +94,15 @@ kind_told expect.Grant (first ∷ bytes) = by_first (nat_eq first 10) refl
 kind_told place bytes = refl
 
 -- a short frame has a short payload
-pub short_payload : (place : Expect) (byte : ℕ) → IsShortPlace place → payload_length (shape_of place byte).payload ≤ 2 ^ 24
-short_payload = every_shape (λ place shape. IsShortPlace place → payload_length shape.payload ≤ 2 ^ 24) (λ short. omega arith) (λ short. omega arith) (λ short. omega arith) (λ short. omega arith)
+pub short_payload : (place : Expect) (byte : ℕ) → IsShortPlace place → payload_length (shape_of place byte).payload ≤ 2 ^ 28
+short_payload = every_shape (λ place shape. IsShortPlace place → payload_length shape.payload ≤ 2 ^ 28) (λ short. omega arith) (λ short. omega arith) (λ short. omega arith) (λ short. omega arith)
     (λ height trees left short. omega arith) (λ height trees left short. omega arith) (λ count short. omega arith) (λ short. omega arith) (λ sections short. omega arith) (λ count short. omega arith)
     (λ short. omega arith)
 
 -- so the levels of a tree are short, where more of a frame of trees may come
 pub few_levels : (place : Expect) (byte trees height : ℕ) (level : Level) (n : ℕ) → IsShortPlace place
     → (shape_of place byte).payload ≡ payload.Trees trees height level → 5 ≤ n → n < 5 + trees * (level_width level height + 8)
-    → level_width level height + 8 ≤ 2 ^ 24
+    → level_width level height + 8 ≤ 2 ^ 28
 few_levels place byte zero height level n short shape low high = absurd (omega (arith, low, high))
 few_levels place byte (suc trees) height level n short shape low high =
     let most = short_payload place byte short in

@@ -5,7 +5,7 @@ use Rattle.std.specs.Int.{w32, w64, from_le_bytes, to_le_bytes}
 use Rattle.std.proofs.Math.Seq.{drop-drop}
 use Rattle.std.proofs.lemmas.List.{take_all, drop_more, nil_from_length, length-take-le, get_or-take}
 use Rattle.std.proofs.lemmas.List.Elements.{All-append, All-cons, All-nil, All-get_or, All-head, All-take, All-drop, All-from_recursion, recursion_from_All}
-use Rattle.frame_laws.proofs.Octets.{word_octets}
+use Rattle.zk_model.proofs.Octets.{word_octets}
 use Rattle.frame_laws.proofs.Hellos.{hello_payload, payload_length}
 use Rattle.zk_model.specs.Field.{IsElement}
 use Rattle.zk_model.specs.Bytes.{AreBytes, element_bytes}

@@ -79,7 +79,7 @@ Runs place old piece (Some n) new = StopsAt place old piece n new
 
 -- a frame is under way; once a byte is bad more may be held than is taken
 pub record IsUnderWay (place : Expect) (received : ℕ) (bad : Option BadFrame) (taken : ℕ) (held : Held) (pair_room : ℕ) : Type 0 where
-  pub fits : received + 2 ^ 25 ≤ 2 ^ 64
+  pub fits : received + 2 ^ 29 ≤ 2 ^ 64
   pub holds : Holds place held
   pub pairs : pairs_at place ≤ pair_room
   pub most : taken ≤ length (bytes_of held)

@@ -89,7 +89,7 @@ impl Decoder {
     pub fn expect(&mut self, place: Expect) -> Result<(), AllocError>
         requires idle { self.old.expected ≡ None }
         requires short { IsShortPlace place }
-        requires fits { self.old.received + 2 ^ 25 ≤ 2 ^ 64 }
+        requires fits { self.old.received + 2 ^ 29 ≤ 2 ^ 64 }
         ensures expects { OnOk result (self.new ≡ record self.old { expected = Some place }) }
         ensures refused { OnErr result (self.new ≡ self.old) }
     {

@@ -82,7 +82,7 @@ fn ends_element(bytes: &[u8], last: u8) -> bool
 /// Whether a byte may stand at a place of a tree, after other bytes: for a level one that is no more than the most, and at
 /// the end of an element one that leaves it below the prime.
 fn may_follow(bytes: &[u8], at: usize, width: usize, most: u8, byte: u8) -> bool
-    requires small { width + 7 ≤ 2 ^ 25 }
+    requires small { width + 7 ≤ 2 ^ 29 }
     requires behind { at ≤ length bytes.now }
     ensures { IsTrue result ↔ MayFollow bytes.now at width most byte }
 {

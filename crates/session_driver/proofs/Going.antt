@@ -177,20 +177,20 @@ runs_on moves greeting old mid new first was now runs goes =
 -- ---- how much came
 
 -- a place that is short has no longer frames
-longest_short : (place : Expect) → IsShortPlace place → longest place ≤ 2 ^ 24 + 5
+longest_short : (place : Expect) → IsShortPlace place → longest place ≤ 2 ^ 28 + 5
 longest_short places.Hello short = omega arith
 longest_short places.Grant short = omega arith
 longest_short places.Challenge short = omega arith
 longest_short places.Verdict short = omega arith
 longest_short other short = short
 
-frame_short : (place : Expect) (bytes : List ℕ) (frame : Frame) → IsShortPlace place → IsWhole place bytes frame → length bytes ≤ 2 ^ 24 + 5
+frame_short : (place : Expect) (bytes : List ℕ) (frame : Frame) → IsShortPlace place → IsWhole place bytes frame → length bytes ≤ 2 ^ 28 + 5
 frame_short place bytes frame short whole =
     omega (arith, whole_length place bytes frame whole, frame_most place bytes, longest_short place short)
 
 -- a turn takes at most a frame's bytes
 pub few_more : {S F : Type 0} (moves : Moves S F) (old new : S) (line now : LineState) (left fewer most : ℕ) → TurnGoes moves old new line now
-    → fewer < left → line.reading.received + left * (2 ^ 24 + 5) ≤ most → now.reading.received + fewer * (2 ^ 24 + 5) ≤ most
+    → fewer < left → line.reading.received + left * (2 ^ 28 + 5) ≤ most → now.reading.received + fewer * (2 ^ 28 + 5) ≤ most
 few_more moves old new line now left fewer most goes less few =
     let answered = is_answered goes.turn.answer goes.heard now goes.sends in
     omega (
@@ -204,7 +204,7 @@ few_more moves old new line now left fewer most goes less few =
 
 -- none came before the greeting
 pub few_first : (greeting : List Frame) (left : ℕ) (first now : LineState) → IsFresh first → SendsAll greeting first now
-    → now.reading.received + left * (2 ^ 24 + 5) ≤ left * (2 ^ 24 + 5)
+    → now.reading.received + left * (2 ^ 28 + 5) ≤ left * (2 ^ 28 + 5)
 few_first greeting left first now fresh sent =
     let answered = is_answered greeting first now sent in
     omega (arith, ap (λ (r : Reading). r.received) answered.others.reading, ap (λ (r : Reading). r.received) fresh.reading)

@@ -78,7 +78,7 @@ fn take<L: Link>(
     requires open { IsTrue line.old.is_open }
     requires idle { line.old.reading.expected ≡ None }
     requires short { IsShortPlace place }
-    requires fits { line.old.reading.received + 2 ^ 25 ≤ 2 ^ 64 }
+    requires fits { line.old.reading.received + 2 ^ 29 ≤ 2 ^ 64 }
     ensures room { OnOk result (IfSome lack (λ _. 6 ≤ line.new.room)) }
     ensures arrives { IfOk result (λ frame.
         Arrives place (frame_value frame) (record line.old { room = line.new.room }) line.new) }
@@ -128,7 +128,7 @@ fn turn<R: Threads + Sync, O, P: Party<O>, L: Link>(
     requires open { IsTrue line.old.is_open }
     requires idle { line.old.reading.expected ≡ None }
     requires short { IsShortPlace place }
-    requires fits { line.old.reading.received + 2 ^ 25 ≤ 2 ^ 64 }
+    requires fits { line.old.reading.received + 2 ^ 29 ≤ 2 ^ 64 }
     requires expected { P.expects party.old ≡ Some place }
     requires holds { P.holds party.old asked.old }
     ensures holds { OnOk result (P.holds party.new asked.new) }

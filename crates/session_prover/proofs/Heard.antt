@@ -314,14 +314,14 @@ pub record IsNextFrame (awaited : Expect) (bytes : List ℕ) : Type 0 where
   pub begun : bytes ≡ frame_spelling frame ++ tail
 
 -- what is granted in a session fits a frame
-pub grant_fits : (params : Params) (program : Program) (given : Grant) → params.total ≤ 2 ^ 32 → IsGrant params program given → FitsGrant given
+pub grant_fits : (params : Params) (program : Program) (given : Grant) → params.total ≤ 2 ^ 40 → IsGrant params program given → FitsGrant given
 grant_fits params program given total is = record {
   start = omega (arith, is.within, total);
   count = omega (arith, is.count_most);
   section_length = omega (arith, is.section_most);
 }
 
-pub next_grant : (params : Params) (program : Program) (u : Transcript) (bytes more : List ℕ) → params.total ≤ 2 ^ 32
+pub next_grant : (params : Params) (program : Program) (u : Transcript) (bytes more : List ℕ) → params.total ≤ 2 ^ 40
     → IsTranscript params program u → bytes ≡ answered (take 1 (session_turns u)) ++ more → IsNextFrame expect.Grant bytes
 next_grant params program u bytes more total is begun = record {
   frame = grant u.commitment.setup.grant;
@@ -466,7 +466,7 @@ unstarted stage rest frame more allowed long few (inr (n, bad)) is =
     same = is ∙ nothing_more (frame_spelling frame) more (subst (λ (l : List ℕ). length l ≤ length (frame_spelling frame)) is (omega (arith, few, long)))
 
 -- bytes that begin with a grant's frame, and that are the frame of a grant that fits
-pub same_bytes_grant : (params : Params) (program : Program) (given other : Grant) (more tail : List ℕ) → params.total ≤ 2 ^ 32 → FitsGrant given
+pub same_bytes_grant : (params : Params) (program : Program) (given other : Grant) (more tail : List ℕ) → params.total ≤ 2 ^ 40 → FitsGrant given
     → IsGrant params program other → grant_frame given ++ more ≡ grant_frame other ++ tail → IsGrant params program given
 same_bytes_grant params program given other more tail total fits is begins = subst (λ (g : Grant). IsGrant params program g) same is
   where
@@ -483,7 +483,7 @@ same_bytes_grant params program given other more tail total fits is begins = sub
     same = sym (ap (grant_or given) frames)
 
 -- no grant but that which is there
-pub one_grant : (task : ProverTask) (given : Grant) → task.file.params.total ≤ 2 ^ 32 → FitsGrant given
+pub one_grant : (task : ProverTask) (given : Grant) → task.file.params.total ≤ 2 ^ 40 → FitsGrant given
     → Hears task (grant_frame given) 0 → IsGrant task.file.params task.statement.program given
 one_grant task given total fits heard =
     same_bytes_grant task.file.params task.statement.program given heard.u.commitment.setup.grant [] ([] ++ heard.more) total fits heard.is.commitment.setup.grant

@@ -1,10 +1,12 @@
 // What audits say of the log of a rehearsal.
 ghost use Rattle.std.specs.Prelude.{◌≡◌, ◌≤◌, length};
 
+use crate::cases::Case;
+use crate::program_ends::Claimed;
 use crate::say::Bits;
-use crate::scenario::Scenario;
+use crate::scenario::Dealt;
 use crate::scene::params_of;
-use crate::sessions::{Case, SEED};
+use crate::sessions::SEED;
 use anyhow::Result;
 use bristol_reader::Circuit;
 use dealer_files::{ProverFile, VerifierFile, deal};
@@ -87,32 +89,48 @@ fn answer_about(alloc: Global, audited: &Audited<'_>, log: &[u8]) -> Result<Answ
     Ok(Answered { answer })
 }
 
-/// The lines of audits of these logs, over the files of a rehearsal that took so many units.
+/// The line of an audit of a log.
+fn audit_line(alloc: Global, audited: &Audited<'_>, case: Case) -> Result<String>
+    requires public { length audited.now.public.now ≤ audited.now.circuit.now.inputs }
+    requires outputs { length audited.now.outputs.now ≡ audited.now.circuit.now.outputs }
+{
+    let Case { name, script, .. } = case;
+    let answer = answer_about(alloc, audited, &script)?;
+    Ok(format!(in alloc; "{name}{answer}\n")?)
+}
+
+/// The lines of audits of these logs.
+fn logs_lines(alloc: Global, audited: &Audited<'_>, cases: Vec<Case>) -> Result<String>
+    requires public { length audited.now.public.now ≤ audited.now.circuit.now.inputs }
+    requires outputs { length audited.now.outputs.now ≡ audited.now.circuit.now.outputs }
+{
+    let mut lines = String::new(alloc);
+    for case in cases {
+        lines.push_str(&audit_line(alloc, audited, case)?)?;
+    }
+    Ok(lines)
+}
+
+/// The lines of audits of these logs about a claim, over the files of a rehearsal that took so many units.
 pub fn audit_lines(
     alloc: Global,
-    scenario: &Scenario<'_>,
+    claimed: &Claimed<'_, '_>,
     circuit: &Circuit,
-    public: &[bool],
-    outputs: &[bool],
     units: u64,
     cases: Vec<Case>,
 ) -> Result<String>
-    requires public { length public.now ≤ circuit.now.inputs }
-    requires outputs { length outputs.now ≡ circuit.now.outputs }
+    requires public { length claimed.now.public.now ≤ circuit.now.inputs }
+    requires outputs { length claimed.now.outputs.now ≡ circuit.now.outputs }
 {
-    let params = params_of(&Scenario { units, ..*scenario })?;
+    let dealing = claimed.scenario.dealt.dealing;
+    let params = params_of(Dealt { dealing, units })?;
     let (prover, verifier) = deal(alloc, &params, &SEED)?;
     let audited = Audited {
         circuit,
-        public,
-        outputs,
+        public: claimed.public,
+        outputs: claimed.outputs,
         prover: &prover,
         verifier: &verifier,
     };
-    let mut lines = String::new(alloc);
-    for Case { name, script, .. } in cases {
-        let answer = answer_about(alloc, &audited, &script)?;
-        lines.push_str(&format!(in alloc; "{name}{answer}\n")?)?;
-    }
-    Ok(lines)
+    logs_lines(alloc, &audited, cases)
 }

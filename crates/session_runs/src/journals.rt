@@ -2,7 +2,8 @@
 ghost use Rattle.std.specs.Prelude.{◌≤◌};
 ghost use Rattle.zk_model.specs.declared.limits.TheConstants.{MAX_SLOTS};
 
-use crate::scenario::{Areas, Journaled, read_numbers};
+use crate::cases::set_byte;
+use crate::scenario::{Areas, Journaled, read_pair};
 use anyhow::{Error, Result};
 use dealer_files::VerifierFile;
 use lease_journal::header::journal_code;
@@ -36,8 +37,7 @@ fn ceiling_bodies(alloc: Global, total: u64, ceilings: u64) -> Result<Vec<(u64, 
 fn claim_bodies(alloc: Global, claims: &str) -> Result<Vec<(u64, u64)>> {
     let mut bodies = Vec::new(alloc);
     for claim in claims.split('+').filter(|claim| !claim.is_empty()) {
-        let claim = read_numbers(claim)?;
-        bodies.push((claim.from, claim.to))?;
+        bodies.push(read_pair(claim, "..")?)?;
     }
     Ok(bodies)
 }
@@ -182,10 +182,7 @@ pub fn journal_of(
         bytes.resize(size, 0)?;
     }
     if let Some((place, byte)) = journal.set {
-        match bytes.get_mut(place as usize) {
-            Some(there) => *there = byte,
-            None => return Err(Error::msg("no such place")),
-        }
+        set_byte(&mut bytes, place, byte)?;
     }
     Ok(bytes)
 }

@@ -38,13 +38,16 @@
 //! this number, counted from 1.
 //!
 //! What a run of the program is given; `x.prover` and `x.verifier` are the dealt files, the circuit stands under its name, and the disk
-//! has the journal of one of the files, of which it tells nothing: the prover's where the first word is `prove`, else the verifier's.
+//! has the journal of one of the files, of which it tells nothing: the prover's where the words begin with `prove` or `migrate,prover`,
+//! else the verifier's. Behind a journal of one area it has room for one of two.
 //!
 //! | Word | What it says | Else |
 //! |---|---|---|
 //! | `words=WORD,WORD..` | its words; `BITS` stands for the private bits of the circuit's inputs | of a service and of a proof those of the scenario |
 //! | `tail=TEXT` | text behind the circuit's, in which `_` is a space | none |
 //! | `size=N` | the size up to which line feeds follow the circuit's text | its own |
+//! | `versions=A,B` | the versions of the prover's dealt file and of the verifier's; their digests fit | `1,1` |
+//! | `damage=PLACE:BYTE+..` | bytes of both dealt files that are others, whose digests stay | none |
 //! | `areas=AREAS` | the journal has `one` area, or `two`, or it was `moved`: two areas behind a journal of one that was migrated | `two` |
 //! | `slots=N` | how many slots an area has | those of a new one |
 //! | `heads=A,B` | the generations in the heads of the first area and the second, 0 in one that is closed | `1,0` |
@@ -55,7 +58,7 @@
 //! | `shelf-fails=N`, `sink-fails=N`, `door-fails=N`, `disk-fails=N` | the number of the call that fails, counted from 1 | none |
 //! | `statements=TEXT` | the text of the file `statements`, in which `+` is a space, and `/` the end of a line; a service is then that of `serve-many` | empty |
 //! | `log=HEX` | the bytes of the file `log` | none |
-//! | `show=NAME,NAME..` | the files of which the line says how many bytes stand there, and SHA-256 of them; `disk` for the disk | none |
+//! | `show=NAME,NAME..` | the files of which the line says how many bytes stand there, and SHA-256 of them, or with `NAME:N` of the first N; `disk` for the disk | none |
 //!
 //! Ceilings and claims stand in the area that counts. The other, where its head is open, says that all units are spent, and so does the
 //! journal of one area behind which one was moved.
@@ -84,6 +87,9 @@
 #![tactic(auto)]
 
 mod audits;
+mod cases;
+mod ends;
+mod given;
 mod journals;
 mod piece_link;
 mod program_ends;

@@ -1,14 +1,20 @@
 // Runs of the program as either end of sessions, with peers whose bytes are stated.
-use crate::runs::{Peers, empty_door, given_of, run_line, words_of};
+ghost use Rattle.std.specs.Prelude.{IfOk};
+ghost use Rattle.zk_port.specs.Doors.{IsFreshLink};
+
+use crate::cases::{Case, cases_of, link_of};
+use crate::given::{given_of, words_of};
+use crate::piece_link::PieceLink;
+use crate::runs::{Peers, empty_door, run_line};
 use crate::say::Bits;
-use crate::scenario::Scenario;
-use crate::sessions::{Case, cases_of, link_of};
+use crate::scenario::{Scenario, Service};
 use anyhow::Result;
 use command_words::write_bits;
 use std::alloc::Global;
 use std::sync::Wait;
 use std::thread::Threads;
 use twin_journal::JournalKind;
+use zk_port::Link;
 
 /// A scenario, its public bits, and the outputs that are claimed in it.
 #[derive(Clone, Copy)]
@@ -16,6 +22,14 @@ pub struct Claimed<'a, 'b> {
     pub scenario: &'a Scenario<'b>,
     pub public: &'a [bool],
     pub outputs: &'a [bool],
+}
+
+impl Claimed<'_, '_> {
+    /// Whether a service is about a file of statements.
+    fn offers_many(&self) -> bool {
+        let scenario = self.scenario;
+        !scenario.outside.files.statements.is_empty()
+    }
 }
 
 /// Adds an option to the words, where its value is not empty.
@@ -35,32 +49,56 @@ fn push_public(alloc: Global, words: &mut Vec<String>, public: &[bool]) -> Resul
     Ok(())
 }
 
-/// The words of a service about a claim.
-fn service_words(alloc: Global, claimed: &Claimed<'_, '_>) -> Result<Vec<String>> {
-    let scenario = claimed.scenario;
+/// The words that name a service, and what it is about.
+fn service_line_of(alloc: Global, claimed: &Claimed<'_, '_>) -> Result<String> {
+    let (circuit, section) = (claimed.scenario.circuit, claimed.scenario.section);
     let outputs = Bits {
         bits: claimed.outputs,
     };
-    let (circuit, section) = (scenario.circuit, scenario.section);
-    let is_many = !scenario.outside.statements.is_empty();
-    let line = if is_many {
-        format!(in alloc; "serve-many,here,x.verifier,statements,--section,{section}")?
-    } else {
-        format!(in alloc; "serve,here,x.verifier,{circuit},{outputs},--section,{section}")?
-    };
-    let mut words = words_of(alloc, scenario, &line)?;
-    let service = &scenario.service;
-    for (name, value) in [
-        ("--sessions", service.sessions),
-        ("--workers", service.workers),
-        ("--logs", service.logs),
-    ] {
-        push_option(alloc, &mut words, name, value)?;
+    if claimed.offers_many() {
+        return Ok(format!(in alloc; "serve-many,here,x.verifier,statements,--section,{section}")?);
     }
-    if !is_many {
+    Ok(format!(in alloc; "serve,here,x.verifier,{circuit},{outputs},--section,{section}")?)
+}
+
+/// Adds the options of a service.
+fn push_service(alloc: Global, words: &mut Vec<String>, service: &Service<'_>) -> Result<()> {
+    push_option(alloc, words, "--sessions", service.sessions)?;
+    push_option(alloc, words, "--workers", service.workers)?;
+    push_option(alloc, words, "--logs", service.logs)?;
+    Ok(())
+}
+
+/// The words of a service about a claim.
+fn service_words(alloc: Global, claimed: &Claimed<'_, '_>) -> Result<Vec<String>> {
+    let line = service_line_of(alloc, claimed)?;
+    let mut words = words_of(alloc, claimed.scenario, &line)?;
+    push_service(alloc, &mut words, &claimed.scenario.service)?;
+    if !claimed.offers_many() {
         push_public(alloc, &mut words, claimed.public)?;
     }
     Ok(words)
+}
+
+/// The link of the peer of this number, whose honest bytes these are: the stated one does what is stated.
+fn peer_link(
+    alloc: Global,
+    scenario: &Scenario<'_>,
+    number: usize,
+    honest: &[u8],
+    stated: &Case,
+) -> Result<PieceLink>
+    ensures { IfOk result (λ link. IsFreshLink (⟦<PieceLink as Link>⟧.state link)) }
+{
+    if number as u64 == scenario.service.peer {
+        return link_of(
+            alloc,
+            stated.script.to_vec(alloc)?,
+            stated.call,
+            stated.piece,
+        );
+    }
+    link_of(alloc, honest.to_vec(alloc)?, 0, 4096)
 }
 
 /// A door at which the peers of a service call: the one of the stated number does what is stated, and the others are honest.
@@ -72,12 +110,7 @@ fn service_door(
 ) -> Result<Peers> {
     let mut door = empty_door(alloc, scenario)?;
     for (number, script) in honest.iter().enumerate() {
-        let is_stated = number as u64 == scenario.service.peer;
-        let script = if is_stated { &stated.script } else { script };
-        let call = if is_stated { stated.call } else { 0 };
-        let piece = if is_stated { stated.piece } else { 4096 };
-        let link = link_of(alloc, script.to_vec(alloc)?, call, piece)?;
-        door.wait(link)?;
+        door.wait(peer_link(alloc, scenario, number, script, stated)?)?;
     }
     Ok(door)
 }
@@ -118,7 +151,7 @@ pub fn service_lines<R: Threads + Wait + Sync>(
         None => &[],
     };
     let mut lines = String::new(alloc);
-    for stated in &cases_of(alloc, scenario, script)? {
+    for stated in &cases_of(alloc, &scenario.peer, script)? {
         lines.push_str(&service_line(rt, alloc, scenario, honest, &words, stated)?)?;
     }
     Ok(lines)
@@ -138,6 +171,18 @@ fn proof_line<R: Threads + Wait + Sync>(
     run_line(rt, alloc, &scenario.outside, &case.name, given, door, words)
 }
 
+/// The words of a proof of a claim.
+fn proof_words(alloc: Global, claimed: &Claimed<'_, '_>) -> Result<Vec<String>> {
+    let outputs = Bits {
+        bits: claimed.outputs,
+    };
+    let circuit = claimed.scenario.circuit;
+    let line = format!(in alloc; "prove,here,x.prover,{circuit},BITS,{outputs}")?;
+    let mut words = words_of(alloc, claimed.scenario, &line)?;
+    push_public(alloc, &mut words, claimed.public)?;
+    Ok(words)
+}
+
 /// The lines of runs of the program that prove a claim to a peer whose honest bytes are these.
 pub fn proof_lines<R: Threads + Wait + Sync>(
     rt: &R,
@@ -146,15 +191,9 @@ pub fn proof_lines<R: Threads + Wait + Sync>(
     honest: &[u8],
 ) -> Result<String> {
     let scenario = claimed.scenario;
-    let outputs = Bits {
-        bits: claimed.outputs,
-    };
-    let circuit = scenario.circuit;
-    let line = format!(in alloc; "prove,here,x.prover,{circuit},BITS,{outputs}")?;
-    let mut words = words_of(alloc, scenario, &line)?;
-    push_public(alloc, &mut words, claimed.public)?;
+    let words = proof_words(alloc, claimed)?;
     let mut lines = String::new(alloc);
-    for case in &cases_of(alloc, scenario, honest)? {
+    for case in &cases_of(alloc, &scenario.peer, honest)? {
         lines.push_str(&proof_line(rt, alloc, scenario, &words, case)?)?;
     }
     Ok(lines)

@@ -27,6 +27,13 @@ pub enum Dealing {
     Extended { trees: u32, height: u8, base: u32 },
 }
 
+/// What the files are dealt for, and for how many units.
+#[derive(Clone, Copy)]
+pub struct Dealt {
+    pub dealing: Dealing,
+    pub units: u64,
+}
+
 /// An answer in place of units: its name, and its numbers, 0 where there are fewer.
 #[derive(Clone, Copy)]
 pub struct Refusal<'a> {
@@ -46,19 +53,16 @@ pub enum Sweep {
     Fail,
 }
 
-/// Numbers from one up to another, which is not among them.
-#[derive(Clone, Copy)]
-pub struct Numbers {
-    pub from: u64,
-    pub to: u64,
-}
-
-/// The peer's bytes: so many of the honest ones, or all; with others after them, in hex; and one byte in place of another.
+/// The peer's bytes: so many of the honest ones, or all; with others after them, in hex; and one byte in place of another. Then how many
+/// bytes come at most in one receive, and what each number of a range changes.
 #[derive(Clone, Copy)]
 pub struct Peer<'a> {
     pub keep: Option<u64>,
     pub more: &'a str,
-    pub set: Option<(u64, u8)>,
+    pub set: Option<(u64, u64)>,
+    pub piece: u64,
+    pub sweep: Sweep,
+    pub numbers: (u64, u64),
 }
 
 /// Which areas a journal has.
@@ -83,25 +87,40 @@ pub struct Journaled<'a> {
     pub ceilings: u64,
     pub claims: &'a str,
     pub size: Option<usize>,
-    pub set: Option<(u64, u8)>,
+    pub set: Option<(u64, u64)>,
 }
 
-/// What a run of the program is given: the words; text that stands behind the circuit's, and the size up to which line feeds follow it;
-/// the journal; the numbers of the calls of the shelf, the sink, the door and the disk that fail, counted from 1, or 0; and the names of
-/// the files that the line says something of.
+/// The files that a run of the program is given: text that stands behind the circuit's, and the size up to which line feeds follow it; the
+/// versions of the dealt files, the prover's and the verifier's, and the bytes of both that are others; the text of the file of
+/// statements; and the log, in hex.
+#[derive(Clone, Copy)]
+pub struct GivenFiles<'a> {
+    pub tail: &'a str,
+    pub size: usize,
+    pub versions: (u64, u64),
+    pub damage: &'a str,
+    pub statements: &'a str,
+    pub log: &'a str,
+}
+
+/// The numbers of the calls of the shelf, the sink, the door and the disk that fail, counted from 1, or 0.
+#[derive(Clone, Copy)]
+pub struct Failing {
+    pub shelf: u64,
+    pub sink: u64,
+    pub door: u64,
+    pub disk: u64,
+}
+
+/// What a run of the program is given: the words, the files, the journal, the calls that fail, and the names of the files that the line
+/// says something of.
 #[derive(Clone, Copy)]
 pub struct Outside<'a> {
     pub words: &'a str,
-    pub tail: &'a str,
-    pub size: usize,
+    pub files: GivenFiles<'a>,
     pub journal: Journaled<'a>,
-    pub shelf_fails: u64,
-    pub sink_fails: u64,
-    pub door_fails: u64,
-    pub disk_fails: u64,
+    pub failing: Failing,
     pub show: &'a str,
-    pub statements: &'a str,
-    pub log: &'a str,
 }
 
 /// What a service is asked for: the words of its options, which are not among its words where they are empty; how many peers call, and
@@ -126,17 +145,52 @@ pub struct Scenario<'a> {
     pub before: Option<usize>,
     pub outputs: Option<&'a str>,
     pub section: u32,
-    pub dealing: Dealing,
-    pub units: u64,
+    pub dealt: Dealt,
     pub start: u64,
     pub refusal: Option<Refusal<'a>>,
     pub peer: Peer<'a>,
-    pub piece: u64,
-    pub sweep: Sweep,
-    pub numbers: Numbers,
     pub outside: Outside<'a>,
     pub service: Service<'a>,
 }
+
+/// An honest peer.
+const HONEST: Peer<'static> = Peer {
+    keep: None,
+    more: "",
+    set: None,
+    piece: 4096,
+    sweep: Sweep::Nothing,
+    numbers: (0, 1),
+};
+
+/// The files of a run without words.
+const PLAIN_FILES: GivenFiles<'static> = GivenFiles {
+    tail: "",
+    size: 0,
+    versions: (1, 1),
+    damage: "",
+    statements: "",
+    log: "",
+};
+
+/// A new journal of two areas.
+const NEW_JOURNAL: Journaled<'static> = Journaled {
+    areas: Areas::Two,
+    slots: None,
+    heads: (1, 0),
+    ceilings: 0,
+    claims: "",
+    size: None,
+    set: None,
+};
+
+/// No call that fails.
+const NO_FAULTS: Failing = Failing {
+    shelf: 0,
+    sink: 0,
+    door: 0,
+    disk: 0,
+};
 
 /// The scenario of a line without words.
 fn plain(end: End) -> Scenario<'static> {
@@ -149,38 +203,19 @@ fn plain(end: End) -> Scenario<'static> {
         before: None,
         outputs: None,
         section: 1 << 20,
-        dealing: Dealing::Direct,
-        units: 1,
+        dealt: Dealt {
+            dealing: Dealing::Direct,
+            units: 1,
+        },
         start: 0,
         refusal: None,
-        peer: Peer {
-            keep: None,
-            more: "",
-            set: None,
-        },
-        piece: 4096,
-        sweep: Sweep::Nothing,
-        numbers: Numbers { from: 0, to: 1 },
+        peer: HONEST,
         outside: Outside {
             words: "",
-            tail: "",
-            size: 0,
-            journal: Journaled {
-                areas: Areas::Two,
-                slots: None,
-                heads: (1, 0),
-                ceilings: 0,
-                claims: "",
-                size: None,
-                set: None,
-            },
-            shelf_fails: 0,
-            sink_fails: 0,
-            door_fails: 0,
-            disk_fails: 0,
+            files: PLAIN_FILES,
+            journal: NEW_JOURNAL,
+            failing: NO_FAULTS,
             show: "",
-            statements: "",
-            log: "",
         },
         service: Service {
             sessions: "1",
@@ -192,17 +227,18 @@ fn plain(end: End) -> Scenario<'static> {
     }
 }
 
-fn read_end(word: &str) -> Result<End> {
+/// Whose session a word names.
+fn end_named(word: &str) -> Option<End> {
     match word {
-        "verifier" => Ok(End::Verifier),
-        "prover" => Ok(End::Prover),
-        "both" => Ok(End::Both),
-        "rehearsal" => Ok(End::Rehearsal),
-        "audit" => Ok(End::Audit),
-        "service" => Ok(End::Service),
-        "proof" => Ok(End::Proof),
-        "run" => Ok(End::Run),
-        _ => Err(Error::msg("no end of a session")),
+        "verifier" => Some(End::Verifier),
+        "prover" => Some(End::Prover),
+        "both" => Some(End::Both),
+        "rehearsal" => Some(End::Rehearsal),
+        "audit" => Some(End::Audit),
+        "service" => Some(End::Service),
+        "proof" => Some(End::Proof),
+        "run" => Some(End::Run),
+        _ => None,
     }
 }
 
@@ -214,6 +250,21 @@ fn halves<'a>(text: &'a str, sign: &str) -> Result<(&'a str, &'a str)> {
     }
 }
 
+/// A number.
+fn number(word: &str) -> Result<u64> {
+    Ok(word.parse::<u64>()?)
+}
+
+/// A number below 2^32.
+fn small_number(word: &str) -> Result<u32> {
+    Ok(word.parse::<u32>()?)
+}
+
+/// A number below 256.
+fn byte(word: &str) -> Result<u8> {
+    Ok(word.parse::<u8>()?)
+}
+
 /// `direct`, or three numbers: trees, height and base.
 fn read_dealing(text: &str) -> Result<Dealing> {
     if text == "direct" {
@@ -222,9 +273,9 @@ fn read_dealing(text: &str) -> Result<Dealing> {
     let (trees, rest) = halves(text, ",")?;
     let (height, base) = halves(rest, ",")?;
     Ok(Dealing::Extended {
-        trees: trees.parse::<u32>()?,
-        height: height.parse::<u8>()?,
-        base: base.parse::<u32>()?,
+        trees: small_number(trees)?,
+        height: byte(height)?,
+        base: small_number(base)?,
     })
 }
 
@@ -233,63 +284,66 @@ fn read_refusal(text: &str) -> Result<Refusal<'_>> {
     let mut words = text.split(',');
     let name = words.next().unwrap_or("");
     let mut numbers = [0; 3];
-    for number in &mut numbers {
+    for place in &mut numbers {
         if let Some(word) = words.next() {
-            *number = word.parse::<u64>()?;
+            *place = number(word)?;
         }
     }
     Ok(Refusal { name, numbers })
 }
 
-/// A range, as `0..7`.
-pub fn read_numbers(text: &str) -> Result<Numbers> {
-    let (from, to) = halves(text, "..")?;
-    Ok(Numbers {
-        from: from.parse::<u64>()?,
-        to: to.parse::<u64>()?,
-    })
+/// Two numbers around a sign, as `7:255`.
+pub fn read_pair(text: &str, sign: &str) -> Result<(u64, u64)> {
+    let (first, second) = halves(text, sign)?;
+    Ok((number(first)?, number(second)?))
 }
 
-/// A place and a byte, as `7:255`.
-fn read_set(text: &str) -> Result<(u64, u8)> {
-    let (place, byte) = halves(text, ":")?;
-    Ok((place.parse::<u64>()?, byte.parse::<u8>()?))
-}
-
-/// The name of a journal's areas.
-fn read_areas(text: &str) -> Result<Areas> {
-    match text {
-        "one" => Ok(Areas::One),
-        "two" => Ok(Areas::Two),
-        "moved" => Ok(Areas::Moved),
-        _ => Err(Error::msg("no such areas")),
+/// The areas that a word names.
+fn areas_named(word: &str) -> Option<Areas> {
+    match word {
+        "one" => Some(Areas::One),
+        "two" => Some(Areas::Two),
+        "moved" => Some(Areas::Moved),
+        _ => None,
     }
 }
 
-/// Two generations, as `1,2`.
-fn read_heads(text: &str) -> Result<(u64, u64)> {
-    let (first, second) = halves(text, ",")?;
-    Ok((first.parse::<u64>()?, second.parse::<u64>()?))
-}
-
 /// Has each number of a range change something.
-fn set_sweep(scenario: &mut Scenario<'_>, sweep: Sweep, numbers: &str) -> Result<()> {
-    scenario.sweep = sweep;
-    scenario.numbers = read_numbers(numbers)?;
+fn set_sweep(peer: &mut Peer<'_>, sweep: Sweep, numbers: &str) -> Result<()> {
+    peer.sweep = sweep;
+    peer.numbers = read_pair(numbers, "..")?;
     Ok(())
 }
 
 /// Sets what a word names, of a journal.
 fn set_journal<'a>(journal: &mut Journaled<'a>, name: &str, value: &'a str) -> Result<()> {
     match name {
-        "areas" => journal.areas = read_areas(value)?,
-        "slots" => journal.slots = Some(value.parse::<u64>()?),
-        "heads" => journal.heads = read_heads(value)?,
-        "ceilings" => journal.ceilings = value.parse::<u64>()?,
+        "areas" => match areas_named(value) {
+            Some(areas) => journal.areas = areas,
+            None => return Err(Error::msg("no such areas")),
+        },
+        "slots" => journal.slots = Some(number(value)?),
+        "heads" => journal.heads = read_pair(value, ",")?,
+        "ceilings" => journal.ceilings = number(value)?,
         "claims" => journal.claims = value,
-        "journal-size" => journal.size = Some(value.parse::<usize>()?),
-        "journal-set" => journal.set = Some(read_set(value)?),
+        "journal-size" => journal.size = Some(number(value)? as usize),
+        "journal-set" => journal.set = Some(read_pair(value, ":")?),
         _ => return Err(Error::msg("no such word")),
+    }
+    Ok(())
+}
+
+/// Sets what a word names, of the files or the journal of a run of the program.
+fn set_files<'a>(outside: &mut Outside<'a>, name: &str, value: &'a str) -> Result<()> {
+    let files = &mut outside.files;
+    match name {
+        "tail" => files.tail = value,
+        "size" => files.size = number(value)? as usize,
+        "versions" => files.versions = read_pair(value, ",")?,
+        "damage" => files.damage = value,
+        "statements" => files.statements = value,
+        "log" => files.log = value,
+        _ => set_journal(&mut outside.journal, name, value)?,
     }
     Ok(())
 }
@@ -298,16 +352,12 @@ fn set_journal<'a>(journal: &mut Journaled<'a>, name: &str, value: &'a str) -> R
 fn set_outside<'a>(outside: &mut Outside<'a>, name: &str, value: &'a str) -> Result<()> {
     match name {
         "words" => outside.words = value,
-        "tail" => outside.tail = value,
-        "size" => outside.size = value.parse::<usize>()?,
-        "shelf-fails" => outside.shelf_fails = value.parse::<u64>()?,
-        "sink-fails" => outside.sink_fails = value.parse::<u64>()?,
-        "door-fails" => outside.door_fails = value.parse::<u64>()?,
-        "disk-fails" => outside.disk_fails = value.parse::<u64>()?,
         "show" => outside.show = value,
-        "statements" => outside.statements = value,
-        "log" => outside.log = value,
-        _ => set_journal(&mut outside.journal, name, value)?,
+        "shelf-fails" => outside.failing.shelf = number(value)?,
+        "sink-fails" => outside.failing.sink = number(value)?,
+        "door-fails" => outside.failing.door = number(value)?,
+        "disk-fails" => outside.failing.disk = number(value)?,
+        _ => set_files(outside, name, value)?,
     }
     Ok(())
 }
@@ -318,30 +368,30 @@ fn set_service<'a>(scenario: &mut Scenario<'a>, name: &str, value: &'a str) -> R
         "sessions" => scenario.service.sessions = value,
         "workers" => scenario.service.workers = value,
         "logs" => scenario.service.logs = value,
-        "peers" => scenario.service.peers = value.parse::<u64>()?,
-        "peer" => scenario.service.peer = value.parse::<u64>()?,
+        "peers" => scenario.service.peers = number(value)?,
+        "peer" => scenario.service.peer = number(value)?,
         _ => set_outside(&mut scenario.outside, name, value)?,
     }
     Ok(())
 }
 
-/// Sets what a word names, of the peer's bytes and the link.
-fn set_peer<'a>(scenario: &mut Scenario<'a>, name: &str, value: &'a str) -> Result<()> {
+/// Sets what a word names, of the peer's bytes and the link; whether it names such a thing.
+fn set_peer<'a>(peer: &mut Peer<'a>, name: &str, value: &'a str) -> Result<bool> {
     match name {
-        "keep" => scenario.peer.keep = Some(value.parse::<u64>()?),
-        "more" => scenario.peer.more = value,
-        "set" => scenario.peer.set = Some(read_set(value)?),
-        "pieces" => scenario.piece = value.parse::<u64>()?,
-        "cut" => set_sweep(scenario, Sweep::Cut, value)?,
+        "keep" => peer.keep = Some(number(value)?),
+        "more" => peer.more = value,
+        "set" => peer.set = Some(read_pair(value, ":")?),
+        "pieces" => peer.piece = number(value)?,
+        "cut" => set_sweep(peer, Sweep::Cut, value)?,
         "change" => {
             let (numbers, mask) = halves(value, ":")?;
-            let mask = mask.parse::<u8>()?;
-            set_sweep(scenario, Sweep::Change { mask }, numbers)?;
+            let mask = byte(mask)?;
+            set_sweep(peer, Sweep::Change { mask }, numbers)?;
         }
-        "fail" => set_sweep(scenario, Sweep::Fail, value)?,
-        _ => set_service(scenario, name, value)?,
+        "fail" => set_sweep(peer, Sweep::Fail, value)?,
+        _ => return Ok(false),
     }
-    Ok(())
+    Ok(true)
 }
 
 /// Sets what a word names.
@@ -349,15 +399,19 @@ fn set_word<'a>(scenario: &mut Scenario<'a>, name: &str, value: &'a str) -> Resu
     match name {
         "circuit" => scenario.circuit = value,
         "bits" => scenario.bits = value,
-        "public" => scenario.public = value.parse::<usize>()?,
-        "before" => scenario.before = Some(value.parse::<usize>()?),
+        "public" => scenario.public = number(value)? as usize,
+        "before" => scenario.before = Some(number(value)? as usize),
         "outputs" => scenario.outputs = Some(value),
-        "section" => scenario.section = value.parse::<u32>()?,
-        "files" => scenario.dealing = read_dealing(value)?,
-        "units" => scenario.units = value.parse::<u64>()?,
-        "start" => scenario.start = value.parse::<u64>()?,
+        "section" => scenario.section = small_number(value)?,
+        "files" => scenario.dealt.dealing = read_dealing(value)?,
+        "units" => scenario.dealt.units = number(value)?,
+        "start" => scenario.start = number(value)?,
         "refuse" => scenario.refusal = Some(read_refusal(value)?),
-        _ => set_peer(scenario, name, value)?,
+        _ => {
+            if !set_peer(&mut scenario.peer, name, value)? {
+                set_service(scenario, name, value)?;
+            }
+        }
     }
     Ok(())
 }
@@ -365,7 +419,10 @@ fn set_word<'a>(scenario: &mut Scenario<'a>, name: &str, value: &'a str) -> Resu
 /// The scenario of a line: whose session it is, and words `name=value`.
 pub fn read_scenario(line: &str) -> Result<Scenario<'_>> {
     let mut words = line.split(' ');
-    let mut scenario = plain(read_end(words.next().unwrap_or(""))?);
+    let Some(end) = end_named(words.next().unwrap_or("")) else {
+        return Err(Error::msg("no end of a session"));
+    };
+    let mut scenario = plain(end);
     for word in words {
         let (name, value) = halves(word, "=")?;
         set_word(&mut scenario, name, value)?;

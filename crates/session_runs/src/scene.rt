@@ -2,7 +2,7 @@
 ghost use Rattle.std.specs.Prelude.{◌≡◌, ◌≤◌, length, IfOk};
 ghost use Rattle.zk_model.specs.Files.{AreParams};
 
-use crate::scenario::{Dealing, Scenario};
+use crate::scenario::{Dealing, Dealt, Scenario};
 use anyhow::{Error, Result};
 use bool_eval::eval;
 use bristol_reader::Circuit;
@@ -71,15 +71,15 @@ pub fn claimed_outputs(
     Ok(outputs)
 }
 
-/// What the files of a scenario are dealt for.
-pub fn params_of(scenario: &Scenario<'_>) -> Result<Params>
+/// What files are dealt for.
+pub fn params_of(dealt: Dealt) -> Result<Params>
     ensures { IfOk result AreParams }
 {
-    let total = scenario.units;
+    let total = dealt.units;
     if total < 1 || total > MAX_DEALT_UNITS {
         return Err(Error::msg("no number of units"));
     }
-    match scenario.dealing {
+    match dealt.dealing {
         Dealing::Direct => Ok(Params {
             kind: Kind::Direct,
             height: 0,

@@ -1,5 +1,5 @@
 // Who leases units to a verifier and claims them for a prover, or refuses.
-use crate::scenario::Scenario;
+use crate::scenario::Refusal;
 use anyhow::{Error, Result};
 use claim_store::ClaimFault;
 use lease_store::{Grantor, LeaseFault};
@@ -72,15 +72,15 @@ impl Claimant for AskedUnits {
 }
 
 /// The fault by which leases are refused, if they are.
-pub fn lease_fault(scenario: &Scenario<'_>) -> Result<Option<LeaseFault>> {
-    let Some(refusal) = scenario.refusal else {
+pub fn lease_fault(refusal: Option<Refusal<'_>>) -> Result<Option<LeaseFault>> {
+    let Some(refusal) = refusal else {
         return Ok(None);
     };
     let [first, second, third] = refusal.numbers;
     let fault = match refusal.name {
-        "exhausted" => LeaseFault::Exhausted {
+        "exhausted" if second < 1 << 32 => LeaseFault::Exhausted {
             at: first,
-            count: u32::try_from(second)?,
+            count: second as u32,
             total: third,
         },
         "device" => LeaseFault::Device,
@@ -91,8 +91,8 @@ pub fn lease_fault(scenario: &Scenario<'_>) -> Result<Option<LeaseFault>> {
 }
 
 /// The fault by which claims are refused, if they are.
-pub fn claim_fault(scenario: &Scenario<'_>) -> Result<Option<ClaimFault>> {
-    let Some(refusal) = scenario.refusal else {
+pub fn claim_fault(refusal: Option<Refusal<'_>>) -> Result<Option<ClaimFault>> {
+    let Some(refusal) = refusal else {
         return Ok(None);
     };
     let [first, second, _] = refusal.numbers;

@@ -57,8 +57,8 @@ pub record IsKnown (job : VerifierJob) : Type 0 where
   pub stated : IsStatement job.task.statement
   pub file : IsVerifierFile job.task.file
   pub is : IsVerifierJob job
-  pub opened : length job.task.statement.program.opened ≤ 2 ^ 20
-  pub products : length job.task.statement.program.products ≤ 2 ^ 20
+  pub opened : length job.task.statement.program.opened ≤ 2 ^ 24
+  pub products : length job.task.statement.program.products ≤ 2 ^ 24
 
 -- ---- which units were leased
 

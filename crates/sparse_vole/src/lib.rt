@@ -8,7 +8,7 @@
 //!
 //!     let e = prover_ask(noise, base.x);                                     // the prover sends it
 //!     let offset = verifier_reply(base_key, e, key, &leaves);                // the verifier answers,
-//!     let offset = verifier_reply_sum(base_key, e, key, leaf_sum);           // or so, from the leaves' sum
+//!     let offset = verifier_reply_sum(base_key, e, key, leaf_sum);           // or so, from their sum, by `sum_of_leaves` or a walk
 //!     let entries = prover_finish(alloc, place, noise, base.m, offset, &found)?;
 #![tactic(auto)]
 
@@ -34,12 +34,23 @@ pub fn prover_ask(noise: Fe, base: Fe) -> Fe
     noise - base
 }
 
+/// The sum of leaves.
+pub fn sum_of_leaves(leaves: &[Fe]) -> Fe
+    ensures { result ≡ sum leaves.now % prime }
+{
+    let mut sum = Fe::ZERO;
+    for leaf in leaves {
+        sum = sum + *leaf;
+    }
+    sum
+}
+
 /// What the verifier answers, from the key of the dealt pair, the correction that was asked, its one key, and all leaves:
 /// the corrected key less the leaves.
 pub fn verifier_reply(base_key: Fe, correction: Fe, key: Fe, leaves: &[Fe]) -> Fe
     ensures { result ≡ leaf_offset_of key base_key correction leaves.now }
 {
-    verifier_reply_sum(base_key, correction, key, sum_of(leaves))
+    verifier_reply_sum(base_key, correction, key, sum_of_leaves(leaves))
 }
 
 /// The same from the sum of the leaves, for a verifier that holds no list of them.
@@ -72,7 +83,7 @@ pub fn prover_finish(
 {
     let hidden = Pair {
         x: noise,
-        m: base_mac - leaf_offset - sum_of(leaves),
+        m: base_mac - leaf_offset - sum_of_leaves(leaves),
     };
     let vector = entries(alloc, alpha as usize, hidden, leaves)?;
     Ok(vector)
@@ -107,15 +118,4 @@ fn entry(place: usize, alpha: usize, hidden: Pair, leaf: Fe) -> Pair
             m: leaf,
         }
     }
-}
-
-/// The sum of elements.
-fn sum_of(elements: &[Fe]) -> Fe
-    ensures { result ≡ sum elements.now % prime }
-{
-    let mut sum = Fe::ZERO;
-    for element in elements {
-        sum = sum + *element;
-    }
-    sum
 }

@@ -5,7 +5,7 @@ use Rattle.std.specs.List.{AllByRecursion, range_with_len}
 use Rattle.std.proofs.lemmas.List.Elements.{All-from_recursion}
 use Rattle.std.proofs.lemmas.List.FromFn.{length-map-range_with_len, get_or-map-range_with_len}
 use Rattle.tree_laws.proofs.Ancestors.{same_or_not, ancestor_below, side_of, halved}
-use Rattle.frame_laws.proofs.Octets.{child_bytes}
+use Rattle.zk_model.proofs.Octets.{child_bytes}
 use Rattle.tree_laws.proofs.Xors.{xor_length, same_range, range_all, last_of_all, add_nothing, nothing_added, around, sum_are_bytes}
 use Rattle.tree_laws.specs.Trees.{PuncturedExists}
 use Rattle.zk_model.specs.Bits.{from_bit}

@@ -2,7 +2,7 @@
 use Rattle.std.proofs.Common.{◌≡◌, ℕ, zero, suc, ◌^◌, ◌<◌, Bool, true, false, not, List, map, length, refl, ap, arith}
 use Rattle.std.specs.List.{range_with_len}
 use Rattle.std.proofs.lemmas.List.Elements.{All-replicate}
-use Rattle.frame_laws.proofs.Octets.{child_bytes}
+use Rattle.zk_model.proofs.Octets.{child_bytes}
 use Rattle.tree_laws.proofs.Xors.{xor_are_bytes, sum_are_bytes, range_all}
 use Rattle.zk_model.specs.Bytes.{LeftRight, AreBytes, AreBothBytes}
 use Rattle.zk_model.specs.Tree.{child_of, path_to, node_at, level_sum}

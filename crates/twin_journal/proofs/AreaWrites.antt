@@ -7,7 +7,7 @@ use Rattle.zk_port.specs.Disks.{DiskState}
 use Rattle.zk_port.specs.Images.{IsTorn, StepsBy, written_at}
 use Rattle.zk_model.specs.Journals.{number_at}
 use Rattle.lease_journal.specs.Keeps.{ChangesAt, Keeps}
-use Rattle.lease_journal.proofs.Keeping.{keeps}
+use Rattle.lease_journal.proofs.Keeping.{changes_then, changes_wider, keeps}
 use Rattle.lease_journal.proofs.Moments.{then_leaves}
 use Rattle.lease_journal.proofs.Torn.{same_part, written_size}
 use Rattle.twin_journal.specs.Compactions.{HasByte, IsWritten}
@@ -41,6 +41,19 @@ gate_keeps head eight n byte is {old} {middle} {new} first second = record {
 
     later : Keeps (HasByte (head + 31) byte) middle new
     later = keeps (head + 32) n (HasByte (head + 31) byte) second (byte_step (head + 31) byte (head + 32) n (omega arith))
+
+-- what is written is the area but for its gate
+pub record IsWriting (head slots : ℕ) (old new : DiskState) : Type 0 where
+  pub gate : (byte : ℕ) → Keeps (HasByte (head + 31) byte) old new
+  pub changes : ChangesAt head (32 * (slots + 1)) old new
+
+pub area_writing : (head slots eight : ℕ) → eight ≡ 8 → {old middle new : DiskState} → ChangesAt head eight old middle → ChangesAt (head + 32) (32 * slots) middle new
+    → IsWriting head slots old new
+area_writing head slots eight is first later = record {
+  gate = λ byte. gate_keeps head eight (32 * slots) byte is first later;
+  changes = changes_then head (32 * (slots + 1)) (changes_wider head eight head (32 * (slots + 1)) (omega arith) (omega (arith, is)) first)
+      (changes_wider (head + 32) (32 * slots) head (32 * (slots + 1)) (omega arith) (omega arith) later);
+}
 
 -- what stands there then
 module _ (head slots generation : ℕ) (small : generation < 2 ^ 64) (eight : List ℕ) (is : eight ≡ to_le_bytes w64 generation) (bodies : List (ℕ × ℕ)) (bytes : List ℕ)

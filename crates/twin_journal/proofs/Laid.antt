@@ -1,5 +1,5 @@
 -- What stands in a file where a journal was written.
-use Rattle.std.proofs.Common.{◌≡◌, ◌<◌, ◌≤◌, ◌^◌, not, true, false, ap, sym, ◌+◌, ◌*◌, ◌++◌, ℕ, List, [], ◌∷◌, length, get_or, take, drop, replicate, codes, Option, Some, None, IfSome, inl, refl, ◌∙◌, subst, arith}
+use Rattle.std.proofs.Common.{◌≡◌, ◌<◌, ◌≤◌, ◌^◌, true, false, ap, sym, ◌+◌, ◌*◌, ◌++◌, ℕ, List, [], ◌∷◌, length, get_or, take, drop, replicate, codes, Option, Some, None, IfSome, inl, refl, ◌∙◌, subst, arith}
 use Rattle.std.specs.Int.{w64, to_le_bytes, from_le_bytes}
 use Rattle.std.proofs.lemmas.List.{ext_get_or, get_or-take, get_or-drop, get_or_append_left, get_or-append_right, length-append, length-drop, length-take}
 use Rattle.std.proofs.lemmas.Nat.{from_le_bytes-to_le_bytes_8}
@@ -67,7 +67,7 @@ part_at bytes model at off n inside within same =
 module _ (kind : JournalKind) (id : List ℕ) (total begin slots : ℕ) (bodies : List (ℕ × ℕ)) (bytes : List ℕ) (size : length id ≡ 32)
     (fits : are_twin_slots kind total slots ≡ true) (first : HasFirstBytes kind id total begin slots bytes) where
   few : slots ≤ 2 ^ 28
-  few = fits_few kind total slots (ap not fits)
+  few = fits_few kind total slots fits
 
   says : twin_slots_at begin bytes ≡ slots
   says =

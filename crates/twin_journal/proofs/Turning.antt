@@ -121,6 +121,16 @@ pub record Standing (disk : DiskState) (begin slots active : ℕ) (second : Bool
   pub full : begin + twin_length slots ≤ length bytes
   pub area : IsAreaOf begin slots second active bodies bytes
 
+-- and the gate of the other area is closed
+pub record Closed (disk : DiskState) (begin slots active head : ℕ) (second : Bool) (bodies : List (ℕ × ℕ)) : Type 0 where
+  pub stands : Standing disk begin slots active second bodies
+  pub shut : ¬ (get_or stands.bytes (head + 31) 0 ≡ 90)
+
+-- or that area is written
+pub record Written (disk : DiskState) (begin slots active head generation : ℕ) (second : Bool) (bodies next : List (ℕ × ℕ)) : Type 0 where
+  pub stands : Standing disk begin slots active second bodies
+  pub written : IsWritten head slots generation next stands.bytes
+
 -- what a step makes of a content that is told
 record Stepped (step : List ℕ → List ℕ → Type 0) (old : List ℕ) (new : Option (List ℕ)) : Type 0 where
   now : List ℕ
@@ -171,102 +181,106 @@ module _ (begin slots active generation : ℕ) (second : Bool) (bodies next : Li
         let left = told_has (Closes (head + 31) c) middle.content now.now now.is (closes c may.content gate_open) in
         tells AllSay middle.content now.now now.is (old_says now.now (closes_area now.now left))
 
-    pub standing : ((bytes : List ℕ) → old.content ≡ Some bytes → (is_open ≡ true → get_or bytes (head + 31) 0 ≡ 90) → IfSome middle.content (Closes (head + 31) bytes))
+    pub closed_then : ((bytes : List ℕ) → old.content ≡ Some bytes → (is_open ≡ true → get_or bytes (head + 31) 0 ≡ 90) → IfSome middle.content (Closes (head + 31) bytes))
         → ChangesAt (head + 31) 1 old middle
         → ((bytes : List ℕ) → old.content ≡ Some bytes → ((image : List ℕ) → old.images image → image ≡ bytes) → Only middle.content middle.images)
-        → Standing middle begin slots active second bodies
-    standing closes changes durable =
+        → ((bytes : List ℕ) → old.content ≡ Some bytes → (is_open ≡ false → ¬ (get_or bytes (head + 31) 0 ≡ 90)) → IfSome middle.content (λ now. ¬ (get_or now (head + 31) 0 ≡ 90)))
+        → Closed middle begin slots active head second bodies
+    closed_then closes changes durable closed =
         let now = stepped (IsTorn (head + 31) 1) c old.content middle.content may.content changes.content in
         let left = told_has (Closes (head + 31) c) middle.content now.now now.is (closes c may.content gate_open) in
         record {
-          bytes = now.now;
-          content = now.is;
-          only = subst (λ o. Only o middle.images) now.is (durable c may.content may.only);
-          full = omega (arith, may.full, now.taken.least);
-          area = closes_area now.now left;
+          stands = record {
+            bytes = now.now;
+            content = now.is;
+            only = subst (λ o. Only o middle.images) now.is (durable c may.content may.only);
+            full = omega (arith, may.full, now.taken.least);
+            area = closes_area now.now left;
+          };
+          shut = told_has (λ now. ¬ (get_or now (head + 31) 0 ≡ 90)) middle.content now.now now.is (closed c may.content gate_shut);
         }
 
-    pub shut_then : (stands : Standing middle begin slots active second bodies)
-        → ((bytes : List ℕ) → old.content ≡ Some bytes → (is_open ≡ false → ¬ (get_or bytes (head + 31) 0 ≡ 90)) → IfSome middle.content (λ now. ¬ (get_or now (head + 31) 0 ≡ 90)))
-        → ¬ (get_or stands.bytes (head + 31) 0 ≡ 90)
-    shut_then stands closed = told_has (λ now. ¬ (get_or now (head + 31) 0 ≡ 90)) middle.content stands.bytes stands.content (closed c may.content gate_shut)
-
   -- the second step
-  module _ {middle later : DiskState} (stands : Standing middle begin slots active second bodies) (shut : ¬ (get_or stands.bytes (head + 31) 0 ≡ 90))
+  module _ {middle later : DiskState} (closed : Closed middle begin slots active head second bodies)
       (changes : ChangesAt head (32 * (slots + 1)) middle later) (gate : (byte : ℕ) → Keeps (HasByte (head + 31) byte) middle later) where
     byte : ℕ
-    byte = get_or stands.bytes (head + 31) 0
+    byte = get_or closed.stands.bytes (head + 31) 0
 
-    has_byte : HasByte (head + 31) (get_or stands.bytes (head + 31) 0) stands.bytes
-    has_byte = record { inside = omega (arith, may.head_is, area_ends begin slots (not second) (length stands.bytes) stands.full); is = refl }
+    has_byte : HasByte (head + 31) (get_or closed.stands.bytes (head + 31) 0) closed.stands.bytes
+    has_byte = record { inside = omega (arith, may.head_is, area_ends begin slots (not second) (length closed.stands.bytes) closed.stands.full); is = refl }
 
-    writes_area : (image : List ℕ) → IsTorn head (32 * (slots + 1)) stands.bytes image → HasByte (head + 31) (get_or stands.bytes (head + 31) 0) image
+    writes_area : (image : List ℕ) → IsTorn head (32 * (slots + 1)) closed.stands.bytes image → HasByte (head + 31) (get_or closed.stands.bytes (head + 31) 0) image
         → IsAreaOf begin slots second active bodies image
     writes_area image torn has =
-        writing begin slots active generation second bodies next head may.head_is may.ahead stands.bytes stands.area stands.full
-        (get_or stands.bytes (head + 31) 0) image shut torn has
+        writing begin slots active generation second bodies next head may.head_is may.ahead closed.stands.bytes closed.stands.area closed.stands.full
+        (get_or closed.stands.bytes (head + 31) 0) image closed.shut torn has
 
     pub second_moments : LeavesOnly middle later AllSay
     second_moments = leaves_also
         (leaves_both changes.any_moment
-        ((gate (get_or stands.bytes (head + 31) 0)).any_moment (λ image left. subst (HasByte (head + 31) (get_or stands.bytes (head + 31) 0)) (sym (stands.only image left)) has_byte)))
+        ((gate (get_or closed.stands.bytes (head + 31) 0)).any_moment (λ image left. subst (HasByte (head + 31) (get_or closed.stands.bytes (head + 31) 0)) (sym (closed.stands.only image left)) has_byte)))
         (λ image both.
-        let torn : IsTorn head (32 * (slots + 1)) stands.bytes image = subst (λ was. IsTorn head (32 * (slots + 1)) was image) (stands.only both.0.0 both.0.1) both.0.2 in
+        let torn : IsTorn head (32 * (slots + 1)) closed.stands.bytes image = subst (λ was. IsTorn head (32 * (slots + 1)) was image) (closed.stands.only both.0.0 both.0.1) both.0.2 in
         old_says image (writes_area image torn both.1))
 
-    pub second_standing : Only later.content later.images → Standing later begin slots active second bodies
-    second_standing durable =
-        let now = stepped (IsTorn head (32 * (slots + 1))) stands.bytes middle.content later.content stands.content changes.content in
-        let has = told_has (HasByte (head + 31) (get_or stands.bytes (head + 31) 0)) later.content now.now now.is
-        ((gate (get_or stands.bytes (head + 31) 0)).content (tells (HasByte (head + 31) (get_or stands.bytes (head + 31) 0)) middle.content stands.bytes stands.content has_byte)) in
-        record {
-          bytes = now.now;
-          content = now.is;
-          only = subst (λ o. Only o later.images) now.is durable;
-          full = omega (arith, stands.full, now.taken.least);
-          area = writes_area now.now now.taken has;
-        }
+    -- what the disk tells after it
+    record SecondTold : Type 0 where
+      now : List ℕ
+      is : later.content ≡ Some now
+      longer : length closed.stands.bytes ≤ length now
+      area : IsAreaOf begin slots second active bodies now
+
+    second_told : SecondTold
+    second_told =
+        let now = stepped (IsTorn head (32 * (slots + 1))) closed.stands.bytes middle.content later.content closed.stands.content changes.content in
+        let has = told_has (HasByte (head + 31) (get_or closed.stands.bytes (head + 31) 0)) later.content now.now now.is
+        ((gate (get_or closed.stands.bytes (head + 31) 0)).content (tells (HasByte (head + 31) (get_or closed.stands.bytes (head + 31) 0)) middle.content closed.stands.bytes closed.stands.content has_byte)) in
+        record { now = now.now; is = now.is; longer = now.taken.least; area = writes_area now.now now.taken has }
 
     pub second_read : IfSome later.content AllSay
-    second_read =
-        let now = stepped (IsTorn head (32 * (slots + 1))) stands.bytes middle.content later.content stands.content changes.content in
-        let has = told_has (HasByte (head + 31) (get_or stands.bytes (head + 31) 0)) later.content now.now now.is
-        ((gate (get_or stands.bytes (head + 31) 0)).content (tells (HasByte (head + 31) (get_or stands.bytes (head + 31) 0)) middle.content stands.bytes stands.content has_byte)) in
-        tells AllSay later.content now.now now.is (old_says now.now (writes_area now.now now.taken has))
+    second_read = tells AllSay later.content second_told.now second_told.is (old_says second_told.now second_told.area)
 
-    pub written_then : (after : Standing later begin slots active second bodies)
+    pub written_then : Only later.content later.images
         → ((bytes : List ℕ) → middle.content ≡ Some bytes → head + 32 ≤ length bytes → IfSome later.content (IsWritten head slots generation next))
-        → IsWritten head slots generation next after.bytes
-    written_then after written =
-        told_has (IsWritten head slots generation next) later.content after.bytes after.content
-        (written stands.bytes stands.content (omega (arith, may.head_is, area_ends begin slots (not second) (length stands.bytes) stands.full)))
+        → Written later begin slots active head generation second bodies next
+    written_then durable written = record {
+      stands = record {
+        bytes = second_told.now;
+        content = second_told.is;
+        only = subst (λ o. Only o later.images) second_told.is durable;
+        full = omega (arith, closed.stands.full, second_told.longer);
+        area = second_told.area;
+      };
+      written = told_has (IsWritten head slots generation next) later.content second_told.now second_told.is
+          (written closed.stands.bytes closed.stands.content (omega (arith, may.head_is, area_ends begin slots (not second) (length closed.stands.bytes) closed.stands.full)));
+    }
 
   -- the last step
-  module _ {later new : DiskState} (stands : Standing later begin slots active second bodies) (written : IsWritten head slots generation next stands.bytes)
+  module _ {later new : DiskState} (wrote : Written later begin slots active head generation second bodies next)
       (few : length next ≤ slots) (changes : ChangesAt (head + 31) 1 later new) where
-    opens : (image : List ℕ) → IsTorn (head + 31) 1 stands.bytes image → AllSay image
+    opens : (image : List ℕ) → IsTorn (head + 31) 1 wrote.stands.bytes image → AllSay image
     opens image torn =
-        opening begin slots active generation second bodies next head may.head_is may.ahead stands.bytes stands.area stands.full written few image torn
+        opening begin slots active generation second bodies next head may.head_is may.ahead wrote.stands.bytes wrote.stands.area wrote.stands.full wrote.written few image torn
 
     pub third_moments : LeavesOnly later new AllSay
     third_moments = leaves_also changes.any_moment (λ image torn.
-        opens image (subst (λ was. IsTorn (head + 31) 1 was image) (stands.only torn.0 torn.1) torn.2))
+        opens image (subst (λ was. IsTorn (head + 31) 1 was image) (wrote.stands.only torn.0 torn.1) torn.2))
 
     pub third_read : IfSome new.content AllSay
     third_read =
-        let now = stepped (IsTorn (head + 31) 1) stands.bytes later.content new.content stands.content changes.content in
+        let now = stepped (IsTorn (head + 31) 1) wrote.stands.bytes later.content new.content wrote.stands.content changes.content in
         tells AllSay new.content now.now now.is (opens now.now now.taken)
 
     pub third_turned : new.content ≡ option_map (written_at (head + 31) (90 ∷ [])) later.content → IfSome new.content (IsTurned begin slots second generation next)
-    third_turned wrote =
-        let image : List ℕ = written_at (head + 31) (90 ∷ []) stands.bytes in
+    third_turned is =
+        let image : List ℕ = written_at (head + 31) (90 ∷ []) wrote.stands.bytes in
         let here : head + 31 ≡ head + 31 + 0 = omega arith in
-        let gate : get_or (written_at (head + 31) (90 ∷ []) stands.bytes) (head + 31) 0 ≡ 90 =
-        ap (λ p. get_or (written_at (head + 31) (90 ∷ []) stands.bytes) p 0) here ∙ written_inside (head + 31) (90 ∷ []) stands.bytes 0 (omega arith) in
-        tells (IsTurned begin slots second generation next) new.content (written_at (head + 31) (90 ∷ []) stands.bytes)
-        (wrote ∙ ap (option_map (written_at (head + 31) (90 ∷ []))) stands.content)
-        (turned begin slots active generation second bodies next head may.head_is may.ahead stands.bytes stands.area stands.full written few
-        (written_at (head + 31) (90 ∷ []) stands.bytes) (torn_by_write (head + 31) (90 ∷ []) stands.bytes) gate)
+        let gate : get_or (written_at (head + 31) (90 ∷ []) wrote.stands.bytes) (head + 31) 0 ≡ 90 =
+        ap (λ p. get_or (written_at (head + 31) (90 ∷ []) wrote.stands.bytes) p 0) here ∙ written_inside (head + 31) (90 ∷ []) wrote.stands.bytes 0 (omega arith) in
+        tells (IsTurned begin slots second generation next) new.content (written_at (head + 31) (90 ∷ []) wrote.stands.bytes)
+        (is ∙ ap (option_map (written_at (head + 31) (90 ∷ []))) wrote.stands.content)
+        (turned begin slots active generation second bodies next head may.head_is may.ahead wrote.stands.bytes wrote.stands.area wrote.stands.full wrote.written few
+        (written_at (head + 31) (90 ∷ []) wrote.stands.bytes) (torn_by_write (head + 31) (90 ∷ []) wrote.stands.bytes) gate)
 
 -- a journal that is kept may turn
 pub kept_may : {D : Type 0} (state : D → DiskState) (twin : TwinState D) (bodies : List (ℕ × ℕ)) (bytes : List ℕ) (head generation : ℕ) → IsKept state twin bodies bytes

@@ -1,4 +1,3 @@
-pub mod Headers
 pub mod Filling
 pub mod States
 pub mod Starts

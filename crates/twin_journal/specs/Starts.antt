@@ -114,10 +114,7 @@ FileCause kind id total bytes fault =
 -- why no active area is found
 abbrev pub LocateCause : JournalKind → List ℕ → ℕ → ℕ → List ℕ → StartFault → Type 0
 LocateCause kind id total begin bytes start.Device = Unit {0}
-LocateCause kind id total begin bytes (start.Short need got) =
-    (got ≡ length bytes - begin) × (((need ≡ 64) × (length bytes < begin + 64))
-    ⊎ ((need ≡ twin_length (twin_slots_at begin bytes)) × HasTwinHeader kind id total begin bytes
-    × (length bytes < begin + twin_length (twin_slots_at begin bytes))))
+LocateCause kind id total begin bytes (start.Short need got) = TwinStartCause kind id total begin bytes (start.Short need got)
 LocateCause kind id total begin bytes (start.BadHeader place) =
     IsFirstTwinWrong kind id total begin bytes place
     ⊎ (TwinStands kind id total begin (twin_slots_at begin bytes) bytes × HasNoArea begin (twin_slots_at begin bytes) bytes place)

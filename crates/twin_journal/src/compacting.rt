@@ -1,5 +1,5 @@
 // How a list of bodies is written into the area that is not the active one, and that area made the active one.
-ghost use Rattle.std.specs.Prelude.{◌≡◌, ◌<◌, ◌≤◌, ◌+◌, ◌*◌, ◌^◌, ℕ, List, length, get_or, Bool, true, false, not, Some, IfSome, IfOk, OnOk};
+ghost use Rattle.std.specs.Prelude.{◌≡◌, ◌<◌, ◌≤◌, ◌+◌, ◌*◌, ◌^◌, ℕ, List, length, get_or, Bool, true, false, Some, IfSome, IfOk, OnOk};
 ghost use Rattle.zk_port.specs.Counts.{HasDiskCause};
 ghost use Rattle.zk_port.specs.Disks.{LeavesOnly};
 ghost use Rattle.zk_port.specs.Images.{HasDiskRoom, Only};
@@ -14,6 +14,15 @@ use crate::bodies::Bodies;
 use crate::filling::{Filled, write_slots};
 use lease_journal::storing::store_at;
 use zk_port::{Disk, Failed};
+
+/// Where a list of bodies is written: the place of an area's head, how many slots the area has, and the generation that it
+/// gets.
+#[derive(Clone, Copy)]
+pub struct Target {
+    pub head: u64,
+    pub slots: u64,
+    pub generation: u64,
+}
 
 /// Closes a gate that is open, and syncs.
 fn close<B: Disk>(disk: &mut B, gate: u64, is_open: bool) -> Result<(), Failed>
@@ -41,33 +50,24 @@ fn close<B: Disk>(disk: &mut B, gate: u64, is_open: bool) -> Result<(), Failed>
 }
 
 /// Writes the generation of an area and its slots, but not the gate of its head, and syncs.
-fn write_area<B: Disk, F: Bodies>(
-    disk: &mut B,
-    head: u64,
-    slots: u64,
-    generation: u64,
-    next: &mut F,
-) -> Result<Filled, Failed>
-    requires place { head ≤ 2 ^ 37 }
-    requires bounded { slots ≤ MAX_SLOTS }
-    requires fits { HasDiskRoom (head + 32 * (slots + 1)) (B.state disk.old).room }
-    requires few { length (F.rest next.old) ≤ slots }
+fn write_area<B: Disk, F: Bodies>(disk: &mut B, to: Target, next: &mut F) -> Result<Filled, Failed>
+    requires place { to.head ≤ 2 ^ 37 }
+    requires bounded { to.slots ≤ MAX_SLOTS }
+    requires fits { HasDiskRoom (to.head + 32 * (to.slots + 1)) (B.state disk.old).room }
+    requires few { length (F.rest next.old) ≤ to.slots }
     ensures written { OnOk result ((bytes : List ℕ) → (B.state disk.old).content ≡ Some bytes
-        → head + 32 ≤ length bytes
-        → IfSome (B.state disk.new).content (IsWritten head slots generation (F.rest next.old))) }
+        → to.head + 32 ≤ length bytes
+        → IfSome (B.state disk.new).content (IsWritten to.head to.slots to.generation (F.rest next.old))) }
     ensures used { IfOk result (λ done. done.used ≡ length (F.rest next.old)) }
     ensures last { IfOk result (λ done.
         done.last ≡ body_before (F.rest next.old) (length (F.rest next.old))) }
     ensures durable { OnOk result (Only (B.state disk.new).content (B.state disk.new).images) }
-    ensures gate { (byte : ℕ) → Keeps (HasByte (head + 31) byte) (B.state disk.old) (B.state disk.new) }
-    ensures changes { ChangesAt head (32 * (slots + 1)) (B.state disk.old) (B.state disk.new) }
+    ensures gate { (byte : ℕ) → Keeps (HasByte (to.head + 31) byte) (B.state disk.old) (B.state disk.new) }
+    ensures changes { ChangesAt to.head (32 * (to.slots + 1)) (B.state disk.old) (B.state disk.new) }
     ensures cause { HasDiskCause (B.state disk.old).faults (B.state disk.new).faults result }
 {
-    disk.write_at(head, &generation.to_le_bytes())?;
-    let filled = match write_slots(disk, head + 32, slots, next) {
-        Ok(filled) => filled,
-        Err(failed) => return Err(failed),
-    };
+    disk.write_at(to.head, &to.generation.to_le_bytes())?;
+    let filled = write_slots(disk, to.head + 32, to.slots, next)?;
     disk.sync()?;
     Ok(filled)
 }
@@ -76,45 +76,37 @@ fn write_area<B: Disk, F: Bodies>(
 /// open, writes the generation and the slots, and opens the head, each time with a sync.
 pub fn turn<B: Disk, F: Bodies>(
     disk: &mut B,
-    head: u64,
-    slots: u64,
-    generation: u64,
+    to: Target,
     is_open: bool,
     next: &mut F,
 ) -> Result<Filled, Failed>
-    requires place { head ≤ 2 ^ 37 }
-    requires bounded { slots ≤ MAX_SLOTS }
-    requires fits { HasDiskRoom (head + 32 * (slots + 1)) (B.state disk.old).room }
-    requires few { length (F.rest next.old) ≤ slots }
+    requires place { to.head ≤ 2 ^ 37 }
+    requires bounded { to.slots ≤ MAX_SLOTS }
+    requires fits { HasDiskRoom (to.head + 32 * (to.slots + 1)) (B.state disk.old).room }
+    requires few { length (F.rest next.old) ≤ to.slots }
     ensures any_moment { (begin : ℕ) (second : Bool) (active : ℕ) (bodies : List (ℕ × ℕ)) (bytes : List ℕ)
-        → MayTurn (B.state disk.old) begin slots second head active generation is_open bodies bytes
+        → MayTurn (B.state disk.old) begin to.slots second to.head active to.generation is_open bodies bytes
         → LeavesOnly (B.state disk.old) (B.state disk.new)
-        (SaysOldOrNew begin slots active bodies generation (F.rest next.old)) }
+        (SaysOldOrNew begin to.slots active bodies to.generation (F.rest next.old)) }
     ensures read { (begin : ℕ) (second : Bool) (active : ℕ) (bodies : List (ℕ × ℕ)) (bytes : List ℕ)
-        → MayTurn (B.state disk.old) begin slots second head active generation is_open bodies bytes
+        → MayTurn (B.state disk.old) begin to.slots second to.head active to.generation is_open bodies bytes
         → IfSome (B.state disk.new).content
-        (SaysOldOrNew begin slots active bodies generation (F.rest next.old)) }
+        (SaysOldOrNew begin to.slots active bodies to.generation (F.rest next.old)) }
     ensures turned { OnOk result ((begin : ℕ) (second : Bool) (active : ℕ) (bodies : List (ℕ × ℕ))
         (bytes : List ℕ)
-        → MayTurn (B.state disk.old) begin slots second head active generation is_open bodies bytes
-        → IfSome (B.state disk.new).content (IsTurned begin slots second generation (F.rest next.old))) }
+        → MayTurn (B.state disk.old) begin to.slots second to.head active to.generation is_open bodies bytes
+        → IfSome (B.state disk.new).content
+        (IsTurned begin to.slots second to.generation (F.rest next.old))) }
     ensures used { IfOk result (λ done. done.used ≡ length (F.rest next.old)) }
     ensures last { IfOk result (λ done.
         done.last ≡ body_before (F.rest next.old) (length (F.rest next.old))) }
     ensures durable { OnOk result (Only (B.state disk.new).content (B.state disk.new).images) }
-    ensures changes { ChangesAt head (32 * (slots + 1)) (B.state disk.old) (B.state disk.new) }
+    ensures changes { ChangesAt to.head (32 * (to.slots + 1)) (B.state disk.old) (B.state disk.new) }
     ensures cause { HasDiskCause (B.state disk.old).faults (B.state disk.new).faults result }
 {
-    let gate = head + 31;
-    if let Err(failed) = close(disk, gate, is_open) {
-        return Err(failed);
-    }
-    let filled = match write_area(disk, head, slots, generation, next) {
-        Ok(filled) => filled,
-        Err(failed) => return Err(failed),
-    };
-    if let Err(failed) = store_at(disk, gate, &[OPEN]) {
-        return Err(failed);
-    }
+    let gate = to.head + 31;
+    close(disk, gate, is_open)?;
+    let filled = write_area(disk, to, next)?;
+    store_at(disk, gate, &[OPEN])?;
     Ok(filled)
 }

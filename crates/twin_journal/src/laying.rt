@@ -1,9 +1,8 @@
 // How a new journal of two areas is written into a file.
-ghost use Rattle.std.specs.Prelude.{◌≡◌, ◌≤◌, ◌+◌, ◌*◌, ◌^◌, ℕ, List, [], length, true, Some, IfSome, IfOk, OnOk};
+ghost use Rattle.std.specs.Prelude.{◌≡◌, ◌≤◌, ◌+◌, ◌^◌, length, true, IfSome, IfOk, OnOk};
 ghost use Rattle.zk_port.specs.Counts.{HasDiskCause};
 ghost use Rattle.zk_port.specs.Images.{HasDiskRoom, Only};
 ghost use Rattle.zk_model.specs.Twins.{are_twin_slots, twin_length};
-ghost use Rattle.zk_model.specs.declared.limits.TheConstants.{MAX_SLOTS};
 ghost use Rattle.lease_journal.specs.Keeps.{ChangesAt};
 ghost use Rattle.twin_journal.specs.Laying.{HasFirstBytes, IsLaid};
 
@@ -12,28 +11,30 @@ use crate::filling::write_slots;
 use crate::first_head;
 use crate::header::header_of;
 use crate::places::head_at;
-use zk_model::JournalKind;
+use lease_journal::JournalName;
 use zk_port::{Disk, Failed};
+
+/// A journal that is to be written: its name, where it begins, and how many slots an area has.
+#[derive(Clone, Copy)]
+pub struct NewTwin {
+    pub name: JournalName,
+    pub begin: u64,
+    pub slots: u64,
+}
 
 /// Writes the header of a journal that begins at this place, and the head of its first area, which is open. It does not
 /// sync.
-fn write_first_bytes<B: Disk>(
-    disk: &mut B,
-    begin: u64,
-    kind: JournalKind,
-    id: &[u8; 32],
-    total: u64,
-    slots: u64,
-) -> Result<(), Failed>
-    requires place { begin ≤ 2 ^ 36 }
-    requires fits { HasDiskRoom (begin + 96) (B.state disk.old).room }
+fn write_first_bytes<B: Disk>(disk: &mut B, twin: NewTwin) -> Result<(), Failed>
+    requires place { twin.begin ≤ 2 ^ 36 }
+    requires fits { HasDiskRoom (twin.begin + 96) (B.state disk.old).room }
     ensures written { OnOk result
-        (IfSome (B.state disk.new).content (HasFirstBytes kind id.now total begin slots)) }
-    ensures changes { ChangesAt begin 96 (B.state disk.old) (B.state disk.new) }
+        (IfSome (B.state disk.new).content
+        (HasFirstBytes twin.name.kind twin.name.id twin.name.total twin.begin twin.slots)) }
+    ensures changes { ChangesAt twin.begin 96 (B.state disk.old) (B.state disk.new) }
     ensures cause { HasDiskCause (B.state disk.old).faults (B.state disk.new).faults result }
 {
-    disk.write_at(begin, &header_of(kind, id, total, slots))?;
-    disk.write_at(begin + 64, &first_head())?;
+    disk.write_at(twin.begin, &header_of(twin.name, twin.slots))?;
+    disk.write_at(twin.begin + 64, &first_head())?;
     Ok(())
 }
 
@@ -43,37 +44,23 @@ fn write_first_bytes<B: Disk>(
 /// # Errors
 ///
 /// Where a call of the disk failed.
-pub fn lay<B: Disk, F: Bodies>(
-    disk: &mut B,
-    begin: u64,
-    kind: JournalKind,
-    id: &[u8; 32],
-    total: u64,
-    slots: u64,
-    next: &mut F,
-) -> Result<u64, Failed>
-    requires place { begin ≤ 2 ^ 36 }
-    requires slots { are_twin_slots kind total slots ≡ true }
-    requires fits { HasDiskRoom (begin + twin_length slots) (B.state disk.old).room }
-    requires few { length (F.rest next.old) ≤ slots }
+pub fn lay<B: Disk, F: Bodies>(disk: &mut B, twin: NewTwin, next: &mut F) -> Result<u64, Failed>
+    requires place { twin.begin ≤ 2 ^ 36 }
+    requires slots { are_twin_slots twin.name.kind twin.name.total twin.slots ≡ true }
+    requires fits { HasDiskRoom (twin.begin + twin_length twin.slots) (B.state disk.old).room }
+    requires few { length (F.rest next.old) ≤ twin.slots }
     ensures laid { OnOk result
-        (IfSome (B.state disk.new).content (IsLaid kind id.now total begin slots (F.rest next.old))) }
+        (IfSome (B.state disk.new).content (IsLaid twin.name.kind twin.name.id twin.name.total
+        twin.begin twin.slots (F.rest next.old))) }
     ensures used { IfOk result (λ used. used ≡ length (F.rest next.old)) }
     ensures durable { OnOk result (Only (B.state disk.new).content (B.state disk.new).images) }
-    ensures changes { ChangesAt begin (twin_length slots) (B.state disk.old) (B.state disk.new) }
+    ensures changes { ChangesAt twin.begin (twin_length twin.slots) (B.state disk.old) (B.state disk.new) }
     ensures cause { HasDiskCause (B.state disk.old).faults (B.state disk.new).faults result }
 {
-    if let Err(failed) = write_first_bytes(disk, begin, kind, id, total, slots) {
-        return Err(failed);
-    }
-    let filled = match write_slots(disk, begin + 96, slots, next) {
-        Ok(filled) => filled,
-        Err(failed) => return Err(failed),
-    };
-    let second = head_at(begin, slots, true);
-    if let Err(failed) = write_slots(disk, second, slots + 1, &mut OneBody::new(None)) {
-        return Err(failed);
-    }
+    write_first_bytes(disk, twin)?;
+    let filled = write_slots(disk, twin.begin + 96, twin.slots, next)?;
+    let second = head_at(twin.begin, twin.slots, true);
+    write_slots(disk, second, twin.slots + 1, &mut OneBody::new(None))?;
     disk.sync()?;
     Ok(filled.used)
 }

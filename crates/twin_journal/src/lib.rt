@@ -17,7 +17,7 @@
 //!     twin.put(start, end)
 #![tactic(auto)]
 
-ghost use Rattle.std.specs.Prelude.{◌≡◌, ◌^◌, ◌≤◌, ◌++◌, IfOk, OnOk};
+ghost use Rattle.std.specs.Prelude.{◌≡◌, ◌≤◌, IfOk};
 ghost use Rattle.zk_model.specs.Twins.{blank_twin_bytes, first_head, twin_ceiling_slots};
 ghost use Rattle.zk_model.specs.declared.limits.TheConstants.{MAX_SLOTS};
 ghost use Rattle.twin_journal.specs.Laws.{BlankTwinIsNew, GenerationsGoOn, RecoversOneList, SaysWhatItRecovers, TwinStartsAgain};
@@ -36,9 +36,9 @@ mod twin;
 
 pub use bodies::{Bodies, OneBody};
 use header::header_of;
-pub use laying::lay;
+pub use laying::{NewTwin, lay};
 use lease_journal::ceiling_slots;
-pub use lease_journal::{JournalFault, JournalKind, StartFault};
+pub use lease_journal::{JournalFault, JournalKind, JournalName, StartFault};
 use std::alloc::{AllocError, Global};
 pub use twin::Twin;
 use zk_model::MAX_CEILING_SLOTS;
@@ -61,9 +61,14 @@ pub fn blank_twin(
     requires { slots ≤ MAX_SLOTS }
     ensures { IfOk result (λ bytes. bytes.items ≡ blank_twin_bytes kind id.now total slots) }
 {
+    let name = JournalName {
+        kind,
+        id: *id,
+        total,
+    };
     let length = 128 + 64 * slots as usize;
     let mut bytes = Vec::with_capacity(alloc, length)?;
-    bytes.extend_from_slice(&header_of(kind, id, total, slots))?;
+    bytes.extend_from_slice(&header_of(name, slots))?;
     bytes.extend_from_slice(&first_head())?;
     bytes.resize(length, 0)?;
     Ok(bytes)

@@ -1,5 +1,5 @@
 // How a journal of two areas is opened.
-ghost use Rattle.std.specs.Prelude.{◌≡◌, ◌⊎◌, ◌<◌, ◌≤◌, ◌+◌, ◌-◌, ◌*◌, ◌^◌, ℕ, List, length, min, sum_by, Some, None, true, false, IfOk, IfErr, OnOk};
+ghost use Rattle.std.specs.Prelude.{◌≡◌, ◌<◌, ◌≤◌, ◌+◌, ◌-◌, ◌*◌, ◌^◌, ℕ, List, length, min, sum_by, Some, true, false, IfOk, IfErr, OnOk};
 ghost use Rattle.zk_port.specs.Disks.{Stays};
 ghost use Rattle.zk_port.specs.Images.{Only};
 ghost use Rattle.zk_model.specs.Journals.{first_bodies, last_body};
@@ -15,8 +15,8 @@ use crate::header::read_header;
 use crate::heads::{Active, read_active};
 use crate::lengths::check_length;
 use crate::places::head_at;
-use lease_journal::StartFault;
 use lease_journal::area::{Scan, read_body, read_slots};
+use lease_journal::{JournalName, StartFault};
 use zk_model::JournalKind;
 use zk_port::{Disk, Failed};
 
@@ -38,28 +38,22 @@ pub struct Opened {
 }
 
 /// Reads the header, whether the file has its full length, and the heads.
-fn locate<B: Disk>(
-    disk: &mut B,
-    begin: u64,
-    kind: JournalKind,
-    id: &[u8; 32],
-    total: u64,
-) -> Result<Located, StartFault>
+fn locate<B: Disk>(disk: &mut B, begin: u64, name: JournalName) -> Result<Located, StartFault>
     requires { begin ≤ 2 ^ 36 }
     ensures stands { IfOk result (λ found. (bytes : List ℕ) → (B.state disk.old).content ≡ Some bytes
-        → TwinStands kind id.now total begin found.slots bytes) }
+        → TwinStands name.kind name.id name.total begin found.slots bytes) }
     ensures found { IfOk result (λ found. (bytes : List ℕ) → (B.state disk.old).content ≡ Some bytes
         → IsFound begin found.slots bytes found.active.second found.active.generation
         found.active.other_open) }
     ensures bounded { IfOk result (λ found. found.slots ≤ MAX_SLOTS) }
-    ensures fits { IfOk result (λ found. are_twin_slots kind total found.slots ≡ true) }
+    ensures fits { IfOk result (λ found. are_twin_slots name.kind name.total found.slots ≡ true) }
     ensures cause { IfErr result (λ e. (bytes : List ℕ) → (B.state disk.old).content ≡ Some bytes
-        → LocateCause kind id.now total begin bytes e) }
+        → LocateCause name.kind name.id name.total begin bytes e) }
     ensures unread { IfErr result (λ e. (bad : ℕ) → e ≡ start.BadBody bad → ⊥) }
     ensures stays { Stays (B.state disk.old) (B.state disk.new) }
     ensures count { HasStartCause (B.state disk.old).faults (B.state disk.new).faults result }
 {
-    let slots = match read_header(disk, begin, kind, id, total) {
+    let slots = match read_header(disk, begin, name) {
         Ok(slots) => slots,
         Err(fault) => return Err(fault),
     };
@@ -95,27 +89,25 @@ fn claimed_in<B: Disk>(disk: &mut B, at: u64, used: u64) -> Result<u64, StartFau
     Ok(units)
 }
 
-/// How many units the bodies in the first slots of an area say, up to the end of the type. The first number of the last
-/// of them is known.
+/// How many units the bodies say that were gone through in an area, up to the end of the type.
 fn units_in<B: Disk>(
     disk: &mut B,
     kind: JournalKind,
     at: u64,
-    used: u64,
-    ceiling: u64,
+    scan: Scan,
 ) -> Result<u64, StartFault>
     requires place { at ≤ 2 ^ 40 }
-    requires bounded { used ≤ MAX_SLOTS }
+    requires bounded { scan.used ≤ MAX_SLOTS }
     ensures units { IfOk result (λ units. (bytes : List ℕ) → (B.state disk.old).content ≡ Some bytes
-        → at + 32 * used ≤ length bytes → ceiling ≡ (last_body at bytes used).0
-        → units ≡ min (2 ^ 64 - 1) (claimed_units kind (first_bodies at used bytes))) }
+        → at + 32 * scan.used ≤ length bytes → scan.last ≡ last_body at bytes scan.used
+        → units ≡ min (2 ^ 64 - 1) (claimed_units kind (first_bodies at scan.used bytes))) }
     ensures device { IfErr result (λ e. e ≡ start.Device) }
     ensures stays { Stays (B.state disk.old) (B.state disk.new) }
     ensures count { HasStartCause (B.state disk.old).faults (B.state disk.new).faults result }
 {
     match kind {
-        JournalKind::Claims => claimed_in(disk, at, used),
-        JournalKind::Ceilings => Ok(ceiling),
+        JournalKind::Claims => claimed_in(disk, at, scan.used),
+        JournalKind::Ceilings => Ok(scan.last.0),
     }
 }
 
@@ -131,41 +123,35 @@ fn may_have(generation: u64, units: u64) -> bool
 
 /// Opens the journal that begins at this place: reads the header, the length, the heads, the slots of the active area up
 /// to the first that is not open, and whether its generation is one that there may be.
-fn open_at<B: Disk>(
-    disk: &mut B,
-    begin: u64,
-    kind: JournalKind,
-    id: &[u8; 32],
-    total: u64,
-) -> Result<Opened, StartFault>
+fn open_at<B: Disk>(disk: &mut B, begin: u64, name: JournalName) -> Result<Opened, StartFault>
     requires { begin ≤ 2 ^ 36 }
     ensures opened { IfOk result (λ o. (bytes : List ℕ) → (B.state disk.old).content ≡ Some bytes
-        → IsTwinOpened kind id.now total o.begin o.slots o.used o.last
+        → IsTwinOpened name.kind name.id name.total o.begin o.slots o.used o.last
         o.active.second o.active.generation o.active.other_open bytes) }
     ensures begin { IfOk result (λ o. o.begin ≡ begin) }
     ensures bounded { IfOk result (λ o. o.slots ≤ MAX_SLOTS) }
     ensures within { IfOk result (λ o. o.used ≤ o.slots) }
-    ensures fits { IfOk result (λ o. are_twin_slots kind total o.slots ≡ true) }
-    ensures read { IfOk result (λ o. HasRead kind total o.used o.last) }
+    ensures fits { IfOk result (λ o. are_twin_slots name.kind name.total o.slots ≡ true) }
+    ensures read { IfOk result (λ o. HasRead name.kind name.total o.used o.last) }
     ensures cause { IfErr result (λ e. (bytes : List ℕ) → (B.state disk.old).content ≡ Some bytes
-        → TwinStartCause kind id.now total begin bytes e) }
+        → TwinStartCause name.kind name.id name.total begin bytes e) }
     ensures bad { IfErr result (λ e. (slot : ℕ) → e ≡ start.BadBody slot → slot < MAX_SLOTS) }
     ensures stays { Stays (B.state disk.old) (B.state disk.new) }
     ensures count { HasStartCause (B.state disk.old).faults (B.state disk.new).faults result }
 {
-    let Located { slots, active } = match locate(disk, begin, kind, id, total) {
+    let Located { slots, active } = match locate(disk, begin, name) {
         Ok(located) => located,
         Err(fault) => return Err(fault),
     };
     let at = head_at(begin, slots, active.second) + 32;
-    let Scan { used, last, bad } = match read_slots(disk, at, kind, total, slots) {
+    let scan = match read_slots(disk, at, name.kind, name.total, slots) {
         Ok(scan) => scan,
         Err(fault) => return Err(fault),
     };
-    if let Some(slot) = bad {
+    if let Some(slot) = scan.bad {
         return Err(StartFault::BadBody { slot });
     }
-    let units = match units_in(disk, kind, at, used, last.0) {
+    let units = match units_in(disk, name.kind, at, scan) {
         Ok(units) => units,
         Err(fault) => return Err(fault),
     };
@@ -176,32 +162,27 @@ fn open_at<B: Disk>(
     Ok(Opened {
         begin,
         slots,
-        used,
-        last,
+        used: scan.used,
+        last: scan.last,
         active,
     })
 }
 
 /// Opens the journal of a file: syncs, finds where the journal begins, and opens it there.
-pub fn open<B: Disk>(
-    disk: &mut B,
-    kind: JournalKind,
-    id: &[u8; 32],
-    total: u64,
-) -> Result<Opened, StartFault>
+pub fn open<B: Disk>(disk: &mut B, name: JournalName) -> Result<Opened, StartFault>
     ensures holds { IfOk result (λ o. (bytes : List ℕ) → (B.state disk.old).content ≡ Some bytes
-        → HoldsTwin kind id.now total o.begin o.slots bytes) }
+        → HoldsTwin name.kind name.id name.total o.begin o.slots bytes) }
     ensures opened { IfOk result (λ o. (bytes : List ℕ) → (B.state disk.old).content ≡ Some bytes
-        → IsTwinOpened kind id.now total o.begin o.slots o.used o.last
+        → IsTwinOpened name.kind name.id name.total o.begin o.slots o.used o.last
         o.active.second o.active.generation o.active.other_open bytes) }
     ensures low { IfOk result (λ o. o.begin ≤ 2 ^ 36) }
     ensures bounded { IfOk result (λ o. o.slots ≤ MAX_SLOTS) }
     ensures within { IfOk result (λ o. o.used ≤ o.slots) }
-    ensures fits { IfOk result (λ o. are_twin_slots kind total o.slots ≡ true) }
-    ensures read { IfOk result (λ o. HasRead kind total o.used o.last) }
+    ensures fits { IfOk result (λ o. are_twin_slots name.kind name.total o.slots ≡ true) }
+    ensures read { IfOk result (λ o. HasRead name.kind name.total o.used o.last) }
     ensures durable { OnOk result (Only (B.state disk.new).content (B.state disk.new).images) }
     ensures cause { IfErr result (λ e. (bytes : List ℕ) → (B.state disk.old).content ≡ Some bytes
-        → FileCause kind id.now total bytes e) }
+        → FileCause name.kind name.id name.total bytes e) }
     ensures bad { IfErr result (λ e. (slot : ℕ) → e ≡ start.BadBody slot → slot < MAX_SLOTS) }
     ensures stays { Stays (B.state disk.old) (B.state disk.new) }
     ensures count { HasStartCause (B.state disk.old).faults (B.state disk.new).faults result }
@@ -209,8 +190,8 @@ pub fn open<B: Disk>(
     if let Err(Failed) = disk.sync() {
         return Err(StartFault::Device);
     }
-    match find_begin(disk, kind, id, total) {
-        Ok(begin) => open_at(disk, begin, kind, id, total),
+    match find_begin(disk, name) {
+        Ok(begin) => open_at(disk, begin, name),
         Err(fault) => Err(fault),
     }
 }

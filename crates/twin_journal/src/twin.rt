@@ -1,5 +1,5 @@
 // An open journal of two areas.
-ghost use Rattle.std.specs.Prelude.{◌≡◌, ◌⊎◌, ◌<◌, ◌≤◌, ◌+◌, ◌-◌, ◌*◌, ◌^◌, ◌++◌, ◌∷◌, [], ℕ, List, length, min, Some, true, false, not, IfSome, IfOk, IfErr, OnOk, OnErr};
+ghost use Rattle.std.specs.Prelude.{◌≡◌, ◌<◌, ◌≤◌, ◌+◌, ◌-◌, ◌*◌, ◌^◌, ◌++◌, ◌∷◌, [], ℕ, List, length, min, Some, true, not, IfSome, IfOk, IfErr, OnOk, OnErr};
 ghost use Rattle.zk_port.specs.Counts.{Rose};
 ghost use Rattle.zk_port.specs.Disks.{LeavesOnly, Stays};
 ghost use Rattle.zk_port.specs.Images.{Only};
@@ -14,12 +14,12 @@ ghost use Rattle.twin_journal.specs.Starts.{FileCause, IsTwinOpened, SaysTwinSlo
 ghost use Rattle.twin_journal.specs.States.{IsKept};
 
 use crate::bodies::Bodies;
-use crate::compacting::turn;
+use crate::compacting::{Target, turn};
 use crate::filling::Filled;
 use crate::places::head_at;
 use crate::starting::{Opened, open};
 use lease_journal::area::{read_body, store_slot};
-use lease_journal::{JournalFault, StartFault};
+use lease_journal::{JournalFault, JournalName, StartFault};
 use std::marker::Model;
 use zk_model::JournalKind;
 use zk_port::{Disk, Failed};
@@ -107,7 +107,12 @@ impl<B: Disk> Twin<B> {
         ensures stays_refused { IfErr result (λ e. Stays (B.state disk) (B.state e.1)) }
     {
         let mut disk = disk;
-        match open(&mut disk, kind, id, total) {
+        let name = JournalName {
+            kind,
+            id: *id,
+            total,
+        };
+        match open(&mut disk, name) {
             Ok(
                 Opened {
                     begin,
@@ -322,21 +327,17 @@ impl<B: Disk> Twin<B> {
             return Err(JournalFault::Broken { first: self.fault });
         }
         let second = !self.second;
-        let generation = self.generation.saturating_add(1);
-        let head = head_at(self.begin, self.slots, second);
-        match turn(
-            &mut self.disk,
-            head,
-            self.slots,
-            generation,
-            self.other_open,
-            next,
-        ) {
+        let to = Target {
+            head: head_at(self.begin, self.slots, second),
+            slots: self.slots,
+            generation: self.generation.saturating_add(1),
+        };
+        match turn(&mut self.disk, to, self.other_open, next) {
             Ok(Filled { used, last }) => {
                 self.used = used;
                 self.last = last;
                 self.second = second;
-                self.generation = generation;
+                self.generation = to.generation;
                 self.other_open = true;
                 Ok(())
             }

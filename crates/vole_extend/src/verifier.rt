@@ -1,5 +1,6 @@
 // The verifier's end of a round.
-ghost use Rattle.std.specs.Prelude.{◌≡◌, ◌*◌, ◌+◌, ◌^◌, ◌<◌, ◌≤◌, length, All, IfOk, vec_len};
+ghost use Rattle.std.specs.Prelude.{◌≡◌, ◌*◌, ◌+◌, ◌%◌, ◌^◌, ◌<◌, ◌≤◌, length, sum, All, IfOk, vec_len};
+ghost use Rattle.zk_model.specs.Field.{prime};
 ghost use Rattle.zk_model.specs.Files.{IsVerifierFile, AreWithinLimits, verifier_unit};
 ghost use Rattle.zk_model.specs.Tree.{tree_leaves};
 ghost use Rattle.zk_model.specs.Transcript.{IsTreeAsk, IsTreeReply};
@@ -12,10 +13,10 @@ ghost use Rattle.zk_model.specs.declared.limits.TheConstants.{MAX_DEALT_UNITS};
 
 use crate::levels::masked_sums;
 use dealer_files::{Pads, VerifierFile};
-use ggm_tree::{GrownTree, grow};
+use ggm_tree::{GrownTree, LevelSums, grow};
 use linear_code::Columns;
 use mersenne_field::Fe;
-use sparse_vole::verifier_reply;
+use sparse_vole::{sum_of_leaves, verifier_reply_sum};
 use std::alloc::{AllocError, Global};
 use std::marker::Model;
 use tree_messages::{TreeAsk, TreeReply};
@@ -151,7 +152,9 @@ impl<'a> VerifierRound<'a> {
         let mut leaves = Vec::with_capacity(alloc, (trees as usize) << u32::from(height))?;
         for tree in 0..trees {
             let grown = self.grow_tree(alloc, tree)?;
-            replies.push(self.reply_tree(alloc, tree, &asks[tree as usize], &grown)?)?;
+            let leaf_sum = sum_of_leaves(&grown.leaves);
+            let ask = &asks[tree as usize];
+            replies.push(self.reply_tree(alloc, tree, ask, &grown.sums, leaf_sum)?)?;
             leaves.extend_from_slice(&grown.leaves)?;
         }
         Ok(Replied { replies, leaves })
@@ -182,31 +185,28 @@ impl<'a> VerifierRound<'a> {
         Ok(grown)
     }
 
-    /// The reply for a tree: the sums of its levels, masked, and the offset of its leaves.
+    /// The reply for a tree: the sums of its levels, masked, and the offset of its leaves, from their sum.
     fn reply_tree(
         &self,
         alloc: Global,
         tree: u32,
         ask: &TreeAsk,
-        grown: &GrownTree,
+        sums: &[LevelSums],
+        leaf_sum: Fe,
     ) -> Result<TreeReply, AllocError>
         requires tree { tree < self.now.file.params.trees }
         requires fits { IsTreeAsk self.now.file.params.height ask.now }
-        requires leaves { grown.now.leaves.items
-            ≡ tree_leaves (tree_root self.now.file self.now.unit tree) self.now.file.params.height }
-        requires sums { grown.now.sums.items
+        requires sums { sums.now
             ≡ tree_sums (tree_root self.now.file self.now.unit tree) self.now.file.params.height }
-        requires sum_count { vec_len grown.now.sums ≡ self.now.file.params.height }
+        requires sum_count { length sums.now ≡ self.now.file.params.height }
+        requires leaf_sum { leaf_sum
+            ≡ sum (tree_leaves (tree_root self.now.file self.now.unit tree) self.now.file.params.height) % prime }
         ensures { IfOk result (λ reply. reply ≡ tree_reply self.now.file self.now.unit tree ask.now) }
     {
-        let messages = masked_sums(alloc, self.pads(tree), &ask.flips, &grown.sums)?;
+        let messages = masked_sums(alloc, self.pads(tree), &ask.flips, sums)?;
         let base_key = self.base_key(tree);
-        let leaf_offset = verifier_reply(
-            base_key,
-            ask.base_correction,
-            self.file.key(),
-            &grown.leaves,
-        );
+        let key = self.file.key();
+        let leaf_offset = verifier_reply_sum(base_key, ask.base_correction, key, leaf_sum);
         Ok(TreeReply {
             messages,
             leaf_offset,

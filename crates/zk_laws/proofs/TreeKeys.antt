@@ -5,7 +5,7 @@ use Rattle.std.proofs.lemmas.List.{length-map, get_or-map}
 use Rattle.std.proofs.lemmas.Simd.{map-map}
 use Rattle.std.proofs.lemmas.List.FromFn.{length-map-range_with_len, get_or-map-range_with_len}
 use Rattle.tree_laws.proofs.Grown.{grown_punctured, leaves_without}
-use Rattle.frame_laws.proofs.Octets.{child_bytes, seed_bytes}
+use Rattle.zk_model.proofs.Octets.{child_bytes, seed_bytes}
 use Rattle.zk_laws.proofs.OnePairs.{hidden_below}
 use Rattle.tree_laws.proofs.Punctured.{one_punctured}
 use Rattle.zk_laws.proofs.TreeNoise.{noise_keys_fit}

@@ -17,7 +17,7 @@ at_token text fault before behind want says wanted is =
 
 -- ---- the header
 
-start : (gates wires : ℕ) → gates ≤ 2 ^ 20 → wires ≤ 2 ^ 20 → IsStart gates wires []
+start : (gates wires : ℕ) → gates ≤ 2 ^ 24 → wires ≤ 2 ^ 24 → IsStart gates wires []
 start gates wires few within = record {
   gates_most = few;
   wires_most = within;
@@ -26,8 +26,8 @@ start gates wires few within = record {
 }
 
 -- too many gates
-too_large : IsFirstFault (codes "1048577 3") (TooLarge 0)
-too_large = at_token _ _ [] (number 1048577 ∷ number 3 ∷ []) (a_count (2 ^ 20)) refl (inl (first_number refl refl)) refl
+too_large : IsFirstFault (codes "16777217 3") (TooLarge 0)
+too_large = at_token _ _ [] (number 16777217 ∷ number 3 ∷ []) (a_count (2 ^ 24)) refl (inl (first_number refl refl)) refl
 
 -- the text ends where the number of input values is wanted
 short_text : IsFirstFault (codes "1 3") (ShortText 2)
@@ -66,7 +66,7 @@ wide_value = at_token _ _ (number 0 ∷ number 1 ∷ number 1 ∷ []) (number 2 
 abbrev bare : ℕ → Values → Circuit
 bare wires values = record { wires = wires; inputs = sum values.inputs; outputs = sum values.outputs; gates = [] }
 
-bare_begun : (gates wires : ℕ) (values : Values) → gates ≤ 2 ^ 20 → wires ≤ 2 ^ 20 → length values.inputs ≤ 1024
+bare_begun : (gates wires : ℕ) (values : Values) → gates ≤ 2 ^ 24 → wires ≤ 2 ^ 24 → length values.inputs ≤ 1024
     → length values.outputs ≤ 1024 → sum values.inputs ≤ wires → sum values.outputs ≤ wires
     → IsBegun gates values (bare wires values)
 bare_begun gates wires values gates_most wires_most few_inputs few_outputs inputs_within outputs_within = record {
@@ -100,7 +100,7 @@ one_value = record { inputs = 1 ∷ []; outputs = 1 ∷ [] }
 pair_begun : IsBegun 1 pair_values (bare 3 pair_values)
 pair_begun = bare_begun 1 3 pair_values (lit≤ tt) (lit≤ tt) (lit≤ tt) (lit≤ tt) (lit≤ tt) (lit≤ tt)
 
-one_begun : (gates wires : ℕ) → gates ≤ 2 ^ 20 → wires ≤ 2 ^ 20 → 1 ≤ wires → IsBegun gates one_value (bare wires one_value)
+one_begun : (gates wires : ℕ) → gates ≤ 2 ^ 24 → wires ≤ 2 ^ 24 → 1 ≤ wires → IsBegun gates one_value (bare wires one_value)
 one_begun gates wires few most some = bare_begun gates wires one_value few most (lit≤ tt) (lit≤ tt) some some
 
 -- text after the last gate, of which there is none

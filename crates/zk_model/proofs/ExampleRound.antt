@@ -64,7 +64,7 @@ prover_unit_fits bit byte fits = record {
 }
 
 pub prover_file : IsProverFile prover
-prover_file = is_prover_file params 3 7 prover.units numbers_fit (lit< tt) (bytes_of 32 7 (lit< tt)) refl
+prover_file = is_prover_file params 3 7 prover.units numbers_fit (lit≤ tt) (lit< tt) (bytes_of 32 7 (lit< tt)) refl
     (prover_unit_fits true 21 (lit< tt), (prover_unit_fits false 31 (lit< tt), tt))
 
 verifier_unit_fits : IsVerifierUnit params verifier_unit_of
@@ -85,7 +85,7 @@ verifier_unit_fits = record {
 }
 
 pub verifier_file : IsVerifierFile verifier
-verifier_file = is_verifier_file params 7 verifier.units numbers_fit (bytes_of 32 7 (lit< tt)) refl (verifier_unit_fits, (verifier_unit_fits, tt))
+verifier_file = is_verifier_file params 7 verifier.units numbers_fit (lit≤ tt) (bytes_of 32 7 (lit< tt)) refl (verifier_unit_fits, (verifier_unit_fits, tt))
 
 pub files_dealt : AreDealt prover verifier
 files_dealt = are_dealt params 3 7 prover.units verifier.units

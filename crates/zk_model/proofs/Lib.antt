@@ -20,3 +20,4 @@ pub mod ExampleExtendedSession
 pub mod ExampleFaults
 pub mod ExampleAudit
 pub mod SetWires
+pub mod Octets

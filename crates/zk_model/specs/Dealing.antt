@@ -1,5 +1,5 @@
 -- The two files that a dealer makes of a seed of 32 bytes: which words of its coins stand where.
-use Rattle.std.specs.Prelude.{ℕ, ◌+◌, ◌*◌, ◌%◌, ◌==◌, nat_eq, if◌then◌else◌, List, ◌++◌, map, replicate}
+use Rattle.std.specs.Prelude.{ℕ, ◌+◌, ◌*◌, ◌%◌, ◌==◌, nat_eq, nat_le, if◌then◌else◌, List, ◌++◌, map, replicate}
 use Rattle.std.specs.List.{range_with_len}
 use Rattle.std.specs.Int.{w64, to_le_bytes}
 use Rattle.zk_model.specs.Field.{from_word}
@@ -8,9 +8,12 @@ use Rattle.zk_model.specs.Coins.{coin_word, seed16}
 use Rattle.zk_model.specs.Mac.{Pair, fitting_key}
 use Rattle.zk_model.specs.Extension.{choice_of}
 use Rattle.zk_model.specs.Files.{Transfer, ProverUnit, VerifierUnit, ProverFile, VerifierFile, dealt_per_unit}
+use Rattle.zk_model.specs.declared.FileVersion.{FileVersion}
+use Rattle.zk_model.specs.declared.FileVersion.TheVariants.{First, Second}
 use Rattle.zk_model.specs.declared.Kind.{Kind}
 use Rattle.zk_model.specs.declared.Kind.TheVariants.{Direct, Extended}
 use Rattle.zk_model.specs.declared.Params.{Params}
+use Rattle.zk_model.specs.declared.limits.TheConstants.{MAX_DEALT_AS_FIRST}
 
 -- the first 32 bytes of a stream: four words
 abbrev pub stream_bytes : List ℕ → ℕ → List ℕ
@@ -73,9 +76,14 @@ dealt_verifier_unit params seed unit = record {
   trees = by_transfer params (dealt_pads seed unit);
 }
 
+-- the version in which so many units are dealt
+abbrev pub dealt_version : ℕ → FileVersion
+dealt_version total = if nat_le total MAX_DEALT_AS_FIRST then First else Second
+
 -- the prover's file
 abbrev pub dealt_prover : Params → List ℕ → ProverFile
 dealt_prover params seed = record {
+  version = dealt_version params.total;
   id = stream_bytes seed 0;
   params = params;
   coin_key = stream_bytes seed 1;
@@ -86,6 +94,7 @@ dealt_prover params seed = record {
 -- the verifier's file
 abbrev pub dealt_verifier : Params → List ℕ → VerifierFile
 dealt_verifier params seed = record {
+  version = dealt_version params.total;
   id = stream_bytes seed 0;
   params = params;
   coin_key = stream_bytes seed 2;

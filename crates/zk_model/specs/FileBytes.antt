@@ -6,6 +6,8 @@ use Rattle.zk_model.specs.Bits.{from_bit}
 use Rattle.zk_model.specs.Bytes.{LeftRight, element_bytes}
 use Rattle.zk_model.specs.Mac.{Pair}
 use Rattle.zk_model.specs.Files.{Transfer, ProverUnit, VerifierUnit, ProverFile, VerifierFile, unit_transfers, unit_pads}
+use Rattle.zk_model.specs.declared.FileVersion.{FileVersion}
+use Rattle.zk_model.specs.declared.FileVersion.TheVariants.{First, Second}
 use Rattle.zk_model.specs.declared.Kind.{Kind}
 use Rattle.zk_model.specs.declared.Kind.TheVariants.{Direct, Extended}
 use Rattle.zk_model.specs.declared.Params.{Params}
@@ -21,11 +23,16 @@ params_bytes params =
     (kind_code params.kind ∷ params.height ∷ 0 ∷ [])
     ++ to_le_bytes w32 params.trees ++ to_le_bytes w32 params.base ++ replicate 4 0 ++ to_le_bytes w64 params.total
 
--- the first 128 bytes: a magic word, the side (0 the prover's, 1 the verifier's), what the file was made for, the id, the key of
--- this side's coins, and the seed of the code
-abbrev pub header_bytes : ℕ → Params → List ℕ → List ℕ → List ℕ → List ℕ
-header_bytes side params id coin_key code_seed =
-    codes "WQSFILE1" ++ (side ∷ []) ++ params_bytes params ++ id ++ coin_key ++ code_seed
+-- the magic word of a version
+abbrev pub magic_word : FileVersion → List ℕ
+magic_word First = codes "WQSFILE1"
+magic_word Second = codes "WQSFILE2"
+
+-- the first 128 bytes: the magic word, the side (0 the prover's, 1 the verifier's), what the file was made for, the id, the key
+-- of this side's coins, and the seed of the code
+abbrev pub header_bytes : FileVersion → ℕ → Params → List ℕ → List ℕ → List ℕ → List ℕ
+header_bytes version side params id coin_key code_seed =
+    magic_word version ++ (side ∷ []) ++ params_bytes params ++ id ++ coin_key ++ code_seed
 
 -- a value and its MAC
 abbrev pub pair_bytes : Pair → List ℕ
@@ -54,10 +61,10 @@ sealed bytes = bytes ++ sha256 bytes
 -- the prover's file: the header, a block for each unit, and the digest of all before it
 abbrev pub prover_file_bytes : ProverFile → List ℕ
 prover_file_bytes file =
-    sealed (header_bytes 0 file.params file.id file.coin_key file.code_seed ++ flat_map prover_unit_bytes file.units)
+    sealed (header_bytes file.version 0 file.params file.id file.coin_key file.code_seed ++ flat_map prover_unit_bytes file.units)
 
 -- the verifier's file: the header, its one key, a block for each unit, and the digest of all before it
 abbrev pub verifier_file_bytes : VerifierFile → List ℕ
 verifier_file_bytes file =
-    sealed (header_bytes 1 file.params file.id file.coin_key file.code_seed ++ element_bytes file.key
+    sealed (header_bytes file.version 1 file.params file.id file.coin_key file.code_seed ++ element_bytes file.key
     ++ flat_map verifier_unit_bytes file.units)

@@ -1,9 +1,12 @@
 -- Which bytes are a dealt file. Numbers have their low byte first.
-use Rattle.std.specs.Prelude.{◌≡◌, ◌≢◌, ℕ, zero, suc, ◌+◌, ◌-◌, ◌*◌, ◌<◌, ◌≤◌, ◌⊎◌, List, length, take, drop, slice_index, replicate, codes, ⊤}
+use Rattle.std.specs.Prelude.{◌≡◌, ◌≢◌, ℕ, zero, suc, ◌+◌, ◌-◌, ◌*◌, ◌<◌, ◌≤◌, ◌⊎◌, ◌==◌, nat_eq, if◌then◌else◌, List, length, take, drop, slice_index, replicate, ⊤}
 use Rattle.std.specs.Int.{w32, w64, from_le_bytes}
 use Rattle.sha2.specs.Sha256.{sha256}
 use Rattle.zk_model.specs.Field.{prime}
-use Rattle.zk_model.specs.Files.{AreParams, IsCodeSeed, dealt_per_unit}
+use Rattle.zk_model.specs.Files.{AreParams, IsCodeSeed, dealt_per_unit, most_units}
+use Rattle.zk_model.specs.FileBytes.{magic_word}
+use Rattle.zk_model.specs.declared.FileVersion.{FileVersion}
+use Rattle.zk_model.specs.declared.FileVersion.TheVariants.{First, Second}
 use Rattle.zk_model.specs.declared.Kind.{Kind}
 use Rattle.zk_model.specs.declared.Kind.TheVariants.{Direct, Extended}
 use Rattle.zk_model.specs.declared.Params.{Params}
@@ -16,6 +19,10 @@ use Rattle.zk_model.specs.declared.Side.TheVariants.{Prover, Verifier}
 abbrev pub side_code : Side → ℕ
 side_code Prover = 0
 side_code Verifier = 1
+
+-- the version that the eighth byte of a magic word names, `2` the second
+abbrev pub version_at : List ℕ → FileVersion
+version_at bytes = if slice_index bytes 7 == 50 then Second else First
 
 -- the kind of a byte
 abbrev pub kind_of : ℕ → Kind
@@ -102,9 +109,9 @@ pub record IsFirstBadPlace (side : Side) (bytes : List ℕ) (place : ℕ) : Type
 
 -- ---- the conditions that a file meets, in the order in which faults come
 
--- it begins with the magic word
+-- it begins with the magic word of a version
 abbrev pub HasMagic : List ℕ → Type 0
-HasMagic bytes = take 8 bytes ≡ codes "WQSFILE1"
+HasMagic bytes = take 8 bytes ≡ magic_word (version_at bytes)
 
 -- it has a whole header
 abbrev pub HasHeader : List ℕ → Type 0
@@ -120,6 +127,7 @@ pub record HasParams (bytes : List ℕ) : Type 0 where
   pub gap : slice_index bytes 11 ≡ 0
   pub gaps : take 4 (drop 20 bytes) ≡ replicate 4 0
   pub params : AreParams (params_at bytes)
+  pub most : (params_at bytes).total ≤ most_units (version_at bytes)
   pub code_seed : IsCodeSeed (params_at bytes).kind (take 32 (drop 96 bytes))
 
 -- it is as long as its header says

@@ -117,7 +117,7 @@ pub record WantsSize (before : List Lexeme) (want : Want) : Type 0 where
 -- size
 pub data HeaderWants (before : List Lexeme) (want : Want) : Type 0 where
   first_number : before ≡ [] → want ≡ a_count MAX_GATES → HeaderWants before want
-  second_number : (n : ℕ) → n ≤ 2 ^ 20 → before ≡ number n ∷ [] → want ≡ a_count (2 ^ 20)
+  second_number : (n : ℕ) → n ≤ MAX_GATES → before ≡ number n ∷ [] → want ≡ a_count MAX_WIRES
       → HeaderWants before want
   a_list : WantsList before want → HeaderWants before want
   one_size : WantsSize before want → HeaderWants before want

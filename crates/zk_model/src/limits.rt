@@ -7,10 +7,10 @@ pub const MAX_UNITS: u64 = 4096;
 pub const MAX_SECTION_LENGTH: u32 = 1 << 20;
 
 /// Gates of a circuit.
-pub const MAX_GATES: u32 = 1 << 20;
+pub const MAX_GATES: u32 = 1 << 24;
 
 /// Wires of a circuit, and so its products, committed values and outputs.
-pub const MAX_WIRES: u32 = 1 << 20;
+pub const MAX_WIRES: u32 = 1 << 24;
 
 /// Gates of a generated circuit, whose wires are 64 more.
 pub const MAX_GENERATED_GATES: u32 = (1 << 20) - 64;
@@ -22,7 +22,7 @@ pub const MAX_VALUES: u32 = 1024;
 pub const MAX_STATEMENTS: usize = 256;
 
 /// Bytes of a frame's payload.
-pub const MAX_PAYLOAD: usize = 1 << 24;
+pub const MAX_PAYLOAD: usize = 1 << 28;
 
 /// Bytes of a hello without a digest of public bits: five of its head, 97 of its payload.
 pub const HELLO_LENGTH: usize = 102;
@@ -31,10 +31,16 @@ pub const HELLO_LENGTH: usize = 102;
 pub const LONG_HELLO_LENGTH: usize = 134;
 
 /// Bytes of a file that is loaded.
-pub const FILE_LIMIT: u64 = 67_108_864;
+pub const FILE_LIMIT: u64 = 1 << 30;
 
 /// Units of a dealt file.
-pub const MAX_DEALT_UNITS: u64 = 1 << 32;
+pub const MAX_DEALT_UNITS: u64 = 1 << 40;
+
+/// Units of a dealt file of the first version.
+pub const MAX_FIRST_UNITS: u64 = 1 << 32;
+
+/// Units up to which files are dealt in the first version.
+pub const MAX_DEALT_AS_FIRST: u64 = 65_535;
 
 /// Trees of an extended unit.
 pub const MAX_TREES: u32 = 1024;

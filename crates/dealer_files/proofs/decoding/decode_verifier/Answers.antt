@@ -7,16 +7,16 @@ use Rattle.dealer_files.proofs.decoding.decode_verifier.Goals as goal
 
 pub new-requires-clause-file : goal.new-requires-clause-file
 new-requires-clause-file c =
-    verifier_is_read c.args.bytes.now c.in_ok-head.head.params c.in_ok-head.head.id c.in_ok-head.head.coin_key c.in_ok-head.head.code_seed
-    c.in_ok-key.key c.in_ok-blocks.blocks.keys.items c.in_ok-blocks.blocks.pads.items c.in_ok-head.ensures.head c.in_ok-head.ensures.params
+    verifier_is_read c.args.bytes.now c.in_ok-head.head.version c.in_ok-head.head.params c.in_ok-head.head.id c.in_ok-head.head.coin_key c.in_ok-head.head.code_seed
+    c.in_ok-key.key c.in_ok-blocks.blocks.keys.items c.in_ok-blocks.blocks.pads.items c.in_ok-head.ensures.head c.in_ok-head.ensures.version c.in_ok-head.ensures.params
     c.in_ok-head.ensures.octets.0 c.in_ok-head.ensures.octets.1 c.in_ok-head.ensures.code_seed c.in_ok-key.ensures.element (search rules) c.in_ok-blocks.ensures.blocks
 
 pub returns-clause-encoded : goal.returns-clause-encoded
 returns-clause-encoded c =
-    let header = header_is Verifier c.args.bytes.now c.in_ok-head.head.params c.in_ok-head.head.id c.in_ok-head.head.coin_key c.in_ok-head.head.code_seed
-    c.in_ok-head.ensures.head.head c.in_ok-head.ensures.params c.in_ok-head.ensures.spelled c.in_ok-head.ensures.id c.in_ok-head.ensures.coin_key c.in_ok-head.ensures.code_seed in
+    let header = header_is Verifier c.args.bytes.now c.in_ok-head.head.version c.in_ok-head.head.params c.in_ok-head.head.id c.in_ok-head.head.coin_key c.in_ok-head.head.code_seed
+    c.in_ok-head.ensures.head.head c.in_ok-head.ensures.version c.in_ok-head.ensures.params c.in_ok-head.ensures.spelled c.in_ok-head.ensures.id c.in_ok-head.ensures.coin_key c.in_ok-head.ensures.code_seed in
     ap verifier_file_bytes c.new.ensures
-    ∙ verifier_spelled c.args.bytes.now c.in_ok-head.head.params c.in_ok-head.head.id c.in_ok-head.head.coin_key c.in_ok-head.head.code_seed c.in_ok-key.key
+    ∙ verifier_spelled c.args.bytes.now c.in_ok-head.head.version c.in_ok-head.head.params c.in_ok-head.head.id c.in_ok-head.head.coin_key c.in_ok-head.head.code_seed c.in_ok-key.key
     c.in_ok-blocks.blocks.keys.items c.in_ok-blocks.blocks.pads.items c.in_ok-head.ensures.head (c.if-not-has_digest.ensures.0 refl) c.in_ok-head.ensures.params header
     c.in_ok-key.ensures.spelled c.in_ok-blocks.ensures.blocks
 

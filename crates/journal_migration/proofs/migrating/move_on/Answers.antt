@@ -1,7 +1,15 @@
-use Rattle.std.proofs.Common.{subst}
-use Rattle.lease_journal.specs.OneAreas.{IsOneArea}
+use Rattle.std.proofs.Common.{◌≡◌, ℕ, List, ap, sym, ◌∙◌, subst, option_to_list}
+use Rattle.zk_model.specs.Journals.{first_bodies}
+use Rattle.zk_model.specs.Migrations.{SaysTheSame}
+use Rattle.zk_model.specs.declared.JournalKind.TheVariants.{Ceilings}
+use Rattle.journal_migration.specs.Migrating.{next_ceiling}
+use Rattle.journal_migration.proofs.BehindIt.{same_ceiling}
 use Rattle.journal_migration.proofs.migrating.move_on.Goals as goal
 
-pub move_ceilings-requires-clause-stands : goal.move_ceilings-requires-clause-stands
-move_ceilings-requires-clause-stands g c = λ bytes is.
-    subst (λ k. IsOneArea k c.args.id.now c.args.total c.args.slots c.args.used c.args.last bytes) c.in-Ceilings.is (c.requires.stands bytes is)
+pub move_bodies-requires-clause-same : goal.move_bodies-requires-clause-same
+move_bodies-requires-clause-same g c = λ bytes is.
+    let found = c.args.found in
+    let next : option_to_list (next_ceiling c.args.found.last.0) ≡ option_to_list c.new-next.result.body = ap option_to_list (sym c.next_ceiling.ensures) ∙ sym c.new-next.ensures in
+    subst (λ k. SaysTheSame k (first_bodies 64 c.args.found.used bytes) (option_to_list c.new-next.result.body)) (sym c.in-Ceilings.is)
+    (subst (λ (l : List (ℕ × ℕ)). SaysTheSame Ceilings (first_bodies 64 c.args.found.used bytes) l) next
+    (same_ceiling c.args.name.total found.used found.last bytes (c.requires.stands bytes is).last_is))

@@ -4,7 +4,7 @@ use Rattle.zk_port.specs.Changes.{change}
 use Rattle.zk_port.specs.Shelves.{ShelfState}
 use Rattle.proof_audit.specs.AuditRuns.{AuditStop, audit_words}
 use Rattle.file_commands.specs.Stops.{IsLoaded, LoadStop}
-use Rattle.proof_audit.proofs.AuditOutcomes.{lacks_log, lacks_finding}
+use Rattle.proof_audit.proofs.AuditOutcomes.{loads_log, lacks_log, lacks_finding}
 use Rattle.proof_audit.proofs.audit_command.audit_files.Goals as goal
 
 pub returns-in_err-log-clause-stop : goal.returns-in_err-log-clause-stop
@@ -28,3 +28,7 @@ returns-clause-stop g c =
     (lacks_finding ask shelf c.in_ok-files.files.claimed.circuit c.in_ok-files.files.prover _ c.deref.result.now c.in_ok-files.ensures.files
     (subst (λ (q : ShelfState × List ℕ). IsLoaded q.0.told ask.log q.1) (λ i. (c.in_ok-files.ensures.quiet i, sym c.deref.ensures.value i))
     c.in_ok-log.ensures.loaded) c.in-Err.fault c.in-Err.ensures.fault)
+
+pub returns-in_err-log-clause-kept : goal.returns-in_err-log-clause-kept
+returns-in_err-log-clause-kept g c =
+    loads_log (audit_words c.args.words.now) _ (g.F.Shelf.state c.load_audited.new.shelf) _ c.load_audited.ensures.kept c.load_file.ensures.kept

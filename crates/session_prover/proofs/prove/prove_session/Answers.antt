@@ -20,9 +20,9 @@ sound_of g c = record {
   is = c.file.ensures.job;
   file = subst IsProverFile c.file.ensures.file c.total-total.ensures.file;
   stated = subst IsStatement c.statement.ensures.statement c.program.ensures.stated;
-  givens = subst (λ (p : Program). p.givens ≤ 2 ^ 20) (c.program.ensures.program ∙ ap (λ (s : Statement). s.program) c.statement.ensures.statement) c.opened-opened.ensures.held.givens;
-  products = subst (λ (p : Program). length p.products ≤ 2 ^ 20) (c.program.ensures.program ∙ ap (λ (s : Statement). s.program) c.statement.ensures.statement) c.opened-opened.ensures.held.products;
-  opened = subst (λ (p : Program). length p.opened ≤ 2 ^ 20) (c.program.ensures.program ∙ ap (λ (s : Statement). s.program) c.statement.ensures.statement) c.opened-opened.ensures.held.opened;
+  givens = subst (λ (p : Program). p.givens ≤ 2 ^ 24) (c.program.ensures.program ∙ ap (λ (s : Statement). s.program) c.statement.ensures.statement) c.opened-opened.ensures.held.givens;
+  products = subst (λ (p : Program). length p.products ≤ 2 ^ 24) (c.program.ensures.program ∙ ap (λ (s : Statement). s.program) c.statement.ensures.statement) c.opened-opened.ensures.held.products;
+  opened = subst (λ (p : Program). length p.opened ≤ 2 ^ 24) (c.program.ensures.program ∙ ap (λ (s : Statement). s.program) c.statement.ensures.statement) c.opened-opened.ensures.held.opened;
 }
 
 -- how it ended

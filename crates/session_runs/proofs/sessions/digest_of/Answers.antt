@@ -1,6 +1,6 @@
 use Rattle.std.proofs.Common.{sym, subst}
 use Rattle.sha2.proofs.Facts256.{length-sha256}
-use Rattle.frame_laws.proofs.Octets.{sha256_octets}
+use Rattle.zk_model.proofs.Octets.{sha256_octets}
 use Rattle.zk_model.specs.Bytes.{AreBytes}
 use Rattle.session_runs.proofs.sessions.digest_of.Goals as goal
 

@@ -22,8 +22,8 @@ known_of g c = subst IsKnown c.noted-job.ensures.noted (record {
   stated = subst IsStatement c.statement.ensures.statement c.program.ensures.stated;
   file = subst IsVerifierFile c.file.ensures.file c.total-total.ensures.file;
   is = c.file.ensures.job;
-  opened = subst (λ (p : Program). length p.opened ≤ 2 ^ 20) (c.program.ensures.program ∙ ap (λ (s : Statement). s.program) c.statement.ensures.statement) c.opened-opened.ensures.held.opened;
-  products = subst (λ (p : Program). length p.products ≤ 2 ^ 20) (c.program.ensures.program ∙ ap (λ (s : Statement). s.program) c.statement.ensures.statement) c.opened-opened.ensures.held.products;
+  opened = subst (λ (p : Program). length p.opened ≤ 2 ^ 24) (c.program.ensures.program ∙ ap (λ (s : Statement). s.program) c.statement.ensures.statement) c.opened-opened.ensures.held.opened;
+  products = subst (λ (p : Program). length p.products ≤ 2 ^ 24) (c.program.ensures.program ∙ ap (λ (s : Statement). s.program) c.statement.ensures.statement) c.opened-opened.ensures.held.products;
 })
 
 -- the moments before and after it

@@ -6,7 +6,7 @@ use Rattle.twin_journal.proofs.starting.open.Goals as goal
 pub returns-in-Ok-clause-opened : goal.returns-in-Ok-clause-opened
 returns-in-Ok-clause-opened g c =
     subst (λ content. IfOk c.open_at.result (λ o. (bytes : List ℕ) → content ≡ Some bytes
-    → IsTwinOpened c.args.kind c.args.id.now c.args.total o.begin o.slots o.used o.last o.active.second o.active.generation o.active.other_open bytes))
+    → IsTwinOpened c.args.name.kind c.args.name.id c.args.name.total o.begin o.slots o.used o.last o.active.second o.active.generation o.active.other_open bytes))
     (c.find_begin.ensures.stays.content ∙ c.sync.ensures.stays.content) c.open_at.ensures.opened
 
 pub returns-in-Ok-clause-stays : goal.returns-in-Ok-clause-stays

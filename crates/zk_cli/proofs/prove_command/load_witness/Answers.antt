@@ -2,7 +2,7 @@ use Rattle.std.proofs.Common.{◌≡◌, ◌-◌, Bool, List, ℕ, length, map, 
 use Rattle.std.proofs.lemmas.List.{length-map, length-append}
 use Rattle.sha2.specs.Sha256.{sha256}
 use Rattle.sha2.proofs.Facts256.{length-sha256}
-use Rattle.frame_laws.proofs.Octets.{sha256_octets}
+use Rattle.zk_model.proofs.Octets.{sha256_octets}
 use Rattle.zk_model.specs.Bits.{from_bit}
 use Rattle.zk_model.specs.Bristol.{IsText}
 use Rattle.zk_model.specs.Bytes.{AreBytes}

@@ -7,5 +7,5 @@ pub returns-clause-transfers : goal.returns-clause-transfers
 returns-clause-transfers c =
     let f = c.self.inside in
     range_read f.transfers.items _ _ c.args.unit (c.args.unit + 1) _ _ (search rules) c.first_transfer-start.ensures c.first_transfer-end.ensures
-    ∙ unit_transfers_are f.head.params f.head.id f.head.coin_key f.head.code_seed f.pairs.items f.transfers.items c.args.unit c.self.invariant.1 (omega (arith, ap (λ file. file.params.total) c.self.view_is))
+    ∙ unit_transfers_are f.head.version f.head.params f.head.id f.head.coin_key f.head.code_seed f.pairs.items f.transfers.items c.args.unit c.self.invariant.1 (omega (arith, ap (λ file. file.params.total) c.self.view_is))
     ∙ ap (λ file. unit_transfers (prover_unit file c.args.unit)) c.self.view_is

@@ -17,10 +17,15 @@ use Rattle.proof_frames.proofs.held.Held.take_tree_byte.Goals as goal
 -- the levels of a tree of which bytes are held are short
 few_held : (held : Held) (place : Expect) (trees height : ℕ) (level : Level) → IsShortPlace place → 5 ≤ vec_len held.start
     → (shape_of place (told place held.start.items)).payload ≡ payload.Trees trees height level
-    → vec_len held.start < 5 + trees * (level_width level height + 8) → level_width level height + 8 ≤ 2 ^ 24
+    → vec_len held.start < 5 + trees * (level_width level height + 8) → level_width level height + 8 ≤ 2 ^ 28
 few_held held place trees height level short headed shape within =
     few_levels place (told place held.start.items) trees height level (length held.start.items) short shape
     (omega (arith, held.start.ok.0)) (omega (arith, held.start.ok.0))
+
+pub width-width-requires : goal.width-width-requires
+width-width-requires c =
+    let few = few_held c.args.self.now c.args.place c.args.trees c.args.height c.args.level c.requires.holds.short c.requires.headed c.requires.shape c.requires.within in
+    omega (arith, few)
 
 pub overflow_add-at : goal.overflow_add-at
 overflow_add-at c =

@@ -1,51 +1,52 @@
-use Rattle.std.proofs.Common.{◌≡◌, ◌<◌, ◌+◌, ◌*◌, ◌^◌, ◌++◌, ◌∷◌, [], Some, not, ap, sym, ◌∙◌, arith}
+use Rattle.std.proofs.Common.{◌≡◌, ◌<◌, ◌≤◌, ◌+◌, ◌*◌, ◌^◌, ◌++◌, ◌∷◌, [], ℕ, List, Some, IfSome, not, ap, sym, ◌∙◌, arith}
 use Rattle.std.proofs.lemmas.List.{length-append}
 use Rattle.std.specs.Option.{option_map}
+use Rattle.zk_port.specs.Disks.{LeavesOnly}
+use Rattle.zk_model.specs.Twins.{SaysOldOrNew}
 use Rattle.lease_journal.specs.Steps.{slot_written}
+use Rattle.twin_journal.specs.States.{IsKept}
 use Rattle.twin_journal.proofs.Opening.{kept_told}
 use Rattle.twin_journal.proofs.ActiveAreas.{area_done, heads_done, put_any_moment, put_any_read}
 use Rattle.twin_journal.proofs.TwinHeaders.{area_behind, keeps_holds, keeps_stands}
+use Rattle.twin_journal.proofs.twin.Twin.put.Given.{Over}
+use Rattle.twin_journal.proofs.twin.Twin.put.Goals.{After-store_slot}
 use Rattle.twin_journal.proofs.twin.Twin.put.Goals as goal
 
-pub returns-in-Err-clause-any_moment : goal.returns-in-Err-clause-any_moment
-returns-in-Err-clause-any_moment g c = rw (← c.self.view_is) (λ bytes bodies kept free.
+-- what the put leaves and the disk tells then, however it ended
+left : (g : Over) (c : After-store_slot g) (bytes : List ℕ) (bodies : List (ℕ × ℕ)) → IsKept {D = g.row.B.Denot} g.B.Disk.state c.args.self.now bodies bytes
+    → c.args.self.now.used < c.args.self.now.slots
+    → LeavesOnly (g.B.Disk.state c.args.self.now.disk) (g.B.Disk.state c.store_slot.new.disk)
+    (SaysOldOrNew c.args.self.now.begin c.args.self.now.slots c.args.self.now.generation bodies c.args.self.now.generation (bodies ++ (c.args.a, c.args.b) ∷ []))
+    × IfSome (g.B.Disk.state c.store_slot.new.disk).content
+    (SaysOldOrNew c.args.self.now.begin c.args.self.now.slots c.args.self.now.generation bodies c.args.self.now.generation (bodies ++ (c.args.a, c.args.b) ∷ []))
+left g c = rw (← c.self.view_is) (λ bytes bodies kept free.
     let was = c.self.inside in
-    put_any_moment was.begin was.slots was.generation was.second bodies bytes kept.area was.used kept.count
-    (c.head_at-at.result + 32) (ap (λ n. n + 32) c.head_at-at.ensures) (c.args.a, c.args.b)
-    kept.content (c.self.invariant.only bytes kept.sound kept.content) free (c.self.invariant.full bytes kept.content) c.store_slot.ensures.changes c.store_slot.ensures.any_moment)
+    let place = ap (λ n. n + 32) c.head_at-at.ensures in
+    let only = c.self.invariant.only bytes kept.sound kept.content in
+    let full = c.self.invariant.full bytes kept.content in (
+      put_any_moment was.begin was.slots was.generation was.second bodies bytes kept.area was.used kept.count (c.head_at-at.result + 32) place (c.args.a, c.args.b)
+          kept.content only free full c.store_slot.ensures.changes c.store_slot.ensures.any_moment,
+      put_any_read was.begin was.slots was.generation was.second bodies bytes kept.area was.used kept.count (c.head_at-at.result + 32) place (c.args.a, c.args.b)
+          kept.content only free full c.store_slot.ensures.changes c.store_slot.ensures.read,
+    ))
 
-pub returns-clause-any_moment : goal.returns-clause-any_moment
-returns-clause-any_moment g c = rw (← c.self.view_is) (λ bytes bodies kept free.
-    let was = c.self.inside in
-    put_any_moment was.begin was.slots was.generation was.second bodies bytes kept.area was.used kept.count
-    (c.head_at-at.result + 32) (ap (λ n. n + 32) c.head_at-at.ensures) (c.args.a, c.args.b)
-    kept.content (c.self.invariant.only bytes kept.sound kept.content) free (c.self.invariant.full bytes kept.content) c.store_slot.ensures.changes c.store_slot.ensures.any_moment)
+-- the slot lies behind the header
+behind : (g : Over) (c : After-store_slot g) → c.self.inside.begin + 64 ≤ c.head_at-at.result + 32 + 32 * c.self.inside.used
+behind g c = omega (arith, c.head_at-at.ensures, area_behind c.self.inside.begin c.self.inside.slots c.self.inside.second)
+
+pub returns-in-Err-clause-any_moment : goal.returns-in-Err-clause-any_moment
+returns-in-Err-clause-any_moment g c = λ bytes bodies kept free. (left g (goal.at.returns-in-Err-clause-any_moment g c).After-store_slot bytes bodies kept free).0
 
 pub returns-in-Err-clause-read : goal.returns-in-Err-clause-read
-returns-in-Err-clause-read g c = rw (← c.self.view_is) (λ bytes bodies kept free.
-    let was = c.self.inside in
-    put_any_read was.begin was.slots was.generation was.second bodies bytes kept.area was.used kept.count
-    (c.head_at-at.result + 32) (ap (λ n. n + 32) c.head_at-at.ensures) (c.args.a, c.args.b)
-    kept.content (c.self.invariant.only bytes kept.sound kept.content) free (c.self.invariant.full bytes kept.content) c.store_slot.ensures.changes c.store_slot.ensures.read)
-
-pub returns-clause-read : goal.returns-clause-read
-returns-clause-read g c = rw (← c.self.view_is) (λ bytes bodies kept free.
-    let was = c.self.inside in
-    put_any_read was.begin was.slots was.generation was.second bodies bytes kept.area was.used kept.count
-    (c.head_at-at.result + 32) (ap (λ n. n + 32) c.head_at-at.ensures) (c.args.a, c.args.b)
-    kept.content (c.self.invariant.only bytes kept.sound kept.content) free (c.self.invariant.full bytes kept.content) c.store_slot.ensures.changes c.store_slot.ensures.read)
+returns-in-Err-clause-read g c = λ bytes bodies kept free. (left g (goal.at.returns-in-Err-clause-read g c).After-store_slot bytes bodies kept free).1
 
 pub returns-in-Err-clause-stands : goal.returns-in-Err-clause-stands
 returns-in-Err-clause-stands g c = rw (← c.self.view_is)
-    (let was = c.self.inside in
-    keeps_stands was.begin was.slots (c.head_at-at.result + 32 + 32 * was.used) 32
-    (omega (arith, c.head_at-at.ensures, area_behind was.begin was.slots was.second)) c.store_slot.ensures.changes)
+    (keeps_stands c.self.inside.begin c.self.inside.slots _ 32 (behind g (goal.at.returns-in-Err-clause-stands g c).After-store_slot) c.store_slot.ensures.changes)
 
-pub returns-clause-stands : goal.returns-clause-stands
-returns-clause-stands g c = rw (← c.self.view_is)
-    (let was = c.self.inside in
-    keeps_stands was.begin was.slots (c.head_at-at.result + 32 + 32 * was.used) 32
-    (omega (arith, c.head_at-at.ensures, area_behind was.begin was.slots was.second)) c.store_slot.ensures.changes)
+pub returns-in-Err-clause-holds : goal.returns-in-Err-clause-holds
+returns-in-Err-clause-holds g c = rw (← c.self.view_is)
+    (keeps_holds c.self.inside.begin c.self.inside.slots _ 32 (behind g (goal.at.returns-in-Err-clause-holds g c).After-store_slot) c.store_slot.ensures.changes)
 
 pub returns-clause-recovered : goal.returns-clause-recovered
 returns-clause-recovered g c = rw (← c.self.view_is) (λ bytes bodies kept.
@@ -83,14 +84,16 @@ returns-clause-recovered g c = rw (← c.self.view_is) (λ bytes bodies kept.
       other_closed = λ shut is_open. kept.other_closed shut (sym (heads.gates (not was.second)) ∙ is_open);
     }))
 
-pub returns-in-Err-clause-holds : goal.returns-in-Err-clause-holds
-returns-in-Err-clause-holds g c = rw (← c.self.view_is)
-    (let was = c.self.inside in
-    keeps_holds was.begin was.slots (c.head_at-at.result + 32 + 32 * was.used) 32
-    (omega (arith, c.head_at-at.ensures, area_behind was.begin was.slots was.second)) c.store_slot.ensures.changes)
+pub returns-clause-any_moment : goal.returns-clause-any_moment
+returns-clause-any_moment g c = λ bytes bodies kept free. (left g (goal.at.returns-clause-any_moment g c).After-store_slot bytes bodies kept free).0
+
+pub returns-clause-stands : goal.returns-clause-stands
+returns-clause-stands g c = rw (← c.self.view_is)
+    (keeps_stands c.self.inside.begin c.self.inside.slots _ 32 (behind g (goal.at.returns-clause-stands g c).After-store_slot) c.store_slot.ensures.changes)
+
+pub returns-clause-read : goal.returns-clause-read
+returns-clause-read g c = λ bytes bodies kept free. (left g (goal.at.returns-clause-read g c).After-store_slot bytes bodies kept free).1
 
 pub returns-clause-holds : goal.returns-clause-holds
 returns-clause-holds g c = rw (← c.self.view_is)
-    (let was = c.self.inside in
-    keeps_holds was.begin was.slots (c.head_at-at.result + 32 + 32 * was.used) 32
-    (omega (arith, c.head_at-at.ensures, area_behind was.begin was.slots was.second)) c.store_slot.ensures.changes)
+    (keeps_holds c.self.inside.begin c.self.inside.slots _ 32 (behind g (goal.at.returns-clause-holds g c).After-store_slot) c.store_slot.ensures.changes)

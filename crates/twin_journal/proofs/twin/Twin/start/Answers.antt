@@ -1,4 +1,4 @@
-use Rattle.std.proofs.Common.{refl, sym, ◌∙◌, subst, arith}
+use Rattle.std.proofs.Common.{refl, sym, ◌∙◌, subst}
 use Rattle.zk_port.specs.Images.{Only}
 use Rattle.zk_model.specs.Twins.{area_at}
 use Rattle.lease_journal.proofs.Putting.{length-first}

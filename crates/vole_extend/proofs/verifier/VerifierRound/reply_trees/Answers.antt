@@ -16,11 +16,11 @@ loop-tree-preserved c = record {
       c.loop-tree.invariant.replies_are;
   leaves_are = flat_map_range_more (λ tree. tree_leaves (tree_root turn.file turn.unit tree) turn.file.params.height)
       c.loop-tree.leaves.items c.extend_from_slice.new.self.items c.in_ok-grown.grown.leaves.items c.loop-tree.tree
-      (c.in_ok-extend_from_slice.ensures.items ∙ ap (λ leaves. c.loop-tree.leaves.items ++ leaves) c.deref.ensures.value)
+      (c.in_ok-extend_from_slice.ensures.items ∙ ap (λ leaves. c.loop-tree.leaves.items ++ leaves) c.deref-in-loop-tree-2.ensures.value)
       c.in_ok-grown.ensures.leaves c.loop-tree.invariant.leaves_are;
   reply_count = omega (arith, c.in_ok-push.ensures.len, c.loop-tree.invariant.reply_count);
   leaf_count = omega
-      (arith, c.in_ok-extend_from_slice.ensures.len, c.deref.ensures.len, c.in_ok-grown.ensures.leaf_count, c.loop-tree.invariant.leaf_count);
+      (arith, c.in_ok-extend_from_slice.ensures.len, c.deref-in-loop-tree-2.ensures.len, c.in_ok-grown.ensures.leaf_count, c.loop-tree.invariant.leaf_count);
 }
   where
     turn : VerifierTurn

@@ -1,4 +1,4 @@
--- The nodes of a grown tree are 16 bytes each.
+-- Numbers, nodes and digests are bytes when they are spelled.
 use Rattle.std.proofs.Common.{ℕ, zero, suc, ◌+◌, ◌*◌, ◌/◌, ◌%◌, ◌<◌, Bool, true, false, List, [], ◌∷◌, slice_index, All, refl, arith, length-take-le, length-drop}
 use Rattle.std.specs.List.{AllByRecursion}
 use Rattle.std.specs.Int.{w32, w64, to_le_bytes, to_be_bytes}

@@ -1,0 +1,10 @@
+use Rattle.std.proofs.Common.{◌≡◌, length, All}
+use Rattle.zk_model.specs.Frames.{AreAsks}
+use Rattle.round_fan.specs.Fans.{lists_of}
+use Rattle.program_tests.proofs.fan_tests.asks_of.Given as goal
+
+abbrev pub invariant-loop-unit : goal.invariant-loop-unit
+invariant-loop-unit l = record {
+  count : length l.asks.items ≡ l.unit;
+  fits : All (AreAsks l.file.params.height l.file.params.trees) (lists_of l.asks.items);
+}
