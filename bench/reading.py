@@ -5,7 +5,7 @@
 (elapsed seconds of the whole run) and the largest resident memory of each. The texts are
 
   - circuits of 131,000 and of 1,000,000 gates: XOR, AND and INV of wires that are drawn from those before;
-  - 64 MiB, the most that is loaded, of `1 `, which is refused at a token near its start.
+  - 64 MiB of `1 `, which is refused at a token near its start.
 """
 import pathlib
 import sys
