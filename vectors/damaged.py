@@ -71,7 +71,7 @@ class Case(NamedTuple):
 
 def modelled(words: List[str], files: Dict[str, bytes], disk: bytes = b"") -> Ran:
     """What these words say of these files, beside the whole ones, with a door that fails."""
-    outside = program.Outside({**whole(), **files}, program.Disk(disk, 0), 0, 0, 1)
+    outside = program.Outside({**whole(), **files}, program.Disk(disk, 0), {"door": 1})
     came = program.run(outside, words, [])
     return Ran(outside.written.decode(), came.status)
 

@@ -7,8 +7,8 @@ and of one area as they are migrated. Of each it prints how many
 bytes it has, and in hex SHA-256 of the bytes: of a dealt file of all but its last 32, which are that digest.
 
 It follows the formats of `docs/FORMATS.md`, with what `common.py` has of the field, coins and digests.
-Run `python3 vectors/dealt_files.py`; `--rust` prints the rows of the test's tables. `--many` makes both files of 65,536 direct
-units instead, the fewest that are dealt in the second version, which takes some minutes of each processor.
+Run `python3 vectors/dealt_files.py`; `--many` makes both files of 65,536 direct units instead, the fewest that are dealt in the second
+version, which takes some minutes of each processor, and compares them with `MANY_UNITS`.
 """
 import hashlib
 import struct
@@ -84,6 +84,14 @@ def many_units(total):
     return (160 + 1024 * total, prover.hexdigest()), (168 + 512 * total, verifier.hexdigest())
 
 
+# Of the prover's and the verifier's file of 65,536 direct units, as `--many` makes them: how many bytes they have, and SHA-256 of all but
+# the last 32, which are that digest.
+MANY_UNITS = (
+    (67_109_024, "491bff85d2b08df875554093e1ae33cd2eb11d3fcea9146d47f2d40628bad7cd"),
+    (33_554_600, "99ce4ab17968a5dac732553bdb839681f9991214055a51ef34b327dbfdbddbb3"),
+)
+
+
 def one_area(kind, total, slots=None, gate=0):
     """A journal of one area of the prover's claims (0) or of the verifier's ceilings (1) that says nothing, with this gate of its migration."""
     if slots is None:
@@ -116,51 +124,42 @@ def journal(kind, total, slots=None):
 
 
 FILES = [
-    ("Direct, Prover", "direct, prover's file", deal(DIRECT)[0]),
-    ("Direct, Verifier", "direct, verifier's file", deal(DIRECT)[1]),
-    ("Extended, Prover", "extended, prover's file", deal(EXTENDED)[0]),
-    ("Extended, Verifier", "extended, verifier's file", deal(EXTENDED)[1]),
+    ("direct, prover's file", deal(DIRECT)[0]),
+    ("direct, verifier's file", deal(DIRECT)[1]),
+    ("extended, prover's file", deal(EXTENDED)[0]),
+    ("extended, verifier's file", deal(EXTENDED)[1]),
 ]
 SECOND_VERSION = [
-    ("Direct, Prover", "direct, prover's file of the second version", deal(DIRECT, 2)[0]),
-    ("Direct, Verifier", "direct, verifier's file of the second version", deal(DIRECT, 2)[1]),
-    ("Extended, Prover", "extended, prover's file of the second version", deal(EXTENDED, 2)[0]),
-    ("Extended, Verifier", "extended, verifier's file of the second version", deal(EXTENDED, 2)[1]),
+    ("direct, prover's file of the second version", deal(DIRECT, 2)[0]),
+    ("direct, verifier's file of the second version", deal(DIRECT, 2)[1]),
+    ("extended, prover's file of the second version", deal(EXTENDED, 2)[0]),
+    ("extended, verifier's file of the second version", deal(EXTENDED, 2)[1]),
 ]
 JOURNALS = [
-    ("Claims, 1", "claims of 1 unit", journal(0, 1)),
-    ("Claims, 5000", "claims of 5,000 units", journal(0, 5000)),
-    ("Ceilings, 1", "ceilings of 1 unit", journal(1, 1)),
-    ("Ceilings, 100", "ceilings of 100 units", journal(1, 100)),
-    ("Ceilings, 70000", "ceilings of 70,000 units", journal(1, 70000)),
-]
-ONE_AREA = [
+    ("claims of 1 unit", journal(0, 1)),
+    ("claims of 5,000 units", journal(0, 5000)),
+    ("ceilings of 1 unit", journal(1, 1)),
+    ("ceilings of 100 units", journal(1, 100)),
+    ("ceilings of 70,000 units", journal(1, 70000)),
     ("one area of claims of 1 unit", one_area(0, 1)),
     ("one area of claims of 5,000 units", one_area(0, 5000)),
     ("one area of ceilings of 1 unit", one_area(1, 1)),
     ("one area of ceilings of 100 units", one_area(1, 100)),
 ]
-assert [len(data) for _, _, data in FILES] == [1184, 680, 353, 288]
-assert [len(data) for _, _, data in JOURNALS] == [192, 64 + 64 * 4097, 192, 576, 64 + 64 * 4097]
-assert [len(data) for _, data in ONE_AREA] == [96, 64 + 32 * 4096, 96, 288]
-
-ROWS = [(row, text, len(data), data[-32:]) for row, text, data in FILES + SECOND_VERSION]
-ROWS += [(row, text, len(data), sha256(data)) for row, text, data in JOURNALS]
+assert [len(data) for _, data in FILES] == [1184, 680, 353, 288]
+assert [len(data) for _, data in JOURNALS] == [192, 64 + 64 * 4097, 192, 576, 64 + 64 * 4097, 96, 64 + 32 * 4096, 96, 288]
 
 
 def main():
     if "--many" in sys.argv[1:]:
-        for name, (length, digest) in zip(("prover", "verifier"), many_units(DEALT_AS_FIRST + 1)):
+        made = many_units(DEALT_AS_FIRST + 1)
+        for name, (length, digest) in zip(("prover", "verifier"), made):
             print(f"65,536 direct units, {name}'s file: {length} bytes {digest}")
+        assert made == MANY_UNITS
         return
-    for row, text, length, digest in ROWS:
-        if "--rust" in sys.argv[1:]:
-            print(f'    ({row}, {length}, "{digest.hex()}"),')
-        else:
-            print(f"{text}: {length} bytes {digest.hex()}")
-    if "--rust" not in sys.argv[1:]:
-        for text, data in ONE_AREA:
-            print(f"{text}: {len(data)} bytes {sha256(data).hex()}")
+    rows = [(text, len(data), data[-32:]) for text, data in FILES + SECOND_VERSION]
+    for text, length, digest in rows + [(text, len(data), sha256(data)) for text, data in JOURNALS]:
+        print(f"{text}: {length} bytes {digest.hex()}")
 
 
 if __name__ == "__main__":

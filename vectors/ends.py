@@ -1,7 +1,7 @@
 """Both ends of a session, computed apart from the program that is tested against them, whatever the peer sends.
 
-An end has a link whose peer sends given bytes and then ends, in pieces of at most some length, and of whose calls one may fail. What
-an end takes and sends, and how it ends, follows `docs/PROTOCOL.md`: each frame up to its first bad byte, what is compared, leased,
+An end has a link whose peer sends given bytes and then ends, in pieces of at most some length, and of whose calls one may fail, and one
+may find no memory. What an end takes and sends, and how it ends, follows `docs/PROTOCOL.md`: each frame up to its first bad byte, what is compared, leased,
 claimed and checked, in order. `session.py` has what honest ends say; what is shared is trees, the code and the circuit's program.
 """
 import functools
@@ -157,16 +157,18 @@ class Ended(Exception):
 
 
 class Link:
-    """A link whose peer sends these bytes in such pieces, and whose call of this number, from 1, fails."""
+    """A link whose peer sends these bytes in such pieces, and of whose calls, from 1, those of these numbers fail and find no memory."""
 
-    def __init__(self, script: bytes, piece: int = MOST_RECEIVED, failing: int = 0):
-        self.script, self.piece, self.failing = script, piece, failing
+    def __init__(self, script: bytes, piece: int = MOST_RECEIVED, failing: int = 0, lacking: int = 0):
+        self.script, self.piece, self.failing, self.lacking = script, piece, failing, lacking
         self.sends = self.receives = self.faults = 0
 
     def begin(self) -> None:
         if self.sends + self.receives == self.failing:
             self.faults += 1
             raise Ended("link")
+        if self.sends + self.receives == self.lacking:
+            raise Ended("no-memory")
 
     def send(self) -> None:
         self.sends += 1

@@ -235,7 +235,7 @@ def damaged_files(room: Room) -> int:
 def audited(room: Room, log: bytes) -> Ran:
     """What an audit of this log over the room's files says, computed apart."""
     files = {"circuit": AND_GATE, "log": log, "x.prover": room.get("x.prover"), "x.verifier": room.get("x.verifier")}
-    outside = program.Outside(files, program.Disk(b"", 0), 0, 0, 0)
+    outside = program.Outside(files, program.Disk(b"", 0))
     came = program.run(outside, ["audit", "circuit", "1", "x.prover", "x.verifier", "log"], [])
     return Ran(outside.written.decode(), came.status)
 

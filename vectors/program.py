@@ -1,14 +1,14 @@
-"""The program over files, an output, a door and a journal's disk in memory of which some calls fail, computed apart from it.
+"""The program over files, an output, a door and a journal's disk in memory of which some calls are refused, computed apart from it.
 
 A run is given words, files by their names, what the disk has, the numbers of the calls of the shelf, the sink, the door and the disk
-that fail, and the peers that call at the door, or the one to which it connects. What it writes, its status
+that fail or find no memory, and the peers that call at the door, or the one to which it connects. What it writes, its status
 and what it hands back follow `docs/CLI.md`, its journal `docs/FORMATS.md`, and its sessions `ends.py`.
 Several peers are served by one worker.
 """
 import functools
 import json
 import struct
-from typing import Dict, List, NamedTuple, Optional, Tuple
+from typing import Dict, List, Mapping, NamedTuple, Optional, Tuple
 
 import bristol
 from auditor import audit
@@ -34,10 +34,12 @@ class DiskFailed(Exception):
 
 
 class Disk:
-    """A file whose call of this number, from 1, fails. A write that fails writes the first half of its bytes."""
+    """A file whose call of this number, from 1, fails. A write that fails writes the first half of its bytes. What stood there at the last
+    sync is kept, and the ranges of the writes since, of which a crash may leave anything."""
 
     def __init__(self, data: bytes, failing: int):
-        self.data, self.failing = bytearray(data), failing
+        self.data, self.synced, self.failing = bytearray(data), bytes(data), failing
+        self.pending: List[Tuple[int, int]] = []
         self.calls = self.faults = 0
 
     def begin(self) -> None:
@@ -51,6 +53,7 @@ class Disk:
 
     def sync(self) -> None:
         self.begin()
+        self.synced, self.pending = bytes(self.data), []
 
     def read(self, at: int, count: int) -> bytes:
         self.begin()
@@ -61,6 +64,7 @@ class Disk:
         self.data[at : at + len(data)] = data
 
     def write(self, at: int, data: bytes) -> None:
+        self.pending.append((at, len(data)))
         try:
             self.begin()
         except DiskFailed:
@@ -68,36 +72,69 @@ class Disk:
             raise
         self.place(at, data)
 
+    def left(self, leftover: str) -> bytes:
+        """What a crash leaves that has each write since the last sync be `old`, `new`, or this byte all over."""
+        image = Disk(self.synced, 0)
+        for at, count in self.pending:
+            if leftover == "new":
+                image.place(at, bytes(self.data[at : at + count]))
+            elif leftover != "old":
+                image.place(at, bytes([int(leftover)]) * count)
+        return bytes(image.data)
+
+
+def no_memory() -> Stopped:
+    return Stopped("memory", 7)
+
 
 class Outside:
-    """What a run is given, and what it has written. A refused write leaves the first half of its bytes, and a refused store no file."""
+    """What a run is given, and what it has written. A write that fails leaves the first half of its bytes, and a store that fails no file.
+    A call that finds no memory does nothing."""
 
-    def __init__(self, files: Dict[str, bytes], disk: Disk, shelf_fails: int, sink_fails: int, door_fails: int):
+    def __init__(self, files: Dict[str, bytes], disk: Disk, fails: Mapping[str, int] = {}, lacks: Mapping[str, int] = {}):
         self.files, self.disk, self.written = files, disk, b""
-        self.fails = {"shelf": shelf_fails, "sink": sink_fails, "door": door_fails}
+        self.fails, self.lacks = fails, lacks
         self.calls = {"shelf": 0, "sink": 0, "door": 0}
 
     def is_failing(self, name: str) -> bool:
+        """Whether the call that begins fails."""
         self.calls[name] += 1
-        return self.calls[name] == self.fails[name]
+        return self.calls[name] == self.fails.get(name)
+
+    def is_lacking(self, name: str) -> bool:
+        """Whether the call under way finds no memory."""
+        return self.calls[name] == self.lacks.get(name)
 
     def load(self, name: str) -> bytes:
         if self.is_failing("shelf") or name not in self.files:
             raise Stopped("failed shelf", 4)
         if len(self.files[name]) > FILE_LIMIT:
             raise Stopped(f"refused TooLong 0 {FILE_LIMIT}", 3)
+        if self.is_lacking("shelf"):
+            raise no_memory()
         return self.files[name]
 
     def store(self, name: str, data: bytes) -> None:
         if self.is_failing("shelf"):
             self.files.pop(name, None)
             raise Stopped("failed shelf", 4)
+        if self.is_lacking("shelf"):
+            raise no_memory()
         self.files[name] = data
+
+    def ask_door(self) -> None:
+        """Begins a call of the door."""
+        if self.is_failing("door"):
+            raise Stopped("failed door", 4)
+        if self.is_lacking("door"):
+            raise no_memory()
 
     def say(self, text: str, status: int) -> int:
         """The status after a text is written."""
         data = text.encode()
         if not self.is_failing("sink"):
+            if self.is_lacking("sink"):
+                return 7
             self.written += data
             return status
         self.written += data[: len(data) // 2]
@@ -115,9 +152,10 @@ class Came(NamedTuple):
 
 
 def read_number(word: str, low: int, high: int) -> int:
-    if not word.isdigit() or not low <= int(word) <= high:
+    digits = word.lstrip("0") or "0"
+    if not word.isdigit() or len(digits) > 20 or not low <= int(digits) <= high:
         raise ValueError(word)
-    return int(word)
+    return int(digits)
 
 
 def read_bits(word: str) -> List[int]:
@@ -355,6 +393,7 @@ OUTCOMES = {
     "bad-frame": "frame {place}",
     "exhausted": "exhausted {at} {count} {total}",
     "broken": "journal {first}",
+    "no-memory": "memory",
 }
 
 
@@ -377,7 +416,7 @@ def note_line(outcome: str, end: End) -> str:
 def status_of(outcome: str) -> int:
     """The status of a session."""
     name = outcome.split(" ")[0]
-    return {"accepted": 0, "link": 4, "device": 5, "broken": 5, "exhausted": 6}.get(name, 1)
+    return {"accepted": 0, "link": 4, "device": 5, "broken": 5, "exhausted": 6, "no-memory": 7}.get(name, 1)
 
 
 def log_words(log: List[Tuple[str, bytes]]) -> str:
@@ -711,29 +750,31 @@ def start_of(note: Note) -> int:
     return 2**64 if units == "none" else int(units.split("..")[0])
 
 
-def lead_sessions(outside: Outside, jobs: List[Job], leases: Leases, sessions: int, peers: List[Link]) -> Tuple[List[Note], bool]:
-    """The sessions with the peers that call, by their units, and whether the door failed."""
+def lead_sessions(outside: Outside, jobs: List[Job], leases: Leases, sessions: int, peers: List[Link]) -> Tuple[List[Note], int]:
+    """The sessions with the peers that call, by their units, and the status of the door."""
     notes: List[Note] = []
     rest = iter(peers)
-    while len(notes) < sessions:
-        if outside.is_failing("door"):
-            return sorted(notes, key=start_of), True
-        peer = next(rest, None)
-        if peer is None:
-            break
-        notes.append(verify_by(jobs, peer, leases.grant))
-    return sorted(notes, key=start_of), False
+    try:
+        while len(notes) < sessions:
+            outside.ask_door()
+            peer = next(rest, None)
+            if peer is None:
+                break
+            notes.append(verify_by(jobs, peer, leases.grant))
+    except Stopped as stopped:
+        return sorted(notes, key=start_of), stopped.status
+    return sorted(notes, key=start_of), 0
 
 
-def store_logs(outside: Outside, prefix: Optional[str], notes: List[Note]) -> bool:
-    """Stores the logs of the sessions that were granted units, up to the first store that fails; whether one did."""
+def store_logs(outside: Outside, prefix: Optional[str], notes: List[Note]) -> int:
+    """Stores the logs of the sessions that were granted units, up to the first store that is refused; the status of these stores."""
     try:
         for note in notes:
             if prefix is not None and note[1].units != "none":
                 outside.store(f"{prefix}.{start_of(note)}", b"".join(data for _, data in note[1].log))
-    except Stopped:
-        return True
-    return False
+    except Stopped as stopped:
+        return stopped.status
+    return 0
 
 
 def served_text(notes: List[Note], door_failed: bool) -> str:
@@ -759,14 +800,12 @@ def run_serve_many(outside: Outside, words: List[str], peers: List[Link]) -> Cam
 def serve(outside: Outside, service: Service, statements: List[Claimed], peers: List[Link]) -> Came:
     jobs = served_jobs(outside, service, statements)
     leases = open_leases(outside.disk, jobs[0].total)
-    if outside.is_failing("door"):
-        raise Stopped("failed door", 4)
-    notes, door_failed = lead_sessions(outside, jobs, leases, service.sessions, peers)
-    store_failed = store_logs(outside, service.logs, notes)
-    statuses = [status_of(outcome) for outcome, _ in notes] + [4 * door_failed, 4 * store_failed]
+    outside.ask_door()
+    notes, door_status = lead_sessions(outside, jobs, leases, service.sessions, peers)
+    statuses = [status_of(outcome) for outcome, _ in notes] + [door_status, store_logs(outside, service.logs, notes)]
     status = next(each for each in (7, 5, 6, 4, 1, 0) if each in statuses)
     part = "".join(f" {outcome} units={end.units} {log_words(end.log)}" for outcome, end in notes)
-    return Came(outside.say(served_text(notes, door_failed), status), f"served{part}")
+    return Came(outside.say(served_text(notes, door_status == 4), status), f"served{part}")
 
 
 # How sessions of a prover are said: their lines, and their statuses.
@@ -781,6 +820,7 @@ PROVED = {
     "full": ("journal full {slots}", 5),
     "device": ("journal failed {faults}", 5),
     "link": ("failed link", 4),
+    "no-memory": ("memory", 7),
 }
 
 
@@ -829,7 +869,8 @@ def proved_job(outside: Outside, proof: Proof) -> Job:
 def run_prove(outside: Outside, words: List[str], peers: List[Link]) -> Came:
     job = proved_job(outside, read_proof(words))
     claims = open_claims(outside.disk, job.total)
-    if outside.is_failing("door") or not peers:
+    outside.ask_door()
+    if not peers:
         raise Stopped("failed door", 4)
     outcome, end = prove_by(job, peers[0], claims.claim)
     line, status = proved_line(outcome, end.units, outside.disk.faults)

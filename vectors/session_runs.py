@@ -2,18 +2,19 @@
 """What `crates/session_runs` is run on and what it must write, computed apart from the program.
 
 That program takes a scenario from each line of its input: whose session it is, and words `name=value`, as its first comment says. It
-writes the line, and a line for each session. `session_runs.py --stdin` prints the scenarios, `session_runs.py --stdout` what must be
-written. With neither it compares both with the files `stdin` and `stdout` that stand there, and the circuits in `data` with those
-that the scenarios are about; it prints what differs, and ends with 1 where anything does.
+writes the line, and a line for each session. `session_runs.py --write` writes the scenarios to the file `stdin` there, what must be
+written to `stdout`, and the circuits that the scenarios are about to `data`. Without it the script compares them with what stands there; it
+prints what differs, and ends with 1 where anything does.
 
 `ends.py` computes both ends, `program.py` runs of the program, and `session.py` what honest ones say, which
 must be the same. The sessions that `docs/PROTOCOL.md` publishes are among them, and must have the digests
 that stand there.
 """
+import functools
 import pathlib
 import struct
 import sys
-from typing import Dict, Iterator, List, NamedTuple, Optional, Tuple
+from typing import Callable, Dict, Iterable, Iterator, List, NamedTuple, Optional, Tuple
 
 import bristol
 import dealt_files
@@ -21,6 +22,7 @@ import program
 from auditor import audit
 from chacha import word
 from common import KEY, P, VERIFIER_COINS, dealt_correlations, element, frame, from_word, sha256
+from dealt_files import MANY_UNITS
 from ends import MOST_RECEIVED, MOST_UNITS, End, Job, Link, hold, prove, verify
 from published import ADDER, AND_GATE, FIVE_GATES, SESSIONS, log_of
 from session import LONG, Claim, Extended, accepted, carried, sent_by_prover, sent_by_verifier, session
@@ -137,22 +139,22 @@ def changed(scenario: Scenario, name: str, data: bytes) -> bytes:
     return data[:place] + bytes([byte]) + data[place + 1 :]
 
 
-def cases_of(scenario: Scenario, script: bytes) -> Iterator[Tuple[str, bytes, int]]:
-    """The sessions of a scenario: of each its name, what the peer sends, and which call fails."""
-    sweep = next((name for name in ("cut", "change", "fail") if name in scenario.words), None)
+def cases_of(scenario: Scenario, script: bytes) -> Iterator[Tuple[str, bytes, Dict[str, int]]]:
+    """The sessions of a scenario: of each its name, what the peer sends, and which call of the link is refused."""
+    sweep = next((name for name in ("cut", "change", "fail", "lack") if name in scenario.words), None)
     if sweep is None:
-        yield "", script, 0
+        yield "", script, {}
         return
     numbers, _, mask = scenario.words[sweep].partition(":")
     for number in range(*map(int, numbers.split(".."))):
         name = f"{sweep}={number} "
         if sweep == "cut":
-            yield name, script[:number], 0
-        elif sweep == "fail":
-            yield name, script, number
-        else:
+            yield name, script[:number], {}
+        elif sweep == "change":
             changed = script[number] ^ int(mask)
-            yield name, script[:number] + bytes([changed]) + script[number + 1 :], 0
+            yield name, script[:number] + bytes([changed]) + script[number + 1 :], {}
+        else:
+            yield name, script, {f"{sweep}ing": number}
 
 
 def note_line(scenario: Scenario, name: str, outcome: str, end: End) -> str:
@@ -163,8 +165,8 @@ def note_line(scenario: Scenario, name: str, outcome: str, end: End) -> str:
 
 def verifier_lines(scenario: Scenario, job: Job, honest: bytes) -> List[str]:
     lines = []
-    for name, script, failing in cases_of(scenario, script_of(scenario, honest)):
-        link = Link(script, scenario.number("pieces", MOST_RECEIVED), failing)
+    for name, script, refused in cases_of(scenario, script_of(scenario, honest)):
+        link = Link(script, scenario.number("pieces", MOST_RECEIVED), **refused)
         outcome, end = verify(job, link, scenario.number("start", 0), refusal_of(scenario), scenario.before())
         lines.append(note_line(scenario, name, outcome, end))
     return lines
@@ -172,8 +174,8 @@ def verifier_lines(scenario: Scenario, job: Job, honest: bytes) -> List[str]:
 
 def prover_lines(scenario: Scenario, job: Job, honest: bytes) -> List[str]:
     lines = []
-    for name, script, failing in cases_of(scenario, script_of(scenario, honest)):
-        outcome, end = prove(job, Link(script, scenario.number("pieces", MOST_RECEIVED), failing), refusal_of(scenario))
+    for name, script, refused in cases_of(scenario, script_of(scenario, honest)):
+        outcome, end = prove(job, Link(script, scenario.number("pieces", MOST_RECEIVED), **refused), refusal_of(scenario))
         lines.append(note_line(scenario, name, outcome, end))
     return lines
 
@@ -216,9 +218,9 @@ def outside_of(scenario: Scenario, kind: int) -> program.Outside:
     files[name] = text.ljust(scenario.number("size", 0), b"\n")
     files["statements"] = scenario.words.get("statements", "").replace("+", " ").replace("/", "\n").encode()
     files["log"] = bytes.fromhex(scenario.words.get("log", ""))
-    fails = [scenario.number(f"{each}-fails", 0) for each in ("shelf", "sink", "door")]
+    fails, lacks = ({each: scenario.number(f"{each}-{how}", 0) for each in ("shelf", "sink", "door")} for how in ("fails", "lacks"))
     disk = program.Disk(journal_of(scenario, kind, total), scenario.number("disk-fails", 0))
-    return program.Outside(files, disk, *fails)
+    return program.Outside(files, disk, fails, lacks)
 
 
 def pairs_of(scenario: Scenario, name: str, default: str) -> Tuple[int, int]:
@@ -235,13 +237,14 @@ def in_version(data: bytes, version: int) -> bytes:
 
 
 def damaged(scenario: Scenario, data: bytes) -> bytes:
-    """A dealt file, in which some bytes are others."""
-    if "damage" not in scenario.words:
+    """A dealt file, cut or with zero bytes after it, in which some bytes are others."""
+    if "damage" not in scenario.words and "dealt-size" not in scenario.words:
         return data
-    bad = bytearray(data)
-    for change in scenario.words["damage"].split("+"):
+    size = scenario.number("dealt-size", len(data))
+    bad = bytearray(data[:size].ljust(size, b"\0"))
+    for change in filter(None, scenario.words.get("damage", "").split("+")):
         place, byte = map(int, change.split(":"))
-        bad[place] = byte
+        bad[place : place + 1] = bytes([byte]) if place < len(bad) else b""
     return bytes(bad)
 
 
@@ -290,26 +293,42 @@ def shown(scenario: Scenario, outside: program.Outside) -> str:
             continue
         data = files[name]
         count = data.length if isinstance(data, program.Header) else len(data)
-        assert most or not isinstance(data, program.Header), shown_name
-        words += f" {shown_name}={count},{sha256(data[: int(most or count)]).hex()}"
+        words += f" {shown_name}={count},{digest_of(data, count, int(most or count))}"
     return words
 
 
-def run_line(scenario: Scenario, name: str, words: List[str], peers: List[Link]) -> str:
-    outside = outside_of(scenario, 0 if words[0] == "prove" or words[:2] == ["migrate", "prover"] else 1)
+def digest_of(data: bytes, count: int, most: int) -> str:
+    """SHA-256 of the first bytes of a file, of which there may be the header alone."""
+    if isinstance(data, program.Header) and most > len(data):
+        return next(digest for length, digest in MANY_UNITS if (length, length - 32) == (count, most))
+    return sha256(data[:most]).hex()
+
+
+def run_line(scenario: Scenario, name: str, words: List[str], peers: List[Link], outside: program.Outside) -> str:
     came = program.run(outside, words, peers)
     written = program.quoted(outside.written)
     return f"{name}status={came.status} written={written} {came.part}{shown(scenario, outside)}"
 
 
-def words_line(scenario: Scenario) -> str:
+def run_lines(scenario: Scenario, name: str, words: List[str], peers: Callable[[], List[Link]]) -> List[str]:
+    """The line of a run, and where a crash follows that of the same over what it leaves of the disk, where no call is refused."""
+    outside = outside_of(scenario, 0 if words[0] == "prove" or words[:2] == ["migrate", "prover"] else 1)
+    lines = [run_line(scenario, name, words, peers(), outside)]
+    if "crash" in scenario.words:
+        disk = program.Disk(outside.disk.left(scenario.words["crash"]), 0)
+        files = outside_of(scenario, 1).files
+        lines.append(run_line(scenario, "again ", words, peers(), program.Outside(files, disk)))
+    return lines
+
+
+def words_lines(scenario: Scenario) -> List[str]:
     circuit = READ[scenario.words.get("circuit", "and.txt")]
     words = scenario.words["words"].split(",")
     if "BITS" in words:
         pattern = scenario.words.get("bits", "1")
         private = range(scenario.number("public", 0), circuit.inputs)
         words[words.index("BITS")] = "".join(pattern[i % len(pattern)] for i in private)
-    return run_line(scenario, "", words, [])
+    return run_lines(scenario, "", words, list)
 
 
 def service_words(scenario: Scenario, job: Job) -> List[str]:
@@ -334,11 +353,15 @@ def service_lines(scenario: Scenario, job: Job) -> List[str]:
     stated = scenario.number("peer", 0)
     lines = []
     script = honest[stated] if stated < len(honest) else b""
-    for name, changed_script, failing in cases_of(scenario, script_of(scenario, script)):
-        peers = [Link(each) for each in honest]
-        link = Link(changed_script, scenario.number("pieces", MOST_RECEIVED), failing)
-        peers[stated : stated + 1] = [link] if peers else []
-        lines.append(run_line(scenario, name, service_words(scenario, job), peers))
+    for name, changed_script, refused in cases_of(scenario, script_of(scenario, script)):
+
+        def peers() -> List[Link]:
+            calling = [Link(each) for each in honest]
+            link = Link(changed_script, scenario.number("pieces", MOST_RECEIVED), **refused)
+            calling[stated : stated + 1] = [link] if calling else []
+            return calling
+
+        lines += run_lines(scenario, name, service_words(scenario, job), peers)
     return lines
 
 
@@ -346,16 +369,15 @@ def proof_lines(scenario: Scenario, job: Job, honest: bytes) -> List[str]:
     words = ["prove", "here", "x.prover", scenario.words.get("circuit", "and.txt")]
     words += [bristol.word_of(job.claim.bits[job.claim.public :]), bristol.word_of(list(job.outputs))] + public_words(job)
     lines = []
-    for name, script, failing in cases_of(scenario, script_of(scenario, honest)):
-        link = Link(script, scenario.number("pieces", MOST_RECEIVED), failing)
-        lines.append(run_line(scenario, name, words, [link]))
+    for name, script, refused in cases_of(scenario, script_of(scenario, honest)):
+        lines += run_lines(scenario, name, words, lambda: [Link(script, scenario.number("pieces", MOST_RECEIVED), **refused)])
     return lines
 
 
 def lines_of(scenario: Scenario) -> List[str]:
     """What a scenario writes."""
     if scenario.end == "run":
-        return [words_line(scenario)]
+        return words_lines(scenario)
     if scenario.end == "rehearsal":
         return [rehearsal_line(scenario)]
     if scenario.end == "audit":
@@ -630,6 +652,7 @@ def dealings() -> List[Scenario]:
     """Files that are dealt, at the ends of what may be asked for: the version is the second from 65,536 units on."""
     shown = "x.prover:128,x.verifier:128,x.prover.journal,x.verifier.journal"
     scenarios = [run(f"deal x --units {units} --trees 1 --height 1 --base 10", show=shown) for units in (65535, 65536)]
+    scenarios.append(run("deal x --units 65536", show=f"x.prover:{MANY_UNITS[0][0] - 32},x.verifier:{MANY_UNITS[1][0] - 32}"))
     words = ["1048576", "4294967296", "4294967297", "1099511627776", "1099511627777", "65536 --trees 1 --height 1 --base 1023"]
     return scenarios + [run(f"deal x --units {each}") for each in words]
 
@@ -655,11 +678,55 @@ def versions() -> List[Scenario]:
     return scenarios
 
 
+def over(place: int, data: bytes) -> str:
+    """The bytes of a dealt file from a place on that are others."""
+    return "+".join(f"{place + i}:{byte}" for i, byte in enumerate(data))
+
+
+PRIME, GREATEST = P.to_bytes(8, "little"), (P - 1).to_bytes(8, "little")
+ZERO_AND_PRIME = bytes(8) + PRIME
+
+
+def file_faults() -> List[Scenario]:
+    """Dealt files of one unit with each fault: bytes of the header, elements, bits and the digest, and lengths."""
+    header = [(0, b"\0"), (6, b"F"), (7, b"\0"), (7, b"2"), (7, b"3"), (8, b"\2"), (9, b"\2"), (24, b"\1\0\0\0\1"), (32, b"\0"), (64, b"\0")]
+    header += [(place, b"\1") for place in (11, 20, 21, 22, 23, 31)] + [(24, b"\0")]
+    direct = [(9, b"\1"), (10, b"\1"), (12, b"\1"), (15, b"\1"), (16, b"\x0a"), (19, b"\1"), (96, b"\1"), (127, b"\1"), (128, PRIME), (136, PRIME), (128, GREATEST)]
+    extended = [(9, b"\0"), (10, b"\0"), (10, b"\x11"), (12, b"\0"), (12, b"\1\4"), (15, b"\1"), (16, b"\x09"), (16, b"\1\0\1"), (19, b"\1"), (96, b"\0"), (128, PRIME)]
+    one_tree = {"files": "1,1,10"}
+    # Of each side and kind: what else is written over it, and its length.
+    subjects = [
+        (PROVE, {}, direct + [(8, b"\1"), (1144, PRIME), (1152, b"\0"), (1183, b"\0")], 1184),
+        (SERVE, {}, direct + [(8, b"\0"), (128, bytes(8)), (128, ZERO_AND_PRIME), (640, PRIME), (640, bytes(8)), (648, b"\0"), (679, b"\0")], 680),
+        (PROVE, one_tree, extended + [(8, b"\1"), (296, PRIME), (303, b"\x20\2"), (304, b"\2"), (304, b"\0"), (305, b"\xff"), (320, b"\xff"), (321, b"\0"), (352, b"\0")], 353),
+        (SERVE, one_tree, extended + [(8, b"\0"), (128, bytes(8)), (136, PRIME), (216, PRIME), (224, b"\xff"), (255, b"\xff"), (256, b"\0"), (287, b"\0")], 288),
+    ]
+    scenarios = []
+    for words, files, changes, length in subjects:
+        scenarios += [run(words, **files, damage=over(place, data)) for place, data in header + changes]
+        scenarios += [run(words, **files, dealt_size=size) for size in (0, 7, 8, 127, 128, length - 1, length + 1)]
+        # A want of bytes comes after all faults of the header, and before those of elements.
+        scenarios += [run(words, **files, dealt_size=127, damage=place) for place in ("0:0", "8:2", "11:1")]
+        scenarios += [run(words, **files, dealt_size=128, damage=place) for place in ("8:2+11:1", "11:1")]
+        scenarios.append(run(words, **files, dealt_size=length - 1, damage=over(128, PRIME)))
+        scenarios += [run(words, **files, damage=over(24, total)) for total in (b"\0\0\0\0\1", b"\0\0\0\0\0\1")]
+        scenarios += [run(words, **files, damage=over(7, b"2" + data[1:])) for data in (MOST_HEADER, MOST_HEADER[:17] + b"\1" + MOST_HEADER[18:])]
+        scenarios += [run(words, **files, damage=place) for place in (("10:16", "12:0+13:4", "16:0+17:0+18:1") if files else ())]
+    return scenarios
+
+
+# Bytes 7 to 31 of a direct file's header with as many units as the second version may have.
+MOST_HEADER = b"2" + bytes(21) + b"\1" + bytes(2)
+
+
 def limits() -> List[Scenario]:
     """Numbers of sessions and workers at their limits and beyond, with nobody at the door."""
     serve = "serve here x.verifier and.txt 1"
     numbers = [(0, 1), (1, 0), (65537, 1), (1, 1025), (65536, 1), (1, 1024)]
     scenarios = [run(f"{serve} --sessions {sessions} --workers {workers}") for sessions, workers in numbers]
+    # Words of many digits, and many words.
+    long = "0" * 9999 + "1"
+    scenarios += [run(f"rehearse and.txt 11 --section {long}"), run("rehearse and.txt 11" + f" {long[-100:]}" * 600)]
     return scenarios + [run(f"{serve} --workers 2"), run(f"{SERVE} --workers 2 --workers 2"), run(f"{SERVE} --logs")]
 
 
@@ -699,6 +766,36 @@ def leases() -> List[Scenario]:
     scenarios.append(served(5, units=20, ceilings=16, start=16, show="disk"))
     scenarios.append(served(1, units=32, journal_size=160, show="disk"))
     return scenarios + [served(2, **TEN_UNITS, units=36, ceilings=16, start=16, show="disk")]
+
+
+def stops() -> List[Scenario]:
+    """Runs that stop in a call of the disk, and what a crash leaves: the next run starts with the old ceiling or claims, or with the new."""
+    scenarios = []
+
+    def stopped(kind: Callable[..., Scenario], calls: Iterable[int], leftovers: Iterable[str] = ("old", "new", "0", "90"), **words: object) -> None:
+        given = {"show": "disk", **words}
+        scenarios.extend(kind(**given, disk_fails=call, crash=left) for call in calls for left in leftovers)
+
+    # The choice and the start make eight calls over a new journal, and a put four: the body, a sync, the gate and a sync.
+    serve, filled = functools.partial(served, 1), ("90",)
+    stopped(serve, range(1, 9), filled, units=32)
+    stopped(serve, range(9, 13), units=32)
+    stopped(serve, range(10, 14), units=48, ceilings=16, start=16)
+    stopped(proof, range(1, 9), filled, units=10)
+    stopped(proof, range(9, 13), units=10)
+    stopped(proof, range(1, 12), filled, units=10, slots=4, claims="0..4", start=6)
+    stopped(proof, range(12, 16), units=10, slots=4, claims="0..4", start=6)
+    # Over two slots in use they make thirteen. A compaction writes a generation and each slot, syncs, and writes and syncs a gate. Where the
+    # other head is open, it is closed and synced before.
+    full = {"units": 10, "slots": 2, "claims": "0..2+4..6", "start": 2}
+    stopped(proof, range(14, 20), **full)
+    stopped(proof, range(14, 22), **full, heads="2,3")
+    stopped(proof, range(14, 20), **full, areas="moved", heads="0,2")
+    full = {"files": "1,1,10", "ceilings": 65536, "start": 65536, "units": 65568}
+    stopped(serve, (4104, 6000, 8201, 8202, 8203, 8204), ("new", "90"), **full)
+    stopped(functools.partial(run, MIGRATE["prover"]), range(7, 25), ("new", "90"), **FIRST_CLAIMS)
+    stopped(functools.partial(run, MIGRATE["verifier"]), range(7, 20), ("new", "90"), **FIRST_CEILINGS)
+    return scenarios
 
 
 def failing_services() -> List[Scenario]:
@@ -791,6 +888,51 @@ def refused_sends() -> List[Scenario]:
     return scenarios + [served(1, disk_fails=number, fail="3..4") for number in range(8, 14)]
 
 
+def lacking_runs() -> List[Scenario]:
+    """Runs in which a call of the shelf, of the output or of the door finds no memory."""
+    log = b"".join(accepted(line("verifier").job().claim, None, LONG)).hex()
+    loads = [(REHEARSE, 1, {}), ("eval and.txt 11", 1, {}), (SERVE, 2, {}), (PROVE, 2, {}), (AUDIT, 4, {"log": log}), ("deal x --units 1", 4, {"show": DEALT})]
+    loads += [(MANY, 4, {"statements": BOTH})]
+    loads += [(words, 1, {"areas": "one", "show": "disk"}) for words in MIGRATE.values()]
+    scenarios = [run(words, **given, shelf_lacks=number) for words, most, given in loads for number in range(1, most + 1)]
+    scenarios += [run(words, **given, sink_lacks=1) for words, _, given in loads]
+    scenarios += [run(words, sink_lacks=1) for words in ("eval", "eval and.txt 1", "eval missing 11", "prove here x.prover and.txt 10 1")]
+    scenarios += [run("rehearse --gates 1000 --number 7", sink_lacks=1), run("rehearse chain.txt BITS --section 1", circuit="chain.txt", bits="10", sink_lacks=1)]
+    scenarios += [run("rehearse chain.txt BITS", circuit="chain.txt", bits="10", shelf_lacks=1), run("deal x --units 65535 --trees 1 --height 1 --base 10", shelf_lacks=2)]
+    scenarios += [run("eval missing 11", shelf_lacks=1), run("eval and.txt 11", shelf_fails=1, shelf_lacks=1), run(SERVE, shelf_lacks=1, sink_lacks=1)]
+    scenarios += [run(words, door_lacks=number) for words in (SERVE, PROVE) for number in (1, 2)]
+    return scenarios + [run(SERVE, disk_fails=1, sink_lacks=1), run(SERVE, door_lacks=1, sink_fails=1)]
+
+
+def lacking_sessions() -> List[Scenario]:
+    """Sessions in which a call of the link finds no memory: what the end has said stands, and so do the units that it was granted."""
+    scenarios = [line("both", lack="1..10"), line("both", **ONE_TREE, lack="1..14"), line("both", **PUBLIC, lack="1..10")]
+    scenarios += [line("both", circuit="chain.txt", bits="10", section=1, units=128, lack="1..40")]
+    scenarios += [line("both", **TEN_UNITS, units=10, lack="1..10"), line("verifier", before=1, lack="1..10")]
+    scenarios += [line("verifier", refuse=refusal, lack="2..5") for refusal in ("exhausted,0,1,1", "device", "broken,5")]
+    scenarios += [line("verifier", **{"set": place}, lack="3..5") for place in ("5:0", "37:0", "69:0", "101:2")]
+    scenarios += [line("verifier", outputs=0, lack="7..10"), line("verifier", pieces=7, lack="1..40")]
+    return scenarios + [line("prover", refuse="device", lack="1..5"), line("prover", pieces=3, lack="1..20")]
+
+
+def lacking_ends() -> List[Scenario]:
+    """Services and proofs in which a call finds no memory: other sessions stand, and so do units that were granted or claimed."""
+    scenarios = [line("service", lack="1..11", show="disk"), line("service", **ONE_TREE, lack="1..14"), line("service", outputs=0, lack="7..10")]
+    for peers in (2, 4):
+        for peer in range(peers):
+            scenarios.append(served(peers, units=32, peer=peer, lack="1..10", logs="l", show="disk,l.0,l.1,l.2,l.3"))
+        scenarios += [served(peers, units=32, door_lacks=number, logs="l", show="disk,l.0,l.1,l.2,l.3") for number in range(1, peers + 3)]
+        scenarios += [served(peers, units=32, shelf_lacks=number, logs="l", show="l.0,l.1,l.2,l.3") for number in range(1, peers + 3)]
+    scenarios += [served(2, units=32, sink_lacks=1, show="disk"), served(2, units=32, disk_fails=9, peer=1, lack="1..5", show="disk")]
+    scenarios += [served(2, peer=1, lack="2..5"), served(3, peer=0, lack="4..6"), served(2, units=32, peer=0, lack="4..6", sink_fails=1)]
+    scenarios += [served(2, units=32, peer=0, lack="4..6", door_fails=3), served(3, **TEN_UNITS, units=32, peer=1, lack="1..10", show="disk")]
+    scenarios += [line("service", statements=BOTH, lack="1..10"), line("service", circuit="chain.txt", bits="10", section=1, units=128, lack="1..40")]
+    scenarios += [proof(lack="1..11", show="disk"), proof(**ONE_TREE, lack="1..14", show="disk"), proof(section=1, lack="4..8", sink_lacks=1)]
+    scenarios += [proof(door_lacks=number, show="disk") for number in (1, 2)] + [proof(sink_lacks=1, show="disk"), proof(keep=34, sink_lacks=1)]
+    scenarios += [proof(shelf_lacks=number, show="disk") for number in (1, 2, 3)] + [proof(outputs=0, sink_lacks=1)]
+    return scenarios + [proof(circuit="chain.txt", bits="10", section=1000, **EIGHT_TREES, lack="1..12", show="disk")]
+
+
 def unsuited_grants() -> List[Scenario]:
     """Proofs to verifiers that refuse, or whose grant does not suit."""
     refusals = [frame(10, bytes([number])).hex() for number in range(6)]
@@ -812,6 +954,9 @@ def taken_units() -> List[Scenario]:
     for claims, start in spans + [("0..10", 0)]:
         scenarios.append(proof(**TEN_TREES, claims=claims, start=start, show="disk"))
     scenarios.append(proof(**TEN_TREES, claims="0..4", keep=0, more=grant(9, 2, LONG)))
+    # Ranges that touch are one.
+    claims = "4..6+0..1+8..9+1..2+7..8+2..4+6..7".split("+")
+    scenarios += [proof(units=10, claims="+".join(claims[: number + 1]), start=claims[number][0]) for number in range(7)]
     one_slot = {"units": 4, "claims": "0..1", "slots": 1, "show": "disk"}
     scenarios += [proof(**one_slot, start=start) for start in (0, 1, 3)]
     scenarios.append(proof(**one_slot, keep=0, more=grant(4, 1, LONG)))
@@ -1221,7 +1366,8 @@ def all_scenarios() -> List[Scenario]:
     parts += [public_sessions(), several_statements(), public_runs(), generated_runs(), public_ends(), audits()]
     parts += [many_services(), statement_files(), audit_runs()]
     parts += [areas(), heads(), full_claims(), full_ceilings(), refused_sends()]
-    parts += [dealings(), versions(), migrations()]
+    parts += [dealings(), versions(), file_faults(), migrations()]
+    parts += [lacking_runs(), lacking_sessions(), lacking_ends(), stops()]
     return [scenario for part in parts for scenario in part]
 
 
@@ -1246,11 +1392,11 @@ def main() -> int:
         "stdout": "".join(f"{given}\n" + "".join(f"{each}\n" for each in lines) for given, lines in written.items()).encode(),
         **{f"data/{name}": text for name, text in CIRCUITS.items()},
     }
-    if sys.argv[1:] in (["--stdin"], ["--stdout"]):
-        sys.stdout.buffer.write(files[sys.argv[1][2:]])
-        return 0
-    if sys.argv[1:]:
-        sys.exit("session_runs.py [--stdin | --stdout]")
+    if sys.argv[1:] == ["--write"]:
+        for name, data in files.items():
+            (CRATE / name).write_bytes(data)
+    elif sys.argv[1:]:
+        sys.exit("session_runs.py [--write]")
     wrong = [name for name, data in files.items() if not (CRATE / name).exists() or (CRATE / name).read_bytes() != data]
     for name in wrong:
         print(f"crates/session_runs/{name} is not as it must be")

@@ -9,8 +9,6 @@
 
 mod draws;
 mod line;
-#[cfg(test)]
-mod tests;
 mod values;
 
 ghost use Rattle.std.specs.Prelude.{◌≡◌, ℕ, ◌≤◌, length, min, IfOk};

@@ -7,7 +7,7 @@ use Rattle.zk_port.specs.Disks.{DiskState}
 use Rattle.memory_ports.specs.declared.epoch.Epoch.{Epoch}
 use Rattle.memory_ports.specs.declared.epoch.Pending.{Pending}
 use Rattle.memory_ports.specs.declared.epoch.Turn.{Turn}
-use Rattle.memory_ports.specs.declared.epoch.Turn.TheVariants.{Goes, Fails, Stopped, Lost}
+use Rattle.memory_ports.specs.declared.epoch.Turn.TheVariants.{Goes, Fails, Lost}
 use Rattle.memory_ports.specs.declared.epoch.Leftover.{Leftover}
 use Rattle.memory_ports.specs.declared.epoch.Leftover.TheVariants.{Old, New, Filled}
 
@@ -89,10 +89,9 @@ left_by_all (leftover ∷ leftovers) [] content image = image
 left_by_all (leftover ∷ leftovers) (range ∷ ranges) content image =
     left_by_all leftovers ranges content (left_by leftover range content image)
 
--- what becomes of a call: whether it fits, whether the run has stopped, how many calls there is room for, whether it is to fail
-abbrev pub turn_of : Bool → Bool → ℕ → Bool → Turn
-turn_of fits stopped calls fails =
-    if not fits || calls == 0 then Lost else (if stopped then Stopped else (if fails then Fails else Goes))
+-- what becomes of a call: whether it fits, how many calls there is room for, whether it is to fail
+abbrev pub turn_of : Bool → ℕ → Bool → Turn
+turn_of fits calls fails = if not fits || calls == 0 then Lost else (if fails then Fails else Goes)
 
 -- the first half
 abbrev pub half_of : List ℕ → List ℕ

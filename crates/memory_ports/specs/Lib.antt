@@ -1,4 +1,3 @@
 pub mod Doors
 pub mod Plans
-pub mod Stops
 pub mod Epochs

@@ -12,9 +12,10 @@ use Rattle.zk_port.specs.declared.fault.LoadFault.TheVariants as load
 use Rattle.zk_port.specs.declared.fault.PortFault.{PortFault}
 use Rattle.zk_port.specs.declared.fault.PortFault.TheVariants as port
 
--- the numbers of the calls that are to fail, and how many calls there were and have failed
+-- the numbers of the calls that are to fail, and of the one that is to find no memory, or 0; how many calls there were and have failed
 pub record Schedule : Type 0 where
   pub numbers : List ℕ
+  pub lacking : ℕ
   pub calls : ℕ
   pub faults : ℕ
 
@@ -32,6 +33,10 @@ pub record UsesCall
 -- whether the call after n further ones is to fail; a count at the end of its type stands still there
 abbrev pub is_to_fail : Schedule → ℕ → Bool
 is_to_fail plan n = list_any (λ number. number == min (plan.calls + n + 1) (2 ^ 64 - 1)) plan.numbers
+
+-- whether the next call is to find no memory, unless it fails
+abbrev pub is_to_lack : Schedule → Bool
+is_to_lack plan = plan.lacking == min (plan.calls + 1) (2 ^ 64 - 1)
 
 -- what isn't there is read as empty where nothing may fail
 abbrev pub found : Bool → Option (List ℕ) → Option (List ℕ)

@@ -29,8 +29,6 @@ pub enum Turn {
     Goes,
     /// It fails, and may have been done in part.
     Fails,
-    /// It comes after a stop: it fails and is done in no part, and its range may hold anything all the same.
-    Stopped,
     /// It fails and reaches nothing.
     Lost,
 }

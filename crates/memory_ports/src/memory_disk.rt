@@ -17,10 +17,9 @@ use zk_port::{Disk, Failed};
 const NAME_ROOM: usize = 4096;
 
 /// A disk in memory, made for a number of bytes and a number of calls. It has one file, which any name chooses, once.
-/// Exactly these calls fail: those that the plan names, all after those that it was made for or after a stop, writes
-/// that would end past its room, and a choice after the first or of a name of more than 4,096 bytes. A write that the
-/// plan fails writes its first half, one after a stop nothing, and a crash may leave anything in the range of either;
-/// the others of these calls leave all as it was.
+/// Exactly these calls fail: those that the plan names, all after those that it was made for, writes that would end past
+/// its room, and a choice after the first or of a name of more than 4,096 bytes. A write that the plan fails writes its
+/// first half, and a crash may leave anything in its range; the others of these calls leave all as it was.
 #[derive(Drop)]
 pub struct MemoryDisk<P: FaultPlan> {
     bytes: Vec<u8>,
@@ -52,25 +51,20 @@ pub struct MemoryDisk<P: FaultPlan> {
 /// Begins a call, and says what becomes of it. One that reaches nothing uses up no room for calls.
 fn begin<P: FaultPlan>(plan: &mut P, calls: &mut usize, fits: bool) -> Turn
     requires strict { P.forgiving ≡ false }
-    ensures turn { result ≡ turn_of fits (P.stopped plan.old) calls.old (P.coming plan.old 0) }
+    ensures turn { result ≡ turn_of fits calls.old (P.coming plan.old 0) }
     ensures calls { calls.new ≡ left_after result calls.old }
     ensures plan { UsesCall P.coming P.count (is_refused result) plan.old plan.new }
 {
     let lost = !fits || *calls == 0;
-    let stopped = plan.has_stopped();
     let fails = plan.fails();
-    if (lost || stopped) && !fails {
+    if lost && !fails {
         plan.fails_without();
     }
     if lost {
         return Turn::Lost;
     }
     *calls -= 1;
-    match (stopped, fails) {
-        (true, _) => Turn::Stopped,
-        (false, true) => Turn::Fails,
-        (false, false) => Turn::Goes,
-    }
+    if fails { Turn::Fails } else { Turn::Goes }
 }
 
 /// Whether so many bytes from this place on end within the room.
@@ -310,7 +304,7 @@ impl<P: FaultPlan> Disk for MemoryDisk<P> {
 
     fn choose(&mut self, name: &str) -> Result<(), Failed>
         ensures answer { is_err result ≡ is_refused (turn_of (may_choose self.old.is_chosen (length name.now))
-            (P.stopped self.old.plan) self.old.calls (P.coming self.old.plan 0)) }
+            self.old.calls (P.coming self.old.plan 0)) }
         ensures chosen { OnOk result (chosen_names self.new.is_chosen self.new.name.items
             ≡ chosen_names self.old.is_chosen self.old.name.items ++ name.now ∷ []) }
         ensures refused { OnErr result ((self.new.is_chosen ≡ self.old.is_chosen)
@@ -320,7 +314,7 @@ impl<P: FaultPlan> Disk for MemoryDisk<P> {
         ensures past { self.new.past ≡ self.old.past }
         ensures room { self.new.room ≡ self.old.room }
         ensures calls { self.new.calls ≡ left_after (turn_of (may_choose self.old.is_chosen (length name.now))
-            (P.stopped self.old.plan) self.old.calls (P.coming self.old.plan 0)) self.old.calls }
+            self.old.calls (P.coming self.old.plan 0)) self.old.calls }
         ensures plan { UsesCall P.coming P.count (is_err result) self.old.plan self.new.plan }
     {
         let fits = !self.is_chosen && name.len() <= NAME_ROOM;
@@ -330,13 +324,12 @@ impl<P: FaultPlan> Disk for MemoryDisk<P> {
                 self.is_chosen = true;
                 Ok(())
             }
-            Turn::Fails | Turn::Stopped | Turn::Lost => Err(Failed),
+            Turn::Fails | Turn::Lost => Err(Failed),
         }
     }
 
     fn read(&mut self, at: u64, buffer: &mut [u8]) -> Result<usize, Failed>
-        ensures answer { is_err result ≡ is_refused (turn_of true
-            (P.stopped self.old.plan) self.old.calls (P.coming self.old.plan 0)) }
+        ensures answer { is_err result ≡ is_refused (turn_of true self.old.calls (P.coming self.old.plan 0)) }
         ensures end { IfOk result (λ n. n ≡ min (length buffer.old) (length self.old.bytes.items - at)) }
         ensures read { IfOk result (λ n. take n buffer.new ≡ take n (drop at self.old.bytes.items)) }
         ensures rest { IfOk result (λ n. drop n buffer.new ≡ drop n buffer.old) }
@@ -346,25 +339,22 @@ impl<P: FaultPlan> Disk for MemoryDisk<P> {
         ensures name { self.new.name ≡ self.old.name }
         ensures is_chosen { self.new.is_chosen ≡ self.old.is_chosen }
         ensures room { self.new.room ≡ self.old.room }
-        ensures calls { self.new.calls ≡ left_after (turn_of true
-            (P.stopped self.old.plan) self.old.calls (P.coming self.old.plan 0)) self.old.calls }
+        ensures calls { self.new.calls ≡ left_after (turn_of true self.old.calls (P.coming self.old.plan 0)) self.old.calls }
         ensures plan { UsesCall P.coming P.count (is_err result) self.old.plan self.new.plan }
     {
         match begin(&mut self.plan, &mut self.calls, true) {
             Turn::Goes => Ok(read_from(&self.bytes, at, buffer)),
-            Turn::Fails | Turn::Stopped | Turn::Lost => Err(Failed),
+            Turn::Fails | Turn::Lost => Err(Failed),
         }
     }
 
     fn write_at(&mut self, at: u64, bytes: &[u8]) -> Result<(), Failed>
         ensures answer { is_err result ≡ is_refused (turn_of (nat_le (at + length bytes.now) self.old.room)
-            (P.stopped self.old.plan) self.old.calls (P.coming self.old.plan 0)) }
+            self.old.calls (P.coming self.old.plan 0)) }
         ensures bytes { self.new.bytes.items ≡ content_after (turn_of
-            (nat_le (at + length bytes.now) self.old.room) (P.stopped self.old.plan) self.old.calls
-            (P.coming self.old.plan 0)) at bytes.now self.old.bytes.items }
+            (nat_le (at + length bytes.now) self.old.room) self.old.calls (P.coming self.old.plan 0)) at bytes.now self.old.bytes.items }
         ensures ranges { self.new.epoch.ranges.items ≡ ranges_after (turn_of
-            (nat_le (at + length bytes.now) self.old.room) (P.stopped self.old.plan) self.old.calls
-            (P.coming self.old.plan 0)) at (length bytes.now) self.old.epoch.ranges.items }
+            (nat_le (at + length bytes.now) self.old.room) self.old.calls (P.coming self.old.plan 0)) at (length bytes.now) self.old.epoch.ranges.items }
         ensures base { self.new.epoch.base ≡ self.old.epoch.base }
         ensures past { self.new.past ≡ self.old.past }
         ensures name { self.new.name ≡ self.old.name }
@@ -376,8 +366,7 @@ impl<P: FaultPlan> Disk for MemoryDisk<P> {
             (⟦<MemoryDisk<P> as Disk>⟧.state self.new) }
         ensures room { self.new.room ≡ self.old.room }
         ensures calls { self.new.calls ≡ left_after (turn_of
-            (nat_le (at + length bytes.now) self.old.room) (P.stopped self.old.plan) self.old.calls
-            (P.coming self.old.plan 0)) self.old.calls }
+            (nat_le (at + length bytes.now) self.old.room) self.old.calls (P.coming self.old.plan 0)) self.old.calls }
         ensures plan { UsesCall P.coming P.count (is_err result) self.old.plan self.new.plan }
     {
         let fits = ends_within(self.room, at, bytes.len());
@@ -392,17 +381,12 @@ impl<P: FaultPlan> Disk for MemoryDisk<P> {
                 write_noted(&mut self.bytes, &mut self.epoch, at, bytes, half, self.room);
                 Err(Failed)
             }
-            Turn::Stopped => {
-                write_noted(&mut self.bytes, &mut self.epoch, at, bytes, 0, self.room);
-                Err(Failed)
-            }
             Turn::Lost => Err(Failed),
         }
     }
 
     fn sync(&mut self) -> Result<(), Failed>
-        ensures answer { is_err result ≡ is_refused (turn_of true
-            (P.stopped self.old.plan) self.old.calls (P.coming self.old.plan 0)) }
+        ensures answer { is_err result ≡ is_refused (turn_of true self.old.calls (P.coming self.old.plan 0)) }
         ensures bytes { self.new.bytes ≡ self.old.bytes }
         ensures base { OnOk result (self.new.epoch.base.items ≡ self.old.bytes.items) }
         ensures ranges { OnOk result (self.new.epoch.ranges.items ≡ []) }
@@ -415,8 +399,7 @@ impl<P: FaultPlan> Disk for MemoryDisk<P> {
         ensures time { Elapses (⟦<MemoryDisk<P> as Disk>⟧.state self.old)
             (⟦<MemoryDisk<P> as Disk>⟧.state self.new) }
         ensures room { self.new.room ≡ self.old.room }
-        ensures calls { self.new.calls ≡ left_after (turn_of true
-            (P.stopped self.old.plan) self.old.calls (P.coming self.old.plan 0)) self.old.calls }
+        ensures calls { self.new.calls ≡ left_after (turn_of true self.old.calls (P.coming self.old.plan 0)) self.old.calls }
         ensures plan { UsesCall P.coming P.count (is_err result) self.old.plan self.new.plan }
     {
         match begin(&mut self.plan, &mut self.calls, true) {
@@ -431,7 +414,7 @@ impl<P: FaultPlan> Disk for MemoryDisk<P> {
                 );
                 Ok(())
             }
-            Turn::Fails | Turn::Stopped | Turn::Lost => Err(Failed), // all stays pending
+            Turn::Fails | Turn::Lost => Err(Failed), // all stays pending
         }
     }
 }

@@ -1,5 +1,5 @@
 // A door in memory that hands out the links it was given.
-ghost use Rattle.std.specs.Prelude.{◌≡◌, ◌≤◌, ◌+◌, ◌++◌, ◌||◌, ◌&&◌, ◌==◌, ℕ, [], ◌∷◌, true, not, map, string_bytes, Some, OnOk, OnErr, IfOk, IfSome, IsTrue, is_err};
+ghost use Rattle.std.specs.Prelude.{◌≡◌, ◌≤◌, ◌+◌, ◌++◌, ◌||◌, ◌&&◌, ◌==◌, ℕ, [], ◌∷◌, true, false, not, map, string_bytes, Some, OnOk, OnErr, IfOk, IfSome, IsTrue, is_err};
 ghost use Rattle.std.specs.List.{list_all};
 ghost use Rattle.std.specs.VecDeque.{deque_len};
 ghost use Rattle.zk_port.specs.Counts.{counted, is_failed};
@@ -13,7 +13,7 @@ use zk_port::{Door, Link, PortFault};
 
 /// A door in memory. `next` gives the links that wait, first come first, and `connect` those to be called.
 /// Exactly the calls that the plan names fail, and a connect that finds no link; under a plan by which
-/// nothing may fail, such a connect finds no memory. Each address that it is asked for is noted, if there is memory.
+/// nothing may fail, such a connect finds no memory. A call that by the plan finds no memory gives nothing. Each address that it is asked for is noted, if there is memory.
 #[derive(Drop)]
 pub struct MemoryDoor<L: Link, P> {
     waiting: VecDeque<L>,
@@ -132,6 +132,9 @@ impl<L: Link, P: FaultPlan> Door for MemoryDoor<L, P> {
             self.listen_faults = self.listen_faults.saturating_add(1);
             return Err(PortFault::Failed);
         }
+        if self.plan.lacks() {
+            return Err(PortFault::NoMemory);
+        }
         noted?;
         Ok(())
     }
@@ -161,6 +164,9 @@ impl<L: Link, P: FaultPlan> Door for MemoryDoor<L, P> {
             self.connect_faults = self.connect_faults.saturating_add(1);
             return Err(PortFault::Failed);
         }
+        if self.plan.lacks() {
+            return Err(PortFault::NoMemory);
+        }
         noted?;
         match self.called.pop_front() {
             Some(link) => {
@@ -183,7 +189,7 @@ impl<L: Link, P: FaultPlan> Door for MemoryDoor<L, P> {
             (λ given. GivesFirst given self.old.waiting.items self.new.waiting.items) }
         ensures fresh { IfOk result (λ given. IfSome given (λ link. IsFreshLink (L.state link))) }
         ensures refused { OnErr result (self.new.waiting.items ≡ self.old.waiting.items) }
-        ensures memory { OnErr result (IsTrue (is_failed result)) }
+        ensures memory { OnErr result (P.lacking self.old.plan ≡ false → IsTrue (is_failed result)) }
         ensures called { self.new.called ≡ self.old.called }
         ensures listened { self.new.listened ≡ self.old.listened }
         ensures connected { self.new.connected ≡ self.old.connected }
@@ -200,6 +206,9 @@ impl<L: Link, P: FaultPlan> Door for MemoryDoor<L, P> {
         if self.plan.fails() {
             self.next_faults = self.next_faults.saturating_add(1);
             return Err(PortFault::Failed);
+        }
+        if self.plan.lacks() {
+            return Err(PortFault::NoMemory);
         }
         Ok(self.waiting.pop_front())
     }

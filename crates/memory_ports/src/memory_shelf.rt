@@ -11,7 +11,8 @@ use std::collections::BTreeMap;
 use zk_port::{LoadFault, PortFault, Shelf};
 
 /// Files in memory. Exactly the calls that the plan names fail, and loads of files that aren't there, unless
-/// by the plan nothing may fail. A store that fails takes the file away. One count serves all names.
+/// by the plan nothing may fail. A store that fails takes the file away. One count serves all names. A call that by the plan finds no
+/// memory is refused for that: a load where it would give a file, a store where it does not fail.
 #[derive(Drop)]
 pub struct MemoryShelf<P> {
     files: BTreeMap<String, Vec<u8>>,
@@ -86,6 +87,9 @@ impl<P: FaultPlan> Shelf for MemoryShelf<P> {
                 if bytes.len() as u64 > limit {
                     return Err(LoadFault::TooLong { limit });
                 }
+                if self.plan.lacks() {
+                    return Err(LoadFault::NoMemory);
+                }
                 Ok(bytes.to_vec(alloc)?)
             }
             None => {
@@ -106,6 +110,9 @@ impl<P: FaultPlan> Shelf for MemoryShelf<P> {
         if self.plan.fails() {
             take_file(&mut self.files, name);
             return Err(PortFault::Failed);
+        }
+        if self.plan.lacks() {
+            return Err(PortFault::NoMemory);
         }
         put_file(alloc, &mut self.files, name, bytes)?;
         Ok(())

@@ -7,7 +7,8 @@ use crate::plan::FaultPlan;
 use std::alloc::Global;
 use zk_port::{PortFault, Sink};
 
-/// Output kept in memory. Exactly the calls that the plan names fail, and write at most their first half.
+/// Output kept in memory. Exactly the calls that the plan names fail, and write at most their first half. A call that by the plan finds
+/// no memory writes nothing.
 #[derive(Drop)]
 pub struct MemorySink<P> {
     bytes: Vec<u8>,
@@ -60,6 +61,9 @@ impl<P: FaultPlan> Sink for MemorySink<P> {
             let half = bytes.len() / 2;
             let _ = self.bytes.extend_from_slice(&bytes[..half]);
             return Err(PortFault::Failed);
+        }
+        if self.plan.lacks() {
+            return Err(PortFault::NoMemory);
         }
         self.bytes.extend_from_slice(bytes)?;
         Ok(())

@@ -12,7 +12,7 @@ use zk_port::{Link, PortFault, Way};
 
 /// A link in memory whose peer sends these bytes and ends, whatever is sent to it. A receive takes as many as
 /// there are and fit. Exactly the sends and receives that the plan names fail, and such a send sends at most
-/// its first half.
+/// its first half. One that by the plan finds no memory sends or takes nothing.
 #[derive(Drop)]
 pub struct ScriptedLink<P> {
     log: Vec<(Way, u8)>,
@@ -134,6 +134,9 @@ impl<P: FaultPlan> Link for ScriptedLink<P> {
             note_half(alloc, &mut self.log, Way::Sent, bytes);
             return Err(PortFault::Failed);
         }
+        if self.plan.lacks() {
+            return Err(PortFault::NoMemory);
+        }
         note_bytes(alloc, &mut self.log, Way::Sent, bytes)?;
         Ok(())
     }
@@ -166,6 +169,9 @@ impl<P: FaultPlan> Link for ScriptedLink<P> {
         self.receives = self.receives.saturating_add(1);
         if self.plan.fails() {
             return Err(PortFault::Failed);
+        }
+        if self.plan.lacks() {
+            return Err(PortFault::NoMemory);
         }
         let rest = &self.script[self.place..];
         let count = buffer.len().min(rest.len());

@@ -4,7 +4,6 @@ ghost use Rattle.zk_model.specs.Twins.{twin_begin, twin_slots_at};
 ghost use Rattle.twin_journal.specs.Starts.{IsTidyFile};
 ghost use Rattle.file_commands.specs.Journals.{IsJournalDisk};
 
-use crate::run_tests::{AND, SEED, words_of};
 use crate::vectors::FILE_ID;
 use memory_ports::{MemoryDoor, MemoryShelf, MemorySink, NoFault, ScriptedLink, SureDisk};
 use std::alloc::{AllocError, Global};
@@ -17,6 +16,21 @@ use zk_cli::run_zk;
 use zk_port::{Disk, QuietGate};
 
 pub type Files = MemoryShelf<NoFault>;
+
+/// One AND gate of two inputs of one bit.
+pub const AND: &str = "1 3\n2 1 1\n1 1\n\n2 1 0 1 2 AND\n";
+
+/// The seed of all runs.
+pub const SEED: [u8; 32] = [7; 32];
+
+/// These words.
+pub fn words_of(alloc: Global, texts: &[&str]) -> Result<Vec<String>, AllocError> {
+    let mut words = Vec::new(alloc);
+    for text in texts {
+        words.push(String::from_str(alloc, text)?)?;
+    }
+    Ok(words)
+}
 
 /// A new journal of the dealt files, with areas of one slot.
 fn new_bytes(alloc: Global, kind: JournalKind) -> Result<Vec<u8>, AllocError>

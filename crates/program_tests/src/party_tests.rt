@@ -1,6 +1,5 @@
 // Both ends of a session in one process, over a connection of this machine.
-use crate::given::{Files, dealt, new_journal};
-use crate::run_tests::{SEED, words_of};
+use crate::given::{Files, SEED, dealt, new_journal, words_of};
 use memory_ports::{MemorySink, NoFault};
 use port_os::TcpDoor;
 use std::alloc::{AllocError, Global};

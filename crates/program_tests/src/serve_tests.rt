@@ -1,22 +1,48 @@
 // Services over a journal, with peers that are honest over whichever units they are granted, and gates that are told of their sessions.
-use crate::given::{dealt, new_journal};
+use crate::given::{SEED, dealt, new_journal, words_of};
 use crate::peers::HonestPeer;
-use crate::run_tests::{CountingGate, SEED, words_of};
 use memory_ports::{MemoryDoor, MemorySink, NoFault, Together};
 use std::alloc::{AllocError, Global};
-use std::sync::atomic::Ordering;
+use std::sync::atomic::{AtomicU64, Ordering};
 use std::sync::{Barrier, Wait};
 use std::test::Fail;
 use std::thread::Threads;
 use twin_journal::JournalKind;
 use zk_cli::{Finish, Part, run_zk};
 use zk_model::Span;
-use zk_port::{Gate, Sink};
+use zk_port::{Gate, Phase, Sink};
 
 /// Where the first slot of a journal begins: that of its first area.
 const SLOT: usize = 96;
 
 type Peers = MemoryDoor<HonestPeer, NoFault>;
+
+/// A gate that counts how many sessions were granted units, and how many of these ended.
+#[derive(Drop)]
+struct CountingGate {
+    granted: AtomicU64,
+    ended: AtomicU64,
+}
+
+impl CountingGate {
+    /// A gate that was told nothing.
+    fn new() -> Self {
+        CountingGate {
+            granted: AtomicU64::new(0),
+            ended: AtomicU64::new(0),
+        }
+    }
+}
+
+impl Gate for CountingGate {
+    fn phase(&self, phase: Phase) {
+        let counter = match phase {
+            Phase::Granted { .. } => &self.granted,
+            Phase::Ended { .. } => &self.ended,
+        };
+        counter.fetch_add(1, Ordering::SeqCst);
+    }
+}
 
 /// What came of a run: the status, what is written, the units of each session that is handed back, and what the disk has.
 #[derive(Drop)]

@@ -3,27 +3,27 @@ ghost use Rattle.std.specs.Prelude.{◌≡◌, true, IfOk};
 ghost use Rattle.zk_port.specs.Doors.{IsFreshLink};
 
 use crate::piece_link::{PieceLink, plan_of};
-use crate::scenario::{Peer, Sweep};
+use crate::scenario::{NOTHING_REFUSED, Peer, Refused, Sweep};
 use anyhow::{Error, Result};
 use std::alloc::Global;
 use zk_port::Link;
 
-/// The peer's bytes of one session, the number of the call of the link that fails, or 0, how many bytes come at most in one receive, and
-/// the session's name.
+/// The peer's bytes of one session, the calls of the link that are refused, how many bytes come at most in one receive, and the session's
+/// name.
 #[derive(Drop)]
 pub struct Case {
     pub name: String,
     pub script: Vec<u8>,
-    pub call: u64,
+    pub refused: Refused,
     pub piece: u64,
 }
 
-/// A link whose peer sends these bytes, in pieces, and whose call of this number fails.
-pub fn link_of(alloc: Global, script: Vec<u8>, call: u64, piece: u64) -> Result<PieceLink>
+/// A link whose peer sends these bytes, in pieces, and of whose calls these are refused.
+pub fn link_of(alloc: Global, script: Vec<u8>, refused: Refused, piece: u64) -> Result<PieceLink>
     ensures fresh { IfOk result (λ link. IsFreshLink (⟦<PieceLink as Link>⟧.state link)) }
     ensures is_open { IfOk result (λ link. (⟦<PieceLink as Link>⟧.state link).is_open ≡ true) }
 {
-    let plan = plan_of(alloc, call)?;
+    let plan = plan_of(alloc, refused)?;
     let piece = piece.clamp(1, 4096) as usize;
     Ok(PieceLink::new(alloc, script, plan, piece))
 }
@@ -58,13 +58,14 @@ fn case_name(alloc: Global, sweep: Sweep, number: u64) -> Result<String> {
         Sweep::Cut => Ok(format!(in alloc; "cut={number} ")?),
         Sweep::Change { .. } => Ok(format!(in alloc; "change={number} ")?),
         Sweep::Fail => Ok(format!(in alloc; "fail={number} ")?),
+        Sweep::Lack => Ok(format!(in alloc; "lack={number} ")?),
     }
 }
 
 /// Has a number of a range change the peer's bytes.
 fn change_script(script: &mut Vec<u8>, sweep: Sweep, number: u64) {
     match sweep {
-        Sweep::Nothing | Sweep::Fail => {}
+        Sweep::Nothing | Sweep::Fail | Sweep::Lack => {}
         Sweep::Cut => script.truncate(number as usize),
         Sweep::Change { mask } => {
             if let Some(byte) = script.get_mut(number as usize) {
@@ -74,21 +75,27 @@ fn change_script(script: &mut Vec<u8>, sweep: Sweep, number: u64) {
     }
 }
 
+/// The calls of the link that a number of a range has refused.
+fn refused_by(sweep: Sweep, number: u64) -> Refused {
+    let mut refused = NOTHING_REFUSED;
+    match sweep {
+        Sweep::Fail => refused.fails = number,
+        Sweep::Lack => refused.lacks = number,
+        _ => {}
+    }
+    refused
+}
+
 /// The session of one number of a peer's range.
 fn case_of(alloc: Global, peer: &Peer<'_>, script: &[u8], number: u64) -> Result<Case> {
     let mut script = script.to_vec(alloc)?;
     change_script(&mut script, peer.sweep, number);
     let name = case_name(alloc, peer.sweep, number)?;
-    let call = match peer.sweep {
-        Sweep::Fail => number,
-        _ => 0,
-    };
-    let piece = peer.piece;
     Ok(Case {
         name,
         script,
-        call,
-        piece,
+        refused: refused_by(peer.sweep, number),
+        piece: peer.piece,
     })
 }
 

@@ -1,10 +1,10 @@
 // Sessions of either end over a link in memory, and what came of them.
 ghost use Rattle.std.specs.Prelude.{◌≡◌, true};
 
-use crate::cases::{Case, link_of};
+use crate::cases::{Case, cases_of, link_of};
 use crate::piece_link::PieceLink;
 use crate::say::{Asked, Called, Ending, Logged, Units, prover_ending, verifier_ending};
-use crate::scenario::Scenario;
+use crate::scenario::{NOTHING_REFUSED, Scenario};
 use crate::units::{AskedUnits, NextUnits, claim_fault, lease_fault};
 use anyhow::Result;
 use claim_store::ClaimFault;
@@ -28,26 +28,17 @@ struct Session {
     link: PieceLink,
 }
 
-/// A verifier's session whose units are leased from this one on, or refused; and how many it asked for.
-fn verifier_note<R: Threads + Sync>(
-    rt: &R,
-    alloc: Global,
-    jobs: &VerifierJobs<'_>,
-    start: u64,
-    fault: Option<LeaseFault>,
-    link: PieceLink,
-) -> (Option<u32>, SessionNote<PieceLink>)
-    requires { (⟦<PieceLink as Link>⟧.state link).is_open ≡ true }
-{
-    let mut grantor = NextUnits {
-        start,
-        total: jobs.noted(None).file().total(),
-        fault,
-        asked: None,
-        answer: None,
-    };
-    let note = verify_session(rt, alloc, jobs, &mut grantor, link, &QuietGate);
-    (grantor.asked, note)
+impl Session {
+    /// One that ended so, after it asked for these units.
+    fn new(ended: Ending, asked: Asked, granted: Option<Span>, log: Log, link: PieceLink) -> Self {
+        Session {
+            ended,
+            asked,
+            granted,
+            log,
+            link,
+        }
+    }
 }
 
 /// What came of a verifier's session, in which it asked for units so, with the statement that it took.
@@ -56,14 +47,11 @@ fn verified(asked: Option<u32>, note: SessionNote<PieceLink>) -> (Option<u32>, S
         Some(count) => Asked::Count(count),
         None => Asked::Nothing,
     };
-    let session = Session {
-        ended: verifier_ending(note.outcome),
-        asked,
-        granted: note.granted,
-        log: note.log,
-        link: note.link,
-    };
-    (note.statement, session)
+    let ended = verifier_ending(note.outcome);
+    (
+        note.statement,
+        Session::new(ended, asked, note.granted, note.log, note.link),
+    )
 }
 
 /// What came of a verifier's session whose units are leased from this one on, or refused, and the statement that it took.
@@ -77,28 +65,15 @@ fn verify<R: Threads + Sync>(
 ) -> (Option<u32>, Session)
     requires { (⟦<PieceLink as Link>⟧.state link).is_open ≡ true }
 {
-    let (asked, note) = verifier_note(rt, alloc, jobs, start, fault, link);
-    verified(asked, note)
-}
-
-/// A prover's session whose units are claimed, or refused; and which it asked for.
-fn prover_note<R: Threads + Sync>(
-    rt: &R,
-    alloc: Global,
-    job: &ProverJob<'_>,
-    fault: Option<ClaimFault>,
-    link: PieceLink,
-) -> (Option<(u64, u64)>, ProverNote<PieceLink>)
-    requires { (⟦<PieceLink as Link>⟧.state link).is_open ≡ true }
-{
-    let mut claimant = AskedUnits {
-        total: job.file().total(),
+    let mut grantor = NextUnits {
+        start,
+        total: jobs.noted(None).file().total(),
         fault,
         asked: None,
         answer: None,
     };
-    let note = prove_session(rt, alloc, job, &mut claimant, link);
-    (claimant.asked, note)
+    let note = verify_session(rt, alloc, jobs, &mut grantor, link, &QuietGate);
+    verified(grantor.asked, note)
 }
 
 /// What came of a prover's session, in which it asked for units so.
@@ -107,20 +82,8 @@ fn proved(asked: Option<(u64, u64)>, note: ProverNote<PieceLink>) -> Session {
         Some((start, count)) => Asked::From(start, count),
         None => Asked::Nothing,
     };
-    let ProverNote {
-        granted,
-        outcome,
-        log,
-        link,
-    } = note;
-    let ended = prover_ending(outcome);
-    Session {
-        ended,
-        asked,
-        granted,
-        log,
-        link,
-    }
+    let ended = prover_ending(note.outcome);
+    Session::new(ended, asked, note.granted, note.log, note.link)
 }
 
 /// What came of a prover's session whose units are claimed, or refused.
@@ -133,8 +96,14 @@ fn prove<R: Threads + Sync>(
 ) -> Session
     requires { (⟦<PieceLink as Link>⟧.state link).is_open ≡ true }
 {
-    let (asked, note) = prover_note(rt, alloc, job, fault, link);
-    proved(asked, note)
+    let mut claimant = AskedUnits {
+        total: job.file().total(),
+        fault,
+        asked: None,
+        answer: None,
+    };
+    let note = prove_session(rt, alloc, job, &mut claimant, link);
+    proved(claimant.asked, note)
 }
 
 /// What one side sent.
@@ -167,7 +136,7 @@ fn prover_part<R: Threads + Sync>(
     job: &ProverJob<'_>,
     heard: &[u8],
 ) -> Result<Vec<u8>> {
-    let link = link_of(alloc, heard.to_vec(alloc)?, 0, 4096)?;
+    let link = link_of(alloc, heard.to_vec(alloc)?, NOTHING_REFUSED, 4096)?;
     let session = prove(rt, alloc, job, None, link);
     Ok(part_of(alloc, &session.log, Side::Prover)?)
 }
@@ -180,7 +149,7 @@ fn verifier_part<R: Threads + Sync>(
     start: u64,
     heard: &[u8],
 ) -> Result<Vec<u8>> {
-    let link = link_of(alloc, heard.to_vec(alloc)?, 0, 4096)?;
+    let link = link_of(alloc, heard.to_vec(alloc)?, NOTHING_REFUSED, 4096)?;
     let (_, session) = verify(rt, alloc, jobs, start, None, link);
     Ok(part_of(alloc, &session.log, Side::Verifier)?)
 }
@@ -230,73 +199,54 @@ fn line_of(alloc: Global, name: &str, taken: &str, session: &Session) -> Result<
     Ok(format!(in alloc; "{name}{ended}{taken} asked={asked} units={units} {log} {calls}\n")?)
 }
 
-/// The line of one session of a verifier.
-fn verifier_line<R: Threads + Sync>(
+/// The end of a session that is run, and what it is to do.
+#[derive(Clone, Copy)]
+pub enum EndJob<'a, 'b> {
+    Verifier(&'a VerifierJobs<'b>),
+    Prover(&'a ProverJob<'b>),
+}
+
+/// The line of one session of this end.
+fn session_line<R: Threads + Sync>(
     rt: &R,
     alloc: Global,
     scenario: &Scenario<'_>,
-    jobs: &VerifierJobs<'_>,
+    job: EndJob<'_, '_>,
     case: Case,
 ) -> Result<String> {
     let Case {
         name,
         script,
-        call,
+        refused,
         piece,
     } = case;
-    let fault = lease_fault(scenario.refusal)?;
-    let link = link_of(alloc, script, call, piece)?;
-    let (statement, session) = verify(rt, alloc, jobs, scenario.start, fault, link);
-    let taken = taken_word(alloc, scenario.before.is_some(), statement)?;
-    line_of(alloc, &name, &taken, &session)
-}
-
-/// The line of one session of a prover.
-fn prover_line<R: Threads + Sync>(
-    rt: &R,
-    alloc: Global,
-    scenario: &Scenario<'_>,
-    job: &ProverJob<'_>,
-    case: Case,
-) -> Result<String> {
-    let Case {
-        name,
-        script,
-        call,
-        piece,
-    } = case;
-    let fault = claim_fault(scenario.refusal)?;
-    let link = link_of(alloc, script, call, piece)?;
-    let session = prove(rt, alloc, job, fault, link);
-    line_of(alloc, &name, "", &session)
-}
-
-/// The lines of a verifier's sessions.
-pub fn verifier_lines<R: Threads + Sync>(
-    rt: &R,
-    alloc: Global,
-    scenario: &Scenario<'_>,
-    jobs: &VerifierJobs<'_>,
-    cases: Vec<Case>,
-) -> Result<String> {
-    let mut lines = String::new(alloc);
-    for case in cases {
-        lines.push_str(&verifier_line(rt, alloc, scenario, jobs, case)?)?;
+    let link = link_of(alloc, script, refused, piece)?;
+    match job {
+        EndJob::Verifier(jobs) => {
+            let fault = lease_fault(scenario.refusal)?;
+            let (statement, session) = verify(rt, alloc, jobs, scenario.start, fault, link);
+            let taken = taken_word(alloc, scenario.before.is_some(), statement)?;
+            line_of(alloc, &name, &taken, &session)
+        }
+        EndJob::Prover(job) => {
+            let fault = claim_fault(scenario.refusal)?;
+            let session = prove(rt, alloc, job, fault, link);
+            line_of(alloc, &name, "", &session)
+        }
     }
-    Ok(lines)
 }
 
-/// The lines of a prover's sessions.
-pub fn prover_lines<R: Threads + Sync>(
+/// The lines of sessions of this end, whose honest peer sends these bytes.
+pub fn session_lines<R: Threads + Sync>(
     rt: &R,
     alloc: Global,
     scenario: &Scenario<'_>,
-    job: &ProverJob<'_>,
-    cases: Vec<Case>,
+    job: EndJob<'_, '_>,
+    honest: &[u8],
 ) -> Result<String> {
     let mut lines = String::new(alloc);
-    for case in cases {
-        lines.push_str(&prover_line(rt, alloc, scenario, job, case)?)?;
+    for case in cases_of(alloc, &scenario.peer, honest)? {
+        lines.push_str(&session_line(rt, alloc, scenario, job, case)?)?;
     }
     Ok(lines)
 }

@@ -2,7 +2,7 @@
 use crate::cases::set_byte;
 use crate::journals::journal_of;
 use crate::piece_link::plan_of;
-use crate::scenario::{Areas, GivenFiles, Scenario, read_pair};
+use crate::scenario::{Areas, GivenFiles, Refused, RefusedCalls, Scenario, read_pair};
 use crate::scene::{input_bits, params_of};
 use crate::sessions::SEED;
 use anyhow::{Error, Result};
@@ -63,13 +63,18 @@ fn set_version(bytes: &mut [u8], version: u64) -> Result<()> {
     Ok(())
 }
 
-/// A dealt file of this version, in which bytes are others, as `7:50+8:1`.
-fn dealt_file(bytes: Vec<u8>, version: u64, damage: &str) -> Result<Vec<u8>> {
+/// A dealt file of this version, cut or with zero bytes after it, in which bytes are others, as `7:50+8:1`, those behind its end aside.
+fn dealt_file(bytes: Vec<u8>, version: u64, given: &GivenFiles<'_>) -> Result<Vec<u8>> {
     let mut bytes = bytes;
     set_version(&mut bytes, version)?;
-    for change in damage.split('+').filter(|change| !change.is_empty()) {
+    if let Some(size) = given.dealt_size {
+        bytes.resize(size, 0)?;
+    }
+    for change in given.damage.split('+').filter(|change| !change.is_empty()) {
         let (place, byte) = read_pair(change, ":")?;
-        set_byte(&mut bytes, place, byte)?;
+        if place < bytes.len() as u64 {
+            set_byte(&mut bytes, place, byte)?;
+        }
     }
     Ok(bytes)
 }
@@ -95,9 +100,9 @@ fn put_dealt(
     verifier: &VerifierFile,
 ) -> Result<()> {
     let (first, second) = given.versions;
-    let bytes = dealt_file(prover.encode(alloc)?, first, given.damage)?;
+    let bytes = dealt_file(prover.encode(alloc)?, first, given)?;
     put(alloc, files, "x.prover", bytes)?;
-    let bytes = dealt_file(verifier.encode(alloc)?, second, given.damage)?;
+    let bytes = dealt_file(verifier.encode(alloc)?, second, given)?;
     put(alloc, files, "x.verifier", bytes)
 }
 
@@ -141,6 +146,18 @@ pub fn given_of(alloc: Global, scenario: &Scenario<'_>, kind: JournalKind) -> Re
     })
 }
 
+/// The same over the disk as a crash has left it.
+pub fn given_again(
+    alloc: Global,
+    scenario: &Scenario<'_>,
+    kind: JournalKind,
+    image: Vec<u8>,
+) -> Result<Given> {
+    let mut given = given_of(alloc, scenario, kind)?;
+    given.journal = image;
+    Ok(given)
+}
+
 /// For how many bytes a disk has room: behind a journal of one area for one of two.
 fn room_of(areas: Areas, length: usize) -> usize {
     match areas {
@@ -154,29 +171,28 @@ fn disk_of(
     alloc: Global,
     bytes: Vec<u8>,
     room: usize,
-    disk_fails: u64,
+    refused: Refused,
 ) -> Result<QuietDisk<FailAt>> {
-    let plan = plan_of(alloc, disk_fails)?;
+    let plan = plan_of(alloc, refused)?;
     let calls = DISK_CALLS + room / 32;
     let disk = MemoryDisk::new(alloc, bytes, room, calls, plan)?;
     Ok(QuietDisk { disk })
 }
 
 impl Given {
-    /// The shelf and the disk, of which calls of these numbers fail.
+    /// The shelf and the disk, of which these calls are refused.
     pub fn opened(
         self,
         alloc: Global,
-        shelf_fails: u64,
-        disk_fails: u64,
+        refused: RefusedCalls,
     ) -> Result<(MemoryShelf<FailAt>, QuietDisk<FailAt>)> {
         let Given {
             files,
             journal,
             room,
         } = self;
-        let disk = disk_of(alloc, journal, room, disk_fails)?;
-        let shelf = MemoryShelf::new(files, plan_of(alloc, shelf_fails)?);
+        let disk = disk_of(alloc, journal, room, refused.disk)?;
+        let shelf = MemoryShelf::new(files, plan_of(alloc, refused.shelf)?);
         Ok((shelf, disk))
     }
 }

@@ -1,5 +1,5 @@
 //! Sessions of either end over links in memory, with peers whose bytes are stated, and runs of the program over objects in memory
-//! whose failing calls are stated. Each line of standard input is a scenario: whose session it is, and words `name=value`. The line is
+//! whose refused calls are stated. Each line of standard input is a scenario: whose session it is, and words `name=value`. The line is
 //! written, and after it a line for each session or run.
 //!
 //! `stdin` has the scenarios and `stdout` what they must write, both by `vectors/session_runs.py`; `data` has the circuits.
@@ -34,8 +34,8 @@
 //! | `pieces=N` | how many bytes come at most in one receive, up to 4,096 | 4,096 |
 //!
 //! One word may have a session for each number of a range, from A up to B without B: `cut=A..B` has the peer end after so many
-//! bytes, `change=A..B:MASK` changes its byte at this place in the bits of the mask, and `fail=A..B` fails the call of the link of
-//! this number, counted from 1.
+//! bytes, `change=A..B:MASK` changes its byte at this place in the bits of the mask, `fail=A..B` fails the call of the link of
+//! this number, counted from 1, and `lack=A..B` has it find no memory.
 //!
 //! What a run of the program is given; `x.prover` and `x.verifier` are the dealt files, the circuit stands under its name, and the disk
 //! has the journal of one of the files, of which it tells nothing: the prover's where the words begin with `prove` or `migrate,prover`,
@@ -47,7 +47,8 @@
 //! | `tail=TEXT` | text behind the circuit's, in which `_` is a space | none |
 //! | `size=N` | the size up to which line feeds follow the circuit's text | its own |
 //! | `versions=A,B` | the versions of the prover's dealt file and of the verifier's; their digests fit | `1,1` |
-//! | `damage=PLACE:BYTE+..` | bytes of both dealt files that are others, whose digests stay | none |
+//! | `dealt-size=N` | how many bytes both dealt files have | their own |
+//! | `damage=PLACE:BYTE+..` | bytes of both dealt files that are others, where they have such a place; their digests stay | none |
 //! | `areas=AREAS` | the journal has `one` area, or `two`, or it was `moved`: two areas behind a journal of one that was migrated | `two` |
 //! | `slots=N` | how many slots an area has | those of a new one |
 //! | `heads=A,B` | the generations in the heads of the first area and the second, 0 in one that is closed | `1,0` |
@@ -56,8 +57,10 @@
 //! | `journal-size=N` | how many bytes the journal has | its own |
 //! | `journal-set=PLACE:BYTE` | one byte of the journal that is another | none |
 //! | `shelf-fails=N`, `sink-fails=N`, `door-fails=N`, `disk-fails=N` | the number of the call that fails, counted from 1 | none |
+//! | `shelf-lacks=N`, `sink-lacks=N`, `door-lacks=N` | the number of the call that finds no memory, counted from 1 | none |
 //! | `statements=TEXT` | the text of the file `statements`, in which `+` is a space, and `/` the end of a line; a service is then that of `serve-many` | empty |
 //! | `log=HEX` | the bytes of the file `log` | none |
+//! | `crash=LEFT` | what a crash after the run leaves of each write since the last sync: `old`, `new`, or a byte all over it; the run is then made again over that disk | no crash |
 //! | `show=NAME,NAME..` | the files of which the line says how many bytes stand there, and SHA-256 of them, or with `NAME:N` of the first N; `disk` for the disk | none |
 //!
 //! Ceilings and claims stand in the area that counts. The other, where its head is open, says that all units are spent, and so does the

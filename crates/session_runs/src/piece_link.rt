@@ -2,18 +2,19 @@
 ghost use Rattle.std.specs.Prelude.{◌≡◌, ◌≤◌, true, IfOk};
 ghost use Rattle.zk_port.specs.Doors.{IsFreshLink};
 
+use crate::scenario::Refused;
 use memory_ports::{FailAt, ScriptedLink};
 use std::alloc::{AllocError, Global};
 use zk_port::{Link, PortFault};
 
-/// Calls of which the one of this number fails, counted from 1.
-pub fn plan_of(alloc: Global, number: u64) -> Result<FailAt, AllocError>
+/// Calls of which these are refused.
+pub fn plan_of(alloc: Global, refused: Refused) -> Result<FailAt, AllocError>
     ensures { IfOk result (λ plan. plan.faults ≡ 0) }
 {
-    Ok(FailAt::new([number].to_vec(alloc)?))
+    Ok(FailAt::with_lack([refused.fails].to_vec(alloc)?, refused.lacks))
 }
 
-/// A link in memory whose peer sends these bytes and ends; a receive takes at most so many, and the call of this number fails.
+/// A link in memory whose peer sends these bytes and ends; a receive takes at most so many, and calls are refused where the plan says so.
 #[derive(Drop)]
 pub struct PieceLink {
     inner: ScriptedLink<FailAt>,

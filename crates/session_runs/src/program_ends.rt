@@ -3,17 +3,16 @@ ghost use Rattle.std.specs.Prelude.{IfOk};
 ghost use Rattle.zk_port.specs.Doors.{IsFreshLink};
 
 use crate::cases::{Case, cases_of, link_of};
-use crate::given::{given_of, words_of};
+use crate::given::words_of;
 use crate::piece_link::PieceLink;
-use crate::runs::{Peers, empty_door, run_line};
+use crate::runs::{Doors, Peers, empty_door, run_lines};
 use crate::say::Bits;
-use crate::scenario::{Scenario, Service};
+use crate::scenario::{NOTHING_REFUSED, Scenario, Service};
 use anyhow::Result;
 use command_words::write_bits;
 use std::alloc::Global;
 use std::sync::Wait;
 use std::thread::Threads;
-use twin_journal::JournalKind;
 use zk_port::Link;
 
 /// A scenario, its public bits, and the outputs that are claimed in it.
@@ -94,11 +93,11 @@ fn peer_link(
         return link_of(
             alloc,
             stated.script.to_vec(alloc)?,
-            stated.call,
+            stated.refused,
             stated.piece,
         );
     }
-    link_of(alloc, honest.to_vec(alloc)?, 0, 4096)
+    link_of(alloc, honest.to_vec(alloc)?, NOTHING_REFUSED, 4096)
 }
 
 /// A door at which the peers of a service call: the one of the stated number does what is stated, and the others are honest.
@@ -115,8 +114,8 @@ fn service_door(
     Ok(door)
 }
 
-/// The line of a run of the program that serves a claim, at which one peer does what is stated.
-fn service_line<R: Threads + Wait + Sync>(
+/// The lines of a run of the program that serves a claim, at which one peer does what is stated.
+fn stated_lines<R: Threads + Wait + Sync>(
     rt: &R,
     alloc: Global,
     scenario: &Scenario<'_>,
@@ -124,17 +123,11 @@ fn service_line<R: Threads + Wait + Sync>(
     words: &[String],
     stated: &Case,
 ) -> Result<String> {
-    let given = given_of(alloc, scenario, JournalKind::Ceilings)?;
-    let door = service_door(alloc, scenario, honest, stated)?;
-    run_line(
-        rt,
-        alloc,
-        &scenario.outside,
-        &stated.name,
-        given,
-        door,
-        words,
-    )
+    let doors = Doors {
+        first: service_door(alloc, scenario, honest, stated)?,
+        again: service_door(alloc, scenario, honest, stated)?,
+    };
+    run_lines(rt, alloc, scenario, &stated.name, doors, words)
 }
 
 /// The lines of runs of the program that serve a claim, with these peers at the door: for each its honest bytes.
@@ -152,23 +145,32 @@ pub fn service_lines<R: Threads + Wait + Sync>(
     };
     let mut lines = String::new(alloc);
     for stated in &cases_of(alloc, &scenario.peer, script)? {
-        lines.push_str(&service_line(rt, alloc, scenario, honest, &words, stated)?)?;
+        lines.push_str(&stated_lines(rt, alloc, scenario, honest, &words, stated)?)?;
     }
     Ok(lines)
 }
 
-/// The line of a run of the program that proves a claim to the peer of this case.
-fn proof_line<R: Threads + Wait + Sync>(
+/// A door that connects to the peer of this case.
+fn proof_door(alloc: Global, scenario: &Scenario<'_>, case: &Case) -> Result<Peers> {
+    let mut door = empty_door(alloc, scenario)?;
+    let script = case.script.to_vec(alloc)?;
+    door.call(link_of(alloc, script, case.refused, case.piece)?)?;
+    Ok(door)
+}
+
+/// The lines of a run of the program that proves a claim to the peer of this case.
+fn case_lines<R: Threads + Wait + Sync>(
     rt: &R,
     alloc: Global,
     scenario: &Scenario<'_>,
     words: &[String],
     case: &Case,
 ) -> Result<String> {
-    let given = given_of(alloc, scenario, JournalKind::Claims)?;
-    let mut door = empty_door(alloc, scenario)?;
-    door.call(link_of(alloc, case.script.to_vec(alloc)?, case.call, case.piece)?)?;
-    run_line(rt, alloc, &scenario.outside, &case.name, given, door, words)
+    let doors = Doors {
+        first: proof_door(alloc, scenario, case)?,
+        again: proof_door(alloc, scenario, case)?,
+    };
+    run_lines(rt, alloc, scenario, &case.name, doors, words)
 }
 
 /// The words of a proof of a claim.
@@ -194,7 +196,7 @@ pub fn proof_lines<R: Threads + Wait + Sync>(
     let words = proof_words(alloc, claimed)?;
     let mut lines = String::new(alloc);
     for case in &cases_of(alloc, &scenario.peer, honest)? {
-        lines.push_str(&proof_line(rt, alloc, scenario, &words, case)?)?;
+        lines.push_str(&case_lines(rt, alloc, scenario, &words, case)?)?;
     }
     Ok(lines)
 }

@@ -1,12 +1,12 @@
 // Runs of the program over files, an output, a door and a journal's disk in memory.
-use crate::given::{Given, given_of, words_of};
+use crate::given::{Given, given_again, given_of, words_of};
 use crate::piece_link::{PieceLink, plan_of};
 use crate::say::{Bits, Ending, Hex, Logged, Units, prover_ending, verifier_ending};
-use crate::scenario::{Failing, Outside, Scenario};
+use crate::scenario::{NO_REFUSED_CALLS, RefusedCalls, Scenario};
 use crate::sessions::SEED;
 use anyhow::{Error, Result};
 use frame_link::Log;
-use memory_ports::{FailAt, MemoryDoor, MemoryShelf, MemorySink, QuietDisk};
+use memory_ports::{FailAt, Leftover, MemoryDoor, MemoryShelf, MemorySink, QuietDisk};
 use session_prover::ProverNote;
 use session_verifier::SessionNote;
 use sha2::{Digest, Sha256};
@@ -151,8 +151,15 @@ fn shown_files(
 
 /// A door with no peers.
 pub fn empty_door(alloc: Global, scenario: &Scenario<'_>) -> Result<Peers> {
-    let plan = plan_of(alloc, scenario.outside.failing.door)?;
+    let plan = plan_of(alloc, scenario.outside.refused.door)?;
     Ok(MemoryDoor::new(alloc, plan))
+}
+
+/// The door of a run, and that of the run after a crash.
+#[derive(Drop)]
+pub struct Doors {
+    pub first: Peers,
+    pub again: Peers,
 }
 
 /// What came of a run: its status, its output, what it hands back, the files and the disk.
@@ -182,14 +189,14 @@ fn run_words<R: Threads + Wait + Sync>(
 fn run<R: Threads + Wait + Sync>(
     rt: &R,
     alloc: Global,
-    failing: Failing,
+    refused: RefusedCalls,
     given: Given,
     door: Peers,
     words: &[String],
 ) -> Result<Ran> {
-    let (shelf, disk) = given.opened(alloc, failing.shelf, failing.disk)?;
+    let (shelf, disk) = given.opened(alloc, refused)?;
     let mut shelf = shelf;
-    let mut out = MemorySink::new(alloc, plan_of(alloc, failing.sink)?);
+    let mut out = MemorySink::new(alloc, plan_of(alloc, refused.sink)?);
     let finish = run_words(rt, alloc, words, &mut shelf, disk, door, &mut out);
     let Finish {
         status,
@@ -216,19 +223,41 @@ fn line_of(alloc: Global, name: &str, ran: &Ran, shown: &str) -> Result<String> 
     Ok(format!(in alloc; "{name}status={status} written={written:?} {part}{shown}\n")?)
 }
 
-/// The line of a run of this name and these words over what stands there, with this door.
-pub fn run_line<R: Threads + Wait + Sync>(
+/// What a crash may leave of a disk: this, of each write since the last sync.
+fn image_of(alloc: Global, disk: &QuietDisk<FailAt>, leftover: Leftover) -> Result<Vec<u8>> {
+    let mut leftovers = Vec::new(alloc);
+    leftovers.resize(disk.disk.pending(), leftover)?;
+    Ok(disk.disk.image(alloc, &leftovers)?)
+}
+
+/// The line of what came of a run of this name, with the files that are shown.
+fn shown_line(alloc: Global, name: &str, show: &str, ran: &mut Ran) -> Result<String> {
+    let shown = shown_files(alloc, show, &mut ran.shelf, &ran.disk)?;
+    line_of(alloc, name, ran, &shown)
+}
+
+/// The line of a run of this name and these words over what stands there, with these peers; and where a crash follows, that of the same
+/// over the disk as it is left, of which no call is refused.
+pub fn run_lines<R: Threads + Wait + Sync>(
     rt: &R,
     alloc: Global,
-    outside: &Outside<'_>,
+    scenario: &Scenario<'_>,
     name: &str,
-    given: Given,
-    door: Peers,
+    doors: Doors,
     words: &[String],
 ) -> Result<String> {
-    let mut ran = run(rt, alloc, outside.failing, given, door, words)?;
-    let shown = shown_files(alloc, outside.show, &mut ran.shelf, &ran.disk)?;
-    line_of(alloc, name, &ran, &shown)
+    let (outside, kind) = (&scenario.outside, kind_of(words));
+    let Doors { first, again } = doors;
+    let given = given_of(alloc, scenario, kind)?;
+    let mut ran = run(rt, alloc, outside.refused, given, first, words)?;
+    let mut lines = shown_line(alloc, name, outside.show, &mut ran)?;
+    if let Some(leftover) = outside.crash {
+        let image = image_of(alloc, &ran.disk, leftover)?;
+        let given = given_again(alloc, scenario, kind, image)?;
+        let mut ran = run(rt, alloc, NO_REFUSED_CALLS, given, again, words)?;
+        lines.push_str(&shown_line(alloc, "again ", outside.show, &mut ran)?)?;
+    }
+    Ok(lines)
 }
 
 /// The kind of the journal that the disk has: `prove` and `migrate prover` are about the prover's.
@@ -242,15 +271,16 @@ fn kind_of(words: &[String]) -> JournalKind {
     JournalKind::Ceilings
 }
 
-/// The line of a run of a scenario's words, with nobody at the door.
-pub fn words_line<R: Threads + Wait + Sync>(
+/// The lines of a run of a scenario's words, with nobody at the door.
+pub fn words_lines<R: Threads + Wait + Sync>(
     rt: &R,
     alloc: Global,
     scenario: &Scenario<'_>,
 ) -> Result<String> {
-    let outside = &scenario.outside;
-    let words = words_of(alloc, scenario, outside.words)?;
-    let given = given_of(alloc, scenario, kind_of(&words))?;
-    let door = empty_door(alloc, scenario)?;
-    run_line(rt, alloc, outside, "", given, door, &words)
+    let words = words_of(alloc, scenario, scenario.outside.words)?;
+    let doors = Doors {
+        first: empty_door(alloc, scenario)?,
+        again: empty_door(alloc, scenario)?,
+    };
+    run_lines(rt, alloc, scenario, "", doors, &words)
 }

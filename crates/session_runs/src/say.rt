@@ -1,6 +1,7 @@
 // What came of a session, in words.
 use crate::piece_link::PieceLink;
 use frame_link::Log;
+use mersenne_field::Fe;
 use session_core::{Digests, HelloDiffers};
 use session_prover::ProverOutcome;
 use session_verifier::VerifierOutcome;
@@ -160,6 +161,16 @@ fn pair(name: &'static str, first: Labelled, second: Labelled) -> Ending {
     named(name, first, second, with_label("", 0))
 }
 
+/// An equation of this number that does not hold, and its sides.
+fn rejected(name: &'static str, label: &'static str, number: u32, left: Fe, right: Fe) -> Ending {
+    named(
+        name,
+        with_label(label, u64::from(number)),
+        with_label("left", left.value()),
+        with_label("right", right.value()),
+    )
+}
+
 /// How a session ended for the verifier.
 pub fn verifier_ending(outcome: VerifierOutcome) -> Ending {
     match outcome {
@@ -168,22 +179,12 @@ pub fn verifier_ending(outcome: VerifierOutcome) -> Ending {
             section,
             left,
             right,
-        } => named(
-            "rejected-sum",
-            with_label("section", u64::from(section)),
-            with_label("left", left.value()),
-            with_label("right", right.value()),
-        ),
+        } => rejected("rejected-sum", "section", section, left, right),
         VerifierOutcome::RejectedOpening {
             output,
             left,
             right,
-        } => named(
-            "rejected-opening",
-            with_label("output", u64::from(output)),
-            with_label("left", left.value()),
-            with_label("right", right.value()),
-        ),
+        } => rejected("rejected-opening", "output", output, left, right),
         VerifierOutcome::PeerEnded { at } => single("peer-ended", "at", at),
         VerifierOutcome::BadFrame { place } => single("bad-frame", "place", place),
         VerifierOutcome::BadHello(differs) => Ending::Hello(differs),

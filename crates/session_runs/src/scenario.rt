@@ -1,5 +1,6 @@
 // What a line of words asks for.
 use anyhow::{Error, Result};
+use memory_ports::Leftover;
 
 /// Whose session it is.
 #[derive(Clone, Copy, PartialEq, Eq)]
@@ -51,7 +52,19 @@ pub enum Sweep {
     Change { mask: u8 },
     /// The call of the link of this number, counted from 1, fails.
     Fail,
+    /// The call of the link of this number, counted from 1, finds no memory.
+    Lack,
 }
+
+/// The numbers of the call of an object that fails, and of the one that finds no memory, counted from 1, or 0.
+#[derive(Clone, Copy)]
+pub struct Refused {
+    pub fails: u64,
+    pub lacks: u64,
+}
+
+/// No call is refused.
+pub const NOTHING_REFUSED: Refused = Refused { fails: 0, lacks: 0 };
 
 /// The peer's bytes: so many of the honest ones, or all; with others after them, in hex; and one byte in place of another. Then how many
 /// bytes come at most in one receive, and what each number of a range changes.
@@ -91,35 +104,37 @@ pub struct Journaled<'a> {
 }
 
 /// The files that a run of the program is given: text that stands behind the circuit's, and the size up to which line feeds follow it; the
-/// versions of the dealt files, the prover's and the verifier's, and the bytes of both that are others; the text of the file of
-/// statements; and the log, in hex.
+/// versions of the dealt files, the prover's and the verifier's, how many bytes both have, where these are not all, and the bytes of both
+/// that are others; the text of the file of statements; and the log, in hex.
 #[derive(Clone, Copy)]
 pub struct GivenFiles<'a> {
     pub tail: &'a str,
     pub size: usize,
     pub versions: (u64, u64),
+    pub dealt_size: Option<usize>,
     pub damage: &'a str,
     pub statements: &'a str,
     pub log: &'a str,
 }
 
-/// The numbers of the calls of the shelf, the sink, the door and the disk that fail, counted from 1, or 0.
+/// The calls of the shelf, the sink, the door and the disk that are refused.
 #[derive(Clone, Copy)]
-pub struct Failing {
-    pub shelf: u64,
-    pub sink: u64,
-    pub door: u64,
-    pub disk: u64,
+pub struct RefusedCalls {
+    pub shelf: Refused,
+    pub sink: Refused,
+    pub door: Refused,
+    pub disk: Refused,
 }
 
-/// What a run of the program is given: the words, the files, the journal, the calls that fail, and the names of the files that the line
-/// says something of.
+/// What a run of the program is given: the words, the files, the journal, the calls that are refused, what a crash leaves after it of each
+/// write since the last sync, where one follows, and the names of the files that the line says something of.
 #[derive(Clone, Copy)]
 pub struct Outside<'a> {
     pub words: &'a str,
     pub files: GivenFiles<'a>,
     pub journal: Journaled<'a>,
-    pub failing: Failing,
+    pub refused: RefusedCalls,
+    pub crash: Option<Leftover>,
     pub show: &'a str,
 }
 
@@ -168,6 +183,7 @@ const PLAIN_FILES: GivenFiles<'static> = GivenFiles {
     tail: "",
     size: 0,
     versions: (1, 1),
+    dealt_size: None,
     damage: "",
     statements: "",
     log: "",
@@ -184,12 +200,12 @@ const NEW_JOURNAL: Journaled<'static> = Journaled {
     set: None,
 };
 
-/// No call that fails.
-const NO_FAULTS: Failing = Failing {
-    shelf: 0,
-    sink: 0,
-    door: 0,
-    disk: 0,
+/// No call that is refused.
+pub const NO_REFUSED_CALLS: RefusedCalls = RefusedCalls {
+    shelf: NOTHING_REFUSED,
+    sink: NOTHING_REFUSED,
+    door: NOTHING_REFUSED,
+    disk: NOTHING_REFUSED,
 };
 
 /// The scenario of a line without words.
@@ -214,7 +230,8 @@ fn plain(end: End) -> Scenario<'static> {
             words: "",
             files: PLAIN_FILES,
             journal: NEW_JOURNAL,
-            failing: NO_FAULTS,
+            refused: NO_REFUSED_CALLS,
+            crash: None,
             show: "",
         },
         service: Service {
@@ -308,6 +325,15 @@ fn areas_named(word: &str) -> Option<Areas> {
     }
 }
 
+/// What a crash leaves of a write: `old`, `new`, or a byte all over it.
+fn read_leftover(word: &str) -> Result<Leftover> {
+    match word {
+        "old" => Ok(Leftover::Old),
+        "new" => Ok(Leftover::New),
+        _ => Ok(Leftover::Filled(byte(word)?)),
+    }
+}
+
 /// Has each number of a range change something.
 fn set_sweep(peer: &mut Peer<'_>, sweep: Sweep, numbers: &str) -> Result<()> {
     peer.sweep = sweep;
@@ -340,6 +366,7 @@ fn set_files<'a>(outside: &mut Outside<'a>, name: &str, value: &'a str) -> Resul
         "tail" => files.tail = value,
         "size" => files.size = number(value)? as usize,
         "versions" => files.versions = read_pair(value, ",")?,
+        "dealt-size" => files.dealt_size = Some(number(value)? as usize),
         "damage" => files.damage = value,
         "statements" => files.statements = value,
         "log" => files.log = value,
@@ -348,15 +375,42 @@ fn set_files<'a>(outside: &mut Outside<'a>, name: &str, value: &'a str) -> Resul
     Ok(())
 }
 
+/// The object that a word names, of those whose calls are refused.
+fn object_named<'a>(refused: &'a mut RefusedCalls, word: &str) -> Option<&'a mut Refused> {
+    match word {
+        "shelf" => Some(&mut refused.shelf),
+        "sink" => Some(&mut refused.sink),
+        "door" => Some(&mut refused.door),
+        "disk" => Some(&mut refused.disk),
+        _ => None,
+    }
+}
+
+/// Sets what a word names, of the calls that are refused; whether it names such a call.
+fn set_refused(refused: &mut RefusedCalls, name: &str, value: &str) -> Result<bool> {
+    let Some((word, how)) = name.rsplit_once('-') else {
+        return Ok(false);
+    };
+    let Some(calls) = object_named(refused, word) else {
+        return Ok(false);
+    };
+    match how {
+        "fails" => calls.fails = number(value)?,
+        "lacks" => calls.lacks = number(value)?,
+        _ => return Ok(false),
+    }
+    Ok(true)
+}
+
 /// Sets what a word names, of what a run of the program is given.
 fn set_outside<'a>(outside: &mut Outside<'a>, name: &str, value: &'a str) -> Result<()> {
+    if set_refused(&mut outside.refused, name, value)? {
+        return Ok(());
+    }
     match name {
         "words" => outside.words = value,
         "show" => outside.show = value,
-        "shelf-fails" => outside.failing.shelf = number(value)?,
-        "sink-fails" => outside.failing.sink = number(value)?,
-        "door-fails" => outside.failing.door = number(value)?,
-        "disk-fails" => outside.failing.disk = number(value)?,
+        "crash" => outside.crash = Some(read_leftover(value)?),
         _ => set_files(outside, name, value)?,
     }
     Ok(())
@@ -389,6 +443,7 @@ fn set_peer<'a>(peer: &mut Peer<'a>, name: &str, value: &'a str) -> Result<bool>
             set_sweep(peer, Sweep::Change { mask }, numbers)?;
         }
         "fail" => set_sweep(peer, Sweep::Fail, value)?,
+        "lack" => set_sweep(peer, Sweep::Lack, value)?,
         _ => return Ok(false),
     }
     Ok(true)

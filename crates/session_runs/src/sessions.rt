@@ -6,9 +6,9 @@ ghost use Rattle.zk_model.specs.declared.limits.TheConstants.{MAX_SECTION_LENGTH
 
 use crate::audits::audit_lines;
 use crate::cases::cases_of;
-use crate::ends::{Dialogue, hold_dialogue, prover_lines, verifier_lines};
+use crate::ends::{EndJob, hold_dialogue, session_lines};
 use crate::program_ends::{Claimed, proof_lines, service_lines};
-use crate::runs::words_line;
+use crate::runs::words_lines;
 use crate::say::{Judged, Logged};
 use crate::scenario::{End, Scenario};
 use crate::scene::{InputBits, claimed_outputs, input_bits, params_of};
@@ -54,62 +54,6 @@ fn honest_peers<R: Threads + Sync>(
     Ok(honest)
 }
 
-/// The lines of sessions of a verifier, whose honest peer sends these bytes.
-fn verifier_cases<R: Threads + Sync>(
-    rt: &R,
-    alloc: Global,
-    scenario: &Scenario<'_>,
-    jobs: &VerifierJobs<'_>,
-    honest: &[u8],
-) -> Result<String> {
-    let cases = cases_of(alloc, &scenario.peer, honest)?;
-    verifier_lines(rt, alloc, scenario, jobs, cases)
-}
-
-/// The lines of sessions of a prover, whose honest peer sends these bytes.
-fn prover_cases<R: Threads + Sync>(
-    rt: &R,
-    alloc: Global,
-    scenario: &Scenario<'_>,
-    job: &ProverJob<'_>,
-    honest: &[u8],
-) -> Result<String> {
-    let cases = cases_of(alloc, &scenario.peer, honest)?;
-    prover_lines(rt, alloc, scenario, job, cases)
-}
-
-/// The lines of sessions of the one end, and then of the other.
-fn both_lines<R: Threads + Sync>(
-    rt: &R,
-    alloc: Global,
-    scenario: &Scenario<'_>,
-    prover: &ProverJob<'_>,
-    verifier: &VerifierJobs<'_>,
-    sent: &Dialogue,
-) -> Result<String> {
-    let mut lines = verifier_cases(rt, alloc, scenario, verifier, &sent.prover)?;
-    lines.push_str(&prover_cases(rt, alloc, scenario, prover, &sent.verifier)?)?;
-    Ok(lines)
-}
-
-/// The lines of a scenario of one link between these ends.
-fn linked_lines<R: Threads + Wait + Sync>(
-    rt: &R,
-    alloc: Global,
-    claimed: &Claimed<'_, '_>,
-    prover: &ProverJob<'_>,
-    verifier: &VerifierJobs<'_>,
-) -> Result<String> {
-    let scenario = claimed.scenario;
-    let sent = hold_dialogue(rt, alloc, scenario.start, prover, verifier)?;
-    match scenario.end {
-        End::Proof => proof_lines(rt, alloc, claimed, &sent.verifier),
-        End::Verifier => verifier_cases(rt, alloc, scenario, verifier, &sent.prover),
-        End::Prover => prover_cases(rt, alloc, scenario, prover, &sent.verifier),
-        _ => both_lines(rt, alloc, scenario, prover, verifier, &sent),
-    }
-}
-
 /// The lines of a scenario of these ends.
 fn lines_of<R: Threads + Wait + Sync>(
     rt: &R,
@@ -118,11 +62,25 @@ fn lines_of<R: Threads + Wait + Sync>(
     prover: &ProverJob<'_>,
     verifier: &VerifierJobs<'_>,
 ) -> Result<String> {
-    if claimed.scenario.end == End::Service {
-        let honest = honest_peers(rt, alloc, claimed.scenario, prover, verifier)?;
+    let scenario = claimed.scenario;
+    if scenario.end == End::Service {
+        let honest = honest_peers(rt, alloc, scenario, prover, verifier)?;
         return service_lines(rt, alloc, claimed, &honest);
     }
-    linked_lines(rt, alloc, claimed, prover, verifier)
+    let sent = hold_dialogue(rt, alloc, scenario.start, prover, verifier)?;
+    if scenario.end == End::Proof {
+        return proof_lines(rt, alloc, claimed, &sent.verifier);
+    }
+    let mut lines = String::new(alloc);
+    if scenario.end != End::Prover {
+        let job = EndJob::Verifier(verifier);
+        lines.push_str(&session_lines(rt, alloc, scenario, job, &sent.prover)?)?;
+    }
+    if scenario.end != End::Verifier {
+        let job = EndJob::Prover(prover);
+        lines.push_str(&session_lines(rt, alloc, scenario, job, &sent.verifier)?)?;
+    }
+    Ok(lines)
 }
 
 /// The length of sections.
@@ -147,7 +105,7 @@ fn unfit_lines<R: Threads + Wait + Sync>(
 ) -> Result<String> {
     let TooLarge { need, units } = fault;
     match claimed.scenario.end {
-        End::Prover => prover_cases(rt, alloc, claimed.scenario, prover, &[]),
+        End::Prover => session_lines(rt, alloc, claimed.scenario, EndJob::Prover(prover), &[]),
         End::Proof => proof_lines(rt, alloc, claimed, &[]),
         _ => Ok(format!(in alloc; "too-large need={need} units={units}\n")?),
     }
@@ -171,43 +129,28 @@ fn claim_of(
     Ok(claim)
 }
 
-/// The lines of a scenario of a verifier that offers this statement alone.
-fn one_claim_lines<R: Threads + Wait + Sync>(
+/// The lines of a scenario of a verifier that offers this statement, and before it another, where there is one.
+fn offered_lines<R: Threads + Wait + Sync>(
     rt: &R,
     alloc: Global,
     claimed: &Claimed<'_, '_>,
-    statement: &Statement<'_>,
+    before: Option<&Statement<'_>>,
     prover: &ProverJob<'_>,
     file: &VerifierFile,
 ) -> Result<String> {
     let section = section_of(claimed.scenario)?;
-    match VerifierJob::fit(statement, file, section) {
-        Ok(verifier) => {
-            let jobs = VerifierJobs::new(&verifier, &[]);
-            lines_of(rt, alloc, claimed, prover, &jobs)
-        }
-        Err(fault) => unfit_lines(rt, alloc, claimed, prover, fault),
-    }
-}
-
-/// The lines of a scenario of a verifier that offers one statement, and then another.
-fn two_claims_lines<R: Threads + Wait + Sync>(
-    rt: &R,
-    alloc: Global,
-    claimed: &Claimed<'_, '_>,
-    statements: (&Statement<'_>, &Statement<'_>),
-    prover: &ProverJob<'_>,
-    file: &VerifierFile,
-) -> Result<String> {
-    let section = section_of(claimed.scenario)?;
-    let (first, second) = statements;
-    let second = match VerifierJob::fit(second, file, section) {
-        Ok(second) => [second],
+    let own = match VerifierJob::fit(prover.statement(), file, section) {
+        Ok(own) => own,
         Err(fault) => return unfit_lines(rt, alloc, claimed, prover, fault),
     };
-    match VerifierJob::fit(first, file, section) {
+    let Some(before) = before else {
+        let jobs = VerifierJobs::new(&own, &[]);
+        return lines_of(rt, alloc, claimed, prover, &jobs);
+    };
+    let others = [own];
+    match VerifierJob::fit(before, file, section) {
         Ok(first) => {
-            let jobs = VerifierJobs::new(&first, &second);
+            let jobs = VerifierJobs::new(&first, &others);
             lines_of(rt, alloc, claimed, prover, &jobs)
         }
         Err(fault) => unfit_lines(rt, alloc, claimed, prover, fault),
@@ -228,16 +171,14 @@ fn statement_lines<R: Threads + Wait + Sync>(
     requires bits { length bits.now ≡ named.now.circuit.now.inputs }
     requires outputs { length claimed.now.outputs.now ≡ named.now.circuit.now.outputs }
 {
-    let statement = prover.statement();
     let Some(before) = claimed.scenario.before else {
-        return one_claim_lines(rt, alloc, claimed, statement, prover, file);
+        return offered_lines(rt, alloc, claimed, None, prover, file);
     };
     let Some(before) = bits.get(..before) else {
         return Err(Error::msg("too many public bits"));
     };
     let other = claim_of(alloc, named, before, claimed.outputs)?;
-    let other = other.statement();
-    two_claims_lines(rt, alloc, claimed, (&other, statement), prover, file)
+    offered_lines(rt, alloc, claimed, Some(&other.statement()), prover, file)
 }
 
 /// The lines of a scenario about this statement, over files that are dealt for it.
@@ -393,7 +334,7 @@ pub fn scenario_lines<R: Threads + Wait + Sync>(
     scenario: &Scenario<'_>,
 ) -> Result<String> {
     if scenario.end == End::Run {
-        return words_line(rt, alloc, scenario);
+        return words_lines(rt, alloc, scenario);
     }
     let circuit = read(alloc, scenario.text)?;
     let named = Named {

@@ -9,8 +9,6 @@
 mod claim;
 mod fault;
 mod reader;
-#[cfg(test)]
-mod tests;
 
 pub use claim::NamedClaim;
 pub use fault::{StatementError, StatementFault};

@@ -1,8 +1,8 @@
-//! Tests of journals, leases, claims and services over disks in memory: calls that fail, crashes at each call and what they leave,
-//! starts after them, damaged journals, and threads that lease and serve at once.
+//! Tests of leases, claims and services over disks in memory: stores that start where the last one closed, and threads that lease and
+//! serve at once. Calls that fail, crashes and damaged journals are scenarios of `session_runs`.
 //!
-//! In `tests`, `machine_tests` has those of `lease_core`, `word_tests` those of `lease_words`, `journal_tests` those of `lease_journal`, `lease_tests` those of `lease_store`, `claim_tests` those of `claim_store` and
-//! `pool_tests` those of `session_pool`. `disks` has the disks that they start on, and what a crash may leave of them; `twin_disks` those with
+//! In `tests`, `machine_tests` has those of `lease_core`, `word_tests` those of `lease_words`, `lease_tests` those of `lease_store`,
+//! `claim_tests` those of `claim_store` and `pool_tests` those of `session_pool`. `disks` has disks that tell nothing, `twin_disks` those with
 //! journals of claims, `ceiling_disks` those with journals of ceilings.
 #![tactic(auto)]
 

@@ -3,7 +3,6 @@
 mod ceiling_disks;
 mod claim_tests;
 mod disks;
-mod journal_tests;
 mod lease_tests;
 mod machine_tests;
 mod pool_tests;

@@ -7,10 +7,10 @@ ghost use Rattle.lease_store.specs.Ceilings.{HasCeilingHeader, HasCeilingRoom, H
 ghost use Rattle.lease_store.specs.Desks.{Begins};
 ghost use Rattle.lease_store.specs.Leases.{IsPassAt};
 
-use crate::tests::disks::{ID, failing};
+use crate::tests::disks::ID;
 use lease_store::{LeaseParts, blank_says_zero, ceilings_start_again};
 use lease_words::Pass;
-use memory_ports::{FailAt, MemoryDisk, SureDisk};
+use memory_ports::SureDisk;
 use std::alloc::Global;
 use std::test::Fail;
 use twin_journal::{JournalKind, blank_twin, blank_twin_is_new, twin_ceiling_slots};
@@ -29,17 +29,6 @@ pub fn new_ceilings(alloc: Global, total: u64) -> Result<Vec<u8>, Fail>
     let slots = twin_ceiling_slots(total);
     let bytes = blank_twin(alloc, JournalKind::Ceilings, &ID, total, slots)?;
     Ok(bytes)
-}
-
-/// A disk that tells, with a new journal of ceilings for so many units.
-pub fn telling_ceilings(alloc: Global, total: u64) -> Result<MemoryDisk<FailAt>, Fail>
-    requires { 1 ≤ total }
-    ensures room { IfOk result (λ disk. (⟦<MemoryDisk<FailAt> as Disk>⟧.state disk).room ≡ None) }
-    ensures tidy { IfOk result (λ disk. (bytes : List ℕ)
-        → (⟦<MemoryDisk<FailAt> as Disk>⟧.state disk).content ≡ Some bytes → HasTidyCeilings bytes) }
-{
-    let bytes = new_ceilings(alloc, total)?;
-    Ok(MemoryDisk::new(alloc, bytes, 0, 60, failing(alloc, &[])?)?)
 }
 
 /// A disk that never fails, with a new journal of ceilings for so many units.

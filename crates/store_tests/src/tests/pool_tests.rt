@@ -1,11 +1,9 @@
 // Sessions over doors and disks in memory.
 ghost use Rattle.std.specs.Prelude.{◌≡◌, ◌≤◌, ◌<◌, ◌+◌, ◌*◌, ℕ, List, All, IfOk, IfSome, Some, length};
 ghost use Rattle.zk_model.specs.declared.limits.TheConstants.{MAX_UNITS};
-ghost use Rattle.lease_store.specs.Ceilings.{HasCeilingRoom, HasTidyCeilings};
 ghost use Rattle.lease_store.specs.Leases.{IsPassAt};
 
-use crate::tests::ceiling_disks::{new_ceilings, started, sure_ceilings};
-use crate::tests::disks::{failing, quiet_disk};
+use crate::tests::ceiling_disks::{started, sure_ceilings};
 use lease_store::{Grantor, LeaseFault, LeaseParts};
 use lease_words::Pass;
 use memory_ports::{MemoryDoor, NoFault, ScriptedLink, SureDisk, Together};
@@ -15,7 +13,7 @@ use std::sync::{Barrier, Wait};
 use std::test::Fail;
 use std::thread::Threads;
 use zk_model::Span;
-use zk_port::{Disk, Gate, Link, Phase, QuietGate};
+use zk_port::{Gate, Link, Phase, QuietGate};
 
 /// Units of the store, and of a session that wants few of them or many.
 const TOTAL: u64 = 64;
@@ -123,27 +121,7 @@ fn door_of(alloc: Global, bytes: &[u8]) -> Result<Peers, AllocError> {
     Ok(door)
 }
 
-/// What comes of so many sessions with these peers, over this disk.
-fn run_on<B: Disk + Drop + Send, G: Gate + Sync, R: Threads + Wait + Sync>(
-    rt: &R,
-    alloc: Global,
-    disk: B,
-    passes: u32,
-    sessions: u32,
-    bytes: &[u8],
-    gate: &G,
-) -> Result<Served<Note, Peers, B>, Fail>
-    requires passes { (1 ≤ passes) × (passes ≤ 1024) }
-    requires room { (size : ℕ) → (B.state disk).room ≡ Some size
-        → HasCeilingRoom (B.state disk).content size }
-    requires tidy { (bytes : List ℕ) → (B.state disk).content ≡ Some bytes → HasTidyCeilings bytes }
-{
-    let (parts, passes) = started(alloc, disk, TOTAL, passes)?;
-    let door = door_of(alloc, bytes)?;
-    Ok(serve_all(rt, alloc, &Asks, parts, passes, door, sessions, gate))
-}
-
-/// The same over a disk that never fails.
+/// What comes of so many sessions with these peers, over a disk that never fails.
 fn run<G: Gate + Sync, R: Threads + Wait + Sync>(
     rt: &R,
     alloc: Global,
@@ -155,7 +133,9 @@ fn run<G: Gate + Sync, R: Threads + Wait + Sync>(
     requires { (1 ≤ passes) × (passes ≤ 1024) }
 {
     let disk = sure_ceilings(alloc, TOTAL)?;
-    run_on(rt, alloc, disk, passes, sessions, bytes, gate)
+    let (parts, passes) = started(alloc, disk, TOTAL, passes)?;
+    let door = door_of(alloc, bytes)?;
+    Ok(serve_all(rt, alloc, &Asks, parts, passes, door, sessions, gate))
 }
 
 /// The starts of the spans that were granted, in order, and how many sessions were refused.
@@ -228,25 +208,5 @@ fn sessions_lease_as_many_units_as_each_wants(rt: HostRuntime) -> Result<(), Fai
         Note::new(FEW, None, short),
     ];
     assert!(rt; served.notes.as_slice() == wanted.as_slice());
-    Ok(())
-}
-
-#[test]
-fn a_disk_that_fails_is_told(rt: HostRuntime) -> Result<(), Fail> {
-    let alloc: Global = rt.alloc();
-    // A start on a new journal makes seven calls.
-    let bytes = new_ceilings(alloc, TOTAL)?;
-    let disk = quiet_disk(alloc, bytes, failing(alloc, &[8])?)?;
-    let served = run_on(&rt, alloc, disk, 1, 3, b"hxh", &QuietGate)?;
-    let mut told = Vec::new(alloc);
-    for note in &served.notes {
-        told.push(note.refused)?;
-    }
-    let wanted = [
-        Some(LeaseFault::Device),
-        None,
-        Some(LeaseFault::Broken { first: 1 }),
-    ];
-    assert!(rt; told.as_slice() == wanted.as_slice() && served.disk.faults() == 1);
     Ok(())
 }

@@ -11,9 +11,6 @@ use std::test::Fail;
 use twin_journal::{JournalKind, blank_twin, blank_twin_is_new, says_what_it_recovers};
 use zk_port::Disk;
 
-/// The gate of a head or of a slot that is open.
-pub const OPEN: u8 = 0x5A;
-
 /// A new journal of claims.
 pub fn new_twin(alloc: Global, total: u64, slots: u64) -> Result<Vec<u8>, Fail>
     requires { (1 ≤ slots) × (slots ≤ 4096) }

@@ -8,7 +8,3 @@ returns-in-Goes-clause-time g c =
 pub returns-in-Fails-clause-time : goal.returns-in-Fails-clause-time
 returns-in-Fails-clause-time g c =
     elapses_within _ _ _ _ _ _ c.args.self.now.past.items c.args.self.now.epoch c.write_noted-in-Fails.new.epoch c.write_noted-in-Fails.ensures.grows
-
-pub returns-in-Stopped-clause-time : goal.returns-in-Stopped-clause-time
-returns-in-Stopped-clause-time g c =
-    elapses_within _ _ _ _ _ _ c.args.self.now.past.items c.args.self.now.epoch c.write_noted-in-Stopped.new.epoch c.write_noted-in-Stopped.ensures.grows

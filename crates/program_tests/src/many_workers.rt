@@ -25,14 +25,14 @@ fn challenge() -> Fe {
     Fe::from_word(0x1b87_3593_cc9e_2d51)
 }
 
-/// A circuit of two inputs and 5,000 gates XOR, each of the two wires before it.
-fn xor_chain(alloc: Global) -> Result<String, Fail> {
+/// The program of a circuit of two inputs and 5,000 gates XOR, each of the two wires before it.
+fn xor_chain(alloc: Global) -> Result<FieldProgram, Fail> {
     let mut text = "5000 5002\n1 2\n1 1\n\n".to_string(alloc)?;
     for wire in 0..5000_u32 {
         let line = format!(in alloc; "2 1 {wire} {} {} XOR\n", wire + 1, wire + 2)?;
         text.push_str(&line)?;
     }
-    Ok(text)
+    program_of(alloc, text.as_bytes())
 }
 
 /// Elements that are far apart, one for each product.
@@ -123,8 +123,7 @@ fn found_by<R: Threads + Sync>(
 #[test]
 fn sums_along_a_walk_are_the_same_by_all_workers(rt: HostRuntime) -> Result<(), Fail> {
     let alloc = rt.alloc();
-    let text = xor_chain(alloc)?;
-    let program = program_of(alloc, text.as_bytes())?;
+    let program = xor_chain(alloc)?;
     let plan = SlotPlan::of(alloc, &program)?;
     let dealt = dealt_pairs(alloc)?;
     let alone = sums_by(&rt, alloc, &program, &plan, &dealt, 1)?;
@@ -138,8 +137,7 @@ fn sums_along_a_walk_are_the_same_by_all_workers(rt: HostRuntime) -> Result<(), 
 #[test]
 fn a_check_along_a_walk_finds_the_same_by_all_workers(rt: HostRuntime) -> Result<(), Fail> {
     let alloc = rt.alloc();
-    let text = xor_chain(alloc)?;
-    let program = program_of(alloc, text.as_bytes())?;
+    let program = xor_chain(alloc)?;
     let plan = SlotPlan::of(alloc, &program)?;
     let keys = elements(alloc, 0x94d0_49bb_1331_11eb)?;
     let corrections = elements(alloc, 0xd6e8_feb8_6659_fd93)?;
