@@ -3,8 +3,9 @@
 //!
 //! `serve_tests` has services whose gate holds sessions or counts what it is told, with peers that are honest over whichever units they are
 //! granted, and `party_tests` both ends in one process, over a connection: whole runs, through `run_zk`. `fan_tests` has the rounds of units,
-//! and `many_workers` sums along a walk, which are the same by any number of workers; `worked_values` wires whose values, MACs and keys are
-//! all held, and slots. `given` has dealt files and journals, `made` small elements and programs, `vectors` bytes that the program did not make.
+//! and `many_workers` sums along a walk, which are the same by any number of workers; `trees` has trees that are grown at once and leaf by
+//! leaf, `worked_values` a corrected wire, and slots. `given` has dealt files and journals, `made` small elements and programs, `vectors`
+//! bytes that the program did not make.
 #![tactic(auto)]
 
 #[cfg(test)]
@@ -21,6 +22,8 @@ mod party_tests;
 mod peers;
 #[cfg(test)]
 mod serve_tests;
+#[cfg(test)]
+mod trees;
 #[cfg(test)]
 mod vectors;
 #[cfg(test)]

@@ -27,7 +27,7 @@ pub fn small_pair(x: u64, m: u64) -> Pair
 }
 
 /// The circuit of a text.
-pub fn circuit_of(alloc: Global, text: &[u8]) -> Result<Circuit, Fail> {
+fn circuit_of(alloc: Global, text: &[u8]) -> Result<Circuit, Fail> {
     let Ok(circuit) = read(alloc, text) else {
         return Err(Fail::new("no circuit"));
     };

@@ -1,15 +1,15 @@
-// Sums and checks along a walk, by one worker and by more.
+// Sums and checks along a walk, by one worker and by more, and sums of wires that are all held.
 ghost use Rattle.std.specs.Prelude.{◌≤◌};
 ghost use Rattle.zk_model.specs.Slots.{IsPlanOf};
 
 use crate::made::{program_of, small, small_pair};
 use field_program::{FieldProgram, SlotPlan};
 use mersenne_field::{Fe, Pair};
-use mult_check::{StreamFault, stream_check, stream_sums};
+use mult_check::{StreamFault, prover_sums, stream_check, stream_sums};
 use std::alloc::Global;
 use std::test::Fail;
 use std::thread::Threads;
-use wire_auth::{ProverWalk, VerifierWalk};
+use wire_auth::{Correlations, ProverWalk, ProverWires, VerifierWalk};
 
 /// How many workers there are, besides one.
 const WORKERS: [u32; 4] = [2, 3, 4, 16];
@@ -80,6 +80,22 @@ fn sums_by<R: Threads + Sync>(
     Ok(sums)
 }
 
+/// The prover's sums of wires that are all held.
+fn sums_held(alloc: Global, program: &FieldProgram, dealt: &[Pair]) -> Result<Vec<(Fe, Fe)>, Fail> {
+    if program.public() != 0 || program.inputs() != 2 || program.givens() > dealt.len() {
+        return Err(Fail::new("another program"));
+    }
+    if program.sections(SECTION) != 2 {
+        return Err(Fail::new("other sections"));
+    }
+    let inputs = [small(1), small(0)];
+    let masks = [small_pair(4, 9), small_pair(5, 6)];
+    let dealt = Correlations::Dealt(dealt);
+    let (wires, _corrections) = ProverWires::run(alloc, program, &[], &inputs, dealt)?;
+    let sums = prover_sums(alloc, &wires, SECTION, challenge(), &masks)?;
+    Ok(sums)
+}
+
 /// What a verifier finds that is sent 0 for all sums, by so many workers.
 fn found_by<R: Threads + Sync>(
     rt: &R,
@@ -127,6 +143,8 @@ fn sums_along_a_walk_are_the_same_by_all_workers(rt: HostRuntime) -> Result<(), 
     let plan = SlotPlan::of(alloc, &program)?;
     let dealt = dealt_pairs(alloc)?;
     let alone = sums_by(&rt, alloc, &program, &plan, &dealt, 1)?;
+    let held = sums_held(alloc, &program, &dealt)?;
+    assert_eq!(rt; held.as_slice(), alone.as_slice());
     for workers in WORKERS {
         let sums = sums_by(&rt, alloc, &program, &plan, &dealt, workers)?;
         assert_eq!(rt; sums.as_slice(), alone.as_slice(), "{workers}");

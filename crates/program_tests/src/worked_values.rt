@@ -1,12 +1,11 @@
 // Wires and slots of small circuits, at rows that the program did not make.
 use crate::given::AND;
-use crate::made::{circuit_of, program_of, small, small_pair};
-use bool_eval::eval_wires;
-use field_program::{SlotPlan, Step};
+use crate::made::{program_of, small, small_pair};
+use field_program::SlotPlan;
 use mult_check::check_openings;
 use std::alloc::Global;
 use std::test::Fail;
-use wire_auth::{Correlations, ProverWires, Triple, VerifierWires};
+use wire_auth::{Correlations, ProverWires, VerifierWires};
 
 #[test]
 fn a_correction_changes_the_value_and_the_key(rt: HostRuntime) -> Result<(), Fail> {
@@ -34,50 +33,6 @@ fn a_correction_changes_the_value_and_the_key(rt: HostRuntime) -> Result<(), Fai
     assert_eq!(rt;
         (differs.output, differs.left, differs.right),
         (0, small(9), small(4))
-    );
-    Ok(())
-}
-
-#[test]
-fn values_of_products_are_those_of_the_bits(rt: HostRuntime) -> Result<(), Fail> {
-    let alloc = rt.alloc();
-    let text = b"1 3\n2 1 1\n1 1\n\n2 1 0 1 2 AND\n";
-    let circuit = circuit_of(alloc, text)?;
-    let Ok(bits) = eval_wires(alloc, &circuit, &[true, false]) else {
-        return Err(Fail::new("no bits"));
-    };
-    assert_eq!(rt; bits.as_slice(), [true, false, false].as_slice());
-    let program = program_of(alloc, text)?;
-    let pairs = [small_pair(0, 10), small_pair(0, 20), small_pair(0, 30)];
-    if program.public() != 0 || program.inputs() != 2 {
-        return Err(Fail::new("other inputs"));
-    }
-    if program.steps() != 1 || program.givens() != 3 {
-        return Err(Fail::new("another program"));
-    }
-    assert_eq!(rt;
-        program.step(0),
-        Step::Mul {
-            out: 2,
-            a: 0,
-            b: 1,
-            product: 2,
-        }
-    );
-    let inputs = [small(1), small(0)];
-    let dealt = Correlations::Dealt(&pairs);
-    let (prover, values) = ProverWires::run(alloc, &program, &[], &inputs, dealt)?;
-    assert_eq!(rt;
-        values.as_slice(),
-        [small(1), small(0), small(0)].as_slice()
-    );
-    assert_eq!(rt;
-        prover.triple(2),
-        Triple {
-            a: small_pair(1, 10),
-            b: small_pair(0, 20),
-            c: small_pair(0, 30),
-        }
     );
     Ok(())
 }
