@@ -792,7 +792,8 @@ def stops() -> List[Scenario]:
     stopped(proof, range(14, 22), **full, heads="2,3")
     stopped(proof, range(14, 20), **full, areas="moved", heads="0,2")
     full = {"files": "1,1,10", "ceilings": 65536, "start": 65536, "units": 65568}
-    stopped(serve, (4104, 6000, 8201, 8202, 8203, 8204), ("new", "90"), **full)
+    stopped(serve, (6000, 8202), ("90",), **full)
+    stopped(serve, (8203,), ("new",), **full)
     stopped(functools.partial(run, MIGRATE["prover"]), range(7, 25), ("new", "90"), **FIRST_CLAIMS)
     stopped(functools.partial(run, MIGRATE["verifier"]), range(7, 20), ("new", "90"), **FIRST_CEILINGS)
     return scenarios

@@ -339,7 +339,8 @@ impl<P: FaultPlan> Disk for MemoryDisk<P> {
         ensures name { self.new.name ≡ self.old.name }
         ensures is_chosen { self.new.is_chosen ≡ self.old.is_chosen }
         ensures room { self.new.room ≡ self.old.room }
-        ensures calls { self.new.calls ≡ left_after (turn_of true self.old.calls (P.coming self.old.plan 0)) self.old.calls }
+        ensures calls { self.new.calls
+            ≡ left_after (turn_of true self.old.calls (P.coming self.old.plan 0)) self.old.calls }
         ensures plan { UsesCall P.coming P.count (is_err result) self.old.plan self.new.plan }
     {
         match begin(&mut self.plan, &mut self.calls, true) {
@@ -399,7 +400,8 @@ impl<P: FaultPlan> Disk for MemoryDisk<P> {
         ensures time { Elapses (⟦<MemoryDisk<P> as Disk>⟧.state self.old)
             (⟦<MemoryDisk<P> as Disk>⟧.state self.new) }
         ensures room { self.new.room ≡ self.old.room }
-        ensures calls { self.new.calls ≡ left_after (turn_of true self.old.calls (P.coming self.old.plan 0)) self.old.calls }
+        ensures calls { self.new.calls
+            ≡ left_after (turn_of true self.old.calls (P.coming self.old.plan 0)) self.old.calls }
         ensures plan { UsesCall P.coming P.count (is_err result) self.old.plan self.new.plan }
     {
         match begin(&mut self.plan, &mut self.calls, true) {

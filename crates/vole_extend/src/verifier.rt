@@ -200,7 +200,8 @@ impl<'a> VerifierRound<'a> {
             ≡ tree_sums (tree_root self.now.file self.now.unit tree) self.now.file.params.height }
         requires sum_count { length sums.now ≡ self.now.file.params.height }
         requires leaf_sum { leaf_sum
-            ≡ sum (tree_leaves (tree_root self.now.file self.now.unit tree) self.now.file.params.height) % prime }
+            ≡ sum (tree_leaves (tree_root self.now.file self.now.unit tree)
+            self.now.file.params.height) % prime }
         ensures { IfOk result (λ reply. reply ≡ tree_reply self.now.file self.now.unit tree ask.now) }
     {
         let messages = masked_sums(alloc, self.pads(tree), &ask.flips, sums)?;

@@ -46,7 +46,8 @@ fn meet_value(walk: &mut StepWalk<'_, Fe>) -> Fe
     ensures met { walk.new.met ≡ walk.old.met + 1 }
     ensures value { (values : List ℕ) → Follows (λ n. n) walk.old values (given_from walk.old.program values)
         → result ≡ slice_index (given_from walk.old.program values) walk.old.met }
-    ensures follows { (values : List ℕ) → Follows (λ n. n) walk.old values (given_from walk.old.program values)
+    ensures follows { (values : List ℕ)
+        → Follows (λ n. n) walk.old values (given_from walk.old.program values)
         → Follows (λ n. n) walk.new values (given_from walk.old.program values) }
     ensures element { IsElement result }
 {

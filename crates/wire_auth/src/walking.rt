@@ -50,7 +50,8 @@ impl<'a, N: Carried> Model for StepWalk<'a, N> {
 #[inline(always)]
 fn step_number<N: Carried>(slots: &[N], at: StepSlots, step: &Step, one: N, taken: N) -> N
     requires { AreSlotsWithin (length slots.now) at }
-    ensures { (which : Part) (wires given : List ℕ) → AreReadIn at (map (N.part which) slots.now) wires step.now
+    ensures { (which : Part) (wires given : List ℕ)
+        → AreReadIn at (map (N.part which) slots.now) wires step.now
         → IsTaken given step.now (N.part which taken)
         → N.part which result ≡ step_value (N.part which one) wires given (step_equation step.now) }
 {
@@ -80,7 +81,8 @@ fn follow_step<N: Carried>(
     requires plan { IsPlanOf program.now plan.now }
     requires whole { length slots.old.items ≡ plan.now.slots }
     ensures whole { length slots.new.items ≡ plan.now.slots }
-    ensures held { (which : Part) (is : IsPlanOf program.now plan.now) (wires given : List ℕ) (equation : model)
+    ensures held { (which : Part) (is : IsPlanOf program.now plan.now)
+        (wires given : List ℕ) (equation : model)
         → slice_get program.now.steps k ≡ Some equation → MeetsStep (N.part which one) wires given equation
         → IsTakenBy given equation (N.part which taken)
         → AreHeldAt program.now is.places k wires (map (N.part which) slots.old.items)
@@ -162,7 +164,8 @@ fn pass_product<N: Carried>(
     ensures whole { length slots.new.items ≡ plan.now.slots }
     ensures along { IsAlong program.now result (met + 1) }
     ensures held { (which : Part) (is : IsPlanOf program.now plan.now) (wires given : List ℕ)
-        → All (MeetsStep (N.part which one) wires given) program.now.steps → N.part which number ≡ slice_index given met
+        → All (MeetsStep (N.part which one) wires given) program.now.steps
+        → N.part which number ≡ slice_index given met
         → AreHeldAt program.now is.places steps wires (map (N.part which) slots.old.items)
         → AreHeldAt program.now is.places result wires (map (N.part which) slots.new.items) }
 {
@@ -206,7 +209,8 @@ fn factor_slots(program: &FieldProgram, plan: &SlotPlan, steps: usize, met: usiz
     requires more { met < length program.now.products }
     requires plan { IsPlanOf program.now plan.now }
     ensures within { (result.0 < plan.now.slots) × (result.1 < plan.now.slots) }
-    ensures factors { (is : IsPlanOf program.now plan.now) (product : zk.Product) → slice_get program.now.products met ≡ Some product
+    ensures factors { (is : IsPlanOf program.now plan.now) (product : zk.Product)
+        → slice_get program.now.products met ≡ Some product
         → (result.0 ≡ slice_index is.places product.a) × (result.1 ≡ slice_index is.places product.b) }
 {
     if met < program.inputs() {
@@ -269,8 +273,10 @@ impl<'a, N: Carried> StepWalk<'a, N> {
     pub fn factors(&self) -> Option<(N, N)>
         ensures none { IsNone result ↔ length self.now.program.products ≤ self.now.met }
         ensures some { IfSome result (λ both. (which : Part) (wires given : List ℕ) (product : zk.Product)
-            → Follows (N.part which) self.now wires given → slice_get self.now.program.products self.now.met ≡ Some product
-            → (N.part which both.0 ≡ slice_index wires product.a) × (N.part which both.1 ≡ slice_index wires product.b)) }
+            → Follows (N.part which) self.now wires given
+            → slice_get self.now.program.products self.now.met ≡ Some product
+            → (N.part which both.0 ≡ slice_index wires product.a)
+            × (N.part which both.1 ≡ slice_index wires product.b)) }
     {
         if self.met == self.program.products() {
             return None;
@@ -284,7 +290,8 @@ impl<'a, N: Carried> StepWalk<'a, N> {
         requires { self.old.met < length self.old.program.products }
         ensures program { self.new.program ≡ self.old.program }
         ensures met { self.new.met ≡ self.old.met + 1 }
-        ensures follows { (which : Part) (wires given : List ℕ) → N.part which number ≡ slice_index given self.old.met
+        ensures follows { (which : Part) (wires given : List ℕ)
+            → N.part which number ≡ slice_index given self.old.met
             → Follows (N.part which) self.old wires given → Follows (N.part which) self.new wires given }
     {
         let Self {
