@@ -10,13 +10,13 @@ ghost use Rattle.dealer_files.specs.Words.{word_pair, word_pads, word_transfer};
 
 use crate::head::Head;
 use crate::prover_file::ProverFile;
-use crate::transfer::{Pads, Transfer};
+use crate::transfer::Transfer;
 use crate::unit::{dealt_per_unit, transfers_per_unit};
 use crate::verifier_file::VerifierFile;
 use mersenne_field::{Fe, Pair};
 use std::alloc::{AllocError, Global};
 use zk_coins::CoinBox;
-use zk_model::{FileVersion, Kind, MAX_DEALT_AS_FIRST, Params};
+use zk_model::{BlockPair, FileVersion, Kind, MAX_DEALT_AS_FIRST, Params};
 
 /// The two files that a seed of 32 bytes gives: for the prover values x and MACs m, and for the verifier keys
 /// `m + x * key` (vector OLE: Weng, Yang, Katz and Wang, Wolverine, IEEE S&P 2021). In kind extended also two random pads
@@ -129,10 +129,10 @@ fn push_pairs(words: &[u64], pairs: &mut Vec<Pair>) -> Result<(), AllocError>
 }
 
 /// Both sides of the transfers of all units, unit by unit.
-#[derive(Debug, Drop)]
+#[derive(Drop)]
 struct DealtTransfers {
     transfers: Vec<Transfer>,
-    pads: Vec<Pads>,
+    pads: Vec<BlockPair>,
 }
 
 /// Both sides of the transfers of all units, unit by unit.
@@ -163,7 +163,7 @@ fn deal_transfers(
 fn push_transfers(
     words: &[u64],
     transfers: &mut Vec<Transfer>,
-    pads: &mut Vec<Pads>,
+    pads: &mut Vec<BlockPair>,
 ) -> Result<(), AllocError>
     ensures transfers { OnOk result (transfers.new.items
         ≡ transfers.old.items ++ map (word_transfer words.now) (range_with_len 0 (length words.now / 5))) }
@@ -190,11 +190,11 @@ fn transfer_of(words: &[u64], i: usize) -> Transfer
 }
 
 /// Both pads of a transfer, from its first four words.
-fn pads_of(words: &[u64], i: usize) -> Pads
+fn pads_of(words: &[u64], i: usize) -> BlockPair
     requires { 5 * i + 4 < length words.now }
     ensures { result ≡ word_pads words.now i }
 {
-    Pads {
+    BlockPair {
         left: pad_of(words[5 * i], words[5 * i + 1]),
         right: pad_of(words[5 * i + 2], words[5 * i + 3]),
     }

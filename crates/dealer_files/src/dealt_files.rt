@@ -6,10 +6,10 @@ ghost use Rattle.zk_model.specs.Files.{IsProverFile, IsVerifierFile, UnitsMatch,
 ghost use Rattle.dealer_files.specs.Dealt.{HeadsAgree, NamesItsPad, IsFirstApart};
 
 use crate::prover_file::ProverFile;
-use crate::transfer::{Pads, Transfer};
+use crate::transfer::Transfer;
 use crate::verifier_file::VerifierFile;
 use mersenne_field::{Fe, Pair};
-use zk_model::Span;
+use zk_model::{BlockPair, Span};
 
 /// Two files are not of one dealing: this is the first unit in which a key does not fit its pair, or a pad is not the one
 /// that its bit names. It is unit 0 also where the ids, what the files were made for or the seeds of the code differ.
@@ -76,7 +76,7 @@ fn keys_fit(key: Fe, pairs: &[Pair], keys: &[Fe]) -> bool
 }
 
 /// Whether each transfer's pad is the one of both that its bit names.
-fn pads_fit(transfers: &[Transfer], pads: &[Pads]) -> bool
+fn pads_fit(transfers: &[Transfer], pads: &[BlockPair]) -> bool
     requires { length transfers.now ≡ length pads.now }
     ensures { IsTrue result ↔ AllZip NamesItsPad transfers.now pads.now }
 {

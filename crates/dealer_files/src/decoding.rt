@@ -12,15 +12,15 @@ use crate::fault::FileFault;
 use crate::head::{block_length, has_digest, read_element, read_head};
 use crate::prover_file::ProverFile;
 use crate::reading::{read_elements, read_pads, read_pairs, read_transfers};
-use crate::transfer::{Pads, Transfer};
+use crate::transfer::Transfer;
 use crate::unit::{dealt_per_unit, first_dealt, first_transfer, transfers_per_unit};
 use crate::verifier_file::VerifierFile;
 use mersenne_field::{Fe, Pair};
 use std::alloc::Global;
-use zk_model::{Params, Side};
+use zk_model::{BlockPair, Params, Side};
 
 /// What the blocks of a prover's file hold, unit by unit.
-#[derive(Debug, Drop)]
+#[derive(Drop)]
 struct ProverBlocks {
     pairs: Vec<Pair>,
     transfers: Vec<Transfer>,
@@ -72,10 +72,10 @@ pub fn decode_prover(alloc: Global, bytes: &[u8]) -> Result<ProverFile, FileFaul
 }
 
 /// What the blocks of a verifier's file hold, unit by unit.
-#[derive(Debug, Drop)]
+#[derive(Drop)]
 struct VerifierBlocks {
     keys: Vec<Fe>,
-    pads: Vec<Pads>,
+    pads: Vec<BlockPair>,
 }
 
 /// Reads the verifier's one key.

@@ -4,11 +4,11 @@ ghost use Rattle.zk_model.specs.Bytes.{element_bytes};
 ghost use Rattle.zk_model.specs.FileBytes.{header_bytes, params_bytes, pair_bytes, transfer_bytes, pads_bytes, kind_code, sealed};
 
 use crate::head::{Head, magic_word};
-use crate::transfer::{Pads, Transfer};
+use crate::transfer::Transfer;
 use mersenne_field::{Fe, Pair};
 use sha2::{Digest, Sha256};
 use std::alloc::AllocError;
-use zk_model::{Kind, Params};
+use zk_model::{BlockPair, Kind, Params};
 
 /// Appends the first 128 bytes of a file.
 pub(crate) fn push_header(bytes: &mut Vec<u8>, side: u8, head: &Head) -> Result<(), AllocError>
@@ -79,7 +79,7 @@ pub(crate) fn push_transfers(bytes: &mut Vec<u8>, transfers: &[Transfer]) -> Res
 }
 
 /// Appends both pads of transfers, 32 bytes each.
-pub(crate) fn push_pads(bytes: &mut Vec<u8>, pads: &[Pads]) -> Result<(), AllocError>
+pub(crate) fn push_pads(bytes: &mut Vec<u8>, pads: &[BlockPair]) -> Result<(), AllocError>
     ensures { OnOk result (bytes.new.items ≡ bytes.old.items ++ flat_map pads_bytes pads.now) }
 {
     for both in pads {

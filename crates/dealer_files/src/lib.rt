@@ -29,5 +29,5 @@ pub use decoding::{decode_prover, decode_verifier};
 pub use fault::FileFault;
 pub use head::file_length;
 pub use prover_file::ProverFile;
-pub use transfer::{Pads, Transfer};
+pub use transfer::Transfer;
 pub use verifier_file::VerifierFile;

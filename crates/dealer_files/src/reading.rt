@@ -4,9 +4,10 @@ ghost use Rattle.dealer_files.specs.Reading.{a_pair, an_element, a_transfer, bot
 
 use crate::fault::FileFault;
 use crate::head::{bytes_at, read_element};
-use crate::transfer::{Pads, Transfer};
+use crate::transfer::Transfer;
 use mersenne_field::{Fe, Pair};
 use std::alloc::AllocError;
+use zk_model::BlockPair;
 
 /// Reads pairs, 16 bytes each, and appends them.
 pub(crate) fn read_pairs(
@@ -83,14 +84,14 @@ pub(crate) fn read_pads(
     bytes: &[u8],
     at: usize,
     count: usize,
-    pads: &mut Vec<Pads>,
+    pads: &mut Vec<BlockPair>,
 ) -> Result<(), AllocError>
     requires { at + 32 * count ≤ length bytes.now }
     ensures { OnOk result (AreAppended both_pads pads.old.items pads.new.items count bytes.now at) }
 {
     for i in 0..count {
         let place = at + 32 * i;
-        pads.push(Pads {
+        pads.push(BlockPair {
             left: bytes_at(bytes, place),
             right: bytes_at(bytes, place + 16),
         })?;

@@ -9,13 +9,12 @@ ghost use Rattle.zk_model.specs.declared.limits.TheConstants.{MAX_DEALT_UNITS};
 
 use crate::encoding::{push_digest, push_elements, push_header, push_pads};
 use crate::head::{Head, file_length};
-use crate::transfer::Pads;
 use crate::unit::{first_dealt, first_transfer};
 use mersenne_field::Fe;
 use std::alloc::{AllocError, Global};
 use std::marker::Model;
 use zk_coins::CoinBox;
-use zk_model::{Params, Side, Span};
+use zk_model::{BlockPair, Params, Side, Span};
 
 /// A verifier's file: an id, what it was made for, the key of the verifier's coins, the seed of the code (zero bytes in
 /// kind direct), the verifier's one key, which is not 0, and for each unit keys of correlations and, in kind extended,
@@ -25,7 +24,7 @@ pub struct VerifierFile {
     head: Head,
     key: Fe,
     keys: Vec<Fe>,
-    pads: Vec<Pads>,
+    pads: Vec<BlockPair>,
 }
 
 impl Model for VerifierFile {
@@ -45,7 +44,7 @@ impl Model for VerifierFile {
 
 impl VerifierFile {
     /// The file of these parts.
-    pub(crate) fn new(head: Head, key: Fe, keys: Vec<Fe>, pads: Vec<Pads>) -> Self
+    pub(crate) fn new(head: Head, key: Fe, keys: Vec<Fe>, pads: Vec<BlockPair>) -> Self
         requires file { IsVerifierFile
             (verifier_of head key keys.items pads.items) }
         requires whole { AreWhole head.params keys.items pads.items }
@@ -127,7 +126,7 @@ impl VerifierFile {
     }
 
     /// Both pads of a unit's transfers, tree by tree, and in a tree level by level from the top.
-    pub fn pads(&self, unit: u64) -> &[Pads]
+    pub fn pads(&self, unit: u64) -> &[BlockPair]
         requires { unit < self.now.params.total }
         ensures pads { result.now ≡ unit_pads (verifier_unit self.now unit) }
         ensures count { length result.now ≡ self.now.params.trees * self.now.params.height }

@@ -9,7 +9,7 @@ use crate::step::Step;
 use std::alloc::{AllocError, Global};
 
 /// The wires that a step reads.
-#[derive(Clone, Copy, Debug, PartialEq, Eq)]
+#[derive(Clone, Copy)]
 enum Operands {
     None,
     One(u32),
@@ -17,7 +17,7 @@ enum Operands {
 }
 
 /// Slots, while they are given to wires and given back.
-#[derive(Debug, Drop)]
+#[derive(Drop)]
 pub(crate) struct Slots {
     pub(crate) places: Vec<u32>,
     free: Vec<u32>,
@@ -25,7 +25,7 @@ pub(crate) struct Slots {
 }
 
 /// Slots that have been given along all steps, and those of each step.
-#[derive(Debug, Drop)]
+#[derive(Drop)]
 pub(crate) struct Followed {
     pub(crate) slots: Slots,
     pub(crate) steps: Vec<StepSlots>,

@@ -6,13 +6,17 @@ use Rattle.zk_model.specs.Circuit.{Circuit}
 use Rattle.zk_model.specs.declared.ReadFault.{ReadFault}
 use Rattle.zk_model.specs.declared.Side.{Side}
 use Rattle.zk_model.specs.declared.limits.TheConstants.{FILE_LIMIT}
+use Rattle.zk_port.specs.Counts.{Rose}
 use Rattle.zk_port.specs.Files.{Files, StandsAs, StandsLonger}
 use Rattle.bristol_reader.specs.Laws.{OneCircuit}
 use Rattle.bristol_reader.specs.Reads.{IsOnlyFault}
 use Rattle.dealer_files.specs.Faults.{IsDealtFile, IsFirstFault}
 use Rattle.dealer_files.specs.declared.fault.FileFault.{FileFault}
 use Rattle.dealer_files.specs.declared.fault.FileFault.TheVariants as file
+use Rattle.lease_journal.specs.declared.fault.StartFault.{StartFault}
+use Rattle.lease_journal.specs.declared.fault.StartFault.TheVariants as start
 use Rattle.file_commands.specs.Effects.{ShelfChange, NameFailed}
+use Rattle.file_commands.specs.Journals.{DiskChange, JournalStop}
 use Rattle.file_commands.specs.Stops.{IsLoaded, IsCircuitFile, HasCircuit, HasText, LoadStop, CircuitStop, ClaimStop, FileStop, stop_status}
 use Rattle.file_commands.specs.declared.refusal.Refusal.{Refusal}
 use Rattle.file_commands.specs.declared.refusal.Refusal.TheVariants as stop
@@ -123,3 +127,14 @@ file_7 side name shelf tells dealt calm (stop.BadFile fault) cause =
     undecoded_7 side dealt.text fault dealt.says (subst (λ (b : List ℕ). IsFirstFault side b fault) same cause.says)
 file_7 side name shelf tells dealt calm other cause =
     ap stop_status (load_lacks name shelf dealt.text tells dealt.loaded calm other cause)
+
+-- ---- a journal that is not refused, on a disk that does not fail
+
+pub sound_7 : (Cause : StartFault → Type 0) (disk : DiskChange) → ((fault : StartFault) → fault ≢ start.Device → ¬ Cause fault)
+    → ¬ Rose disk.old.faults disk.new.faults → (why : Refusal) → JournalStop Cause disk why → stop_status why ≡ 7
+sound_7 Cause disk sound calm (stop.JournalFailed count) cause = absurd (calm cause.1)
+sound_7 Cause disk sound calm (stop.JournalShort need got) cause = absurd (sound (start.Short need got) (λ e. cc) cause)
+sound_7 Cause disk sound calm (stop.JournalHeader place) cause = absurd (sound (start.BadHeader place) (λ e. cc) cause)
+sound_7 Cause disk sound calm (stop.JournalBody slot) cause = absurd (sound (start.BadBody slot) (λ e. cc) cause)
+sound_7 Cause disk sound calm stop.NoMemory cause = refl
+sound_7 Cause disk sound calm other cause = absurd cause

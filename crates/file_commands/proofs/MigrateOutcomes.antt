@@ -16,7 +16,7 @@ use Rattle.file_commands.specs.Stops.{FileStop, LoadStop, stop_line, stop_status
 use Rattle.file_commands.specs.declared.migrate_command.DealtUnits.{DealtUnits}
 use Rattle.file_commands.specs.declared.refusal.Refusal.{Refusal}
 use Rattle.file_commands.specs.declared.refusal.Refusal.TheVariants as stop
-use Rattle.file_commands.proofs.Causes.{file_7}
+use Rattle.file_commands.proofs.Causes.{file_7, sound_7}
 use Rattle.file_commands.proofs.Means.{any_answers, file_status, zero_answers}
 
 -- ---- what the status says
@@ -74,21 +74,13 @@ statuses ask disk run (inr (inr (inr seven))) = inr (inr (inr (inr seven)))
 journal_7 : SoundIsMigrated → (kind : JournalKind) (dealt : DealtUnits) (disk : DiskChange) (bytes : List ℕ) → disk.old.content ≡ Some bytes
     → MayMigrate kind dealt.id dealt.total bytes → ¬ Rose disk.old.faults disk.new.faults
     → (why : Refusal) → JournalStop (IsMigrationFault kind dealt disk.old) disk why → stop_status why ≡ 7
-journal_7 law kind dealt disk bytes known may calm why cause = of_cause why cause
+journal_7 law kind dealt disk bytes known may calm why cause = sound_7 (IsMigrationFault kind dealt disk.old) disk sound calm why cause
   where
-    refused : (fault : StartFault) → fault ≢ start.Device → IsMigrationFault kind dealt disk.old fault → ⊥
-    refused fault other cause = elim (law kind dealt.id dealt.total bytes (store.Journal fault) may (cause bytes known)) [
+    sound : (fault : StartFault) → fault ≢ start.Device → ¬ IsMigrationFault kind dealt disk.old fault
+    sound fault other cause = elim (law kind dealt.id dealt.total bytes (store.Journal fault) may (cause bytes known)) [
       | inl device ↦ other (cc)
       | inr memory ↦ cc
     ]
-
-    of_cause : (why : Refusal) → JournalStop (IsMigrationFault kind dealt disk.old) disk why → stop_status why ≡ 7
-    of_cause (stop.JournalFailed count) cause = absurd (calm cause.1)
-    of_cause (stop.JournalShort need got) cause = absurd (refused (start.Short need got) (λ e. cc) cause)
-    of_cause (stop.JournalHeader place) cause = absurd (refused (start.BadHeader place) (λ e. cc) cause)
-    of_cause (stop.JournalBody slot) cause = absurd (refused (start.BadBody slot) (λ e. cc) cause)
-    of_cause stop.NoMemory cause = refl
-    of_cause other cause = absurd cause
 
 stop_7 : SoundIsMigrated → (ask : MigrateAsk) (disk : DiskChange) (run : Effects) → IsMigratable run.shelf.old.told disk.old ask
     → ¬ HasMigrateFailed ask disk run → (why : Refusal) → MigrateStop ask run.shelf disk why → stop_status why ≡ 7

@@ -1,11 +1,17 @@
 -- Leaves that are written below a sibling.
-use Rattle.std.proofs.Common.{◌≡◌, ℕ, suc, zero, ◌+◌, ◌-◌, ◌*◌, ◌/◌, ◌%◌, ◌^◌, ◌<◌, ◌≤◌, ◌⊎◌, inl, inr, nat_eq, if◌then◌else◌, List, [], ◌∷◌, ◌++◌, length, get_or, take, drop, refl, subst, sym, ◌∙◌, ap, arith}
+use Rattle.std.proofs.Common.{◌≡◌, Bool, true, false, ℕ, suc, zero, ◌+◌, ◌-◌, ◌*◌, ◌/◌, ◌%◌, ◌^◌, ◌<◌, ◌≤◌, ◌⊎◌, inl, inr, nat_eq, if◌then◌else◌, List, [], ◌∷◌, ◌++◌, length, get_or, take, drop, refl, subst, sym, ◌∙◌, ap, arith}
 use Rattle.std.specs.Int.{from_bool}
 use Rattle.std.proofs.lemmas.List.{get_or_append_left, get_or-append_right, get_or-append-add, get_or-take, get_or-drop, get_or_default, drop_at, length-take-le, length-drop}
 use borrow.Rule.Slice.PartMut.{put_mid}
 use Rattle.zk_model.specs.Bytes.{LeftRight, xor_bytes}
+use Rattle.zk_model.specs.Extension.{choice_of}
 use Rattle.ggm_tree.specs.Rows.{leaves_below, level_in, AreAdded}
 use Rattle.ggm_tree.specs.Found.{sibling_of, sibling_node, IsFilled}
+
+-- the block that a bit names
+pub choice_is : (bit : Bool) (both : LeftRight) → choice_of bit both ≡ (if bit then both.right else both.left)
+choice_is false both = refl
+choice_is true both = refl
 
 -- the side away from a remainder by 2, as a digit
 away_digit : (n : ℕ) → n < 2 → from_bool (nat_eq n 0) ≡ 1 - n

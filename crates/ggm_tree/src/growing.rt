@@ -4,18 +4,18 @@ ghost use Rattle.zk_model.specs.Tree.{tree_leaves};
 ghost use Rattle.ggm_tree.specs.Sums.{tree_sums};
 ghost use Rattle.zk_model.specs.declared.limits.TheConstants.{MAX_HEIGHT};
 
-use crate::levels::LevelSums;
 use crate::nodes::width;
 use crate::summing::sum_leaves;
 use crate::writing::write_leaves;
 use mersenne_field::Fe;
 use std::alloc::{AllocError, Global};
+use zk_model::BlockPair;
 
 /// The leaves of a tree, in order, and the sums of its levels, the root's children first.
 #[derive(Debug, Drop)]
 pub struct GrownTree {
     pub leaves: Vec<Fe>,
-    pub sums: Vec<LevelSums>,
+    pub sums: Vec<BlockPair>,
 }
 
 /// The elements of the 2^height leaves of the tree that grows from a seed, in order.
@@ -30,7 +30,7 @@ pub fn expand(alloc: Global, seed: &[u8; 16], height: u32) -> Result<Vec<Fe>, Al
     ensures length { IfOk result (λ leaves. vec_len leaves ≡ 2 ^ height) }
 {
     let mut leaves = vec![in alloc; Fe::ZERO; width(height)]?;
-    let mut sums = [LevelSums::new(); 16];
+    let mut sums = [BlockPair::zeros(); 16];
     write_leaves(seed, height, &mut sums, &mut leaves);
     Ok(leaves)
 }
@@ -40,13 +40,13 @@ pub fn expand(alloc: Global, seed: &[u8; 16], height: u32) -> Result<Vec<Fe>, Al
 /// # Errors
 ///
 /// Only where memory runs out.
-pub fn level_sums(alloc: Global, seed: &[u8; 16], height: u32) -> Result<Vec<LevelSums>, AllocError>
+pub fn level_sums(alloc: Global, seed: &[u8; 16], height: u32) -> Result<Vec<BlockPair>, AllocError>
     requires least { 1 ≤ height }
     requires at_most { height ≤ MAX_HEIGHT }
     ensures sums { IfOk result (λ sums. sums.items ≡ tree_sums seed.now height) }
     ensures length { IfOk result (λ sums. vec_len sums ≡ height) }
 {
-    let mut sums = vec![in alloc; LevelSums::new(); height as usize]?;
+    let mut sums = vec![in alloc; BlockPair::zeros(); height as usize]?;
     let _leaf_sum = sum_leaves(seed, height, &mut sums);
     Ok(sums)
 }
@@ -66,7 +66,7 @@ pub fn grow(alloc: Global, seed: &[u8; 16], height: u32) -> Result<GrownTree, Al
     ensures sum_count { IfOk result (λ tree. vec_len tree.sums ≡ height) }
 {
     let mut leaves = vec![in alloc; Fe::ZERO; width(height)]?;
-    let mut sums = vec![in alloc; LevelSums::new(); height as usize]?;
+    let mut sums = vec![in alloc; BlockPair::zeros(); height as usize]?;
     write_leaves(seed, height, &mut sums, &mut leaves);
     Ok(GrownTree { leaves, sums })
 }

@@ -31,7 +31,6 @@ mod writing;
 pub use doubling::{double, double_four};
 pub use growing::{GrownTree, expand, grow, level_sums};
 pub use laws::punctured_is_grown;
-pub use levels::LevelSums;
 pub use puncturing::puncture;
 pub use steps::Steps;
 pub use walker::Walker;

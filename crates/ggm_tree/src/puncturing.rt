@@ -5,11 +5,11 @@ ghost use Rattle.zk_model.specs.Tree.{IsPunctured};
 ghost use Rattle.ggm_tree.specs.Found.{IsFilled, sibling_of};
 ghost use Rattle.zk_model.specs.declared.limits.TheConstants.{MAX_HEIGHT};
 
-use crate::levels::LevelSums;
 use crate::nodes::{add, width};
 use crate::writing::write_leaves;
 use mersenne_field::Fe;
 use std::alloc::{AllocError, Global};
+use zk_model::BlockPair;
 
 /// The elements of the 2^height leaves of a tree but for one of them, in order, from the XOR of the nodes of each level
 /// on the side away from the path to that leaf, the root's children first (Boyle, Couteau, Gilboa, Ishai, Kohl, Rindal
@@ -33,7 +33,7 @@ pub fn puncture(
     ensures length { IfOk result (λ leaves. vec_len leaves ≡ 2 ^ height) }
 {
     let mut leaves = vec![in alloc; Fe::ZERO; width(height)]?;
-    let mut held = [LevelSums::new(); 16];
+    let mut held = [BlockPair::zeros(); 16];
     for level in 0..height {
         let below = height - 1 - level;
         let place = missing >> below;
@@ -56,7 +56,7 @@ fn fill_sibling(
     height: u32,
     place: usize,
     sum: &[u8; 16],
-    held: &mut [LevelSums],
+    held: &mut [BlockPair],
     leaves: &mut [Fe],
 )
     requires levels { level + height < length held.old }
@@ -67,7 +67,7 @@ fn fill_sibling(
 {
     let (above, below) = held.split_at_mut(level as usize + 1);
     let right = place % 2 == 0;
-    let mut sibling = above[level as usize].side(right);
+    let mut sibling = above[level as usize].choice(right);
     add(&mut sibling, sum);
     let count = width(height);
     let start = (place / 2 * 2 + usize::from(right)) * count;

@@ -5,18 +5,19 @@ ghost use Rattle.zk_model.specs.Field.{prime};
 ghost use Rattle.zk_model.specs.Tree.{leaf_value};
 ghost use Rattle.ggm_tree.specs.Rows.{leaves_below, AreAdded};
 
-use crate::levels::{LevelSums, add_four, below_four, below_one, below_two};
+use crate::levels::{add_four, below_four, below_one, below_two};
 use crate::nodes::leaf_value;
 use crate::steps::Steps;
 use mersenne_field::Fe;
 use std::marker::Brand;
 use std::sync::ledger::{Blank, Ledger};
+use zk_model::BlockPair;
 
 /// The sum of the leaves below one node.
 pub(crate) fn sum_one<L: Ledger>(
     node: &[u8; 16],
     height: u32,
-    sums: &mut [LevelSums],
+    sums: &mut [BlockPair],
     steps: &mut Steps<L>,
 ) -> Fe
     requires levels { height ≤ length sums.old }
@@ -42,7 +43,7 @@ pub(crate) fn sum_one<L: Ledger>(
 fn sum_four<L: Ledger>(
     nodes: &[[u8; 16]; 4],
     height: u32,
-    sums: &mut [LevelSums],
+    sums: &mut [BlockPair],
     steps: &mut Steps<L>,
 ) -> Fe
     requires levels { height ≤ length sums.old }
@@ -63,7 +64,7 @@ fn sum_four<L: Ledger>(
 }
 
 /// The sum of the leaves below a node, where no one counts the steps.
-pub(crate) fn sum_leaves(node: &[u8; 16], height: u32, sums: &mut [LevelSums]) -> Fe
+pub(crate) fn sum_leaves(node: &[u8; 16], height: u32, sums: &mut [BlockPair]) -> Fe
     requires levels { height ≤ length sums.old }
     ensures leaves { result ≡ sum (leaves_below (node.now ∷ []) height) % prime }
     ensures sums { AreAdded (node.now ∷ []) height sums.old sums.new }
@@ -72,7 +73,7 @@ pub(crate) fn sum_leaves(node: &[u8; 16], height: u32, sums: &mut [LevelSums]) -
 }
 
 /// The same, of steps that are thrown away.
-fn sum_from<L: Ledger>(node: &[u8; 16], height: u32, sums: &mut [LevelSums], blank: Blank) -> Fe
+fn sum_from<L: Ledger>(node: &[u8; 16], height: u32, sums: &mut [BlockPair], blank: Blank) -> Fe
     requires name { blank.name ≡ L.name }
     requires parts { blank.parts ≡ L.parts }
     requires some { 0 < blank.parts }

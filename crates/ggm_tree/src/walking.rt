@@ -5,11 +5,11 @@ ghost use Rattle.zk_model.specs.Tree.{level_sum, tree_leaves};
 ghost use Rattle.ggm_tree.specs.Rows.{level_in, nothing};
 ghost use Rattle.zk_model.specs.declared.limits.TheConstants.{MAX_HEIGHT};
 
-use crate::levels::LevelSums;
 use crate::steps::Steps;
 use crate::summing::sum_one;
 use mersenne_field::Fe;
 use std::sync::ledger::Ledger;
+use zk_model::BlockPair;
 
 /// What a walk over a tree tells: for each level the XOR of its left nodes and that of its right ones, the root's
 /// children first, and the sum of the leaves' elements. Past the last level stand nodes of 0.
@@ -35,13 +35,13 @@ pub fn walk_sums<L: Ledger>(root: &[u8; 16], height: u32, steps: &mut Steps<L>) 
     ensures leaf_sum { result.leaf_sum ≡ sum (tree_leaves root.now height) % prime }
     ensures steps { steps.new ≡ steps.old + (2 ^ height - 1) }
 {
-    let mut sums = [LevelSums::new(); 16];
+    let mut sums = [BlockPair::zeros(); 16];
     let leaf_sum = sum_one(root, height, &mut sums, steps);
     parted(&sums, leaf_sum)
 }
 
 /// The sums of all levels, those of the left sides apart from those of the right ones.
-fn parted(sums: &[LevelSums; 16], leaf_sum: Fe) -> WalkSums
+fn parted(sums: &[BlockPair; 16], leaf_sum: Fe) -> WalkSums
     ensures left { (level : ℕ) → level < 16
         → slice_index_or result.left level [] ≡ (level_in sums.now level).left }
     ensures right { (level : ℕ) → level < 16

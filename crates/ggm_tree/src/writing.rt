@@ -3,18 +3,19 @@
 ghost use Rattle.std.specs.Prelude.{◌≡◌, ◌+◌, ◌*◌, ◌^◌, ◌<◌, ◌≤◌, [], ◌∷◌, length};
 ghost use Rattle.ggm_tree.specs.Rows.{leaves_below, AreAdded};
 
-use crate::levels::{LevelSums, add_four, below_four, below_one, below_two};
+use crate::levels::{add_four, below_four, below_one, below_two};
 use crate::nodes::put_leaves;
 use crate::steps::Steps;
 use mersenne_field::Fe;
 use std::marker::Brand;
 use std::sync::ledger::{Blank, Ledger};
+use zk_model::BlockPair;
 
 /// Writes the leaves below one node.
 pub(crate) fn write_one<L: Ledger>(
     node: &[u8; 16],
     height: u32,
-    sums: &mut [LevelSums],
+    sums: &mut [BlockPair],
     leaves: &mut [Fe],
     steps: &mut Steps<L>,
 )
@@ -43,7 +44,7 @@ pub(crate) fn write_one<L: Ledger>(
 fn write_four<L: Ledger>(
     nodes: &[[u8; 16]; 4],
     height: u32,
-    sums: &mut [LevelSums],
+    sums: &mut [BlockPair],
     leaves: &mut [Fe],
     steps: &mut Steps<L>,
 )
@@ -67,7 +68,7 @@ fn write_four<L: Ledger>(
 }
 
 /// Writes the leaves below a node, where no one counts the steps.
-pub(crate) fn write_leaves(node: &[u8; 16], height: u32, sums: &mut [LevelSums], leaves: &mut [Fe])
+pub(crate) fn write_leaves(node: &[u8; 16], height: u32, sums: &mut [BlockPair], leaves: &mut [Fe])
     requires levels { height ≤ length sums.old }
     requires places { length leaves.old ≡ 2 ^ height }
     ensures leaves { leaves.new ≡ leaves_below (node.now ∷ []) height }
@@ -80,7 +81,7 @@ pub(crate) fn write_leaves(node: &[u8; 16], height: u32, sums: &mut [LevelSums],
 fn write_from<L: Ledger>(
     node: &[u8; 16],
     height: u32,
-    sums: &mut [LevelSums],
+    sums: &mut [BlockPair],
     leaves: &mut [Fe],
     blank: Blank,
 )

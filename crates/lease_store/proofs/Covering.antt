@@ -25,6 +25,10 @@ use Rattle.lease_store.proofs.Contents.{known_after, known_before, some_and, som
 use Rattle.lease_store.proofs.Places.{begins_once}
 use Rattle.lease_store.proofs.Rounding.{IsRounded}
 
+-- the total of a desk is that of its name
+pub few_named : (own total : ℕ) → own ≡ total → own ≤ MAX_STORE_UNITS → total ≤ MAX_STORE_UNITS
+few_named own total is few = omega (arith, is, few)
+
 -- a refusal that is not due to the device in this call changes no fault
 pub not_device : (fault fault_now before now : ℕ) (e : JournalFault) → CoverCause fault fault_now before now e → (e ≡ Device → ⊥) → fault_now ≡ fault
 not_device fault fault_now before now Device cause other = absurd (other refl)

@@ -3,6 +3,7 @@ use Rattle.std.specs.Prelude.{◌≡◌, ℕ, List}
 use Rattle.zk_model.specs.Check.{ProductCheck, OpeningCheck, FailsFirstAt, OpensFalselyAt, left_of_section, right_of_section, left_of_opening, right_of_opening}
 use Rattle.wire_auth.specs.Sides.{VerifierSide}
 use Rattle.mult_check.specs.declared.sections.Differs.{Differs}
+use Rattle.mult_check.specs.declared.sent.SentSums.{SentSums}
 use Rattle.mult_check.specs.declared.openings.OpeningDiffers.{OpeningDiffers}
 
 -- what the check of products is over
@@ -16,6 +17,11 @@ product_check side section_length challenge masks key sums = record {
   challenge = challenge;
   sums = sums;
 }
+
+-- the same of sums that were sent
+abbrev pub sent_check : VerifierSide → SentSums → ProductCheck
+sent_check side sent =
+    product_check side sent.section_length sent.challenge sent.mask_keys.now sent.key sent.sums.now
 
 -- what the check of the opened wires is over
 abbrev pub opening_check : VerifierSide → ℕ → List ℕ → List ℕ → OpeningCheck

@@ -3,13 +3,14 @@
 ghost use Rattle.std.specs.Prelude.{◌≡◌, ◌≤◌, length, IfOk, IfErr, OnOk};
 ghost use Rattle.zk_model.specs.Check.{all_sums, AllSectionsHold};
 ghost use Rattle.zk_model.specs.Program.{section_count};
-ghost use Rattle.mult_check.specs.Checks.{product_check, DiffersFirst};
+ghost use Rattle.mult_check.specs.Checks.{sent_check, DiffersFirst};
 ghost use Rattle.mult_check.specs.declared.sections.Differs.{Differs};
 ghost use Rattle.mult_check.specs.declared.fault.StreamFault.TheVariants as stream;
 
 use crate::fault::StreamFault;
 use crate::parts::{ProverPart, VerifierPart};
 use crate::sections::{Differs, meets};
+use crate::sent::SentSums;
 use crate::walked::{Walk, next_section, section_along};
 use mersenne_field::{Fe, Pair};
 use std::alloc::{AllocError, Global};
@@ -115,31 +116,28 @@ pub fn stream_check<R: Threads + Sync>(
     rt: &R,
     alloc: Global,
     walk: &mut VerifierWalk<'_>,
-    g: u64,
-    challenge: Fe,
-    mask_keys: &[Fe],
-    key: Fe,
-    sums: &[(Fe, Fe)],
+    sent: &SentSums<'_>,
     workers: u32,
 ) -> Result<(), StreamFault>
     requires some { 1 ≤ workers }
     requires fresh { walk.old.met ≡ 0 }
-    requires at_least_one { 1 ≤ g }
-    requires masks { length mask_keys.now ≡ section_count walk.old.side.program g }
-    requires sums { length sums.now ≡ length mask_keys.now }
+    requires at_least_one { 1 ≤ sent.now.section_length }
+    requires masks { length sent.now.mask_keys.now
+        ≡ section_count walk.old.side.program sent.now.section_length }
+    requires sums { length sent.now.sums.now ≡ length sent.now.mask_keys.now }
     ensures side { walk.new.side ≡ walk.old.side }
     ensures met { OnOk result (length walk.old.side.program.products ≤ walk.new.met) }
-    ensures holds { IfOk result (λ _.
-        AllSectionsHold (product_check walk.old.side g challenge mask_keys.now key sums.now)) }
+    ensures holds { IfOk result (λ _. AllSectionsHold (sent_check walk.old.side sent.now)) }
     ensures differs { IfErr result (λ e. (d : Differs) → e ≡ stream.Differs d
-        → DiffersFirst (product_check walk.old.side g challenge mask_keys.now key sums.now) d) }
+        → DiffersFirst (sent_check walk.old.side sent.now) d) }
 {
     let _products = walk.products();
-    let none = VerifierPart::new(challenge, key);
+    let none = VerifierPart::new(sent.challenge, sent.key);
+    let g = sent.section_length as usize;
     let mut block = Vec::new(alloc);
-    for (s, mask) in mask_keys.iter().enumerate() {
-        let part = next_section(rt, alloc, walk, g as usize, s, &mut block, none, workers)?;
-        meets(s as u32, part.masked(*mask), sums[s], key)?;
+    for (s, mask) in sent.mask_keys.iter().enumerate() {
+        let part = next_section(rt, alloc, walk, g, s, &mut block, none, workers)?;
+        meets(s as u32, part.masked(*mask), sent.sums[s], sent.key)?;
     }
     Ok(())
 }
@@ -179,30 +177,23 @@ pub fn sums_along(
 /// # Errors
 ///
 /// Exactly where an equation fails: the first section whose sides differ, with both.
-pub fn check_along(
-    walk: &mut VerifierWalk<'_>,
-    g: u64,
-    challenge: Fe,
-    mask_keys: &[Fe],
-    key: Fe,
-    sums: &[(Fe, Fe)],
-) -> Result<(), Differs>
+pub fn check_along(walk: &mut VerifierWalk<'_>, sent: &SentSums<'_>) -> Result<(), Differs>
     requires fresh { walk.old.met ≡ 0 }
-    requires at_least_one { 1 ≤ g }
-    requires masks { length mask_keys.now ≡ section_count walk.old.side.program g }
-    requires sums { length sums.now ≡ length mask_keys.now }
+    requires at_least_one { 1 ≤ sent.now.section_length }
+    requires masks { length sent.now.mask_keys.now
+        ≡ section_count walk.old.side.program sent.now.section_length }
+    requires sums { length sent.now.sums.now ≡ length sent.now.mask_keys.now }
     ensures side { walk.new.side ≡ walk.old.side }
     ensures met { OnOk result (length walk.old.side.program.products ≤ walk.new.met) }
-    ensures holds { IfOk result (λ _.
-        AllSectionsHold (product_check walk.old.side g challenge mask_keys.now key sums.now)) }
-    ensures differs { IfErr result
-        (DiffersFirst (product_check walk.old.side g challenge mask_keys.now key sums.now)) }
+    ensures holds { IfOk result (λ _. AllSectionsHold (sent_check walk.old.side sent.now)) }
+    ensures differs { IfErr result (DiffersFirst (sent_check walk.old.side sent.now)) }
 {
     let _products = walk.products();
-    let none = VerifierPart::new(challenge, key);
-    for (s, mask) in mask_keys.iter().enumerate() {
-        let part = section_along(walk, g as usize, s, none);
-        meets(s as u32, part.masked(*mask), sums[s], key)?;
+    let none = VerifierPart::new(sent.challenge, sent.key);
+    let g = sent.section_length as usize;
+    for (s, mask) in sent.mask_keys.iter().enumerate() {
+        let part = section_along(walk, g, s, none);
+        meets(s as u32, part.masked(*mask), sent.sums[s], sent.key)?;
     }
     Ok(())
 }

@@ -17,24 +17,7 @@ ghost use Rattle.zk_model.specs.Bytes.{LeftRight, xor_bytes};
 ghost use Rattle.zk_model.specs.Extension.{flip_for, masked_messages, unmasked_message};
 
 pub use laws::chosen_is_unmasked;
-use std::marker::Model;
-
-/// Two messages of 16 bytes, each under a pad. Contracts see them as two lists of bytes.
-#[derive(Clone, Copy, PartialEq, Eq, Debug)]
-pub struct Masked {
-    pub left: [u8; 16],
-    pub right: [u8; 16],
-}
-
-impl Model for Masked {
-    ghost use Rattle.zk_model.specs.Bytes.{LeftRight};
-
-    ghost Value = { LeftRight };
-
-    ghost view = { λ masked. record { left = masked.left; right = masked.right } };
-
-    ghost inverse = { λ masked. record { left = masked.left; right = masked.right } };
-}
+use zk_model::BlockPair;
 
 /// What the receiver asks: its choice, hidden by the bit of its pad. It is true where the sender has to swap its pads.
 pub fn ask(dealt: bool, choice: bool) -> bool
@@ -51,7 +34,7 @@ pub fn reply(
     flip: bool,
     left: &[u8; 16],
     right: &[u8; 16],
-) -> Masked
+) -> BlockPair
     ensures { let pads : LeftRight = record { left = left_pad.now; right = right_pad.now } in
         let messages : LeftRight = record { left = left.now; right = right.now } in
         result ≡ masked_messages pads flip messages }
@@ -61,18 +44,17 @@ pub fn reply(
     } else {
         (left_pad, right_pad)
     };
-    Masked {
+    BlockPair {
         left: xored(left, first),
         right: xored(right, second),
     }
 }
 
 /// The message that the receiver chose, its pad taken off.
-pub fn unmask(pad: &[u8; 16], choice: bool, masked: &Masked) -> [u8; 16]
+pub fn unmask(pad: &[u8; 16], choice: bool, masked: &BlockPair) -> [u8; 16]
     ensures { result ≡ unmasked_message pad.now choice masked.now }
 {
-    let message = if choice { &masked.right } else { &masked.left };
-    xored(message, pad)
+    xored(&masked.choice(choice), pad)
 }
 
 /// The XOR of two texts of 16 bytes, byte by byte.

@@ -8,8 +8,7 @@ ghost use Rattle.round_fan.specs.Fans.{lists_of};
 
 use dealer_files::{ProverFile, VerifierFile, deal};
 use linear_code::Columns;
-use mersenne_field::{Fe, Pair};
-use round_fan::{FanReply, fan_prover, fan_verifier};
+use round_fan::{fan_prover, fan_verifier};
 use std::alloc::{AllocError, Global};
 use std::test::Fail;
 use std::thread::Threads;
@@ -17,8 +16,8 @@ use tree_messages::{TreeAsk, TreeReply};
 use vole_extend::{ProverRound, VerifierRound, columns_of};
 use zk_model::{Kind, Params, Span};
 
-/// How many workers there are, besides one.
-const WORKERS: [u32; 4] = [2, 3, 4, 16];
+/// How many workers there are.
+const WORKERS: [u32; 5] = [1, 2, 3, 4, 16];
 
 /// Seven units of eight correlations each.
 const PARAMS: Params = Params {
@@ -96,93 +95,35 @@ fn all_units(total: u64) -> Span
     }
 }
 
-/// The replies as text, and the keys, by so many workers.
-fn replied_by<R: Threads + Sync>(
+/// What the rounds of all units give at both ends, by each number of workers: the verifier's replies and keys, and the prover's pairs.
+fn all_rounds<R: Threads + Sync>(
     rt: &R,
     alloc: Global,
-    file: &VerifierFile,
+    prover: &ProverFile,
+    verifier: &VerifierFile,
     columns: &Columns,
     asks: &[Vec<TreeAsk>],
-    workers: u32,
-) -> Result<(String, Vec<Fe>), Fail>
-    requires some { 1 ≤ workers }
-    requires few { workers ≤ 1024 }
-    requires extended { file.now.params.kind ≡ Extended }
-    requires columns { columns.now ≡ unit_code file.now.params file.now.code_seed }
-    requires units { length asks.now ≡ file.now.params.total }
-    requires fits { All (AreAsks file.now.params.height file.now.params.trees) (lists_of asks.now) }
-{
-    let span = all_units(file.total());
-    let FanReply { replies, keys } = fan_verifier(rt, alloc, file, columns, span, asks, workers)?;
-    let said = format!(in alloc; "{replies:?}")?;
-    Ok((said, keys))
-}
-
-/// The pairs, by so many workers.
-fn pairs_by<R: Threads + Sync>(
-    rt: &R,
-    alloc: Global,
-    file: &ProverFile,
-    columns: &Columns,
     replies: &[Vec<TreeReply>],
-    workers: u32,
-) -> Result<Vec<Pair>, Fail>
-    requires some { 1 ≤ workers }
-    requires few { workers ≤ 1024 }
-    requires extended { file.now.params.kind ≡ Extended }
-    requires columns { columns.now ≡ unit_code file.now.params file.now.code_seed }
-    requires units { length replies.now ≡ file.now.params.total }
-    requires fits { All (AreReplies file.now.params.height file.now.params.trees) (lists_of replies.now) }
+) -> Result<Vec<String>, Fail>
+    requires prover { prover.now.params.kind ≡ Extended }
+    requires verifier { verifier.now.params.kind ≡ Extended }
+    requires prover_columns { columns.now ≡ unit_code prover.now.params prover.now.code_seed }
+    requires verifier_columns { columns.now ≡ unit_code verifier.now.params verifier.now.code_seed }
+    requires asked { length asks.now ≡ verifier.now.params.total }
+    requires replied { length replies.now ≡ prover.now.params.total }
+    requires asks { All (AreAsks verifier.now.params.height verifier.now.params.trees) (lists_of asks.now) }
+    requires replies { All (AreReplies prover.now.params.height prover.now.params.trees)
+        (lists_of replies.now) }
 {
-    let span = all_units(file.total());
-    let pairs = fan_prover(rt, alloc, file, columns, span, replies, workers)?;
-    Ok(pairs)
-}
-
-/// Whether a verifier's rounds come out the same by any number of workers.
-fn are_same_replies<R: Threads + Sync>(
-    rt: &R,
-    alloc: Global,
-    file: &VerifierFile,
-    columns: &Columns,
-    asks: &[Vec<TreeAsk>],
-) -> Result<bool, Fail>
-    requires extended { file.now.params.kind ≡ Extended }
-    requires columns { columns.now ≡ unit_code file.now.params file.now.code_seed }
-    requires units { length asks.now ≡ file.now.params.total }
-    requires fits { All (AreAsks file.now.params.height file.now.params.trees) (lists_of asks.now) }
-{
-    let (said, keys) = replied_by(rt, alloc, file, columns, asks, 1)?;
+    let asked = all_units(verifier.total());
+    let replied = all_units(prover.total());
+    let mut said = Vec::new(alloc);
     for workers in WORKERS {
-        let (also_said, more) = replied_by(rt, alloc, file, columns, asks, workers)?;
-        if also_said != said || more.as_slice() != keys.as_slice() {
-            return Ok(false);
-        }
+        let given = fan_verifier(rt, alloc, verifier, columns, asked, asks, workers)?;
+        let pairs = fan_prover(rt, alloc, prover, columns, replied, replies, workers)?;
+        said.push(format!(in alloc; "{given:?} {pairs:?}")?)?;
     }
-    Ok(true)
-}
-
-/// Whether a prover's do.
-fn are_same_pairs<R: Threads + Sync>(
-    rt: &R,
-    alloc: Global,
-    file: &ProverFile,
-    columns: &Columns,
-    replies: &[Vec<TreeReply>],
-) -> Result<bool, Fail>
-    requires extended { file.now.params.kind ≡ Extended }
-    requires columns { columns.now ≡ unit_code file.now.params file.now.code_seed }
-    requires units { length replies.now ≡ file.now.params.total }
-    requires fits { All (AreReplies file.now.params.height file.now.params.trees) (lists_of replies.now) }
-{
-    let pairs = pairs_by(rt, alloc, file, columns, replies, 1)?;
-    for workers in WORKERS {
-        let more = pairs_by(rt, alloc, file, columns, replies, workers)?;
-        if more.as_slice() != pairs.as_slice() {
-            return Ok(false);
-        }
-    }
-    Ok(true)
+    Ok(said)
 }
 
 #[test]
@@ -192,7 +133,12 @@ fn rounds_are_the_same_by_all_workers(rt: HostRuntime) -> Result<(), Fail> {
     let columns = columns_of(alloc, &PARAMS, &verifier.code_seed())?;
     let asks = asks_of(alloc, &prover)?;
     let replies = replies_to(alloc, &verifier, &columns, &asks)?;
-    assert!(rt; are_same_replies(&rt, alloc, &verifier, &columns, &asks)?);
-    assert!(rt; are_same_pairs(&rt, alloc, &prover, &columns, &replies)?);
+    let said = all_rounds(&rt, alloc, &prover, &verifier, &columns, &asks, &replies)?;
+    let [alone, others @ ..] = said.as_slice() else {
+        return Err(Fail::new("nobody worked"));
+    };
+    for other in others {
+        assert_eq!(rt; other, alone);
+    }
     Ok(())
 }

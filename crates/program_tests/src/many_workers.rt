@@ -1,11 +1,13 @@
 // Sums and checks along a walk, by one worker and by more, and sums of wires that are all held.
-ghost use Rattle.std.specs.Prelude.{◌≤◌};
+ghost use Rattle.std.specs.Prelude.{◌≡◌, ◌≤◌, true};
+ghost use Rattle.zk_model.specs.Program.{section_count};
 ghost use Rattle.zk_model.specs.Slots.{IsPlanOf};
+ghost use Rattle.program_tests.specs.declared.many_workers.TheConstants.{SECTION};
 
 use crate::made::{program_of, small, small_pair};
 use field_program::{FieldProgram, SlotPlan};
 use mersenne_field::{Fe, Pair};
-use mult_check::{StreamFault, prover_sums, stream_check, stream_sums};
+use mult_check::{SentSums, StreamFault, prover_sums, stream_check, stream_sums};
 use std::alloc::Global;
 use std::test::Fail;
 use std::thread::Threads;
@@ -55,6 +57,17 @@ fn dealt_pairs(alloc: Global) -> Result<Vec<Pair>, Fail> {
     Ok(pairs)
 }
 
+/// Whether it is such a program, with as many correlations as it takes and two sections.
+fn is_chain(program: &FieldProgram, given: usize) -> bool
+    ensures public { result ≡ true → program.now.public ≡ 0 }
+    ensures inputs { result ≡ true → program.now.inputs ≡ 2 }
+    ensures given { result ≡ true → program.now.givens ≤ given }
+    ensures sections { result ≡ true → section_count program.now SECTION ≡ 2 }
+{
+    let fits = program.public() == 0 && program.inputs() == 2 && program.givens() <= given;
+    fits && program.sections(SECTION) == 2
+}
+
 /// The prover's sums, by so many workers.
 fn sums_by<R: Threads + Sync>(
     rt: &R,
@@ -67,11 +80,8 @@ fn sums_by<R: Threads + Sync>(
     requires plan { IsPlanOf program.now plan.now }
     requires some { 1 ≤ workers }
 {
-    if program.public() != 0 || program.inputs() != 2 || program.givens() > dealt.len() {
+    if !is_chain(program, dealt.len()) {
         return Err(Fail::new("another program"));
-    }
-    if program.sections(SECTION) != 2 {
-        return Err(Fail::new("other sections"));
     }
     let inputs = [small(1), small(0)];
     let masks = [small_pair(4, 9), small_pair(5, 6)];
@@ -82,11 +92,8 @@ fn sums_by<R: Threads + Sync>(
 
 /// The prover's sums of wires that are all held.
 fn sums_held(alloc: Global, program: &FieldProgram, dealt: &[Pair]) -> Result<Vec<(Fe, Fe)>, Fail> {
-    if program.public() != 0 || program.inputs() != 2 || program.givens() > dealt.len() {
+    if !is_chain(program, dealt.len()) {
         return Err(Fail::new("another program"));
-    }
-    if program.sections(SECTION) != 2 {
-        return Err(Fail::new("other sections"));
     }
     let inputs = [small(1), small(0)];
     let masks = [small_pair(4, 9), small_pair(5, 6)];
@@ -109,27 +116,21 @@ fn found_by<R: Threads + Sync>(
     requires plan { IsPlanOf program.now plan.now }
     requires some { 1 ≤ workers }
 {
-    if program.public() != 0 || program.givens() > keys.len() {
+    if !is_chain(program, keys.len()) || program.givens() != corrections.len() {
         return Err(Fail::new("another program"));
-    }
-    if program.givens() != corrections.len() || program.sections(SECTION) != 2 {
-        return Err(Fail::new("other products"));
     }
     let masks = [small(8), small(13)];
     let sums = [(Fe::ZERO, Fe::ZERO); 2];
     let key = small(5);
     let mut walk = VerifierWalk::new(alloc, program, plan, &[], keys, key, corrections)?;
-    let checked = stream_check(
-        rt,
-        alloc,
-        &mut walk,
-        SECTION,
-        challenge(),
-        &masks,
+    let sent = SentSums {
+        section_length: SECTION,
+        challenge: challenge(),
+        mask_keys: &masks,
         key,
-        &sums,
-        workers,
-    );
+        sums: &sums,
+    };
+    let checked = stream_check(rt, alloc, &mut walk, &sent, workers);
     let Err(fault) = checked else {
         return Err(Fail::new("wrong sums are taken"));
     };

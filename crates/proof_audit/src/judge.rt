@@ -21,7 +21,6 @@ ghost use Rattle.proof_audit.specs.Stages.{IsDescribed, expected_at, Takes, Wron
 
 use crate::session::{Session, Stage};
 use dealer_files::VerifierFile;
-use pad_transfer::Masked;
 use proof_frames::{Expect, Frame, Grant};
 use session_core::{
     Judgement, OneThread, Replied, Statement, Verdict, VerifierJob, difference, replies_in,
@@ -32,10 +31,10 @@ use std::marker::Model;
 use std::mem;
 use tree_messages::TreeReply;
 use vole_extend::columns_of;
-use zk_model::{Kind, MAX_SECTION_LENGTH, Params};
+use zk_model::{BlockPair, Kind, MAX_SECTION_LENGTH, Params};
 
 /// Judges the frames of a session about a statement, by the verifier's file.
-#[derive(Debug, Drop)]
+#[derive(Drop)]
 pub(crate) struct Judge<'a> {
     statement: &'a Statement<'a>,
     file: &'a VerifierFile,
@@ -50,7 +49,7 @@ impl<'a> Model for Judge<'a> {
 }
 
 /// Whether two lists of masked messages are one.
-fn same_messages(some: &[Masked], others: &[Masked]) -> bool
+fn same_messages(some: &[BlockPair], others: &[BlockPair]) -> bool
     ensures { IsTrue result ↔ some.now ≡ others.now }
 {
     if some.len() != others.len() {

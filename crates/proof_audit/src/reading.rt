@@ -9,7 +9,7 @@ use proof_frames::{BadFrame, Decoder, Expect, Frame};
 use std::alloc::Global;
 
 /// Reads frames from the bytes of a log, one after another.
-#[derive(Debug, Drop)]
+#[derive(Drop)]
 pub(crate) struct LogReader<'a> {
     decoder: Decoder,
     rest: &'a [u8],

@@ -17,7 +17,7 @@ use wire_auth::{KeyTriple, Triple, VerifierWires};
 
 /// The values and the MACs of a session's wires, which follow from the pairs and the corrections as keys follow under one key: values
 /// under the key 1, MACs under the key 0.
-#[derive(Debug, Drop)]
+#[derive(Drop)]
 pub(crate) struct SeenWires<'a> {
     values: VerifierWires<'a>,
     macs: VerifierWires<'a>,

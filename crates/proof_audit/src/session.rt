@@ -8,7 +8,7 @@ use session_core::Replied;
 use std::alloc::{AllocError, Global};
 
 /// What has been read of a session from its grant on; a list that has not come yet is empty.
-#[derive(Debug, Drop)]
+#[derive(Drop)]
 pub(crate) struct Session {
     pub(crate) grant: Grant,
     /// The asks for each unit, none in kind direct.
@@ -24,7 +24,7 @@ pub(crate) struct Session {
 }
 
 /// Which frame is next, with what has been read. In a round so many replies have been read.
-#[derive(Debug, Drop)]
+#[derive(Drop)]
 pub(crate) enum Stage {
     Hello,
     Grant,

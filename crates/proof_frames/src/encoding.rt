@@ -11,10 +11,9 @@ ghost use Rattle.zk_model.specs.declared.limits.TheConstants.{MAX_PAYLOAD};
 
 use crate::frame::{Frame, Grant, Hello, number_of};
 use mersenne_field::Fe;
-use pad_transfer::Masked;
 use std::alloc::{AllocError, Global};
 use tree_messages::{TreeAsk, TreeReply};
-use zk_model::{FrameKind, LONG_HELLO_LENGTH};
+use zk_model::{BlockPair, FrameKind, LONG_HELLO_LENGTH};
 
 /// A frame of this kind whose payload will have so many bytes, without the payload.
 fn begin(alloc: Global, kind: FrameKind, length: usize) -> Result<Vec<u8>, AllocError>
@@ -61,7 +60,7 @@ fn push_flips(bytes: &mut Vec<u8>, flips: &[bool]) -> Result<(), AllocError>
 }
 
 /// Appends messages, 32 bytes for both of a level.
-fn push_messages(bytes: &mut Vec<u8>, messages: &[Masked]) -> Result<(), AllocError>
+fn push_messages(bytes: &mut Vec<u8>, messages: &[BlockPair]) -> Result<(), AllocError>
     ensures { OnOk result (bytes.new.items ≡ bytes.old.items ++ flat_map message_bytes messages.now) }
 {
     for both in messages {

@@ -2,17 +2,16 @@
 ghost use Rattle.std.specs.Prelude.{◌≡◌, ◌≤◌, [], length, All, IfOk, OnOk, vec_capacity};
 ghost use Rattle.proof_frames.specs.Rooms.{HasTreeRooms};
 
-use pad_transfer::Masked;
 use std::alloc::{AllocError, Global};
 use tree_messages::{TreeAsk, TreeReply};
-use zk_model::Expect;
+use zk_model::{BlockPair, Expect};
 
 /// Room for trees, and for what stands in each of them, of which nothing is there yet.
 #[derive(Debug, Drop)]
 pub(crate) struct TreeRooms {
     pub(crate) flips: Vec<Vec<bool>>,
     pub(crate) asks: Vec<TreeAsk>,
-    pub(crate) messages: Vec<Vec<Masked>>,
+    pub(crate) messages: Vec<Vec<BlockPair>>,
     pub(crate) replies: Vec<TreeReply>,
 }
 

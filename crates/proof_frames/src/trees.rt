@@ -10,10 +10,10 @@ ghost use Rattle.proof_frames.specs.Shapes.{IsTreeWord, FitsTrees};
 
 use crate::rooms::TreeRooms;
 use mersenne_field::Fe;
-use pad_transfer::Masked;
 use std::alloc::Global;
 use std::mem;
 use tree_messages::{TreeAsk, TreeReply};
+use zk_model::BlockPair;
 
 /// The element that 8 bytes from a place on spell.
 fn element_at(bytes: &[u8], at: usize) -> Fe
@@ -26,14 +26,14 @@ fn element_at(bytes: &[u8], at: usize) -> Fe
 }
 
 /// The two messages that 32 bytes from a place on are.
-fn messages_at(bytes: &[u8], at: usize) -> Masked
+fn messages_at(bytes: &[u8], at: usize) -> BlockPair
     requires { at + 32 ≤ length bytes.now }
     ensures { result ≡ record {
       left = take 16 (drop at bytes.now);
       right = take 16 (drop (at + 16) bytes.now);
     } }
 {
-    let mut masked = Masked {
+    let mut masked = BlockPair {
         left: [0; 16],
         right: [0; 16],
     };
@@ -60,7 +60,7 @@ fn ask_of(bytes: &[u8], height: usize, mut flips: Vec<bool>) -> TreeAsk
 }
 
 /// What the bytes of a tree reply, in the room that there is for the messages.
-fn reply_of(bytes: &[u8], height: usize, mut messages: Vec<Masked>) -> TreeReply
+fn reply_of(bytes: &[u8], height: usize, mut messages: Vec<BlockPair>) -> TreeReply
     requires tree { IsTreeWord (32 * height) 255 bytes.now }
     requires empty { messages.items ≡ [] }
     requires room { height ≤ vec_capacity messages }

@@ -7,29 +7,13 @@ use Rattle.proof_frames.specs.declared.frame.Frame.{Frame}
 
 -- the asks of a frame, none where it has none
 abbrev pub asks_in : model.Frame → List TreeAsk
-asks_in (model.hello greeting) = []
-asks_in (model.grant given) = []
 asks_in (model.asks trees) = trees
-asks_in (model.replies trees) = []
-asks_in (model.corrections elements) = []
-asks_in (model.challenge element) = []
-asks_in (model.sums both) = []
-asks_in (model.openings macs) = []
-asks_in (model.verdict code number) = []
-asks_in (model.refuse code) = []
+asks_in other = []
 
 -- the same of replies
 abbrev pub replies_in : model.Frame → List TreeReply
-replies_in (model.hello greeting) = []
-replies_in (model.grant given) = []
-replies_in (model.asks trees) = []
 replies_in (model.replies trees) = trees
-replies_in (model.corrections elements) = []
-replies_in (model.challenge element) = []
-replies_in (model.sums both) = []
-replies_in (model.openings macs) = []
-replies_in (model.verdict code number) = []
-replies_in (model.refuse code) = []
+replies_in other = []
 
 -- the asks of frames, unit by unit
 abbrev pub asks_of : List Frame → List (List TreeAsk)

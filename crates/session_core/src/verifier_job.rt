@@ -5,7 +5,7 @@ ghost use Rattle.zk_model.specs.Program.{section_count, part_count};
 ghost use Rattle.zk_model.specs.Transcript as transcript;
 ghost use Rattle.zk_model.specs.ServedVerifier.{challenge_coin};
 ghost use Rattle.zk_model.specs.declared.Kind.TheVariants.{Direct};
-ghost use Rattle.mult_check.specs.Checks.{product_check, opening_check};
+ghost use Rattle.mult_check.specs.Checks.{sent_check, opening_check};
 ghost use Rattle.session_core.specs.Jobs.{IsVerifierJob, IsTooLarge, units_of_job, granted_from, verifier_of};
 ghost use Rattle.session_core.specs.Fixing.{HoldsKeys};
 ghost use Rattle.session_core.specs.Judgements.{IsRejectedFor, Judges, Finds};
@@ -17,7 +17,7 @@ use crate::statement::Statement;
 use crate::workers::Workers;
 use dealer_files::VerifierFile;
 use mersenne_field::Fe;
-use mult_check::{StreamFault, openings_along};
+use mult_check::{SentSums, StreamFault, openings_along};
 use proof_frames::Grant;
 use std::alloc::{AllocError, Global};
 use std::marker::Model;
@@ -106,28 +106,25 @@ fn judgement_of<H: Workers>(
     workers: &H,
     alloc: Global,
     walk: &mut VerifierWalk<'_>,
-    section: u64,
-    challenge: Fe,
-    masks: &[Fe],
-    key: Fe,
-    sums: &[(Fe, Fe)],
+    sent: &SentSums<'_>,
     openings: &[Fe],
     claims: &[Fe],
 ) -> Result<Judgement, AllocError>
     requires ready { H.is_ready workers.now }
     requires fresh { walk.old.met ≡ 0 }
-    requires at_least_one { 1 ≤ section }
-    requires masks { length masks.now ≡ section_count walk.old.side.program section }
-    requires sums { length sums.now ≡ length masks.now }
+    requires at_least_one { 1 ≤ sent.now.section_length }
+    requires masks { length sent.now.mask_keys.now
+        ≡ section_count walk.old.side.program sent.now.section_length }
+    requires sums { length sent.now.sums.now ≡ length sent.now.mask_keys.now }
     requires openings { length openings.now ≡ length walk.old.side.program.opened }
     requires claims { length claims.now ≡ length walk.old.side.program.opened }
-    ensures { IfOk result (Judges (product_check walk.old.side section challenge masks.now key sums.now)
-        (opening_check walk.old.side key openings.now claims.now)) }
+    ensures { IfOk result (Judges (sent_check walk.old.side sent.now)
+        (opening_check walk.old.side sent.now.key openings.now claims.now)) }
 {
-    if let Err(fault) = workers.check(alloc, walk, section, challenge, masks, key, sums) {
+    if let Err(fault) = workers.check(alloc, walk, sent) {
         return rejected_sum(fault);
     }
-    match openings_along(walk, key, openings, claims) {
+    match openings_along(walk, sent.key, openings, claims) {
         Err(differs) => Ok(Judgement::RejectedOpening {
             output: differs.output,
             left: differs.left,
@@ -275,10 +272,14 @@ impl<'a> VerifierJob<'a> {
         let public = self.statement.public();
         let claims = self.statement.claims();
         let mut walk = VerifierWalk::new(alloc, program, plan, public, keys, key, corrections)?;
-        let challenge = self.challenge(start);
-        let judgement = judgement_of(
-            workers, alloc, &mut walk, section, challenge, masks, key, sums, openings, claims,
-        )?;
+        let sent = SentSums {
+            section_length: section,
+            challenge: self.challenge(start),
+            mask_keys: masks,
+            key,
+            sums,
+        };
+        let judgement = judgement_of(workers, alloc, &mut walk, &sent, openings, claims)?;
         Ok(judgement)
     }
 }

@@ -7,7 +7,7 @@ ghost use Rattle.zk_model.specs.Files.{correlations_per_unit};
 ghost use Rattle.zk_model.specs.Frames.{AreAsks, AreReplies};
 ghost use Rattle.zk_model.specs.Program.{section_count};
 ghost use Rattle.zk_model.specs.declared.Kind.TheVariants.{Extended};
-ghost use Rattle.mult_check.specs.Checks.{DiffersFirst, product_check};
+ghost use Rattle.mult_check.specs.Checks.{DiffersFirst, sent_check};
 ghost use Rattle.mult_check.specs.declared.fault.StreamFault.TheVariants as stream;
 ghost use Rattle.mult_check.specs.declared.sections.Differs.{Differs};
 ghost use Rattle.vole_extend.specs.Rounds.{unit_code};
@@ -16,7 +16,7 @@ ghost use Rattle.round_fan.specs.Fans.{lists_of, ArePairsFrom, replies_from};
 use dealer_files::{ProverFile, VerifierFile};
 use linear_code::Columns;
 use mersenne_field::{Fe, Pair};
-use mult_check::{StreamFault, check_along, stream_check, stream_sums, sums_along};
+use mult_check::{SentSums, StreamFault, check_along, stream_check, stream_sums, sums_along};
 use round_fan::{FanReply, fan_prover, fan_verifier, unit_pairs, unit_replies};
 use std::alloc::{AllocError, Global};
 use std::thread::Threads;
@@ -96,23 +96,19 @@ pub trait Workers {
         &self,
         alloc: Global,
         walk: &mut VerifierWalk<'_>,
-        g: u64,
-        challenge: Fe,
-        mask_keys: &[Fe],
-        key: Fe,
-        sums: &[(Fe, Fe)],
+        sent: &SentSums<'_>,
     ) -> Result<(), StreamFault>
         requires ready { Self.is_ready self.now }
         requires fresh { walk.old.met ≡ 0 }
-        requires at_least_one { 1 ≤ g }
-        requires masks { length mask_keys.now ≡ section_count walk.old.side.program g }
-        requires sums { length sums.now ≡ length mask_keys.now }
+        requires at_least_one { 1 ≤ sent.now.section_length }
+        requires masks { length sent.now.mask_keys.now
+            ≡ section_count walk.old.side.program sent.now.section_length }
+        requires sums { length sent.now.sums.now ≡ length sent.now.mask_keys.now }
         ensures side { walk.new.side ≡ walk.old.side }
         ensures met { OnOk result (length walk.old.side.program.products ≤ walk.new.met) }
-        ensures holds { IfOk result (λ _.
-            AllSectionsHold (product_check walk.old.side g challenge mask_keys.now key sums.now)) }
+        ensures holds { IfOk result (λ _. AllSectionsHold (sent_check walk.old.side sent.now)) }
         ensures differs { IfErr result (λ e. (d : Differs) → e ≡ stream.Differs d
-            → DiffersFirst (product_check walk.old.side g challenge mask_keys.now key sums.now) d) };
+            → DiffersFirst (sent_check walk.old.side sent.now) d) };
 }
 
 /// On the caller's own thread.
@@ -159,13 +155,9 @@ impl Workers for OneThread {
         &self,
         _alloc: Global,
         walk: &mut VerifierWalk<'_>,
-        g: u64,
-        challenge: Fe,
-        mask_keys: &[Fe],
-        key: Fe,
-        sums: &[(Fe, Fe)],
+        sent: &SentSums<'_>,
     ) -> Result<(), StreamFault> {
-        Ok(check_along(walk, g, challenge, mask_keys, key, sums)?)
+        Ok(check_along(walk, sent)?)
     }
 }
 
@@ -228,22 +220,8 @@ impl<'a, R: Threads + Sync> Workers for Fan<'a, R> {
         &self,
         alloc: Global,
         walk: &mut VerifierWalk<'_>,
-        g: u64,
-        challenge: Fe,
-        mask_keys: &[Fe],
-        key: Fe,
-        sums: &[(Fe, Fe)],
+        sent: &SentSums<'_>,
     ) -> Result<(), StreamFault> {
-        stream_check(
-            self.rt,
-            alloc,
-            walk,
-            g,
-            challenge,
-            mask_keys,
-            key,
-            sums,
-            self.workers,
-        )
+        stream_check(self.rt, alloc, walk, sent, self.workers)
     }
 }

@@ -230,7 +230,7 @@ impl<'a, C: Claimant> Party<C> for Proving<'a> {
 }
 
 /// What was granted, and how the session ended.
-#[derive(Clone, Copy, Debug, PartialEq, Eq)]
+#[derive(Clone, Copy)]
 pub(crate) struct Course {
     pub(crate) granted: Option<Span>,
     pub(crate) outcome: ProverOutcome,

@@ -10,12 +10,14 @@ use Rattle.zk_model.specs.Frames as model
 use Rattle.zk_model.specs.Frames.{AreAsks, AreReplies, frame_spelling}
 use Rattle.zk_model.specs.HonestProver.{round_asks}
 use Rattle.zk_model.specs.ServedVerifier.{round_replies}
+use Rattle.zk_model.specs.View.{span_of}
 use Rattle.zk_model.specs.declared.Expect.TheVariants as expect
 use Rattle.zk_model.specs.declared.Kind.{Kind}
 use Rattle.zk_model.specs.declared.Kind.TheVariants.{Extended}
 use Rattle.zk_model.specs.declared.Params.{Params}
 use Rattle.zk_model.specs.declared.Side.{Side}
 use Rattle.zk_model.specs.declared.Side.TheVariants.{Prover, Verifier}
+use Rattle.zk_model.specs.declared.Span.{Span}
 use Rattle.proof_frames.specs.Frames.{frame_value, IsShort}
 use Rattle.proof_frames.specs.declared.frame.Frame.{Frame}
 use Rattle.proof_frames.proofs.Lengths.{whole_length}
@@ -57,6 +59,13 @@ all_replies : (params : Params) (grant : Grant) (units : List (List TreeReply)) 
 all_replies params grant units each k none below = record { counted = (each.1 k none below).0; each = (each.1 k none below).1 }
 
 -- ---- the round
+
+-- its units
+pub granted_units : (grant : Grant) (units : Span) (n : ℕ) → units ≡ span_of grant → n ≡ grant.count → units.end ≡ units.start + n
+granted_units grant units n are counted =
+    let start = ap (λ (s : Span). s.start) are in
+    let end = ap (λ (s : Span). s.end) are in
+    omega (arith, start, end, counted)
 
 -- honest asks, and the replies of the verifier's file
 abbrev pub held_round : ProverFile → VerifierFile → Grant → Round

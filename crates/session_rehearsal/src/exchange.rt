@@ -30,7 +30,7 @@ use vole_extend::columns_of;
 use zk_model::{Kind, Verdict};
 
 /// All that both ends of a session say, in order.
-#[derive(Debug, Drop)]
+#[derive(Drop)]
 pub(crate) struct SessionValues {
     pub(crate) hello: Hello,
     pub(crate) grant: Grant,
@@ -44,7 +44,7 @@ pub(crate) struct SessionValues {
 }
 
 /// What the rounds after a grant leave both ends with, and the frames of these rounds.
-#[derive(Debug, Drop)]
+#[derive(Drop)]
 struct Correlated<'p, 'v> {
     asked: Vec<Frame>,
     replied: Vec<Frame>,
@@ -53,7 +53,7 @@ struct Correlated<'p, 'v> {
 }
 
 /// What both ends have said once the prover has answered the challenge, and the keys of the verifier.
-#[derive(Debug, Drop)]
+#[derive(Drop)]
 pub(crate) struct OpenedSession<'v> {
     pub(crate) hello: Hello,
     pub(crate) grant: Grant,

@@ -323,7 +323,7 @@ impl<'a, 'g, R: Grantor, G: Gate> Party<R> for Serving<'a, 'g, G> {
 }
 
 /// Which statement was taken, what was granted, and how the session ended.
-#[derive(Clone, Copy, Debug, PartialEq, Eq)]
+#[derive(Clone, Copy)]
 pub(crate) struct Course {
     pub(crate) taken: Option<u32>,
     pub(crate) granted: Option<Span>,

@@ -9,8 +9,8 @@
 #![tactic(auto)]
 
 use mersenne_field::Fe;
-use pad_transfer::Masked;
 use std::marker::Model;
+use zk_model::BlockPair;
 
 /// What the prover asks for one tree: for each level, the root's children first, whether the verifier has to swap its pads;
 /// and what is added to the value of the tree's base pair.
@@ -32,7 +32,7 @@ impl Model for TreeAsk {
 /// its right ones, each under a pad; and the tree's base key, as corrected, less all leaves.
 #[derive(Debug, Drop)]
 pub struct TreeReply {
-    pub messages: Vec<Masked>,
+    pub messages: Vec<BlockPair>,
     pub leaf_offset: Fe,
 }
 

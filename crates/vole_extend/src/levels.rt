@@ -3,10 +3,10 @@ ghost use Rattle.std.specs.Prelude.{◌≡◌, ◌^◌, ◌<◌, ◌≤◌, leng
 ghost use Rattle.vole_extend.specs.Levels.{choice_at, asked_flips, chosen_sums, flip_place, masked_sums};
 ghost use Rattle.zk_model.specs.declared.limits.TheConstants.{MAX_HEIGHT};
 
-use dealer_files::{Pads, Transfer};
-use ggm_tree::LevelSums;
-use pad_transfer::{Masked, ask, reply, unmask};
+use dealer_files::Transfer;
+use pad_transfer::{ask, reply, unmask};
 use std::alloc::{AllocError, Global};
+use zk_model::BlockPair;
 
 /// The side away from the way to a leaf, at a level of a tree: true where the way goes left.
 fn choice_at(height: u32, place: u32, level: u32) -> bool
@@ -41,7 +41,7 @@ pub(crate) fn chosen_sums(
     alloc: Global,
     place: u32,
     transfers: &[Transfer],
-    messages: &[Masked],
+    messages: &[BlockPair],
 ) -> Result<Vec<[u8; 16]>, AllocError>
     requires at_most { length transfers.now ≤ MAX_HEIGHT }
     requires count { length messages.now ≡ length transfers.now }
@@ -60,10 +60,10 @@ pub(crate) fn chosen_sums(
 /// Both sums of each level, each under the pad that was asked for.
 pub(crate) fn masked_sums(
     alloc: Global,
-    pads: &[Pads],
+    pads: &[BlockPair],
     flips: &[bool],
-    sums: &[LevelSums],
-) -> Result<Vec<Masked>, AllocError>
+    sums: &[BlockPair],
+) -> Result<Vec<BlockPair>, AllocError>
     requires pads { length pads.now ≡ length sums.now }
     requires flips { length flips.now ≡ length sums.now }
     ensures messages { IfOk result (λ messages. messages.items ≡ masked_sums pads.now flips.now sums.now) }
@@ -71,7 +71,7 @@ pub(crate) fn masked_sums(
 {
     let mut messages = Vec::with_capacity(alloc, sums.len())?;
     for (level, both) in sums.iter().enumerate() {
-        let Pads { left, right } = &pads[level];
+        let BlockPair { left, right } = &pads[level];
         messages.push(reply(left, right, flips[level], &both.left, &both.right))?;
     }
     Ok(messages)

@@ -12,15 +12,15 @@ ghost use Rattle.vole_extend.specs.Rounds.{unit_code, tree_pads, first_replies, 
 ghost use Rattle.zk_model.specs.declared.limits.TheConstants.{MAX_DEALT_UNITS};
 
 use crate::levels::masked_sums;
-use dealer_files::{Pads, VerifierFile};
-use ggm_tree::{GrownTree, LevelSums, grow};
+use dealer_files::VerifierFile;
+use ggm_tree::{GrownTree, grow};
 use linear_code::Columns;
 use mersenne_field::Fe;
 use sparse_vole::{sum_of_leaves, verifier_reply_sum};
 use std::alloc::{AllocError, Global};
 use std::marker::Model;
 use tree_messages::{TreeAsk, TreeReply};
-use zk_model::{Params, Span};
+use zk_model::{BlockPair, Params, Span};
 
 /// A verifier's round over a unit of an extended file.
 #[derive(Debug, Drop)]
@@ -125,7 +125,7 @@ impl<'a> VerifierRound<'a> {
     }
 
     /// Both pads of a tree's transfers, level by level.
-    fn pads(&self, tree: u32) -> &'a [Pads]
+    fn pads(&self, tree: u32) -> &'a [BlockPair]
         requires { tree < self.now.file.params.trees }
         ensures pads { result.now ≡ tree_pads self.now tree }
         ensures count { length result.now ≡ self.now.file.params.height }
@@ -191,7 +191,7 @@ impl<'a> VerifierRound<'a> {
         alloc: Global,
         tree: u32,
         ask: &TreeAsk,
-        sums: &[LevelSums],
+        sums: &[BlockPair],
         leaf_sum: Fe,
     ) -> Result<TreeReply, AllocError>
         requires tree { tree < self.now.file.params.trees }

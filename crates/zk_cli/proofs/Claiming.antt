@@ -8,6 +8,7 @@ use Rattle.zk_model.specs.declared.Span.{Span}
 use Rattle.zk_port.specs.Counts.{Rose}
 use Rattle.zk_port.specs.Disks.{DiskState, LeavesOnly}
 use Rattle.zk_port.specs.Images.{Only, StepsBy}
+use Rattle.zk_port.specs.Logs.{appended}
 use Rattle.lease_core.specs.Spans.{span}
 use Rattle.lease_journal.proofs.Moments.{leaves_also, leaves_both}
 use Rattle.claim_store.specs.Claims.{ClaimState, AreClaims, AreDurable, AreInUse, SaysClaims, SaysOldOrNew, first_met}
@@ -15,7 +16,7 @@ use Rattle.claim_store.proofs.Meeting.{claims_more, none_apart}
 use Rattle.claim_store.specs.declared.ClaimFault.{ClaimFault}
 use Rattle.claim_store.specs.declared.ClaimFault.TheVariants.{Broken, OutOfRange, Overlap, Full, Device, NoMemory}
 use Rattle.session_prover.specs.Stores.{Claims}
-use Rattle.file_commands.specs.ClaimedUnits.{AllHave, AnswersClaim, FindsClaims, FindsMore, KeepsClaims, LeavesAll, LeavesClaims, MayFind, MovesClaims, Place, asked_span}
+use Rattle.file_commands.specs.ClaimedUnits.{AllHave, AnswersClaim, FindsClaims, FindsMore, KeepsClaims, LeavesAll, LeavesClaims, MayFind, MovesBy, MovesClaims, Place, asked_span}
 use Rattle.file_commands.specs.Journals.{OpensJournal, disk_change}
 
 -- free units stand after the claims
@@ -249,6 +250,25 @@ module _ {D : Type 0} (disk_state : D → DiskState) (old : DiskState) (store : 
       left_of (Err (Full used)) moved = kept (Err (Full used)) moved moved.cause.1
       left_of (Err NoMemory) moved = kept (Err NoMemory) moved moved.cause.1
 
+  kept_by : (sound : AreClaims total store.claims) (rising : RiseFrom 0 store.claims)
+      (in_use : (bytes : List ℕ) → old.content ≡ Some bytes → AreInUse store.begin store.slots store.used bytes)
+      (asked : Option (ℕ × ℕ)) (answer : Option (Result Span ClaimFault)) (now : DiskState)
+      → now.chosen ≡ appended (name ∷ []) old.chosen → now.room ≡ old.room
+      → MovesBy id total (place_of store) store.used store.claims asked answer (disk_change old now)
+      → KeepsClaims name id total asked answer (disk_change old now)
+  kept_by sound rising in_use asked answer now chosen room moved = record {
+    chosen = chosen;
+    room = room;
+    place = place_of store;
+    used = store.used;
+    claims = store.claims;
+    sound = sound;
+    rising = rising;
+    in_use = in_use;
+    recovered = finds_first;
+    moved = moved;
+  }
+
   pub keeps_claims : (later : ClaimState D) (whole : store.fault ≡ 0) (total_is : store.total ≡ total) (small : store.total < 2 ^ 64 - 1) (sound : AreClaims total store.claims)
       (rising : RiseFrom 0 store.claims)
       (in_use : (bytes : List ℕ) → old.content ≡ Some bytes → AreInUse store.begin store.slots store.used bytes)
@@ -260,28 +280,8 @@ module _ {D : Type 0} (disk_state : D → DiskState) (old : DiskState) (store : 
       → KeepsClaims name id total asked answer (disk_change old (disk_state later.disk))
   keeps_claims later whole total_is small sound rising in_use closed counts_now asked None same =
       subst (λ (s : ClaimState D). KeepsClaims name id total asked None (disk_change old (disk_state s.disk))) (sym same)
-      (record {
-        chosen = opens.chosen;
-        room = opens.stays.room;
-        place = place_of store;
-        used = store.used;
-        claims = store.claims;
-        sound = sound;
-        rising = rising;
-        in_use = in_use;
-        recovered = finds_first;
-        moved = leaves_all;
-      })
+      (kept_by sound rising in_use asked None (disk_state store.disk) opens.chosen opens.stays.room leaves_all)
   keeps_claims later whole total_is small sound rising in_use closed counts_now None (Some answer) moved = absurd moved
-  keeps_claims later whole total_is small sound rising in_use closed counts_now (Some units) (Some answer) moved = record {
-    chosen = moved.changes.chosen ∙ opens.chosen;
-    room = moved.changes.room ∙ opens.stays.room;
-    place = place_of store;
-    used = store.used;
-    claims = store.claims;
-    sound = sound;
-    rising = rising;
-    in_use = in_use;
-    recovered = finds_first;
-    moved = moves later whole total_is small closed counts_now sound units.0 units.1 answer moved;
-  }
+  keeps_claims later whole total_is small sound rising in_use closed counts_now (Some units) (Some answer) moved =
+      kept_by sound rising in_use (Some units) (Some answer) (disk_state later.disk) (moved.changes.chosen ∙ opens.chosen)
+      (moved.changes.room ∙ opens.stays.room) (moves later whole total_is small closed counts_now sound units.0 units.1 answer moved)

@@ -36,7 +36,7 @@ use Rattle.zk_cli.specs.declared.finish.Part.{Part}
 use Rattle.zk_cli.specs.declared.finish.Part.TheVariants.{Plain, Proved, Rehearsed, Served}
 use Rattle.file_commands.specs.declared.refusal.Refusal.{Refusal}
 use Rattle.file_commands.specs.declared.refusal.Refusal.TheVariants as stop
-use Rattle.file_commands.proofs.Causes.{circuit_lacks, file_7, told_circuit}
+use Rattle.file_commands.proofs.Causes.{circuit_lacks, file_7, sound_7, told_circuit}
 use Rattle.file_commands.proofs.Means.{any_answers, zero_answers}
 
 -- ---- what the status says
@@ -112,22 +112,14 @@ witness_7 one ask shelf disk ready calm why (inr found) =
 
 journal_7 : ClaimsStartAgain → (id : List ℕ) (total : ℕ) (disk : DiskChange) → HasClaims id total disk.old.content → ¬ Rose disk.old.faults disk.new.faults
     → (why : Refusal) → JournalStop (IsClaimsFault id total disk.old) disk why → stop_status why ≡ 7
-journal_7 law id total disk has calm why cause = of_stop why cause
+journal_7 law id total disk has calm why cause = sound_7 (IsClaimsFault id total disk.old) disk sound calm why cause
   where
-    refused : (fault : StartFault) → fault ≢ start.Device → IsClaimsFault id total disk.old fault → ⊥
-    refused fault other cause =
+    sound : (fault : StartFault) → fault ≢ start.Device → ¬ IsClaimsFault id total disk.old fault
+    sound fault other cause =
         elim (law id total has.begin has.slots has.claims has.bytes (store.Journal fault) has.holds has.says (cause has.bytes has.known)) [
           | inl device ↦ other (cc)
           | inr memory ↦ cc
         ]
-
-    of_stop : (why : Refusal) → JournalStop (IsClaimsFault id total disk.old) disk why → stop_status why ≡ 7
-    of_stop (stop.JournalFailed count) cause = absurd (calm cause.1)
-    of_stop (stop.JournalShort need got) cause = absurd (refused (start.Short need got) (λ e. cc) cause)
-    of_stop (stop.JournalHeader place) cause = absurd (refused (start.BadHeader place) (λ e. cc) cause)
-    of_stop (stop.JournalBody slot) cause = absurd (refused (start.BadBody slot) (λ e. cc) cause)
-    of_stop stop.NoMemory cause = refl
-    of_stop other cause = absurd cause
 
 connect_7 : (address : List ℕ) (door : DoorChange) → ¬ Rose door.old.connect_faults door.new.connect_faults → (why : Refusal)
     → ConnectStop address door why → stop_status why ≡ 7

@@ -17,6 +17,7 @@ use Rattle.zk_port.specs.Files.{Files}
 use Rattle.zk_port.specs.Links.{LinkState}
 use Rattle.bristol_reader.specs.Laws.{OneCircuit}
 use Rattle.lease_store.specs.Laws.{CeilingsStartAgain}
+use Rattle.lease_journal.specs.declared.fault.StartFault.{StartFault}
 use Rattle.lease_journal.specs.declared.fault.StartFault.TheVariants as start
 use Rattle.lease_store.specs.declared.LeaseFault.{LeaseFault}
 use Rattle.lease_store.specs.declared.LeaseFault.TheVariants as lease
@@ -42,7 +43,7 @@ use Rattle.zk_cli.specs.declared.finish.Part.{Part}
 use Rattle.zk_cli.specs.declared.finish.Part.TheVariants.{Plain, Proved, Rehearsed, Served}
 use Rattle.file_commands.specs.declared.refusal.Refusal.{Refusal}
 use Rattle.file_commands.specs.declared.refusal.Refusal.TheVariants as stop
-use Rattle.file_commands.proofs.Causes.{claim_lacks, file_7}
+use Rattle.file_commands.proofs.Causes.{claim_lacks, file_7, sound_7}
 use Rattle.lease_store.proofs.Finding.{one_ceiling}
 use Rattle.zk_cli.proofs.LeaseCauses.{not_refused, refusal_is_told}
 use Rattle.zk_cli.proofs.ServeOutcomes.{either_is, serve_means}
@@ -69,15 +70,10 @@ lacks_7 one service shelf disk ready calm why lacks =
 -- no journal is refused where one stands that leaves units
 journal_7 : CeilingsStartAgain → (id : List ℕ) (total units : ℕ) (disk : DiskChange) → LeavesUnits id total units disk.old.content
     → ¬ Rose disk.old.faults disk.new.faults → (why : Refusal) → JournalStop (IsCeilingsFault id total disk.old) disk why → stop_status why ≡ 7
-journal_7 law id total units disk leaves calm (stop.JournalFailed count) cause = absurd (calm cause.1)
-journal_7 law id total units disk leaves calm (stop.JournalShort need got) cause =
-    absurd (not_refused law id total leaves.base leaves.bytes (start.Short need got) leaves.says (cause leaves.bytes leaves.known) (λ e. cc))
-journal_7 law id total units disk leaves calm (stop.JournalHeader place) cause =
-    absurd (not_refused law id total leaves.base leaves.bytes (start.BadHeader place) leaves.says (cause leaves.bytes leaves.known) (λ e. cc))
-journal_7 law id total units disk leaves calm (stop.JournalBody slot) cause =
-    absurd (not_refused law id total leaves.base leaves.bytes (start.BadBody slot) leaves.says (cause leaves.bytes leaves.known) (λ e. cc))
-journal_7 law id total units disk leaves calm stop.NoMemory cause = refl
-journal_7 law id total units disk leaves calm other cause = absurd cause
+journal_7 law id total units disk leaves calm why cause = sound_7 (IsCeilingsFault id total disk.old) disk sound calm why cause
+  where
+    sound : (fault : StartFault) → fault ≢ start.Device → ¬ IsCeilingsFault id total disk.old fault
+    sound fault other cause = not_refused law id total leaves.base leaves.bytes fault leaves.says (cause leaves.bytes leaves.known) other
 
 listen_7 : (address : List ℕ) (door : DoorChange) → ¬ Rose door.old.listen_faults door.new.listen_faults → (why : Refusal)
     → ListenStop address door why → stop_status why ≡ 7

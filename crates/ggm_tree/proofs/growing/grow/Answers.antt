@@ -13,5 +13,5 @@ returns-clause-sums c =
     c.deref_mut.ensures.value c.write_leaves.auto.sums
     ∙ all_sums c.args.seed.now c.args.height c.deref_mut.result.now c.write_leaves.new.sums c.write_leaves.ensures.sums
     (omega (arith, c.in_ok-sums.ensures.len))
-    (none_at c.args.height c.new.result c.deref_mut.result.now c.in_ok-sums.sums.items c.new.ensures
+    (none_at c.args.height c.zeros.result c.deref_mut.result.now c.in_ok-sums.sums.items c.zeros.ensures
     (c.in_ok-sums.ensures.items_if_clones_equal (λ y same. same)) c.deref_mut.ensures.value)

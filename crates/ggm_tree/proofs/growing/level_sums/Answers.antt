@@ -8,5 +8,5 @@ returns-clause-sums c =
     c.deref_mut.ensures.value c.sum_leaves-leaf_sum.auto.sums
     ∙ all_sums c.args.seed.now c.args.height c.deref_mut.result.now c.sum_leaves-leaf_sum.new.sums c.sum_leaves-leaf_sum.ensures.sums
     (omega (arith, c.in_ok-sums.ensures.len))
-    (none_at c.args.height c.new.result c.deref_mut.result.now c.in_ok-sums.sums.items c.new.ensures
+    (none_at c.args.height c.zeros.result c.deref_mut.result.now c.in_ok-sums.sums.items c.zeros.ensures
     (c.in_ok-sums.ensures.items_if_clones_equal (λ y same. same)) c.deref_mut.ensures.value)

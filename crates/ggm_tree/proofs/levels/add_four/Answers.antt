@@ -6,8 +6,8 @@ pub returns : goal.returns
 returns c = λ nodes four are.
     let first = c.args.first.now in
     let last = c.args.last.now in
-    c.add-4.ensures
-    ∙ ap (λ sums. with_pair sums (get_or last 2 []) (get_or last 3 [])) (c.add-3.ensures
-    ∙ ap (λ sums. with_pair sums (get_or last 0 []) (get_or last 1 [])) (c.add-2.ensures
-    ∙ ap (λ sums. with_pair sums (get_or first 2 []) (get_or first 3 [])) c.add.ensures))
+    c.add_children-4.ensures
+    ∙ ap (λ sums. with_pair sums (get_or last 2 []) (get_or last 3 [])) (c.add_children-3.ensures
+    ∙ ap (λ sums. with_pair sums (get_or last 0 []) (get_or last 1 [])) (c.add_children-2.ensures
+    ∙ ap (λ sums. with_pair sums (get_or first 2 []) (get_or first 3 [])) c.add_children.ensures))
     ∙ rows_added nodes first last c.args.sums.now four c.told-first are

@@ -5,8 +5,8 @@ use Rattle.ggm_tree.proofs.puncturing.puncture.Goals as goal
 
 pub loop-level-init : goal.loop-level-init
 loop-level-init c =
-    found_none c.args.height c.args.missing c.args.sums.now _ c.new-held.result c.in_ok-leaves.leaves.items c.requires.place (omega arith)
-    c.new-held.ensures refl
+    found_none c.args.height c.args.missing c.args.sums.now _ c.zeros-held.result c.in_ok-leaves.leaves.items c.requires.place (omega arith)
+    c.zeros-held.ensures refl
     (c.in_ok-leaves.ensures.items_if_clones_equal (λ y same. same) ∙ ap (λ n. replicate {A = ℕ} n 0) c.width.ensures.value)
 
 pub fill_sibling-requires-clause-room : goal.fill_sibling-requires-clause-room

@@ -1,31 +1,33 @@
-use Rattle.std.proofs.Common.{◌<◌, length, ◌∙◌, arith}
+use Rattle.std.proofs.Common.{◌<◌, length, get_or, ap, ◌∙◌, arith}
 use Rattle.zk_model.specs.Check.{key_triple, section_right}
 use Rattle.wire_auth.specs.Sides.{VerifierSide}
-use Rattle.mult_check.specs.Checks.{product_check}
+use Rattle.mult_check.specs.Checks.{sent_check}
 use Rattle.mult_check.proofs.Streaming.{met_next}
 use Rattle.mult_check.proofs.Testing.{section_walked, one_holds, differs_first, differs_only}
 use Rattle.mult_check.proofs.streams.stream_check.Goals as goal
 
 pub loop-s-preserved : goal.loop-s-preserved
 loop-s-preserved g c =
-    let check = product_check c.args.walk.now.side c.args.g c.args.challenge c.args.mask_keys.now c.args.key c.args.sums.now in
-    let within : c.loop-s.s < length c.args.mask_keys.now = c.loop-s-test.true in
-    let tested = section_walked c.loop-s.walk.side c.args.walk.now.side c.args.g c.loop-s.s c.args.key c.args.challenge c.args.mask_keys.now c.args.sums.now c.new-none.result
-    c.in_ok-part.part c.index-mask_keys-s.result c.masked.result c.index-sums-s.result c.loop-s.invariant.0 c.loop-s-test.true
-    (omega (arith, within, c.requires.sums)) c.index-mask_keys-s.is c.index-sums-s.is c.new-none.ensures c.in_ok-part.ensures.part c.masked.ensures in (
+    let check = sent_check c.args.walk.now.side c.args.sent.now in
+    let within : c.loop-s.s < length c.args.sent.now.mask_keys.now = c.loop-s-test.true in
+    let sum = get_or c.args.sent.now.sums.now c.loop-s.s c.index-sent-s.result in
+    let tested = section_walked c.loop-s.walk.side c.args.walk.now.side c.args.sent.now.section_length c.loop-s.s c.args.sent.now.key c.args.sent.now.challenge c.args.sent.now.mask_keys.now c.args.sent.now.sums.now c.new-none.result
+    c.in_ok-part.part c.mask-item.result c.masked.result sum c.loop-s.invariant.0 c.loop-s-test.true
+    (omega (arith, within, c.requires.sums)) c.mask-item.is (ap (get_or c.args.sent.now.sums.now c.loop-s.s) c.index-sent-s.is) c.new-none.ensures c.in_ok-part.ensures.part c.masked.ensures in (
       c.next_section.ensures.kept ∙ c.loop-s.invariant.0,
-      met_next (λ (s : VerifierSide). key_triple s.keys) (λ (s : VerifierSide). s.program.products) c.loop-s.walk.side c.args.walk.now.side c.loop-s.s c.args.g
+      met_next (λ (s : VerifierSide). key_triple s.keys) (λ (s : VerifierSide). s.program.products) c.loop-s.walk.side c.args.walk.now.side c.loop-s.s c.args.sent.now.section_length
           c.next_section.new.walk.met c.loop-s.invariant.0 c.in_ok-part.ensures.met,
-      one_holds check c.loop-s.s c.masked.result (section_right c.args.key c.index-sums-s.result) tested c.in_ok-meets.ensures.holds c.loop-s.invariant.2,
+      one_holds check c.loop-s.s c.masked.result (section_right c.args.sent.now.key sum) tested c.in_ok-meets.ensures.holds c.loop-s.invariant.2,
     )
 
 pub returns-in_err-meets-clause-differs : goal.returns-in_err-meets-clause-differs
 returns-in_err-meets-clause-differs g c =
-    let check = product_check c.args.walk.now.side c.args.g c.args.challenge c.args.mask_keys.now c.args.key c.args.sums.now in
-    let within : c.loop-s.s < length c.args.mask_keys.now = c.loop-s-test.true in
-    let tested = section_walked c.loop-s.walk.side c.args.walk.now.side c.args.g c.loop-s.s c.args.key c.args.challenge c.args.mask_keys.now c.args.sums.now c.new-none.result
-    c.in_ok-part.part c.index-mask_keys-s.result c.masked.result c.index-sums-s.result c.loop-s.invariant.0 c.loop-s-test.true
-    (omega (arith, within, c.requires.sums)) c.index-mask_keys-s.is c.index-sums-s.is c.new-none.ensures c.in_ok-part.ensures.part c.masked.ensures in
+    let check = sent_check c.args.walk.now.side c.args.sent.now in
+    let within : c.loop-s.s < length c.args.sent.now.mask_keys.now = c.loop-s-test.true in
+    let sum = get_or c.args.sent.now.sums.now c.loop-s.s c.index-sent-s.result in
+    let tested = section_walked c.loop-s.walk.side c.args.walk.now.side c.args.sent.now.section_length c.loop-s.s c.args.sent.now.key c.args.sent.now.challenge c.args.sent.now.mask_keys.now c.args.sent.now.sums.now c.new-none.result
+    c.in_ok-part.part c.mask-item.result c.masked.result sum c.loop-s.invariant.0 c.loop-s-test.true
+    (omega (arith, within, c.requires.sums)) c.mask-item.is (ap (get_or c.args.sent.now.sums.now c.loop-s.s) c.index-sent-s.is) c.new-none.ensures c.in_ok-part.ensures.part c.masked.ensures in
     differs_only c.from_residual-in_err-meets.result check c.in_err-meets.field-0.0 c.from_residual-in_err-meets.ensures.1
-    (differs_first check c.loop-s.s c.masked.result (section_right c.args.key c.index-sums-s.result) c.in_err-meets.field-0.0 (omega (arith, within, c.requires.masks))
+    (differs_first check c.loop-s.s c.masked.result (section_right c.args.sent.now.key sum) c.in_err-meets.field-0.0 (omega (arith, within, c.requires.masks))
     tested c.in_err-meets.ensures.differs.0 c.in_err-meets.ensures.differs.1 c.loop-s.invariant.2)

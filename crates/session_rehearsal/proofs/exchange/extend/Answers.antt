@@ -7,7 +7,7 @@ use Rattle.zk_model.specs.HonestProver.{round_asks}
 use Rattle.zk_model.specs.ServedVerifier.{round_replies}
 use Rattle.zk_model.specs.declared.Span.{Span}
 use Rattle.round_fan.specs.Fans.{lists_of, replies_from, ArePairsFrom}
-use Rattle.session_rehearsal.proofs.HeldRounds.{KnowsRound, knows_round, asks_fit, replies_fit, asked_short, replied_short, round_held}
+use Rattle.session_rehearsal.proofs.HeldRounds.{KnowsRound, granted_units, knows_round, asks_fit, replies_fit, asked_short, replied_short, round_held}
 use Rattle.session_rehearsal.proofs.exchange.extend.Goals as goal
 use Rattle.session_rehearsal.proofs.exchange.extend.Goals.{After-deref, After-deref-2}
 use Rattle.session_rehearsal.proofs.exchange.extend.Given.{Over}
@@ -26,10 +26,7 @@ asked_count g c =
     ∙ (asks_fit c.args.prover.now c.args.verifier.now c.args.grant (lists_of c.deref.result.now) (knows g c) (asks_are g c)).0
 
 pub fan_verifier-requires-clause-units : goal.fan_verifier-requires-clause-units
-fan_verifier-requires-clause-units g c κs within =
-    let start = ap (λ (s : Span). s.start) c.units_of-span.ensures in
-    let end = ap (λ (s : Span). s.end) c.units_of-span.ensures in
-    omega (arith, start, end, asked_count g c)
+fan_verifier-requires-clause-units g c κs within = granted_units c.args.grant _ _ c.units_of-span.ensures (asked_count g c)
 
 pub fan_verifier-requires-clause-fits : goal.fan_verifier-requires-clause-fits
 fan_verifier-requires-clause-fits g c κs within =
@@ -55,10 +52,7 @@ replied_count g c =
     ∙ (replies_fit c.args.prover.now c.args.verifier.now c.args.grant (lists_of c.deref-2.result.now) (knows_too g c) (replies_there g c)).0
 
 pub fan_prover-requires-clause-units : goal.fan_prover-requires-clause-units
-fan_prover-requires-clause-units g c κs within =
-    let start = ap (λ (s : Span). s.start) c.units_of-span.ensures in
-    let end = ap (λ (s : Span). s.end) c.units_of-span.ensures in
-    omega (arith, start, end, replied_count g c)
+fan_prover-requires-clause-units g c κs within = granted_units c.args.grant _ _ c.units_of-span.ensures (replied_count g c)
 
 pub fan_prover-requires-clause-fits : goal.fan_prover-requires-clause-fits
 fan_prover-requires-clause-fits g c κs within =

@@ -1,5 +1,4 @@
 use Rattle.std.proofs.Common.{◌≡◌, ◌<◌, ◌≤◌, sym, ◌∙◌, subst, arith, rules}
-use Rattle.zk_model.specs.declared.limits.TheConstants.{MAX_STORE_UNITS}
 use Rattle.zk_port.specs.Counts.{Rose}
 use Rattle.zk_port.specs.Disks.{LeavesOnly}
 use Rattle.lease_journal.specs.declared.fault.JournalFault.TheVariants.{Device}
@@ -8,7 +7,7 @@ use Rattle.lease_store.specs.Ceilings.{FindsCeiling}
 use Rattle.lease_store.specs.Raising.{are_all_used}
 use Rattle.lease_store.specs.States.{IsDeskOf}
 use Rattle.lease_store.proofs.Closing.{found_of}
-use Rattle.lease_store.proofs.Covering.{not_device, raise_leaves, raised, refused, unchanged}
+use Rattle.lease_store.proofs.Covering.{few_named, not_device, raise_leaves, raised, refused, unchanged}
 use Rattle.lease_store.proofs.Rounding.{rounded_to}
 use Rattle.lease_store.proofs.desk.Desk.cover.Goals as goal
 
@@ -17,7 +16,6 @@ invariant_of-self g c =
     let old = c.self.inside.journal in
     let e = c.in-Ok.ensures in
     let under : c.self.inside.journal.last.0 < c.args.end = search rules in
-    let few : g.N.LeaseName.total ≤ MAX_STORE_UNITS = omega (arith, c.self.invariant.total_is, c.self.invariant.few) in
     record {
       few = c.self.invariant.few;
       total_is = c.self.invariant.total_is;
@@ -25,7 +23,7 @@ invariant_of-self g c =
       made = rw c.raise.ensures.raised c.self.invariant.made;
       kept = rw c.raise.ensures.raised
           (raised g.B.Disk.state g.N.LeaseName.start g.N.LeaseName.id g.N.LeaseName.total g.N.LeaseName.base old c.self.inside.seat.seat.me.0
-          c.self.invariant.kept few c.args.end c.ceiling_for-ceiling.result
+          c.self.invariant.kept (few_named _ _ c.self.invariant.total_is c.self.invariant.few) c.args.end c.ceiling_for-ceiling.result
           (rounded_to g.N.LeaseName.total c.args.end old.last.0 _ _ c.ceiling_for-ceiling.ensures c.self.invariant.total_is c.requires.within under)
           e.served (are_all_used old) c.store_ceiling.new.journal e.changes e.any_moment e.state e.recovered e.durable e.faults);
       never = λ sure. search rules;
@@ -36,7 +34,6 @@ invariant_of-self-then-eq g c =
     let old = c.self.inside.journal in
     let e = c.in-Err.ensures in
     let under : c.self.inside.journal.last.0 < c.args.end = search rules in
-    let few : g.N.LeaseName.total ≤ MAX_STORE_UNITS = omega (arith, c.self.invariant.total_is, c.self.invariant.few) in
     let free : c.self.inside.journal.fault ≡ 0 = search rules in
     let rose : Rose (g.B.Disk.state c.self.inside.journal.disk).faults (g.B.Disk.state c.store_ceiling.new.journal.disk).faults = search rules in
     let is : c.store_ceiling.new.journal.fault ≡ (g.B.Disk.state c.store_ceiling.new.journal.disk).faults = search rules in
@@ -48,7 +45,7 @@ invariant_of-self-then-eq g c =
       made = rw c.mark.ensures.marked c.self.invariant.made;
       kept = rw (c.mark.ensures.marked, c.fault.ensures)
           (refused g.B.Disk.state g.N.LeaseName.start g.N.LeaseName.id g.N.LeaseName.total g.N.LeaseName.base old c.self.inside.seat.seat.me.0
-          c.self.invariant.kept few c.args.end c.ceiling_for-ceiling.result
+          c.self.invariant.kept (few_named _ _ c.self.invariant.total_is c.self.invariant.few) c.args.end c.ceiling_for-ceiling.result
           (rounded_to g.N.LeaseName.total c.args.end old.last.0 _ _ c.ceiling_for-ceiling.ensures c.self.invariant.total_is c.requires.within under)
           free (are_all_used old) c.store_ceiling.new.journal e.changes e.any_moment e.state_kept e.read
           (g.met.B.Disk.counts_now c.store_ceiling.new.journal.disk) e.faults_grow rose is some);
@@ -69,10 +66,9 @@ returns-in-Ok-clause-any_moment g c =
     let old = c.self.inside.journal in
     let e = c.in-Ok.ensures in
     let under : c.self.inside.journal.last.0 < c.args.end = search rules in
-    let few : g.N.LeaseName.total ≤ MAX_STORE_UNITS = omega (arith, c.self.invariant.total_is, c.self.invariant.few) in
     rw (← c.self.view_is, c.self.invariant.kept.ceiling)
     (raise_leaves g.B.Disk.state g.N.LeaseName.start g.N.LeaseName.id g.N.LeaseName.total g.N.LeaseName.base old c.self.inside.seat.seat.me.0
-    c.self.invariant.kept few c.args.end c.ceiling_for-ceiling.result
+    c.self.invariant.kept (few_named _ _ c.self.invariant.total_is c.self.invariant.few) c.args.end c.ceiling_for-ceiling.result
     (rounded_to g.N.LeaseName.total c.args.end old.last.0 _ _ c.ceiling_for-ceiling.ensures c.self.invariant.total_is c.requires.within under)
     e.served (are_all_used old) c.store_ceiling.new.journal e.changes e.any_moment)
 
@@ -81,11 +77,10 @@ returns-then-eq-clause-any_moment g c =
     let old = c.self.inside.journal in
     let e = c.in-Err.ensures in
     let under : c.self.inside.journal.last.0 < c.args.end = search rules in
-    let few : g.N.LeaseName.total ≤ MAX_STORE_UNITS = omega (arith, c.self.invariant.total_is, c.self.invariant.few) in
     let free : c.self.inside.journal.fault ≡ 0 = search rules in
     rw (← c.self.view_is, c.self.invariant.kept.ceiling)
     (raise_leaves g.B.Disk.state g.N.LeaseName.start g.N.LeaseName.id g.N.LeaseName.total g.N.LeaseName.base old c.self.inside.seat.seat.me.0
-    c.self.invariant.kept few c.args.end c.ceiling_for-ceiling.result
+    c.self.invariant.kept (few_named _ _ c.self.invariant.total_is c.self.invariant.few) c.args.end c.ceiling_for-ceiling.result
     (rounded_to g.N.LeaseName.total c.args.end old.last.0 _ _ c.ceiling_for-ceiling.ensures c.self.invariant.total_is c.requires.within under)
     free (are_all_used old) c.store_ceiling.new.journal e.changes e.any_moment)
 

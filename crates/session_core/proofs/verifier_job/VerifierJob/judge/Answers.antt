@@ -48,9 +48,9 @@ returns g c =
     let public : c.public-public.result.now ≡ job.task.statement.public = c.public-public.ensures.public ∙ ap (λ (j : VerifierJob). j.task.statement.public) view in
     let spanned = c.requires.keys.spanned in
     λ greeting rounds. judged_taken job greeting c.args.start rounds c.args.corrections.now c.args.sums.now c.args.openings.now c.in_ok-walk.walk.side
-    c.from-section.result c.challenge-challenge.result c.key-key.result c.masks_of-masks.result.now c.claims-claims.result.now c.in_ok-judgement.judgement
+    c.from-section.result c.challenge.result c.key-key.result c.masks_of-masks.result.now c.claims-claims.result.now c.in_ok-judgement.judgement
     (ap (λ (w : VerifierWalking). w.side.program) c.in_ok-walk.ensures.walk ∙ program)
-    section c.challenge-challenge.ensures key
+    section c.challenge.ensures key
     (c.masks_of-masks.ensures.masks ∙ (λ i. take (sections i) (drop (givens i) (spanned i))))
     (c.claims-claims.ensures.claims ∙ ap (λ (j : VerifierJob). j.task.statement.claims) view)
     (ap (λ (w : VerifierWalking). w.side.keys.given) c.in_ok-walk.ensures.walk ∙ (λ i. corrected_keys (key i) (spanned i) c.args.corrections.now))
