@@ -14,8 +14,8 @@ from typing import Dict, List, NamedTuple, Set, Tuple
 CRATES = pathlib.Path(__file__).resolve().parent.parent / "crates"
 
 HEADLINE = [
-    "zk_cli.specs.ServedNotes.ShowsClaims",
-    "zk_cli.specs.ServedNotes.GrantsOnceIn",
+    "zk_cli.specs.Meets.ShowsGiven",
+    "zk_cli.specs.Meets.GrantsOnceGiven",
     "file_commands.specs.Journals.disk_change",
     "file_commands.specs.Journals.IsJournalDisk",
     "command_words.specs.Words.asked",

@@ -1,14 +1,16 @@
 """Processes of the built program, which talk over connections of this machine and end in time."""
 import concurrent.futures
+import os
 import pathlib
 import socket
 import subprocess
 import time
-from typing import Callable, List, NamedTuple, Sequence, Tuple, TypeVar
+from typing import Callable, List, NamedTuple, Optional, Sequence, Set, Tuple, TypeVar
 
 Found = TypeVar("Found")
 
 SECONDS = 60  # after which a process, or a wait for one, has failed
+TRIES = 5  # how often a service is started, where another program has taken its port meanwhile
 
 STARTED: List[subprocess.Popen] = []
 
@@ -56,6 +58,7 @@ class Process:
         self.words = [*program, *words]
         pipe = subprocess.PIPE
         self.process = subprocess.Popen(self.words, cwd=folder, stdout=pipe, stderr=subprocess.STDOUT)
+        self.ran: Optional[Ran] = None
         STARTED.append(self.process)
 
     def is_over(self) -> bool:
@@ -66,30 +69,57 @@ class Process:
 
     def end(self) -> Ran:
         """What came of it."""
-        try:
-            text = self.process.communicate(timeout=SECONDS)[0]
-        except subprocess.TimeoutExpired:
-            self.kill()
-            raise SystemExit(f"{self.words} still ran after {SECONDS} seconds") from None
-        return Ran(text.decode(), self.process.returncode)
+        if self.ran is None:
+            try:
+                text = self.process.communicate(timeout=SECONDS)[0]
+            except subprocess.TimeoutExpired:
+                self.kill()
+                raise SystemExit(f"{self.words} still ran after {SECONDS} seconds") from None
+            self.ran = Ran(text.decode(), self.process.returncode)
+        return self.ran
 
 
 class Service(Process):
     """The program, as it serves: it listens, or it is over."""
 
     def __init__(self, program: Sequence[str], folder: pathlib.Path, words: Sequence[str], command: str = "serve"):
-        self.address = free_address()
-        super().__init__(program, folder, [command, self.place(), *words])
-        bound = time.monotonic() + SECONDS
-        while not self.is_over() and not self.listens():
-            assert time.monotonic() < bound, self.words
-            time.sleep(0.0005)
+        for _ in range(TRIES):
+            self.address = free_address()
+            super().__init__(program, folder, [command, self.place(), *words])
+            bound = time.monotonic() + SECONDS
+            while not self.is_over() and not self.listens():
+                assert time.monotonic() < bound, self.words
+                time.sleep(0.0005)
+            if not self.is_over() or self.end() != Ran("failed door\n", 4):
+                break
 
     def place(self) -> str:
         return "%s:%d" % self.address
 
     def listens(self) -> bool:
-        """Whether the system has a listener at the port; a probe by a connection would be a peer."""
+        """Whether this process has a listener at the port, and not another one; a probe by a connection would be a peer."""
         port = f":{self.address[1]:04X}"
-        rows = pathlib.Path("/proc/net/tcp").read_text().splitlines()[1:]
-        return any(row.split()[1].endswith(port) and row.split()[3] == "0A" for row in rows)
+        rows = [row.split() for row in pathlib.Path("/proc/net/tcp").read_text().splitlines()[1:]]
+        listeners = {row[9] for row in rows if row[1].endswith(port) and row[3] == "0A"}
+        return bool(listeners) and not listeners.isdisjoint(self.sockets())
+
+    def sockets(self) -> Set[str]:
+        """The numbers of the sockets of this process, and of those that it started."""
+        found = set()
+        for pid in [self.process.pid, *self.started()]:
+            try:
+                for entry in os.scandir(f"/proc/{pid}/fd"):
+                    target = os.readlink(entry.path)
+                    if target.startswith("socket:["):
+                        found.add(target[8:-1])
+            except OSError:  # it has ended, or has closed one meanwhile
+                continue
+        return found
+
+    def started(self) -> List[str]:
+        """The processes that this one started."""
+        pid = self.process.pid
+        try:
+            return pathlib.Path(f"/proc/{pid}/task/{pid}/children").read_text().split()
+        except OSError:
+            return []

@@ -8,7 +8,7 @@ Several peers are served by one worker.
 import functools
 import json
 import struct
-from typing import Dict, List, Mapping, NamedTuple, Optional, Tuple
+from typing import Dict, List, Mapping, NamedTuple, Optional, Sequence, Set, Tuple, Union
 
 import bristol
 from auditor import audit
@@ -92,7 +92,7 @@ class Outside:
     A call that finds no memory does nothing."""
 
     def __init__(self, files: Dict[str, bytes], disk: Disk, fails: Mapping[str, int] = {}, lacks: Mapping[str, int] = {}):
-        self.files, self.disk, self.written = files, disk, b""
+        self.files, self.disk, self.written, self.said = files, disk, b"", ""
         self.fails, self.lacks = fails, lacks
         self.calls = {"shelf": 0, "sink": 0, "door": 0}
 
@@ -113,6 +113,12 @@ class Outside:
         if self.is_lacking("shelf"):
             raise no_memory()
         return self.files[name]
+
+    def has(self, name: str, data: bytes) -> Optional[bool]:
+        """Whether these bytes stand under the name, as a load of no more says; none where that failed."""
+        if self.is_failing("shelf") or name not in self.files:
+            return None
+        return not self.is_lacking("shelf") and self.files[name] == data
 
     def store(self, name: str, data: bytes) -> None:
         if self.is_failing("shelf"):
@@ -162,6 +168,37 @@ def read_bits(word: str) -> List[int]:
     if word != "none" and (not word or set(word) - set("01")):
         raise ValueError(word)
     return [] if word == "none" else [int(bit) for bit in word]
+
+
+class Named(str):
+    """The name of a file that has bits."""
+
+
+BitsWord = Union[Named, List[int]]
+
+
+def bits_word(word: str) -> BitsWord:
+    return Named(word[1:]) if word.startswith("@") else read_bits(word)
+
+
+def bits_given(outside: "Outside", word: BitsWord, name: str, of: str, public: Sequence[int] = ()) -> List[int]:
+    """The bits of a word, or of the file that it names. One with another byte is refused: so many bits do not fit the circuit."""
+    if not isinstance(word, Named):
+        return word
+    text = outside.load(word)
+    body = text[:-1] if text.endswith(b"\n") else text
+    if body == b"none":
+        return []
+    if body and not set(body) - set(b"01"):
+        return [byte - 48 for byte in body]
+    got = next((place for place, byte in enumerate(text) if byte not in b"01"), len(text))
+    circuit = load_circuit(outside, name)
+    if of == "outputs":
+        raise Stopped(f"refused outputs {circuit.outputs} {got}", 3)
+    if of == "public":
+        raise Stopped(f"refused public {circuit.inputs} {got}", 3)
+    check_public(circuit, list(public))
+    raise Stopped(f"refused bits {circuit.inputs - len(public)} {got}", 3)
 
 
 def sorted_words(words: List[str], valued: List[str], flags: List[str]) -> Tuple[List[str], Dict[str, str]]:
@@ -221,7 +258,7 @@ def outputs_of(circuit: bristol.Circuit, public: List[int], bits: List[int]) -> 
 
 def run_eval(outside: Outside, words: List[str]) -> Came:
     (name, word), _ = sorted_words(words, [], [])
-    bits = read_bits(word)
+    bits = bits_given(outside, bits_word(word), name, "bits")
     return Came(outside.say(outputs_of(load_circuit(outside, name), [], bits) + "\n", 0), "plain")
 
 
@@ -243,7 +280,9 @@ def run_rehearse(outside: Outside, words: List[str]) -> Came:
     name, word = places
     if "--gates" in options or "--number" in options:
         raise ValueError("--gates")
-    bits, public = read_bits(word), read_bits(options.get("--public", "none"))
+    bits_said, public_said = bits_word(word), bits_word(options.get("--public", "none"))
+    public = bits_given(outside, public_said, name, "public")
+    bits = bits_given(outside, bits_said, name, "bits", public)
     return rehearsed(outside, load_circuit(outside, name), public, bits, section, "--extended" in options)
 
 
@@ -440,16 +479,19 @@ class Service(NamedTuple):
     sessions: int
     section: int
     logs: Optional[str]
+    address: str
+    follow: bool
 
 
-SERVICE_OPTIONS = ["--sessions", "--workers", "--section", "--logs"]
+SERVICE_OPTIONS = ["--sessions", "--workers", "--section", "--timeout", "--logs"]
 
 
-def read_service(file: str, options: Dict[str, str]) -> Service:
+def read_service(address: str, file: str, options: Dict[str, str]) -> Service:
     sessions = read_number(options["--sessions"], 1, 65536)
     read_number(options.get("--workers", "4"), 1, 1024)
     section = read_number(options.get("--section", str(LONG)), 1, LONG)
-    return Service(file, sessions, section, options.get("--logs"))
+    read_number(options.get("--timeout", "120"), 1, 86400)
+    return Service(file, sessions, section, options.get("--logs"), address, "--follow" in options)
 
 
 def read_statements(text: bytes) -> List[Claimed]:
@@ -750,31 +792,55 @@ def start_of(note: Note) -> int:
     return 2**64 if units == "none" else int(units.split("..")[0])
 
 
-def lead_sessions(outside: Outside, jobs: List[Job], leases: Leases, sessions: int, peers: List[Link]) -> Tuple[List[Note], int]:
-    """The sessions with the peers that call, by their units, and the status of the door."""
+def lead_sessions(
+    outside: Outside, jobs: List[Job], leases: Leases, service: Service, peers: List[Link]
+) -> Tuple[List[Note], int, Set[int]]:
+    """The sessions with the peers that call, by their units, the status of the door, and those of the stores of logs. Each log is stored, and
+    its line said, when its session has ended."""
     notes: List[Note] = []
+    stores: Set[int] = set()
     rest = iter(peers)
     try:
-        while len(notes) < sessions:
+        while len(notes) < service.sessions:
             outside.ask_door()
             peer = next(rest, None)
             if peer is None:
                 break
             notes.append(verify_by(jobs, peer, leases.grant))
+            if is_logged(service, notes[-1]):
+                store_log(outside, service, notes[-1], stores)
+            if service.follow:
+                outside.said += note_line(*notes[-1])
     except Stopped as stopped:
-        return sorted(notes, key=start_of), stopped.status
-    return sorted(notes, key=start_of), 0
+        return sorted(notes, key=start_of), stopped.status, stores
+    return sorted(notes, key=start_of), 0, stores
 
 
-def store_logs(outside: Outside, prefix: Optional[str], notes: List[Note]) -> int:
-    """Stores the logs of the sessions that were granted units, up to the first store that is refused; the status of these stores."""
+def is_logged(service: Service, note: Note) -> bool:
+    return service.logs is not None and note[1].units != "none"
+
+
+def log_bytes(note: Note) -> bytes:
+    return b"".join(data for _, data in note[1].log)
+
+
+def store_log(outside: Outside, service: Service, note: Note, stores: Set[int]) -> None:
+    """Stores the log of a session, and notes the status of a store that is refused."""
     try:
-        for note in notes:
-            if prefix is not None and note[1].units != "none":
-                outside.store(f"{prefix}.{start_of(note)}", b"".join(data for _, data in note[1].log))
+        outside.store(f"{service.logs}.{start_of(note)}", log_bytes(note))
     except Stopped as stopped:
-        return stopped.status
-    return 0
+        stores.add(stopped.status)
+
+
+def settle_logs(outside: Outside, service: Service, notes: List[Note], stores: Set[int]) -> None:
+    """Reads each log, and stores it again where other bytes stand there, or the load is refused."""
+    for note in notes:
+        if is_logged(service, note):
+            found = outside.has(f"{service.logs}.{start_of(note)}", log_bytes(note))
+            if found is None:
+                stores.add(4)
+            if not found:
+                store_log(outside, service, note, stores)
 
 
 def served_text(notes: List[Note], door_failed: bool) -> str:
@@ -786,14 +852,17 @@ def served_text(notes: List[Note], door_failed: bool) -> str:
 
 
 def run_serve(outside: Outside, words: List[str], peers: List[Link]) -> Came:
-    (_, file, circuit, outputs), options = sorted_words(words, [*SERVICE_OPTIONS, "--public"], [])
-    claimed = Claimed(circuit, read_bits(options.get("--public", "none")), read_bits(outputs))
-    return serve(outside, read_service(file, options), [claimed], peers)
+    (address, file, circuit, outputs), options = sorted_words(words, [*SERVICE_OPTIONS, "--public"], ["--follow"])
+    public_said, outputs_said = bits_word(options.get("--public", "none")), bits_word(outputs)
+    service = read_service(address, file, options)
+    public = bits_given(outside, public_said, circuit, "public")
+    claimed = Claimed(circuit, public, bits_given(outside, outputs_said, circuit, "outputs"))
+    return serve(outside, service, [claimed], peers)
 
 
 def run_serve_many(outside: Outside, words: List[str], peers: List[Link]) -> Came:
-    (_, file, statements), options = sorted_words(words, SERVICE_OPTIONS, [])
-    service = read_service(file, options)
+    (address, file, statements), options = sorted_words(words, SERVICE_OPTIONS, ["--follow"])
+    service = read_service(address, file, options)
     return serve(outside, service, read_statements(outside.load(statements)), peers)
 
 
@@ -801,8 +870,12 @@ def serve(outside: Outside, service: Service, statements: List[Claimed], peers: 
     jobs = served_jobs(outside, service, statements)
     leases = open_leases(outside.disk, jobs[0].total)
     outside.ask_door()
-    notes, door_status = lead_sessions(outside, jobs, leases, service.sessions, peers)
-    statuses = [status_of(outcome) for outcome, _ in notes] + [door_status, store_logs(outside, service.logs, notes)]
+    if service.follow:
+        left, most = jobs[0].total - leases.ceiling, max(job.units(service.section) for job in jobs)
+        outside.said += f"listening {service.address}\nleft {left} sessions {left // most}\n"
+    notes, door_status, stores = lead_sessions(outside, jobs, leases, service, peers)
+    settle_logs(outside, service, notes, stores)
+    statuses = [status_of(outcome) for outcome, _ in notes] + [door_status, *stores]
     status = next(each for each in (7, 5, 6, 4, 1, 0) if each in statuses)
     part = "".join(f" {outcome} units={end.units} {log_words(end.log)}" for outcome, end in notes)
     return Came(outside.say(served_text(notes, door_status == 4), status), f"served{part}")
@@ -836,7 +909,7 @@ def proved_line(outcome: str, units: str, faults: int) -> Tuple[str, int]:
 
 
 class Proof(NamedTuple):
-    """What the words of a proof name."""
+    """What the words of a proof name, and its files of bits give."""
 
     file: str
     circuit: str
@@ -845,9 +918,13 @@ class Proof(NamedTuple):
     outputs: List[int]
 
 
-def read_proof(words: List[str]) -> Proof:
-    (_, file, circuit, bits, outputs), options = sorted_words(words, ["--public"], [])
-    return Proof(file, circuit, read_bits(options.get("--public", "none")), read_bits(bits), read_bits(outputs))
+def read_proof(outside: Outside, words: List[str]) -> Proof:
+    (_, file, circuit, bits, outputs), options = sorted_words(words, ["--public", "--timeout"], [])
+    said = bits_word(options.get("--public", "none")), bits_word(bits), bits_word(outputs)
+    read_number(options.get("--timeout", "120"), 1, 86400)
+    public = bits_given(outside, said[0], circuit, "public")
+    private = bits_given(outside, said[1], circuit, "bits", public)
+    return Proof(file, circuit, public, private, bits_given(outside, said[2], circuit, "outputs"))
 
 
 def proved_job(outside: Outside, proof: Proof) -> Job:
@@ -867,7 +944,7 @@ def proved_job(outside: Outside, proof: Proof) -> Job:
 
 
 def run_prove(outside: Outside, words: List[str], peers: List[Link]) -> Came:
-    job = proved_job(outside, read_proof(words))
+    job = proved_job(outside, read_proof(outside, words))
     claims = open_claims(outside.disk, job.total)
     outside.ask_door()
     if not peers:
@@ -940,6 +1017,37 @@ def run_migrate(outside: Outside, words: List[str]) -> Came:
     return Came(outside.say("already migrated\n" if used is None else f"migrated {used}\n", 0), "plain")
 
 
+# ---- what is left
+
+
+def run_status(outside: Outside, words: List[str]) -> Came:
+    places, _ = sorted_words(words, [], [])
+    name, *circuits = places
+    if len(circuits) > 1:
+        raise ValueError(words)
+    data = outside.load(name)
+    side = 1 if data[8:9] == b"\1" else 0
+    params = read_dealt(side, data)
+    units = units_of_circuit(params, load_circuit(outside, circuits[0])) if circuits else 0
+    if side:
+        used = open_leases(outside.disk, params.total).ceiling
+    else:
+        used = sum(end - start for start, end in open_claims(outside.disk, params.total).ranges)
+    left = params.total - used
+    kind = f"extended {params.trees} {params.height} {params.base}" if params.kind else "direct"
+    lines = f"id {data[32:64].hex()}\nunits {params.total} {kind}\nused {used} left {left}\n"
+    if circuits:
+        sessions = left // units if units <= MOST_UNITS else 0
+        lines += f"sessions {'' if side else 'at most '}{sessions}\n"
+    return Came(outside.say(lines, 0), "plain")
+
+
+def units_of_circuit(params: Params, circuit: bristol.Circuit) -> int:
+    """The units of a session about a circuit without public bits, in sections of the greatest length."""
+    _, _, need = need_of(circuit, [], LONG)
+    return max(1, -(-need // (params.trees << params.height if params.kind else 64)))
+
+
 # How an audit says what it finds: its line, and its status.
 FOUND = {
     "inputs": ("inputs {0}", 0),
@@ -952,7 +1060,9 @@ FOUND = {
 
 def run_audit(outside: Outside, words: List[str]) -> Came:
     (circuit, outputs, prover, verifier, log), options = sorted_words(words, ["--public"], [])
-    claimed = Claimed(circuit, read_bits(options.get("--public", "none")), read_bits(outputs))
+    said = bits_word(options.get("--public", "none")), bits_word(outputs)
+    public = bits_given(outside, said[0], circuit, "public")
+    claimed = Claimed(circuit, public, bits_given(outside, said[1], circuit, "outputs"))
     claim = load_claim(outside, claimed)
     read_dealt(0, outside.load(prover))
     params = read_dealt(1, outside.load(verifier))
@@ -965,7 +1075,7 @@ def run_audit(outside: Outside, words: List[str]) -> Came:
 
 def run(outside: Outside, words: List[str], peers: List[Link]) -> Came:
     """What comes of these words, with these peers at the door, or the first of them to connect to."""
-    commands = {"eval": run_eval, "rehearse": run_rehearse, "deal": run_deal, "audit": run_audit, "migrate": run_migrate}
+    commands = {"eval": run_eval, "rehearse": run_rehearse, "deal": run_deal, "audit": run_audit, "migrate": run_migrate, "status": run_status}
     parties = {"serve": run_serve, "serve-many": run_serve_many, "prove": run_prove}
     try:
         if words[0] in parties:

@@ -57,6 +57,7 @@ CIRCUITS = {
     "no_wires.txt": b"0 0 0 0\n",
     "no_outputs.txt": b"1 2\n1 1\n0\n1 1 0 1 INV\n",
     "long_chain.txt": b"6001 6004\n" + chain_text(6000).split(b"\n", 1)[1],
+    "wide_inputs.txt": inputs_text(5000),
     "many_inputs.txt": inputs_text(MANY_INPUTS),
     "more_inputs.txt": inputs_text(MANY_INPUTS + 1),
     "most_inputs.txt": inputs_text(2 * MANY_INPUTS - 1),
@@ -307,12 +308,14 @@ def digest_of(data: bytes, count: int, most: int) -> str:
 def run_line(scenario: Scenario, name: str, words: List[str], peers: List[Link], outside: program.Outside) -> str:
     came = program.run(outside, words, peers)
     written = program.quoted(outside.written)
-    return f"{name}status={came.status} written={written} {came.part}{shown(scenario, outside)}"
+    said = f" said={program.quoted(outside.said.encode())}" if outside.said else ""
+    return f"{name}status={came.status} written={written}{said} {came.part}{shown(scenario, outside)}"
 
 
 def run_lines(scenario: Scenario, name: str, words: List[str], peers: Callable[[], List[Link]]) -> List[str]:
     """The line of a run, and where a crash follows that of the same over what it leaves of the disk, where no call is refused."""
-    outside = outside_of(scenario, 0 if words[0] == "prove" or words[:2] == ["migrate", "prover"] else 1)
+    claims = words[0] == "prove" or words[:2] in (["migrate", "prover"], ["status", "x.prover"])
+    outside = outside_of(scenario, 0 if claims else 1)
     lines = [run_line(scenario, name, words, peers(), outside)]
     if "crash" in scenario.words:
         disk = program.Disk(outside.disk.left(scenario.words["crash"]), 0)
@@ -338,6 +341,7 @@ def service_words(scenario: Scenario, job: Job) -> List[str]:
     words += ["--sessions", scenario.words.get("sessions", "1"), "--section", str(job.section)]
     for name in ("workers", "logs"):
         words += [f"--{name}", scenario.words[name]] if name in scenario.words else []
+    words += ["--follow"] if "follow" in scenario.words else []
     return words + ([] if "statements" in scenario.words else public_words(job))
 
 
@@ -824,6 +828,51 @@ def logged_services() -> List[Scenario]:
     scenarios.append(line("service", logs="x.verifier", show="x.verifier,x.verifier.0"))
     words = {"ceilings": 16, "start": 16, "units": 32, "logs": "k", "show": "k.16,k.17,disk"}
     return scenarios + [served(2, **words)]
+
+
+def followed_services() -> List[Scenario]:
+    """Services that say where they listen, how many units are left, and each session's line when it ends."""
+    shown = {"follow": 1, "logs": "l", "show": "l.0,l.1,l.2"}
+    scenarios = [line("service", follow=1), line("service", **shown, outputs=0), line("service", follow=1, keep=50), line("service", **ONE_TREE, follow=1)]
+    scenarios += [served(3, units=40, **shown), served(3, units=2, **shown), served(2, ceilings=16, start=16, units=32, **shown)]
+    scenarios += [served(2, statements=BOTH, units=32, follow=1), served(2, units=32, follow=1, door_fails=1), served(2, units=32, follow=1, door_fails=3)]
+    scenarios.append(line("service", circuit="chain.txt", bits="10", section=1, units=300, follow=1))
+    return scenarios + [run("prove here x.prover and.txt 11 1 --follow"), run("serve here x.verifier and.txt 1 --sessions 1 --follow --follow")]
+
+
+def files_of_bits() -> List[Scenario]:
+    """Bits that files give, and files that give none."""
+    said = {"11": "31310a", "11 too": "3131", "none": "6e6f6e65", "none too": "6e6f6e650a", "1": "310a", "0": "30", "": "", "ended": "0a"}
+    bad = {"12": "3132", "two ends": "31310a0a", "two": "31310d0a", "space": "2031", "nones": "6e6f6e6573", "cut none": "6e6f6e", "x": "31317831"}
+    files = {**said, **bad}
+    scenarios = [run("eval and.txt @log", log=text) for text in files.values()]
+    scenarios += [run("rehearse and.txt @log", log=text) for text in files.values()]
+    scenarios += [run("rehearse and.txt 1 --public @log", log=text) for text in ("310a", "313131", "6e6f6e65", "3132", "32")]
+    scenarios += [run("rehearse and.txt @log --public 111", log=text) for text in ("30", "32")]
+    scenarios += [run("prove here x.prover and.txt @log 1", log=text) for text in ("3131", "3130", "3132")]
+    scenarios += [run("prove here x.prover and.txt 11 @log", log=text) for text in ("31", "30", "3132", "3131", "")]
+    scenarios += [run("serve here x.verifier and.txt @log --sessions 1", log=text) for text in ("31", "3132", "3131")]
+    scenarios += [run("serve here x.verifier and.txt 1 --sessions 1 --public @log", log=text) for text in ("31", "32", "313131")]
+    scenarios += [run("audit and.txt @log x.prover x.verifier missing", log=text) for text in ("31", "32", "3131")]
+    scenarios += [run(words) for words in ("eval and.txt @missing", "eval and.txt @", "eval @log 11", "eval missing @log", "rehearse and.txt 2 --public @log")]
+    scenarios += [run("eval wide_inputs.txt @log", circuit="wide_inputs.txt", log="3130" * 2499 + text) for text in ("31310a", "3130", "3132", "31")]
+    scenarios += [run("eval and.txt @log", log="3131", shelf_fails=number) for number in (1, 2, 3)]
+    scenarios += [run("eval and.txt @log", log="3132", shelf_fails=number) for number in (1, 2, 3)]
+    scenarios += [run("eval and.txt @log", log=text, shelf_lacks=number) for text in ("3131", "3132") for number in (1, 2)]
+    return scenarios + [run("eval and.txt @log", log="3132", sink_fails=1), run("eval missing @log", log="3132"), run("eval statements @log", log="3132")]
+
+
+def statuses() -> List[Scenario]:
+    """What is said to be left of dealt files, and why nothing is."""
+    scenarios = [run("status x.verifier"), run("status x.prover", units=40), run("status x.verifier and.txt", units=40, ceilings=16)]
+    scenarios += [run("status x.prover and.txt", units=40, claims="0..3+7..9"), run("status x.prover chain.txt", circuit="chain.txt", units=300)]
+    scenarios += [run(f"status x.{side} chain.txt", circuit="chain.txt", files="1,1,10", units=300) for side in ("prover", "verifier")]
+    scenarios += [run("status x.verifier most_inputs.txt", circuit="most_inputs.txt", units=5000), run("status x.verifier more_inputs.txt", circuit="more_inputs.txt", units=5000)]
+    scenarios += [run(words) for words in ("status", "status x.verifier and.txt more", "status x.verifier --follow", "status missing", "status x.verifier missing", "status and.txt")]
+    scenarios += [run(f"status x.{side}", damage=damage) for side in ("prover", "verifier") for damage in ("0:0", "8:2", "8:1", "8:0", "9:3", "40:1", "136:255")]
+    scenarios += [run("status x.verifier and.txt", shelf_fails=number) for number in (1, 2, 3)] + [run("status x.verifier and.txt", shelf_lacks=number) for number in (1, 2)]
+    scenarios += [run(f"status x.{side}", disk_fails=number, units=40) for side in ("prover", "verifier") for number in range(1, 8)]
+    return scenarios + [run("status x.verifier", sink_fails=1), run("status x.verifier", sink_lacks=1)]
 
 
 def services() -> List[Scenario]:
@@ -1361,7 +1410,7 @@ def rejected_provers() -> List[bytes]:
 def all_scenarios() -> List[Scenario]:
     parts = [published(), honest_sessions(), wrong_provers(), wrong_askers(), refused_leases(), wrong_verifiers(), refused_claims()]
     parts += [failing_runs(), large_runs(), stopped_services(), limits(), journals(), services()]
-    parts += [leases(), failing_services(), logged_services()]
+    parts += [leases(), failing_services(), logged_services(), followed_services(), files_of_bits(), statuses()]
     parts += [honest_proofs(), unsuited_grants(), taken_units(), wrong_verdicts(), failing_proofs()]
     parts += [false_proofs(), stopped_proofs(), words_of_no_proof(), journals_of_claims()]
     parts += [public_sessions(), several_statements(), public_runs(), generated_runs(), public_ends(), audits()]

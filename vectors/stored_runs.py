@@ -172,6 +172,13 @@ WRONG_WORDS = [
     "serve here z.verifier and.txt 1 --sessions 1 --workers 4294967297",
     "serve here z.verifier and.txt 1 --sessions 1 --workers",
     "serve here z.verifier and.txt 1 --sessions 1 --workers 1 --workers 1",
+    "serve here z.verifier and.txt 1 --sessions 1 --timeout 0",
+    "serve here z.verifier and.txt 1 --sessions 1 --timeout 86401",
+    "serve here z.verifier and.txt 1 --sessions 1 --timeout",
+    "serve here z.verifier and.txt 1 --sessions 1 --timeout 1 --timeout 1",
+    "prove here z.prover and.txt 11 1 --timeout 0",
+    "prove here z.prover and.txt 11 1 --timeout 1 --timeout 1",
+    "audit and.txt 1 z.prover z.verifier l.0 --timeout 1",
     "serve here z.verifier and.txt 1 --sessions 1 --logs",
     "serve here z.verifier and.txt 1 --sessions 1 --logs -l",
     "serve here z.verifier and.txt 1 --sessions 1 --logs --section 1",
@@ -189,6 +196,14 @@ WRONG_WORDS = [
     "migrate z.prover",
     "migrate both z.prover",
     "migrate prover z.prover z.prover",
+    "serve here z.verifier and.txt 1 --sessions 1 --follow 1",
+    "serve here z.verifier and.txt 1 --sessions 1 --follow --follow",
+    "prove here z.prover and.txt 11 1 --follow",
+    "audit and.txt 1 z.prover z.verifier l.0 --follow",
+    "status",
+    "status z.prover and.txt 1",
+    "status z.prover and.txt --section 1",
+    "status -z.prover",
 ]
 
 
@@ -280,6 +295,61 @@ def migrations() -> List[Run]:
         (f"verifier {ALONE}", ["journal failed 1"], 5),
     ]
     return [Run(f"migrate {words}", lines, status) for words, lines, status in given]
+
+
+def statuses() -> List[Run]:
+    """What is left of files that are dealt, whose journals are new, and of what is none or has none."""
+    direct, wide = [f"id {FILE_ID}", "units 1 direct"], [f"id {FILE_ID}", "units 1 extended 1024 16 65536"]
+    unused = ["used 0 left 1"]
+    given: List[Tuple[str, List[str], int]] = [
+        ("z.prover", direct + unused, 0),
+        ("z.verifier", direct + unused, 0),
+        ("z.prover and.txt", direct + unused + ["sessions at most 1"], 0),
+        ("z.verifier and.txt", direct + unused + ["sessions 1"], 0),
+        # A session takes seven units.
+        ("z.verifier adder64.txt", direct + unused + ["sessions 0"], 0),
+        ("y.verifier aes128.txt", wide + unused + ["sessions 1"], 0),
+        ("y.prover aes128.txt", wide + unused + ["sessions at most 1"], 0),
+        ("z.verifier short_text.txt", ["refused ShortText 1 2"], 3),
+        ("z.verifier missing", ["failed shelf"], 4),
+        ("and.txt", ["refused BadMagic 1"], 3),
+        ("missing short_text.txt", ["failed shelf"], 4),
+        (f"{ALONE}", ["journal failed 1"], 5),
+        (f"{ALONE} short_text.txt", ["refused ShortText 1 2"], 3),
+    ]
+    return [Run(f"status {words}", lines, status) for words, lines, status in given]
+
+
+def bits_in_files() -> List[Run]:
+    """Bits in files: with a line feed and without, none, and with another byte; and files that are none."""
+    one, both = next(case for case in small_cases() if case == Case("and.txt", "11", "1")), "bits_both.txt"
+    counted = rehearse_run(one, public=1).lines
+    given: List[Tuple[str, List[str], int]] = [
+        (f"eval and.txt @{both}", ["1"], 0),
+        ("eval constant.txt @bits_none.txt", ["1"], 0),
+        ("eval and.txt @bits_none.txt", ["refused bits 2 0"], 3),
+        ("eval and.txt @bits_cut.txt", ["refused bits 2 1"], 3),
+        ("eval short_text.txt @bits_cut.txt", ["refused ShortText 1 2"], 3),
+        ("eval missing.txt @bits_cut.txt", ["failed shelf"], 4),
+        ("eval and.txt @missing", ["failed shelf"], 4),
+        ("eval missing.txt @missing", ["failed shelf"], 4),
+        ("eval and.txt @", ["failed shelf"], 4),
+        (f"rehearse and.txt @{both} --section 1", rehearse_run(one).lines, 0),
+        ("rehearse and.txt @bits_one.txt --section 1 --public @bits_one.txt", counted, 0),
+        ("rehearse and.txt @bits_cut.txt --public 1", ["refused bits 1 1"], 3),
+        ("rehearse and.txt @bits_cut.txt --public 111", ["refused public 2 3"], 3),
+        ("rehearse and.txt @missing --public @bits_cut.txt", ["refused public 2 1"], 3),
+        ("serve here z.verifier and.txt @bits_one.txt --sessions 1", [], 0),
+        ("serve here z.verifier and.txt @bits_cut.txt --sessions 1", ["refused outputs 1 1"], 3),
+        ("serve here z.verifier and.txt @missing --sessions 1", ["failed shelf"], 4),
+        (f"prove here z.prover and.txt @{both} @bits_one.txt", ["failed door"], 4),
+        (f"prove here z.prover and.txt @{both} 0", ["unsatisfied 0"], 1),
+        (f"prove here z.prover and.txt @{both} @bits_cut.txt", ["refused outputs 1 1"], 3),
+        ("prove here z.prover and.txt @bits_cut.txt @missing", ["refused bits 2 1"], 3),
+        ("audit and.txt @bits_cut.txt z.prover z.verifier and.txt", ["refused outputs 1 1"], 3),
+        ("audit and.txt @bits_one.txt z.prover z.verifier and.txt --public @bits_one.txt", ["refused LogFault 1 0"], 3),
+    ]
+    return [Run(words, lines, status) for words, lines, status in given]
 
 
 def other_forms() -> List[Run]:
@@ -414,6 +484,7 @@ def services() -> List[Run]:
     orders = [
         "serve --section 1 here z.verifier --sessions 01 and.txt 1",
         "serve here z.verifier and.txt 1 --sessions 2",
+        "serve here z.verifier and.txt 1 --timeout 86400 --sessions 2",
         "serve here z.verifier and.txt 1 --sessions 65536 --workers 2",
         "serve here z.verifier and.txt 1 --workers 0008 --sessions 3 --logs l",
         "serve --workers 1 --logs l --sessions 1 --section 1 here y.verifier and.txt 1",
@@ -442,6 +513,7 @@ def proofs() -> List[Run]:
     given: List[Tuple[str, List[str], int]] = [
         ("z.prover and.txt 11 1", [connected], 4),
         ("z.prover and.txt 10 0", [connected], 4),
+        ("z.prover and.txt 11 1 --timeout 086400", [connected], 4),
         ("z.prover no_outputs.txt 0 none", [connected], 4),
         ("z.prover constant.txt none 1", [connected], 4),
         ("y.prover and.txt 11 1", [connected], 4),
@@ -482,7 +554,7 @@ def all_runs() -> List[Run]:
         runs += [eval_run(case.file, case.bits, case.outputs, 0), rehearse_run(case)]
     runs += [eval_run(case.file, case.bits, case.outputs, 0) for case in aes]
     runs += [rehearse_run(aes[1])] + refusals() + orders() + sections() + extensions() + public_bits() + dealings()
-    return runs + services() + proofs() + audits() + migrations() + other_forms() + too_large()
+    return runs + services() + proofs() + audits() + migrations() + statuses() + bits_in_files() + other_forms() + too_large()
 
 
 def alone() -> bytes:

@@ -71,7 +71,8 @@ impl<B: Disk> ClaimStore<B> {
     pub fn start(alloc: Global, disk: B, id: &[u8; 32], total: u64) -> Result<Self, (StoreFault, B)>
         requires room { (size : ℕ) → (B.state disk).room ≡ Some size → (begin slots : ℕ)
             → SaysTwinSlots Claims (B.state disk).content begin slots → begin + twin_length slots ≤ size }
-        requires tidy { (bytes : List ℕ) → (B.state disk).content ≡ Some bytes → IsTidyFile Claims bytes }
+        requires tidy { (bytes : List ℕ) → (B.state disk).content ≡ Some bytes
+            → IsTidyFile Claims id.now total bytes }
         ensures holds { IfOk result (λ store. (bytes : List ℕ) → (B.state disk).content ≡ Some bytes
             → HoldsTwin Claims id.now total store.begin store.slots bytes) }
         ensures in_use { IfOk result (λ store. (bytes : List ℕ) → (B.state disk).content ≡ Some bytes

@@ -15,3 +15,4 @@ pub mod TheReadings
 pub mod Named
 pub mod RehearseReading
 pub mod Unasked
+pub mod SaidBits

@@ -6,12 +6,14 @@ use Rattle.std.specs.Str.{bytes_eq}
 use Rattle.std.specs.declared.alloc.Global.{Global}
 use Rattle.std.proofs.lemmas.Result.{IfOk-weaker}
 use Rattle.command_words.specs.Arguments.{Parts, Word, arranged}
-use Rattle.command_words.specs.Commands.{ask_of}
+use Rattle.command_words.specs.BitWords.{BitsAsk}
+use Rattle.command_words.specs.Commands.{ask_of, bits_ask}
+use Rattle.command_words.specs.declared.bits.BitsWord.{BitsWord}
 use Rattle.command_words.specs.Found.{Form, IsReadBy, read_by}
 use Rattle.command_words.specs.Forms.{IsReadAs, form_named}
 use Rattle.command_words.specs.Names.{meant_by}
 use Rattle.command_words.specs.declared.names.Name.{Name}
-use Rattle.command_words.specs.declared.names.Name.TheVariants.{Rehearse, Eval, Deal, Serve, ServeMany, Prove, Audit, Migrate}
+use Rattle.command_words.specs.declared.names.Name.TheVariants.{Rehearse, Eval, Deal, Serve, ServeMany, Prove, Audit, Migrate, Status}
 use Rattle.command_words.specs.Words.{Ask, IsRead, asked, texts}
 use Rattle.command_words.specs.declared.words.Command.{Command}
 use Rattle.command_words.proofs.Inversions.{none_gives}
@@ -23,7 +25,7 @@ pub begins_so : (words : List (String Global)) (first : String Global) (name now
 begins_so [] first name now some at value is = absurd (omega arith)
 begins_so (word ∷ words) first name now some at value is = ap (λ n. n ∷ texts words) (ap (λ w. string_bytes w) (sym at) ∙ sym value ∙ is)
 
-read_so : (form : Form) (name : List ℕ) (reads : List (List ℕ) → List Word → Option Ask) (words : List (List ℕ)) (found : Option Ask)
+read_so : (form : Form) (name : List ℕ) (reads : List (List ℕ) → List Word → Option (Ask BitsAsk)) (words : List (List ℕ)) (found : Option (Ask BitsAsk))
     → ((others : List (List ℕ)) → asked (name ∷ others) ≡ read_by reads others) → words ≡ name ∷ drop 1 words → IsReadBy form reads words found → IsRead words found
 read_so form name reads words found means begins read = record {
   valid = λ {ask} e. read.valid (sym (means (drop 1 words)) ∙ sym (ap asked begins) ∙ e);
@@ -31,15 +33,15 @@ read_so form name reads words found means begins read = record {
 }
 
 -- what is read of a command's words is read of the words with its name
-pub named_read : {E : Type 0} (form : Form) (name : List ℕ) (reads : List (List ℕ) → List Word → Option Ask) (words : List (List ℕ)) (result : Result (Option Command) E)
+pub named_read : {E : Type 0} (form : Form) (name : List ℕ) (reads : List (List ℕ) → List Word → Option (Ask BitsAsk)) (words : List (List ℕ)) (result : Result (Option (Command BitsWord)) E)
     → ((others : List (List ℕ)) → asked (name ∷ others) ≡ read_by reads others) → words ≡ name ∷ drop 1 words
-    → IfOk result (λ found. IsReadBy form reads words (option_map ask_of found)) → IfOk result (λ found. IsRead words (option_map ask_of found))
+    → IfOk result (λ found. IsReadBy form reads words (option_map (ask_of bits_ask) found)) → IfOk result (λ found. IsRead words (option_map (ask_of bits_ask) found))
 named_read form name reads words result means begins read =
-    IfOk-weaker result _ _ (λ found r. read_so form name reads words (option_map ask_of found) means begins r) read
+    IfOk-weaker result _ _ (λ found r. read_so form name reads words (option_map (ask_of bits_ask) found) means begins r) read
 
-alike_so : (form : Form) (name : List ℕ) (reads : List (List ℕ) → List Word → Option Ask) (words : List (List ℕ)) (found : Option Command) → form_named name ≡ Some form
-    → ((others : List (List ℕ)) → asked (name ∷ others) ≡ read_by reads others) → words ≡ name ∷ drop 1 words → IsReadBy form reads words (option_map ask_of found)
-    → IfSome found (λ command. IsReadAs words (ask_of command))
+alike_so : (form : Form) (name : List ℕ) (reads : List (List ℕ) → List Word → Option (Ask BitsAsk)) (words : List (List ℕ)) (found : Option (Command BitsWord)) → form_named name ≡ Some form
+    → ((others : List (List ℕ)) → asked (name ∷ others) ≡ read_by reads others) → words ≡ name ∷ drop 1 words → IsReadBy form reads words (option_map (ask_of bits_ask) found)
+    → IfSome found (λ command. IsReadAs words (ask_of bits_ask command))
 alike_so form name reads words None is means begins read = tt
 alike_so form name reads words (Some command) is means begins read =
     let t = read.other refl in
@@ -54,9 +56,9 @@ alike_so form name reads words (Some command) is means begins read =
       alike = t.alike name;
     }
 
-pub alike_read : {E : Type 0} (form : Form) (name : List ℕ) (reads : List (List ℕ) → List Word → Option Ask) (words : List (List ℕ)) (result : Result (Option Command) E)
+pub alike_read : {E : Type 0} (form : Form) (name : List ℕ) (reads : List (List ℕ) → List Word → Option (Ask BitsAsk)) (words : List (List ℕ)) (result : Result (Option (Command BitsWord)) E)
     → form_named name ≡ Some form → ((others : List (List ℕ)) → asked (name ∷ others) ≡ read_by reads others) → words ≡ name ∷ drop 1 words
-    → IfOk result (λ found. IsReadBy form reads words (option_map ask_of found)) → IfOk result (λ found. IfSome found (λ command. IsReadAs words (ask_of command)))
+    → IfOk result (λ found. IsReadBy form reads words (option_map (ask_of bits_ask) found)) → IfOk result (λ found. IfSome found (λ command. IsReadAs words (ask_of bits_ask command)))
 alike_read form name reads words result is means begins read =
     IfOk-weaker result _ _ (λ found r. alike_so form name reads words found is means begins r) read
 
@@ -67,7 +69,7 @@ differs a b unequal = go (bytes_eq a b) refl
     go true e = absurd (unequal (same_text a b e))
     go false e = refl
 
-always_none : (o : Option Parts) → option_and_then {T = Parts} {U = Ask} (λ parts. None) o ≡ None
+always_none : (o : Option Parts) → option_and_then {T = Parts} {U = Ask BitsAsk} (λ parts. None) o ≡ None
 always_none None = refl
 always_none (Some parts) = refl
 
@@ -82,7 +84,8 @@ nothing_read words first begins other =
     let f = differs first (codes "prove") (other Prove) in
     let g = differs first (codes "audit") (other Audit) in
     let h = differs first (codes "migrate") (other Migrate) in
-    let none : asked (first ∷ drop 1 words) ≡ None = rw (a, b, c, d, e, f, g, h) (always_none (arranged (drop 1 words))) in
+    let i = differs first (codes "status") (other Status) in
+    let none : asked (first ∷ drop 1 words) ≡ None = rw (a, b, c, d, e, f, g, h, i) (always_none (arranged (drop 1 words))) in
     record {
       valid = λ {ask} h. none_gives (sym none ∙ sym (ap asked begins) ∙ h);
       other = λ {ask} h. none_gives h;

@@ -2,6 +2,7 @@
 use Rattle.std.proofs.Common.{◌≡◌, ◌∙◌, ◌≤◌, ℕ, List, [], ◌∷◌, Bool, true, false, not, ◌||◌, length, Some, None, Option, refl, ap, sym, codes, arith, if◌then◌else◌, true≢false}
 use Rattle.std.specs.Option.{is_some, option_and_then}
 use Rattle.command_words.specs.Arguments.{Word, option_named}
+use Rattle.command_words.specs.BitWords.{BitsAsk}
 use Rattle.command_words.specs.Found.{flag_value, names_of}
 use Rattle.command_words.specs.Forms.{rehearse_form}
 use Rattle.command_words.specs.Given.{Given, generate_given, rehearse_given}
@@ -86,13 +87,13 @@ rehearse_same given (circuit ∷ []) options said = refl
 rehearse_same given (circuit ∷ bits ∷ []) options said = named_same given circuit bits options said
 rehearse_same given (circuit ∷ bits ∷ word ∷ positional) options said = refl
 
-rehearse_few : (positional : List (List ℕ)) (options : List Word) (ask : Ask) → rehearse_of positional options ≡ Some ask → length positional ≤ 2
+rehearse_few : (positional : List (List ℕ)) (options : List Word) (ask : Ask BitsAsk) → rehearse_of positional options ≡ Some ask → length positional ≤ 2
 rehearse_few [] options ask e = omega arith
 rehearse_few (circuit ∷ []) options ask e = omega arith
 rehearse_few (circuit ∷ bits ∷ []) options ask e = omega arith
 rehearse_few (circuit ∷ bits ∷ word ∷ positional) options ask e = none_gives e
 
-once_at : (positional : List (List ℕ)) (options : List Word) (ask : Ask) → rehearse_of positional options ≡ Some ask → stand_once_among (names_of rehearse_form) options ≡ true
+once_at : (positional : List (List ℕ)) (options : List Word) (ask : Ask BitsAsk) → rehearse_of positional options ≡ Some ask → stand_once_among (names_of rehearse_form) options ≡ true
 once_at [] options ask e = once_among generate_options (names_of rehearse_form) options (if_gives (stand_once_among generate_options options) _ ask e)
     (λ name among _. each_among (λ n. is_among (names_of rehearse_form) n ≡ true) generate_options (refl, (refl, (refl, (refl, tt)))) name among)
 once_at (circuit ∷ []) options ask e = none_gives e

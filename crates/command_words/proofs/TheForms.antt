@@ -9,10 +9,10 @@ use Rattle.clap.specs.Takes.{default_passes, is_valid}
 use Rattle.clap.specs.Simple.{Shape, built, is_simple}
 use Rattle.command_words.specs.Arguments.{Flag, Valued, is_flag, kind_of}
 use Rattle.command_words.specs.Found.{Form, names_of, told}
-use Rattle.command_words.specs.Forms.{audit_form, deal_form, eval_form, migrate_form, prove_form, rehearse_form, serve_form, serve_many_form}
+use Rattle.command_words.specs.Forms.{audit_form, deal_form, eval_form, migrate_form, prove_form, rehearse_form, serve_form, serve_many_form, status_form}
 use Rattle.command_words.specs.Names.{meant_by}
 use Rattle.command_words.specs.declared.names.Name.{Name}
-use Rattle.command_words.specs.declared.names.Name.TheVariants.{Rehearse, Eval, Deal, Serve, ServeMany, Prove, Audit, Migrate}
+use Rattle.command_words.specs.declared.names.Name.TheVariants.{Rehearse, Eval, Deal, Serve, ServeMany, Prove, Audit, Migrate, Status}
 use Rattle.command_words.proofs.Rows.{same_text}
 use Rattle.command_words.proofs.Steps.{flag, place, valued}
 use Rattle.command_words.proofs.Walks.{KnowsName, KnowsNames, KnowsPlaces, are_apart, is_among, is_apart}
@@ -93,14 +93,16 @@ known_of Eval = known_form eval_form refl refl refl refl refl refl refl (λ rows
 known_of Deal = known_form deal_form refl refl refl refl refl refl refl (λ rows. refl) (refl, refl, tt) refl (omega arith)
     (known_valued _ _ (codes "--units") refl refl refl refl refl refl refl refl, (known_valued _ _ (codes "--trees") refl refl refl refl refl refl refl refl, (known_valued _ _ (codes "--height") refl refl refl refl refl refl refl refl, (known_valued _ _ (codes "--base") refl refl refl refl refl refl refl refl, tt)))) refl refl refl
 known_of Serve = known_form serve_form refl refl refl refl refl refl refl (λ rows. refl) (refl, refl, (refl, refl, (refl, refl, (refl, refl, tt)))) refl (omega arith)
-    (known_valued _ _ (codes "--sessions") refl refl refl refl refl refl refl refl, (known_valued _ _ (codes "--workers") refl refl refl refl refl refl refl refl, (known_valued _ _ (codes "--section") refl refl refl refl refl refl refl refl, (known_valued _ _ (codes "--logs") refl refl refl refl refl refl refl refl, (known_valued _ _ (codes "--public") refl refl refl refl refl refl refl refl, tt))))) refl refl refl
+    (known_valued _ _ (codes "--sessions") refl refl refl refl refl refl refl refl, (known_valued _ _ (codes "--workers") refl refl refl refl refl refl refl refl, (known_valued _ _ (codes "--section") refl refl refl refl refl refl refl refl, (known_valued _ _ (codes "--timeout") refl refl refl refl refl refl refl refl, (known_valued _ _ (codes "--logs") refl refl refl refl refl refl refl refl, (known_valued _ _ (codes "--public") refl refl refl refl refl refl refl refl, (known_flag _ _ (codes "--follow") refl refl refl refl refl refl refl refl, tt))))))) refl refl refl
 known_of ServeMany = known_form serve_many_form refl refl refl refl refl refl refl (λ rows. refl) (refl, refl, (refl, refl, (refl, refl, tt))) refl (omega arith)
-    (known_valued _ _ (codes "--sessions") refl refl refl refl refl refl refl refl, (known_valued _ _ (codes "--workers") refl refl refl refl refl refl refl refl, (known_valued _ _ (codes "--section") refl refl refl refl refl refl refl refl, (known_valued _ _ (codes "--logs") refl refl refl refl refl refl refl refl, tt)))) refl refl refl
+    (known_valued _ _ (codes "--sessions") refl refl refl refl refl refl refl refl, (known_valued _ _ (codes "--workers") refl refl refl refl refl refl refl refl, (known_valued _ _ (codes "--section") refl refl refl refl refl refl refl refl, (known_valued _ _ (codes "--timeout") refl refl refl refl refl refl refl refl, (known_valued _ _ (codes "--logs") refl refl refl refl refl refl refl refl, (known_flag _ _ (codes "--follow") refl refl refl refl refl refl refl refl, tt)))))) refl refl refl
 known_of Prove = known_form prove_form refl refl refl refl refl refl refl (λ rows. refl) (refl, refl, (refl, refl, (refl, refl, (refl, refl, (refl, refl, tt))))) refl (omega arith)
-    (known_valued _ _ (codes "--public") refl refl refl refl refl refl refl refl, tt) refl refl refl
+    (known_valued _ _ (codes "--timeout") refl refl refl refl refl refl refl refl, (known_valued _ _ (codes "--public") refl refl refl refl refl refl refl refl, tt)) refl refl refl
 known_of Audit = known_form audit_form refl refl refl refl refl refl refl (λ rows. refl) (refl, refl, (refl, refl, (refl, refl, (refl, refl, (refl, refl, tt))))) refl (omega arith)
     (known_valued _ _ (codes "--public") refl refl refl refl refl refl refl refl, tt) refl refl refl
 known_of Migrate = known_form migrate_form refl refl refl refl refl refl refl (λ rows. refl) (refl, refl, (refl, refl, tt)) refl (omega arith)
+    tt refl refl refl
+known_of Status = known_form status_form refl refl refl refl refl refl refl (λ rows. refl) (refl, refl, (refl, refl, tt)) refl (omega arith)
     tt refl refl refl
 
 -- and so are the names of its options
@@ -108,8 +110,9 @@ pub are_names_of : (name : Name) → AreNames (names_of (meant_by name).form) (m
 are_names_of Rehearse = record { kinds = (refl, (refl, (refl, (refl, (refl, tt))))); apart = refl; covered = refl }
 are_names_of Eval = record { kinds = tt; apart = refl; covered = refl }
 are_names_of Deal = record { kinds = (refl, (refl, (refl, (refl, tt)))); apart = refl; covered = refl }
-are_names_of Serve = record { kinds = (refl, (refl, (refl, (refl, (refl, tt))))); apart = refl; covered = refl }
-are_names_of ServeMany = record { kinds = (refl, (refl, (refl, (refl, tt)))); apart = refl; covered = refl }
-are_names_of Prove = record { kinds = (refl, tt); apart = refl; covered = refl }
+are_names_of Serve = record { kinds = (refl, (refl, (refl, (refl, (refl, (refl, (refl, tt))))))); apart = refl; covered = refl }
+are_names_of ServeMany = record { kinds = (refl, (refl, (refl, (refl, (refl, (refl, tt)))))); apart = refl; covered = refl }
+are_names_of Prove = record { kinds = (refl, (refl, tt)); apart = refl; covered = refl }
 are_names_of Audit = record { kinds = (refl, tt); apart = refl; covered = refl }
 are_names_of Migrate = record { kinds = tt; apart = refl; covered = refl }
+are_names_of Status = record { kinds = tt; apart = refl; covered = refl }

@@ -14,11 +14,11 @@ is_valued word =
     bytes_eq word (codes "--section") || bytes_eq word (codes "--units") || bytes_eq word (codes "--trees")
     || bytes_eq word (codes "--height") || bytes_eq word (codes "--base") || bytes_eq word (codes "--sessions")
     || bytes_eq word (codes "--workers") || bytes_eq word (codes "--logs") || bytes_eq word (codes "--public")
-    || bytes_eq word (codes "--gates") || bytes_eq word (codes "--number")
+    || bytes_eq word (codes "--gates") || bytes_eq word (codes "--number") || bytes_eq word (codes "--timeout")
 
--- the option that stands by itself
+-- the options that stand by themselves
 abbrev pub is_flag : List ℕ → Bool
-is_flag word = bytes_eq word (codes "--extended")
+is_flag word = bytes_eq word (codes "--extended") || bytes_eq word (codes "--follow")
 
 -- what a word after the name is, by itself: it stands in its place, is an option that a value follows, an option that stands by itself, or
 -- any other word that begins with a dash

@@ -3,6 +3,7 @@ use Rattle.std.specs.Prelude.{◌≡◌, ℕ, List, [], ◌∷◌, drop, if◌th
 use Rattle.std.specs.Str.{bytes_eq}
 use Rattle.clap.specs.Faults.{fault_of}
 use Rattle.command_words.specs.Found.{AreAlike, Form, told}
+use Rattle.command_words.specs.BitWords.{BitsAsk}
 use Rattle.command_words.specs.Words.{Ask, asked}
 
 abbrev pub rehearse_form : Form
@@ -29,21 +30,21 @@ deal_form = record {
 abbrev pub serve_form : Form
 serve_form = record {
   places = codes "ADDRESS" ∷ codes "FILE" ∷ codes "CIRCUIT" ∷ codes "OUTPUTS" ∷ [];
-  valued = codes "sessions" ∷ codes "workers" ∷ codes "section" ∷ codes "logs" ∷ codes "public" ∷ [];
-  flags = [];
+  valued = codes "sessions" ∷ codes "workers" ∷ codes "section" ∷ codes "timeout" ∷ codes "logs" ∷ codes "public" ∷ [];
+  flags = codes "follow" ∷ [];
 }
 
 abbrev pub serve_many_form : Form
 serve_many_form = record {
   places = codes "ADDRESS" ∷ codes "FILE" ∷ codes "STATEMENTS" ∷ [];
-  valued = codes "sessions" ∷ codes "workers" ∷ codes "section" ∷ codes "logs" ∷ [];
-  flags = [];
+  valued = codes "sessions" ∷ codes "workers" ∷ codes "section" ∷ codes "timeout" ∷ codes "logs" ∷ [];
+  flags = codes "follow" ∷ [];
 }
 
 abbrev pub prove_form : Form
 prove_form = record {
   places = codes "ADDRESS" ∷ codes "FILE" ∷ codes "CIRCUIT" ∷ codes "BITS" ∷ codes "OUTPUTS" ∷ [];
-  valued = codes "public" ∷ [];
+  valued = codes "timeout" ∷ codes "public" ∷ [];
   flags = [];
 }
 
@@ -61,6 +62,13 @@ migrate_form = record {
   flags = [];
 }
 
+abbrev pub status_form : Form
+status_form = record {
+  places = codes "FILE" ∷ codes "CIRCUIT" ∷ [];
+  valued = [];
+  flags = [];
+}
+
 -- the form of the command of this name
 abbrev pub form_named : List ℕ → Option Form
 form_named name =
@@ -72,10 +80,11 @@ form_named name =
     else if bytes_eq name (codes "prove") then Some prove_form
     else if bytes_eq name (codes "audit") then Some audit_form
     else if bytes_eq name (codes "migrate") then Some migrate_form
+    else if bytes_eq name (codes "status") then Some status_form
     else None
 
 -- clap takes the words as those of a command, and some valid words of the same command, which clap reads to the same matches, ask for this
-pub record IsReadAs (words : List (List ℕ)) (ask : Ask) : Type 0 where
+pub record IsReadAs (words : List (List ℕ)) (ask : Ask BitsAsk) : Type 0 where
   pub name : List ℕ
   pub begins : words ≡ name ∷ drop 1 words
   pub form : Form

@@ -12,6 +12,7 @@ use Rattle.clap.specs.Matches.{first_value, found_of}
 use Rattle.clap.specs.declared.builder.action.ArgAction.TheVariants.{SetTrue}
 use Rattle.clap.specs.declared.parser.matches.ArgMatches.{ArgMatches}
 use Rattle.command_words.specs.Arguments.{arranged, begins_with_dash, is_flag, Word}
+use Rattle.command_words.specs.BitWords.{BitsAsk}
 use Rattle.command_words.specs.Words.{Ask}
 
 -- an option that a value follows, and one that stands by itself
@@ -85,7 +86,7 @@ abbrev pub value_at : (List ℕ → Option (List ℕ)) → List ℕ → Option (
 value_at given name = if is_flag name then flag_value (given (drop 2 name)) else given (drop 2 name)
 
 -- what the words after a command's name ask for, where those in places and the options say so much
-abbrev pub read_by : (List (List ℕ) → List Word → Option Ask) → List (List ℕ) → Option Ask
+abbrev pub read_by : (List (List ℕ) → List Word → Option (Ask BitsAsk)) → List (List ℕ) → Option (Ask BitsAsk)
 read_by reads words = option_and_then (λ parts. reads parts.0 parts.1) (arranged words)
 
 -- what clap's matches of these words have under an id
@@ -98,7 +99,7 @@ pub record AreAlike (form : Form) (words others : List (List ℕ)) : Type 0 wher
   pub options : (name : List ℕ) → list_any (λ n. bytes_eq n name) (names_of form) ≡ true → value_at (finds form words) name ≡ value_at (finds form others) name
 
 -- clap takes the words, and reads them as words that ask for this
-pub record IsTakenFor (form : Form) (reads : List (List ℕ) → List Word → Option Ask) (words : List (List ℕ)) (ask : Ask) : Type 0 where
+pub record IsTakenFor (form : Form) (reads : List (List ℕ) → List Word → Option (Ask BitsAsk)) (words : List (List ℕ)) (ask : Ask BitsAsk) : Type 0 where
   pub faultless : fault_of (told form) words ≡ []
   pub others : List (List ℕ)
   pub asks : read_by reads others ≡ Some ask
@@ -106,6 +107,6 @@ pub record IsTakenFor (form : Form) (reads : List (List ℕ) → List Word → O
 
 -- what may be read of these words, the first of which is a name: what they ask for, where they are valid; of others nothing, or what some
 -- valid words ask for that clap reads to the same matches
-pub record IsReadBy (form : Form) (reads : List (List ℕ) → List Word → Option Ask) (words : List (List ℕ)) (found : Option Ask) : Type 0 where
-  pub valid : {ask : Ask} → read_by reads (drop 1 words) ≡ Some ask → found ≡ Some ask
-  pub other : {ask : Ask} → found ≡ Some ask → IsTakenFor form reads words ask
+pub record IsReadBy (form : Form) (reads : List (List ℕ) → List Word → Option (Ask BitsAsk)) (words : List (List ℕ)) (found : Option (Ask BitsAsk)) : Type 0 where
+  pub valid : {ask : Ask BitsAsk} → read_by reads (drop 1 words) ≡ Some ask → found ≡ Some ask
+  pub other : {ask : Ask BitsAsk} → found ≡ Some ask → IsTakenFor form reads words ask

@@ -11,7 +11,7 @@ abbrev pub is_command_name : List ℕ → Bool
 is_command_name name =
     bytes_eq name (codes "deal") || bytes_eq name (codes "eval") || bytes_eq name (codes "rehearse") || bytes_eq name (codes "serve")
     || bytes_eq name (codes "serve-many") || bytes_eq name (codes "prove") || bytes_eq name (codes "audit")
-    || bytes_eq name (codes "migrate")
+    || bytes_eq name (codes "migrate") || bytes_eq name (codes "status")
 
 abbrev pub asks_for_help : List (List ℕ) → Bool
 asks_for_help (word ∷ []) = is_help_word word

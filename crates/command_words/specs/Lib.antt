@@ -5,6 +5,7 @@ pub mod Forms
 pub mod Found
 pub mod Given
 pub mod Help
+pub mod HelpTexts
 pub mod Names
 pub mod Numbers
 pub mod Orders

@@ -11,11 +11,11 @@ use Rattle.zk_model.specs.declared.Params.{Params}
 use Rattle.zk_model.specs.declared.Side.{Side}
 use Rattle.zk_model.specs.declared.Side.TheVariants.{Prover, Verifier}
 use Rattle.zk_model.specs.declared.limits.TheConstants.{FILE_LIMIT}
-use Rattle.command_words.specs.BitWords.{bits_of}
+use Rattle.command_words.specs.BitWords.{BitsAsk, said, bits_word_of}
 use Rattle.command_words.specs.Numbers.{number_within}
 use Rattle.command_words.specs.Arguments.{arranged, option_named, stand_once, Word}
 use Rattle.zk_model.specs.declared.limits.TheConstants.{MAX_BASE, MAX_DEALT_UNITS, MAX_GENERATED_GATES, MAX_HEIGHT, MAX_PASSES, MAX_SECTION_LENGTH, MAX_TREES}
-use Rattle.command_words.specs.declared.words.TheConstants.{MAX_SESSIONS}
+use Rattle.command_words.specs.declared.words.TheConstants.{MAX_SESSIONS, MAX_TIMEOUT}
 
 -- the words as their bytes
 abbrev pub texts : List (String Global) → List (List ℕ)
@@ -23,14 +23,14 @@ texts words = map (λ w. string_bytes w) words
 
 -- what the words of a rehearsal name: the circuit's file, the public input bits and the private ones, the kind of the dealt files, and
 -- how many products a section has
-pub record RehearseAsk : Type 0 where
+pub record RehearseAsk (B : Type 0) : Type 0 where
   pub circuit : List ℕ
-  pub public : List Bool
-  pub bits : List Bool
+  pub public : B
+  pub bits : B
   pub kind : Kind
   pub section : ℕ
 
-abbrev pub rehearse_ask : List ℕ → List Bool → List Bool → Kind → ℕ → RehearseAsk
+abbrev pub rehearse_ask : {B : Type 0} → List ℕ → B → B → Kind → ℕ → RehearseAsk B
 rehearse_ask circuit public bits kind section =
     record { circuit = circuit; public = public; bits = bits; kind = kind; section = section }
 
@@ -46,11 +46,11 @@ abbrev pub generate_ask : ℕ → ℕ → Kind → ℕ → GenerateAsk
 generate_ask gates number kind section = record { gates = gates; number = number; kind = kind; section = section }
 
 -- what the words of an evaluation name: the circuit's file and the bits
-pub record EvalAsk : Type 0 where
+pub record EvalAsk (B : Type 0) : Type 0 where
   pub circuit : List ℕ
-  pub bits : List Bool
+  pub bits : B
 
-abbrev pub eval_ask : List ℕ → List Bool → EvalAsk
+abbrev pub eval_ask : {B : Type 0} → List ℕ → B → EvalAsk B
 eval_ask circuit bits = record { circuit = circuit; bits = bits }
 
 -- what the words of a dealing name: the first part of the files' names, and what they are made for
@@ -61,29 +61,31 @@ pub record DealAsk : Type 0 where
 abbrev pub deal_ask : List ℕ → Params → DealAsk
 deal_ask name params = record { name = name; params = params }
 
--- how many sessions a verifier serves, by how many workers at once, how many products a section has, and what the names of logs begin
--- with, where they are kept
+-- how many sessions a verifier serves, by how many workers at once, how many products a section has, for how many seconds it waits for a
+-- silent peer, what the names of logs begin with, where they are kept, and whether it says on standard error how it goes
 pub record ServeOptions : Type 0 where
   pub sessions : ℕ
   pub workers : ℕ
   pub section : ℕ
+  pub timeout : ℕ
   pub logs : Option (List ℕ)
+  pub follow : Bool
 
-abbrev pub serve_options : ℕ → ℕ → ℕ → Option (List ℕ) → ServeOptions
-serve_options sessions workers section logs =
-    record { sessions = sessions; workers = workers; section = section; logs = logs }
+abbrev pub serve_options : ℕ → ℕ → ℕ → ℕ → Option (List ℕ) → Bool → ServeOptions
+serve_options sessions workers section timeout logs follow =
+    record { sessions = sessions; workers = workers; section = section; timeout = timeout; logs = logs; follow = follow }
 
 -- what the words of a verifier that serves name: where provers connect, the verifier's file, the circuit's file, the public input bits,
 -- the claimed outputs, and the options
-pub record ServeAsk : Type 0 where
+pub record ServeAsk (B : Type 0) : Type 0 where
   pub address : List ℕ
   pub file : List ℕ
   pub circuit : List ℕ
-  pub public : List Bool
-  pub outputs : List Bool
+  pub public : B
+  pub outputs : B
   pub options : ServeOptions
 
-abbrev pub serve_ask : List ℕ → List ℕ → List ℕ → List Bool → List Bool → ServeOptions → ServeAsk
+abbrev pub serve_ask : {B : Type 0} → List ℕ → List ℕ → List ℕ → B → B → ServeOptions → ServeAsk B
 serve_ask address file circuit public outputs options =
     record { address = address; file = file; circuit = circuit; public = public; outputs = outputs; options = options }
 
@@ -100,29 +102,30 @@ serve_many_ask address file statements options =
     record { address = address; file = file; statements = statements; options = options }
 
 -- what the words of a prover name: where the verifier listens, the prover's file, the circuit's file, the public input bits and the
--- private ones, and the claimed outputs
-pub record ProveAsk : Type 0 where
+-- private ones, the claimed outputs, and for how many seconds it waits for a silent peer
+pub record ProveAsk (B : Type 0) : Type 0 where
   pub address : List ℕ
   pub file : List ℕ
   pub circuit : List ℕ
-  pub public : List Bool
-  pub bits : List Bool
-  pub outputs : List Bool
+  pub public : B
+  pub bits : B
+  pub outputs : B
+  pub timeout : ℕ
 
-abbrev pub prove_ask : List ℕ → List ℕ → List ℕ → List Bool → List Bool → List Bool → ProveAsk
-prove_ask address file circuit public bits outputs =
-    record { address = address; file = file; circuit = circuit; public = public; bits = bits; outputs = outputs }
+abbrev pub prove_ask : {B : Type 0} → List ℕ → List ℕ → List ℕ → B → B → B → ℕ → ProveAsk B
+prove_ask address file circuit public bits outputs timeout =
+    record { address = address; file = file; circuit = circuit; public = public; bits = bits; outputs = outputs; timeout = timeout }
 
 -- what the words of an audit name: the circuit's file, the public input bits, the claimed outputs, both dealt files, and a session's log
-pub record AuditAsk : Type 0 where
+pub record AuditAsk (B : Type 0) : Type 0 where
   pub circuit : List ℕ
-  pub public : List Bool
-  pub outputs : List Bool
+  pub public : B
+  pub outputs : B
   pub prover : List ℕ
   pub verifier : List ℕ
   pub log : List ℕ
 
-abbrev pub audit_ask : List ℕ → List Bool → List Bool → List ℕ → List ℕ → List ℕ → AuditAsk
+abbrev pub audit_ask : {B : Type 0} → List ℕ → B → B → List ℕ → List ℕ → List ℕ → AuditAsk B
 audit_ask circuit public outputs prover verifier log =
     record { circuit = circuit; public = public; outputs = outputs; prover = prover; verifier = verifier; log = log }
 
@@ -134,17 +137,26 @@ pub record MigrateAsk : Type 0 where
 abbrev pub migrate_ask : Side → List ℕ → MigrateAsk
 migrate_ask side file = record { side = side; file = file }
 
--- what can be asked for
-pub data Ask : Type 0 where
-  rehearse : RehearseAsk → Ask
-  generate : GenerateAsk → Ask
-  eval : EvalAsk → Ask
-  deal : DealAsk → Ask
-  serve : ServeAsk → Ask
-  serve_many : ServeManyAsk → Ask
-  prove : ProveAsk → Ask
-  audit : AuditAsk → Ask
-  migrate : MigrateAsk → Ask
+-- what the words of a status name: a dealt file, and a circuit's file, where one is named
+pub record StatusAsk : Type 0 where
+  pub file : List ℕ
+  pub circuit : Option (List ℕ)
+
+abbrev pub status_ask : List ℕ → Option (List ℕ) → StatusAsk
+status_ask file circuit = record { file = file; circuit = circuit }
+
+-- what can be asked for, by how bits are given
+pub data Ask (B : Type 0) : Type 0 where
+  rehearse : RehearseAsk B → Ask B
+  generate : GenerateAsk → Ask B
+  eval : EvalAsk B → Ask B
+  deal : DealAsk → Ask B
+  serve : ServeAsk B → Ask B
+  serve_many : ServeManyAsk → Ask B
+  prove : ProveAsk B → Ask B
+  audit : AuditAsk B → Ask B
+  migrate : MigrateAsk → Ask B
+  status : StatusAsk → Ask B
 
 -- each option has one of these names, and no two the same
 abbrev pub stand_once_among : List (List ℕ) → List Word → Bool
@@ -156,9 +168,9 @@ length_of None = Some MAX_SECTION_LENGTH
 length_of (Some word) = number_within 1 MAX_SECTION_LENGTH word
 
 -- the public bits that a word says, or none
-abbrev pub public_of : Option (List ℕ) → Option (List Bool)
-public_of None = Some []
-public_of (Some word) = bits_of word
+abbrev pub public_of : Option (List ℕ) → Option BitsAsk
+public_of None = Some (said [])
+public_of (Some word) = bits_word_of word
 
 abbrev pub rehearse_options : List (List ℕ)
 rehearse_options = codes "--section" ∷ codes "--extended" ∷ codes "--public" ∷ []
@@ -185,7 +197,7 @@ abbrev pub drawn_of : List Word → Option ℕ
 drawn_of options = option_and_then (λ word. number_within 0 (2 ^ 64 - 1) word) (option_named (codes "--number") options)
 
 -- `--gates N --number S [--section G] [--extended]`, and nothing else
-abbrev pub generate_of : List Word → Option Ask
+abbrev pub generate_of : List Word → Option (Ask BitsAsk)
 generate_of options =
     if stand_once_among generate_options options
     then option_and_then (λ gates. option_and_then (λ number. option_map
@@ -194,17 +206,17 @@ generate_of options =
     else None
 
 -- `rehearse CIRCUIT BITS [--section G] [--extended] [--public BITS]`, or `rehearse --gates N --number S [--section G] [--extended]`
-abbrev pub rehearse_of : List (List ℕ) → List Word → Option Ask
+abbrev pub rehearse_of : List (List ℕ) → List Word → Option (Ask BitsAsk)
 rehearse_of [] options = generate_of options
 rehearse_of (circuit ∷ bits ∷ []) options =
     option_and_then (λ section. option_and_then (λ public. option_map
     (λ read. rehearse (rehearse_ask circuit public read (rehearsed_kind options) section))
-    (bits_of bits)) (public_of (option_named (codes "--public") options))) (section_of options)
+    (bits_word_of bits)) (public_of (option_named (codes "--public") options))) (section_of options)
 rehearse_of positional options = None
 
 -- `eval CIRCUIT BITS`
-abbrev pub eval_of : List (List ℕ) → List Word → Option Ask
-eval_of (circuit ∷ bits ∷ []) [] = option_map (λ read. eval (eval_ask circuit read)) (bits_of bits)
+abbrev pub eval_of : List (List ℕ) → List Word → Option (Ask BitsAsk)
+eval_of (circuit ∷ bits ∷ []) [] = option_map (λ read. eval (eval_ask circuit read)) (bits_word_of bits)
 eval_of positional options = None
 
 -- what files of so many units are made for, of kind direct, and of kind extended
@@ -244,7 +256,7 @@ abbrev pub deal_options : List (List ℕ)
 deal_options = codes "--units" ∷ codes "--trees" ∷ codes "--height" ∷ codes "--base" ∷ []
 
 -- `deal NAME --units N [--trees T --height H --base K]`
-abbrev pub deal_of : List (List ℕ) → List Word → Option Ask
+abbrev pub deal_of : List (List ℕ) → List Word → Option (Ask BitsAsk)
 deal_of (name ∷ []) options =
     if stand_once_among deal_options options then option_map (λ params. deal (deal_ask name params)) (params_of options)
     else None
@@ -259,61 +271,76 @@ abbrev pub workers_of : Option (List ℕ) → Option ℕ
 workers_of None = Some 4
 workers_of (Some word) = number_within 1 MAX_PASSES word
 
+-- for how many seconds a silent peer is waited for: so many as a word says, or 120
+abbrev pub timeout_of : Option (List ℕ) → Option ℕ
+timeout_of None = Some 120
+timeout_of (Some word) = number_within 1 MAX_TIMEOUT word
+
 -- what the options say of a service
 abbrev pub service_of : List Word → Option ServeOptions
 service_of options =
-    option_and_then (λ sessions. option_and_then (λ workers. option_map
-    (λ section. serve_options sessions workers section (option_named (codes "--logs") options))
+    option_and_then (λ sessions. option_and_then (λ workers. option_and_then (λ section. option_map
+    (λ timeout. serve_options sessions workers section timeout (option_named (codes "--logs") options)
+    (is_some (option_named (codes "--follow") options)))
+    (timeout_of (option_named (codes "--timeout") options)))
     (length_of (option_named (codes "--section") options)))
     (workers_of (option_named (codes "--workers") options))) (sessions_of options)
 
 abbrev pub served_options : List (List ℕ)
 served_options =
-    codes "--sessions" ∷ codes "--workers" ∷ codes "--section" ∷ codes "--logs" ∷ codes "--public" ∷ []
+    codes "--sessions" ∷ codes "--workers" ∷ codes "--section" ∷ codes "--timeout" ∷ codes "--logs" ∷ codes "--public"
+    ∷ codes "--follow" ∷ []
 
--- `--sessions N [--workers W] [--section G] [--logs PREFIX] [--public BITS]`, and nothing else, without the bits
+-- `--sessions N [--workers W] [--section G] [--timeout S] [--logs PREFIX] [--follow] [--public BITS]`, and nothing else, without the
+-- bits
 abbrev pub serve_options_of : List Word → Option ServeOptions
 serve_options_of options = if stand_once_among served_options options then service_of options else None
 
--- `serve ADDRESS FILE CIRCUIT OUTPUTS --sessions N [--workers W] [--section G] [--logs PREFIX] [--public BITS]`
-abbrev pub serve_of : List (List ℕ) → List Word → Option Ask
+-- `serve ADDRESS FILE CIRCUIT OUTPUTS --sessions N [--workers W] [--section G] [--timeout S] [--logs PREFIX] [--follow]
+-- [--public BITS]`
+abbrev pub serve_of : List (List ℕ) → List Word → Option (Ask BitsAsk)
 serve_of (address ∷ file ∷ circuit ∷ outputs ∷ []) options =
     option_and_then (λ found. option_and_then (λ public. option_map
     (λ read. serve (serve_ask address file circuit public read found))
-    (bits_of outputs)) (public_of (option_named (codes "--public") options))) (serve_options_of options)
+    (bits_word_of outputs)) (public_of (option_named (codes "--public") options))) (serve_options_of options)
 serve_of positional options = None
 
 abbrev pub serve_many_options : List (List ℕ)
-serve_many_options = codes "--sessions" ∷ codes "--workers" ∷ codes "--section" ∷ codes "--logs" ∷ []
+serve_many_options =
+    codes "--sessions" ∷ codes "--workers" ∷ codes "--section" ∷ codes "--timeout" ∷ codes "--logs" ∷ codes "--follow" ∷ []
 
--- `serve-many ADDRESS FILE STATEMENTS --sessions N [--workers W] [--section G] [--logs PREFIX]`
-abbrev pub serve_many_of : List (List ℕ) → List Word → Option Ask
+-- `serve-many ADDRESS FILE STATEMENTS --sessions N [--workers W] [--section G] [--timeout S] [--logs PREFIX] [--follow]`
+abbrev pub serve_many_of : List (List ℕ) → List Word → Option (Ask BitsAsk)
 serve_many_of (address ∷ file ∷ statements ∷ []) options =
     if stand_once_among serve_many_options options
     then option_map (λ found. serve_many (serve_many_ask address file statements found)) (service_of options)
     else None
 serve_many_of positional options = None
 
--- the one option of a proof, and of an audit
+-- the one option of an audit
 abbrev pub public_option : List (List ℕ)
 public_option = codes "--public" ∷ []
 
--- `prove ADDRESS FILE CIRCUIT BITS OUTPUTS [--public BITS]`
-abbrev pub prove_of : List (List ℕ) → List Word → Option Ask
+abbrev pub prove_options : List (List ℕ)
+prove_options = codes "--timeout" ∷ codes "--public" ∷ []
+
+-- `prove ADDRESS FILE CIRCUIT BITS OUTPUTS [--timeout S] [--public BITS]`
+abbrev pub prove_of : List (List ℕ) → List Word → Option (Ask BitsAsk)
 prove_of (address ∷ file ∷ circuit ∷ bits ∷ outputs ∷ []) options =
-    if stand_once_among public_option options
-    then option_and_then (λ public. option_and_then (λ read. option_map
-    (λ claimed. prove (prove_ask address file circuit public read claimed)) (bits_of outputs)) (bits_of bits))
-    (public_of (option_named (codes "--public") options))
+    if stand_once_among prove_options options
+    then option_and_then (λ timeout. option_and_then (λ public. option_and_then (λ read. option_map
+    (λ claimed. prove (prove_ask address file circuit public read claimed timeout)) (bits_word_of outputs)) (bits_word_of bits))
+    (public_of (option_named (codes "--public") options)))
+    (timeout_of (option_named (codes "--timeout") options))
     else None
 prove_of positional options = None
 
 -- `audit CIRCUIT OUTPUTS PROVERFILE VERIFIERFILE LOG [--public BITS]`
-abbrev pub audit_of : List (List ℕ) → List Word → Option Ask
+abbrev pub audit_of : List (List ℕ) → List Word → Option (Ask BitsAsk)
 audit_of (circuit ∷ outputs ∷ prover ∷ verifier ∷ log ∷ []) options =
     if stand_once_among public_option options
     then option_and_then (λ public. option_map (λ claimed. audit (audit_ask circuit public claimed prover verifier log))
-    (bits_of outputs)) (public_of (option_named (codes "--public") options))
+    (bits_word_of outputs)) (public_of (option_named (codes "--public") options))
     else None
 audit_of positional options = None
 
@@ -325,12 +352,18 @@ side_of word =
     else None
 
 -- `migrate SIDE FILE`
-abbrev pub migrate_of : List (List ℕ) → List Word → Option Ask
+abbrev pub migrate_of : List (List ℕ) → List Word → Option (Ask BitsAsk)
 migrate_of (side ∷ file ∷ []) [] = option_map (λ read. migrate (migrate_ask read file)) (side_of side)
 migrate_of positional options = None
 
+-- `status FILE [CIRCUIT]`
+abbrev pub status_of : List (List ℕ) → List Word → Option (Ask BitsAsk)
+status_of (file ∷ []) [] = Some (status (status_ask file None))
+status_of (file ∷ circuit ∷ []) [] = Some (status (status_ask file (Some circuit)))
+status_of positional options = None
+
 -- what the words ask for, if they are valid
-abbrev pub asked : List (List ℕ) → Option Ask
+abbrev pub asked : List (List ℕ) → Option (Ask BitsAsk)
 asked [] = None
 asked (name ∷ words) = option_and_then (λ parts.
     if bytes_eq name (codes "rehearse") then rehearse_of parts.0 parts.1
@@ -341,13 +374,14 @@ asked (name ∷ words) = option_and_then (λ parts.
     else if bytes_eq name (codes "prove") then prove_of parts.0 parts.1
     else if bytes_eq name (codes "audit") then audit_of parts.0 parts.1
     else if bytes_eq name (codes "migrate") then migrate_of parts.0 parts.1
+    else if bytes_eq name (codes "status") then status_of parts.0 parts.1
     else None) (arranged words)
 
 -- these valid words ask for it
-abbrev pub IsAsked : Ask → Type 0
+abbrev pub IsAsked : Ask BitsAsk → Type 0
 IsAsked ask = (words : List (List ℕ)) × (asked words ≡ Some ask)
 
 -- what may be read of words: what they ask for, where they are valid; of others nothing, or what some valid words ask for
-pub record IsRead (words : List (List ℕ)) (found : Option Ask) : Type 0 where
-  pub valid : {ask : Ask} → asked words ≡ Some ask → found ≡ Some ask
-  pub other : {ask : Ask} → found ≡ Some ask → IsAsked ask
+pub record IsRead (words : List (List ℕ)) (found : Option (Ask BitsAsk)) : Type 0 where
+  pub valid : {ask : Ask BitsAsk} → asked words ≡ Some ask → found ≡ Some ask
+  pub other : {ask : Ask BitsAsk} → found ≡ Some ask → IsAsked ask

@@ -1,9 +1,31 @@
 // The word of a list of bits.
 ghost use Rattle.std.specs.Prelude.{◌≡◌, IfOk, string_bytes};
 ghost use Rattle.std.specs.Option.{option_map};
-ghost use Rattle.command_words.specs.BitWords.{bits_of, bits_word};
+ghost use Rattle.command_words.specs.BitWords.{bits_of, bits_word, bits_word_of};
+ghost use Rattle.command_words.specs.Commands.{bits_ask};
 
 use std::alloc::{AllocError, Global};
+
+/// Bits as a word gives them: the bits themselves, or the name of the file that has them.
+#[derive(Debug, Drop)]
+pub enum BitsWord {
+    Said(Vec<bool>),
+    Named(String),
+}
+
+/// The bits that a word says, or the name behind `@`.
+pub fn read_bits_word(alloc: Global, word: &str) -> Result<Option<BitsWord>, AllocError>
+    ensures { IfOk result (λ found. option_map bits_ask found ≡ bits_word_of word.now) }
+{
+    if let Some(name) = word.strip_prefix('@') {
+        let name = String::from_str(alloc, name)?;
+        return Ok(Some(BitsWord::Named(name)));
+    }
+    match read_bits(alloc, word)? {
+        Some(bits) => Ok(Some(BitsWord::Said(bits))),
+        None => Ok(None),
+    }
+}
 
 /// The bits that a word of 0 and 1 says, or `none`.
 pub fn read_bits(alloc: Global, word: &str) -> Result<Option<Vec<bool>>, AllocError>

@@ -1,6 +1,8 @@
 // The help of the program, and of each command.
 ghost use Rattle.std.specs.Prelude.{◌≡◌, ◌∷◌, [], is_some, IsNone, IsSome};
+ghost use Rattle.std.specs.Option.{option_map};
 ghost use Rattle.command_words.specs.Help.{asks_for_help, is_help_word, is_command_name};
+ghost use Rattle.command_words.specs.HelpTexts.{help_of, help_of_command, help_of_word};
 ghost use Rattle.command_words.specs.Words.{asked, texts};
 
 const PROGRAM: &str = "\
@@ -14,21 +16,26 @@ usage:
   zk rehearse CIRCUIT BITS [--section G] [--extended] [--public BITS]
   zk rehearse --gates N --number S [--section G] [--extended]
       runs a session of both ends in one process
-  zk serve ADDRESS FILE CIRCUIT OUTPUTS --sessions N [--workers W] [--section G] [--logs PREFIX] [--public BITS]
+  zk serve ADDRESS FILE CIRCUIT OUTPUTS --sessions N [--workers W] [--section G] [--timeout S] [--logs PREFIX]
+           [--follow] [--public BITS]
       verifies N provers that call over TCP
-  zk serve-many ADDRESS FILE STATEMENTS --sessions N [--workers W] [--section G] [--logs PREFIX]
+  zk serve-many ADDRESS FILE STATEMENTS --sessions N [--workers W] [--section G] [--timeout S] [--logs PREFIX]
+           [--follow]
       the same, each prover about one of several statements
-  zk prove ADDRESS FILE CIRCUIT BITS OUTPUTS [--public BITS]
+  zk prove ADDRESS FILE CIRCUIT BITS OUTPUTS [--timeout S] [--public BITS]
       proves to a verifier over TCP
   zk audit CIRCUIT OUTPUTS PROVERFILE VERIFIERFILE LOG [--public BITS]
       finds the inputs that an accepted session fixes, or why it fixes none
   zk migrate SIDE FILE
       brings the journal of a dealt file that an earlier version made to the form of this one
+  zk status FILE [CIRCUIT]
+      says how many units of a dealt file are left, and how many sessions they are enough for
   zk COMMAND --help
       says more about a command
   zk --version
 
-BITS and OUTPUTS are words of 0 and 1, in order of wires, or `none`. Options stand anywhere after the command.
+BITS and OUTPUTS are words of 0 and 1, in order of wires, or `none`, or `@NAME` for those in the file NAME, so
+that private bits stand in no list of processes. Options stand anywhere after the command.
 
 statuses:
   0  done, and accepted
@@ -48,9 +55,10 @@ usage: zk deal NAME --units N [--trees T --height H --base K]
 
 Deals NAME.prover and NAME.verifier, with the journals NAME.prover.journal and NAME.verifier.journal. Files of these
 names are replaced. A session uses units; a direct unit has 64 correlations. With the three options the files are
-extended: a unit has T times 2^H correlations, and T trees of height H over K dealt correlations more.
+extended: a unit has T times 2^H correlations, and T trees of height H over K dealt correlations more. For use these are
+918, 9 and 32768; with smaller bases the files are for trials, and hide nothing.
 
-  --units N    1 to 2^32; no file may have more than 64 MiB
+  --units N    1 to 2^40; no file may have more than 1 GiB
   --trees T    1 to 1024
   --height H   1 to 16
   --base K     10 to 65536
@@ -63,7 +71,8 @@ statuses: 0 done, 4 a file or the output failed, 7 memory was missing
 const EVAL: &str = "\
 usage: zk eval CIRCUIT BITS
 
-Prints the outputs of the circuit in the file CIRCUIT at the input bits.
+Prints the outputs of the circuit in the file CIRCUIT at the input bits: BITS, or with `@NAME` those in the file
+NAME.
 
 example: zk eval examples/and.txt 11
 
@@ -75,7 +84,8 @@ usage: zk rehearse CIRCUIT BITS [--section G] [--extended] [--public BITS]
        zk rehearse --gates N --number S [--section G] [--extended]
 
 Runs an honest session of both ends in one process, over files that are dealt for it and never stored: over the circuit
-in the file CIRCUIT, or over one of N gates that is drawn from the number S.
+in the file CIRCUIT, or over one of N gates that is drawn from the number S. `@NAME`, as BITS or behind --public,
+stands for the bits in the file NAME.
 
   --section G      products that are checked at once, 1 to 1048576, which is the default
   --extended       deals extended files: 8 trees of height 10 and a base of 64
@@ -90,15 +100,19 @@ statuses: 0 accepted, 3 the circuit or a number of bits is refused, 4 a file or 
 ";
 
 const SERVE: &str = "\
-usage: zk serve ADDRESS FILE CIRCUIT OUTPUTS --sessions N [--workers W] [--section G] [--logs PREFIX] [--public BITS]
+usage: zk serve ADDRESS FILE CIRCUIT OUTPUTS --sessions N [--workers W] [--section G] [--timeout S] [--logs PREFIX]
+           [--follow] [--public BITS]
 
 Listens at ADDRESS and verifies a session with each of N provers: that the prover knows input bits for which the
 circuit gives OUTPUTS. FILE is the dealt verifier's file; its units are leased in FILE.journal, each once.
+`@NAME`, as OUTPUTS or behind --public, stands for the bits in the file NAME.
 
   --sessions N     1 to 65536
   --workers W      sessions at once, 1 to 1024; the default is 4
   --section G      products that are checked at once, 1 to 1048576, which is the default
+  --timeout S      seconds for which a silent prover is waited for, 1 to 86400; the default is 120
   --logs PREFIX    stores each session's log as PREFIX.UNIT, by its first unit
+  --follow         says on standard error where it listens, what is left, and each session's line when it ends
   --public BITS    the first input bits, which both ends know
 
 example: zk serve 127.0.0.1:4000 /tmp/demo.verifier examples/and.txt 1 --sessions 1
@@ -109,7 +123,8 @@ statuses: 0 all accepted, 1 some session was not, 3 a file or a number of bits i
 ";
 
 const SERVE_MANY: &str = "\
-usage: zk serve-many ADDRESS FILE STATEMENTS --sessions N [--workers W] [--section G] [--logs PREFIX]
+usage: zk serve-many ADDRESS FILE STATEMENTS --sessions N [--workers W] [--section G] [--timeout S] [--logs PREFIX]
+           [--follow]
 
 As `zk serve`, where each prover may prove any one of several statements. The file STATEMENTS has 1 to 256 lines
 `CIRCUIT PUBLIC OUTPUTS`: the file of a circuit, its public input bits or `none`, and the claimed outputs.
@@ -120,14 +135,16 @@ options and statuses: those of `zk serve`, but for --public
 ";
 
 const PROVE: &str = "\
-usage: zk prove ADDRESS FILE CIRCUIT BITS OUTPUTS [--public BITS]
+usage: zk prove ADDRESS FILE CIRCUIT BITS OUTPUTS [--timeout S] [--public BITS]
 
-Proves to the verifier at ADDRESS that there are input bits for which the circuit gives OUTPUTS, and shows no more about
-BITS than that. FILE is the dealt prover's file; the units that are used are claimed in FILE.journal, each once.
+Proves to the verifier at ADDRESS that there are input bits for which the circuit gives OUTPUTS. FILE is the dealt
+prover's file; the units that are used are claimed in FILE.journal, each once. `@NAME`, as BITS, as OUTPUTS or
+behind --public, stands for the bits in the file NAME, so that private bits stand in no list of processes.
 
+  --timeout S      seconds for which a silent verifier is waited for, 1 to 86400; the default is 120
   --public BITS    the first input bits, which both ends know; BITS are then the others
 
-example: zk prove 127.0.0.1:4000 /tmp/demo.prover examples/and.txt 11 1
+example: zk prove 127.0.0.1:4000 /tmp/demo.prover examples/and.txt @/tmp/bits.txt 1
 
 statuses: 0 accepted, 1 rejected, or the bits do not give the outputs, 3 a file or a number of bits is refused, 4 a file,
   the network or the output failed, 5 the journal failed or is full, 7 memory was missing, 8 the verifier broke the
@@ -138,6 +155,7 @@ const AUDIT: &str = "\
 usage: zk audit CIRCUIT OUTPUTS PROVERFILE VERIFIERFILE LOG [--public BITS]
 
 Finds, from both dealt files and a session's log, the input bits that an accepted session fixes, or why it fixes none.
+`@NAME`, as OUTPUTS or behind --public, stands for the bits in the file NAME.
 
   --public BITS    the first input bits, which both ends knew
 
@@ -160,10 +178,25 @@ statuses: 0 migrated, now or before, 3 the file or the journal is refused, 4 a f
   failed, 7 memory was missing
 ";
 
+const STATUS: &str = "\
+usage: zk status FILE [CIRCUIT]
+
+Says how many units of the dealt file FILE are left, by its journal FILE.journal, in lines: `id HEX`, the same for
+both files of a dealing; `units N direct`, or `units N extended T H K`; `used U left L`; and, with the circuit in
+the file CIRCUIT, `sessions N`: for how many sessions of it these are enough, or `sessions at most N` where FILE is
+a prover's. Nothing is written. A service that runs has the journal, and the status is then 5.
+
+example: zk status x.verifier adder64.txt
+
+statuses: 0 done, 3 a file or the journal is refused, 4 a file or the output failed, 5 the journal failed, 7 memory
+  was missing
+";
+
 const VERSION: &str = "zk 1.0\n";
 
 /// The help that the words ask for: `--help`, `-h`, `--version` or `-V` alone, or `--help` after a command's name. No valid words do.
 pub fn help_text(words: &[String]) -> Option<&'static str>
+    ensures text { option_map (λ text. text.now) result ≡ help_of (texts words.now) }
     ensures some { is_some result ≡ asks_for_help (texts words.now) }
     ensures valid { IsSome (asked (texts words.now)) → IsNone result }
 {
@@ -176,6 +209,7 @@ pub fn help_text(words: &[String]) -> Option<&'static str>
 
 /// The help that a lone word asks for.
 fn program_help(word: &str) -> Option<&'static str>
+    ensures text { option_map (λ text. text.now) result ≡ help_of_word word.now }
     ensures some { is_some result ≡ is_help_word word.now }
     ensures valid { IsSome (asked (word.now ∷ [])) → IsNone result }
 {
@@ -188,7 +222,8 @@ fn program_help(word: &str) -> Option<&'static str>
 
 /// The help of a command.
 fn command_help(name: &str) -> Option<&'static str>
-    ensures { is_some result ≡ is_command_name name.now }
+    ensures text { option_map (λ text. text.now) result ≡ help_of_command name.now }
+    ensures some { is_some result ≡ is_command_name name.now }
 {
     match name {
         "deal" => Some(DEAL),
@@ -199,6 +234,7 @@ fn command_help(name: &str) -> Option<&'static str>
         "prove" => Some(PROVE),
         "audit" => Some(AUDIT),
         "migrate" => Some(MIGRATE),
+        "status" => Some(STATUS),
         _ => None,
     }
 }

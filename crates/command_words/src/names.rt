@@ -1,15 +1,16 @@
 // The commands by their names.
 ghost use Rattle.std.specs.Prelude.{◌≡◌, ◌≢◌, map, IfOk, IfSome, IsNone};
 ghost use Rattle.std.specs.Option.{option_map};
-ghost use Rattle.command_words.specs.Commands.{ask_of, IsWithinLimits};
+ghost use Rattle.command_words.specs.Commands.{ask_of, bits_ask, IsWithinLimits};
 ghost use Rattle.command_words.specs.Found.{form_at, given_by};
 ghost use Rattle.command_words.specs.Names.{meant_by};
 ghost use Rattle.command_words.specs.declared.names.Name.{Name};
 
+use crate::bits::BitsWord;
 use crate::found::{Arguments, Form};
 use crate::readings::{
     audit_found, deal_found, eval_found, migrate_found, prove_found, rehearse_found, serve_found,
-    serve_many_found,
+    serve_many_found, status_found,
 };
 use crate::words::Command;
 use std::alloc::{AllocError, Global};
@@ -25,6 +26,7 @@ pub enum Name {
     Prove,
     Audit,
     Migrate,
+    Status,
 }
 
 impl Name {
@@ -42,6 +44,7 @@ impl Name {
             "prove" => Some(Name::Prove),
             "audit" => Some(Name::Audit),
             "migrate" => Some(Name::Migrate),
+            "status" => Some(Name::Status),
             _ => None,
         }
     }
@@ -58,29 +61,38 @@ impl Name {
             },
             Name::Eval => Form::plain(&["CIRCUIT", "BITS"], &[]),
             Name::Deal => Form::plain(&["NAME"], &["units", "trees", "height", "base"]),
-            Name::Serve => Form::plain(
-                &["ADDRESS", "FILE", "CIRCUIT", "OUTPUTS"],
-                &["sessions", "workers", "section", "logs", "public"],
-            ),
-            Name::ServeMany => Form::plain(
-                &["ADDRESS", "FILE", "STATEMENTS"],
-                &["sessions", "workers", "section", "logs"],
-            ),
+            Name::Serve => Form {
+                places: &["ADDRESS", "FILE", "CIRCUIT", "OUTPUTS"],
+                valued: &[
+                    "sessions", "workers", "section", "timeout", "logs", "public",
+                ],
+                flags: &["follow"],
+            },
+            Name::ServeMany => Form {
+                places: &["ADDRESS", "FILE", "STATEMENTS"],
+                valued: &["sessions", "workers", "section", "timeout", "logs"],
+                flags: &["follow"],
+            },
             Name::Prove => Form::plain(
                 &["ADDRESS", "FILE", "CIRCUIT", "BITS", "OUTPUTS"],
-                &["public"],
+                &["timeout", "public"],
             ),
             Name::Audit => Form::plain(
                 &["CIRCUIT", "OUTPUTS", "PROVERFILE", "VERIFIERFILE", "LOG"],
                 &["public"],
             ),
             Name::Migrate => Form::plain(&["SIDE", "FILE"], &[]),
+            Name::Status => Form::plain(&["FILE", "CIRCUIT"], &[]),
         }
     }
 
     /// What its words ask for, from what was found in them.
-    pub fn read_found(self, alloc: Global, found: &Arguments) -> Result<Option<Command>, AllocError>
-        ensures asked { IfOk result (λ command. option_map ask_of command
+    pub fn read_found(
+        self,
+        alloc: Global,
+        found: &Arguments,
+    ) -> Result<Option<Command<BitsWord>>, AllocError>
+        ensures asked { IfOk result (λ command. option_map (ask_of bits_ask) command
             ≡ (meant_by self).given (given_by found.now.options)
             (map (λ p. p.now) found.now.positional.items)) }
         ensures limits { IfOk result (λ command. IfSome command IsWithinLimits) }
@@ -94,6 +106,7 @@ impl Name {
             Name::Prove => prove_found(alloc, found),
             Name::Audit => audit_found(alloc, found),
             Name::Migrate => migrate_found(alloc, found),
+            Name::Status => status_found(alloc, found),
         }
     }
 }

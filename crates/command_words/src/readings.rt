@@ -1,21 +1,21 @@
 // What a command's words ask for, from what clap found in them.
 ghost use Rattle.std.specs.Prelude.{◌≡◌, ◌≤◌, ◌^◌, ◌-◌, ◌↔◌, map, codes, IfOk, IfSome, IsTrue};
 ghost use Rattle.std.specs.Option.{option_map, option_and_then};
-ghost use Rattle.command_words.specs.Words.{length_of, public_of, side_of, workers_of, direct_params, extended_of};
+ghost use Rattle.command_words.specs.Words.{length_of, public_of, side_of, timeout_of, workers_of, direct_params, extended_of};
 ghost use Rattle.command_words.specs.Found.{given_by};
-ghost use Rattle.command_words.specs.Given.{kind_given, generate_given, rehearse_given, eval_given, params_given, deal_given, service_given, serve_given, serve_many_given, prove_given, audit_given, migrate_given};
+ghost use Rattle.command_words.specs.Given.{kind_given, generate_given, rehearse_given, eval_given, params_given, deal_given, service_given, serve_given, serve_many_given, prove_given, audit_given, migrate_given, status_given, follow_given};
 ghost use Rattle.command_words.specs.Numbers.{number_within};
-ghost use Rattle.command_words.specs.Commands.{ask_of, named_options, AreServeLimits, IsWithinLimits, IsSectionSize};
-ghost use Rattle.command_words.specs.declared.words.TheConstants.{MAX_SESSIONS};
+ghost use Rattle.command_words.specs.Commands.{ask_of, bits_ask, named_options, AreServeLimits, IsWithinLimits, IsSectionSize, IsTimeout};
+ghost use Rattle.command_words.specs.declared.words.TheConstants.{MAX_SESSIONS, MAX_TIMEOUT};
 ghost use Rattle.zk_model.specs.FileFaults.{file_length};
 ghost use Rattle.zk_model.specs.Files.{AreParams};
 ghost use Rattle.zk_model.specs.declared.Side.TheVariants.{Prover, Verifier};
 ghost use Rattle.zk_model.specs.declared.limits.TheConstants.{FILE_LIMIT, MAX_DEALT_UNITS, MAX_GENERATED_GATES, MAX_PASSES};
 
-use crate::bits::read_bits;
+use crate::bits::{BitsWord, read_bits_word};
 use crate::found::Arguments;
 use crate::numbers::read_number;
-use crate::words::{Command, MAX_SESSIONS, ServedOptions};
+use crate::words::{Command, MAX_SESSIONS, MAX_TIMEOUT, ServedOptions};
 use clap::ArgMatches;
 use dealer_files::file_length;
 use std::alloc::{AllocError, Global};
@@ -27,9 +27,15 @@ use zk_model::{
 /// How many workers serve where no word says it.
 const WORKERS: u32 = 4;
 
+/// For how many seconds a silent peer is waited for where no word says it.
+const TIMEOUT: u32 = 120;
+
 /// A rehearsal of the circuit that is named, or of a generated one.
-pub fn rehearse_found(alloc: Global, found: &Arguments) -> Result<Option<Command>, AllocError>
-    ensures asked { IfOk result (λ command. option_map ask_of command
+pub fn rehearse_found(
+    alloc: Global,
+    found: &Arguments,
+) -> Result<Option<Command<BitsWord>>, AllocError>
+    ensures asked { IfOk result (λ command. option_map (ask_of bits_ask) command
         ≡ rehearse_given (given_by found.now.options) (map (λ p. p.now) found.now.positional.items)) }
     ensures limits { IfOk result (λ command. IfSome command IsWithinLimits) }
 {
@@ -51,7 +57,7 @@ pub fn rehearse_found(alloc: Global, found: &Arguments) -> Result<Option<Command
     let Some(public) = read_public(alloc, &found.options)? else {
         return Ok(None);
     };
-    let Some(bits) = read_bits(alloc, word)? else {
+    let Some(bits) = read_bits_word(alloc, word)? else {
         return Ok(None);
     };
     let circuit = String::from_str(alloc, circuit)?;
@@ -65,8 +71,8 @@ pub fn rehearse_found(alloc: Global, found: &Arguments) -> Result<Option<Command
 }
 
 /// A rehearsal of a generated circuit.
-fn generate_found(options: &ArgMatches) -> Option<Command>
-    ensures asked { option_map ask_of result ≡ generate_given (given_by options.now) }
+fn generate_found(options: &ArgMatches) -> Option<Command<BitsWord>>
+    ensures asked { option_map (ask_of bits_ask) result ≡ generate_given (given_by options.now) }
     ensures limits { IfSome result IsWithinLimits }
 {
     let gates = read_number(options.get_str("gates")?, 1, u64::from(MAX_GENERATED_GATES))? as u32;
@@ -81,13 +87,13 @@ fn generate_found(options: &ArgMatches) -> Option<Command>
 }
 
 /// The public input bits: those that `--public` says, or else none.
-fn read_public(alloc: Global, options: &ArgMatches) -> Result<Option<Vec<bool>>, AllocError>
-    ensures { IfOk result (λ found. option_map (λ bits. bits.items) found
+fn read_public(alloc: Global, options: &ArgMatches) -> Result<Option<BitsWord>, AllocError>
+    ensures { IfOk result (λ found. option_map bits_ask found
         ≡ public_of (given_by options.now (codes "public"))) }
 {
     match options.get_str("public") {
-        Some(word) => read_bits(alloc, word),
-        None => Ok(Some(Vec::new(alloc))),
+        Some(word) => read_bits_word(alloc, word),
+        None => Ok(Some(BitsWord::Said(Vec::new(alloc)))),
     }
 }
 
@@ -113,15 +119,15 @@ fn read_length(options: &ArgMatches) -> Option<u32>
 }
 
 /// An evaluation.
-pub fn eval_found(alloc: Global, found: &Arguments) -> Result<Option<Command>, AllocError>
-    ensures asked { IfOk result (λ command. option_map ask_of command
+pub fn eval_found(alloc: Global, found: &Arguments) -> Result<Option<Command<BitsWord>>, AllocError>
+    ensures asked { IfOk result (λ command. option_map (ask_of bits_ask) command
         ≡ eval_given (map (λ p. p.now) found.now.positional.items)) }
     ensures limits { IfOk result (λ command. IfSome command IsWithinLimits) }
 {
     let [circuit, word] = found.positional.as_slice() else {
         return Ok(None);
     };
-    let Some(bits) = read_bits(alloc, word)? else {
+    let Some(bits) = read_bits_word(alloc, word)? else {
         return Ok(None);
     };
     let circuit = String::from_str(alloc, circuit)?;
@@ -129,8 +135,11 @@ pub fn eval_found(alloc: Global, found: &Arguments) -> Result<Option<Command>, A
 }
 
 /// A verifier that serves one statement.
-pub fn serve_found(alloc: Global, found: &Arguments) -> Result<Option<Command>, AllocError>
-    ensures asked { IfOk result (λ command. option_map ask_of command
+pub fn serve_found(
+    alloc: Global,
+    found: &Arguments,
+) -> Result<Option<Command<BitsWord>>, AllocError>
+    ensures asked { IfOk result (λ command. option_map (ask_of bits_ask) command
         ≡ serve_given (given_by found.now.options) (map (λ p. p.now) found.now.positional.items)) }
     ensures limits { IfOk result (λ command. IfSome command IsWithinLimits) }
 {
@@ -143,7 +152,7 @@ pub fn serve_found(alloc: Global, found: &Arguments) -> Result<Option<Command>, 
     let Some(public) = read_public(alloc, &found.options)? else {
         return Ok(None);
     };
-    let Some(outputs) = read_bits(alloc, word)? else {
+    let Some(outputs) = read_bits_word(alloc, word)? else {
         return Ok(None);
     };
     let address = String::from_str(alloc, address)?;
@@ -160,8 +169,11 @@ pub fn serve_found(alloc: Global, found: &Arguments) -> Result<Option<Command>, 
 }
 
 /// A verifier that serves several statements.
-pub fn serve_many_found(alloc: Global, found: &Arguments) -> Result<Option<Command>, AllocError>
-    ensures asked { IfOk result (λ command. option_map ask_of command
+pub fn serve_many_found(
+    alloc: Global,
+    found: &Arguments,
+) -> Result<Option<Command<BitsWord>>, AllocError>
+    ensures asked { IfOk result (λ command. option_map (ask_of bits_ask) command
         ≡ serve_many_given (given_by found.now.options) (map (λ p. p.now) found.now.positional.items)) }
     ensures limits { IfOk result (λ command. IfSome command IsWithinLimits) }
 {
@@ -182,7 +194,7 @@ pub fn serve_many_found(alloc: Global, found: &Arguments) -> Result<Option<Comma
     }))
 }
 
-/// What the options say of a service: `--sessions N [--workers W] [--section G] [--logs PREFIX]`.
+/// What the options say of a service: `--sessions N [--workers W] [--section G] [--timeout S] [--logs PREFIX] [--follow]`.
 fn read_service(alloc: Global, options: &ArgMatches) -> Result<Option<ServedOptions>, AllocError>
     ensures value { IfOk result (λ found. option_map named_options found
         ≡ service_given (given_by options.now)) }
@@ -198,6 +210,9 @@ fn read_service(alloc: Global, options: &ArgMatches) -> Result<Option<ServedOpti
     let Some(section) = read_length(options) else {
         return Ok(None);
     };
+    let Some(timeout) = read_timeout(options) else {
+        return Ok(None);
+    };
     let logs = match options.get_str("logs") {
         Some(word) => Some(String::from_str(alloc, word)?),
         None => None,
@@ -206,8 +221,17 @@ fn read_service(alloc: Global, options: &ArgMatches) -> Result<Option<ServedOpti
         sessions,
         workers,
         section,
+        timeout,
         logs,
+        follow: read_follow(options),
     }))
+}
+
+/// Whether `--follow` stands.
+fn read_follow(options: &ArgMatches) -> bool
+    ensures { result ≡ follow_given (given_by options.now) }
+{
+    matches!(options.get_str("follow"), Some("true"))
 }
 
 /// How many sessions are served.
@@ -231,22 +255,39 @@ fn read_workers(options: &ArgMatches) -> Option<u32>
     Some(read_number(value, 1, u64::from(MAX_PASSES))? as u32)
 }
 
+/// For how many seconds a silent peer is waited for: as many as `--timeout` says, or else 120.
+fn read_timeout(options: &ArgMatches) -> Option<u32>
+    ensures value { result ≡ timeout_of (given_by options.now (codes "timeout")) }
+    ensures limits { IfSome result IsTimeout }
+{
+    let Some(value) = options.get_str("timeout") else {
+        return Some(TIMEOUT);
+    };
+    Some(read_number(value, 1, u64::from(MAX_TIMEOUT))? as u32)
+}
+
 /// A proof.
-pub fn prove_found(alloc: Global, found: &Arguments) -> Result<Option<Command>, AllocError>
-    ensures asked { IfOk result (λ command. option_map ask_of command
+pub fn prove_found(
+    alloc: Global,
+    found: &Arguments,
+) -> Result<Option<Command<BitsWord>>, AllocError>
+    ensures asked { IfOk result (λ command. option_map (ask_of bits_ask) command
         ≡ prove_given (given_by found.now.options) (map (λ p. p.now) found.now.positional.items)) }
     ensures limits { IfOk result (λ command. IfSome command IsWithinLimits) }
 {
     let [address, file, circuit, bits, outputs] = found.positional.as_slice() else {
         return Ok(None);
     };
+    let Some(timeout) = read_timeout(&found.options) else {
+        return Ok(None);
+    };
     let Some(public) = read_public(alloc, &found.options)? else {
         return Ok(None);
     };
-    let Some(bits) = read_bits(alloc, bits)? else {
+    let Some(bits) = read_bits_word(alloc, bits)? else {
         return Ok(None);
     };
-    let Some(outputs) = read_bits(alloc, outputs)? else {
+    let Some(outputs) = read_bits_word(alloc, outputs)? else {
         return Ok(None);
     };
     let address = String::from_str(alloc, address)?;
@@ -259,12 +300,16 @@ pub fn prove_found(alloc: Global, found: &Arguments) -> Result<Option<Command>, 
         public,
         bits,
         outputs,
+        timeout,
     }))
 }
 
 /// An audit.
-pub fn audit_found(alloc: Global, found: &Arguments) -> Result<Option<Command>, AllocError>
-    ensures asked { IfOk result (λ command. option_map ask_of command
+pub fn audit_found(
+    alloc: Global,
+    found: &Arguments,
+) -> Result<Option<Command<BitsWord>>, AllocError>
+    ensures asked { IfOk result (λ command. option_map (ask_of bits_ask) command
         ≡ audit_given (given_by found.now.options) (map (λ p. p.now) found.now.positional.items)) }
     ensures limits { IfOk result (λ command. IfSome command IsWithinLimits) }
 {
@@ -274,7 +319,7 @@ pub fn audit_found(alloc: Global, found: &Arguments) -> Result<Option<Command>, 
     let Some(public) = read_public(alloc, &found.options)? else {
         return Ok(None);
     };
-    let Some(outputs) = read_bits(alloc, word)? else {
+    let Some(outputs) = read_bits_word(alloc, word)? else {
         return Ok(None);
     };
     let circuit = String::from_str(alloc, circuit)?;
@@ -292,8 +337,11 @@ pub fn audit_found(alloc: Global, found: &Arguments) -> Result<Option<Command>, 
 }
 
 /// A migration.
-pub fn migrate_found(alloc: Global, found: &Arguments) -> Result<Option<Command>, AllocError>
-    ensures asked { IfOk result (λ command. option_map ask_of command
+pub fn migrate_found(
+    alloc: Global,
+    found: &Arguments,
+) -> Result<Option<Command<BitsWord>>, AllocError>
+    ensures asked { IfOk result (λ command. option_map (ask_of bits_ask) command
         ≡ migrate_given (map (λ p. p.now) found.now.positional.items)) }
     ensures limits { IfOk result (λ command. IfSome command IsWithinLimits) }
 {
@@ -305,6 +353,35 @@ pub fn migrate_found(alloc: Global, found: &Arguments) -> Result<Option<Command>
     };
     let file = String::from_str(alloc, file)?;
     Ok(Some(Command::Migrate { side, file }))
+}
+
+/// A status, of sessions with the circuit that is named.
+pub fn status_found(
+    alloc: Global,
+    found: &Arguments,
+) -> Result<Option<Command<BitsWord>>, AllocError>
+    ensures asked { IfOk result (λ command. option_map (ask_of bits_ask) command
+        ≡ status_given (map (λ p. p.now) found.now.positional.items)) }
+    ensures limits { IfOk result (λ command. IfSome command IsWithinLimits) }
+{
+    match found.positional.as_slice() {
+        [file] => {
+            let file = String::from_str(alloc, file)?;
+            Ok(Some(Command::Status {
+                file,
+                circuit: None,
+            }))
+        }
+        [file, circuit] => {
+            let file = String::from_str(alloc, file)?;
+            let circuit = String::from_str(alloc, circuit)?;
+            Ok(Some(Command::Status {
+                file,
+                circuit: Some(circuit),
+            }))
+        }
+        _ => Ok(None),
+    }
 }
 
 /// The side that a word names.
@@ -319,8 +396,8 @@ fn read_side(word: &str) -> Option<Side>
 }
 
 /// A dealing.
-pub fn deal_found(alloc: Global, found: &Arguments) -> Result<Option<Command>, AllocError>
-    ensures asked { IfOk result (λ command. option_map ask_of command
+pub fn deal_found(alloc: Global, found: &Arguments) -> Result<Option<Command<BitsWord>>, AllocError>
+    ensures asked { IfOk result (λ command. option_map (ask_of bits_ask) command
         ≡ deal_given (given_by found.now.options) (map (λ p. p.now) found.now.positional.items)) }
     ensures limits { IfOk result (λ command. IfSome command IsWithinLimits) }
 {

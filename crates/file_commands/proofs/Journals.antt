@@ -1,7 +1,7 @@
 -- Journals that are opened, or refused, and what is kept of them.
 use Rattle.std.proofs.Common.{◌≡◌, ◌⊎◌, ◌≤◌, ◌∷◌, [], ℕ, List, refl, sym, ◌∙◌, subst, inl, inr, arith, Some}
 use Rattle.zk_port.specs.Counts.{Rose}
-use Rattle.zk_port.specs.Disks.{DiskState, LeavesOnly, Stays}
+use Rattle.zk_port.specs.Disks.{Choice, DiskState, LeavesOnly, Stays}
 use Rattle.zk_port.specs.Logs.{appended}
 use Rattle.lease_journal.proofs.Moments.{stays_then}
 use Rattle.lease_journal.specs.declared.fault.StartFault.{StartFault}
@@ -19,6 +19,10 @@ stops_start Cause disk (start.Short need got) count counted cause device = cause
 stops_start Cause disk (start.BadHeader place) count counted cause device = cause
 stops_start Cause disk (start.BadBody slot) count counted cause device = cause
 
+-- a mark to which a count rose says that the count rose
+pub rose_by : (before mark now : ℕ) → Rose before mark × (mark ≤ now) → Rose before now
+rose_by before mark now rose = omega (arith, rose.0, rose.1)
+
 -- a disk of which nothing is asked
 pub untouched : (disk : DiskState) → IsUntouched (disk_change disk disk)
 untouched disk = record {
@@ -34,10 +38,10 @@ untouched disk = record {
 }
 
 -- a file that is chosen, and whose journal is then read
-pub opens_then : (name : List ℕ) {old middle new : DiskState} → ((t : ℕ) (c : List ℕ) → t ≤ old.moment → old.images c → old.images_since t c)
-    → middle.chosen ≡ appended (name ∷ []) old.chosen → Stays (record old { chosen = middle.chosen }) middle → middle.faults ≡ old.faults
-    → Stays middle new → new.faults ≡ middle.faults → OpensJournal name (disk_change old new)
-opens_then name counts chosen takes no_fault reads none =
+pub opens_then : (choice : Choice) {old middle new : DiskState} → ((t : ℕ) (c : List ℕ) → t ≤ old.moment → old.images c → old.images_since t c)
+    → middle.chosen ≡ appended (choice ∷ []) old.chosen → Stays (record old { chosen = middle.chosen }) middle → middle.faults ≡ old.faults
+    → Stays middle new → new.faults ≡ middle.faults → OpensJournal choice (disk_change old new)
+opens_then choice counts chosen takes no_fault reads none =
     let stays = stays_then counts takes reads in
     record {
       chosen = reads.chosen ∙ chosen;
@@ -52,8 +56,8 @@ opens_then name counts chosen takes no_fault reads none =
     }
 
 -- a journal that is opened is read alone
-pub opened_is_read : (name : List ℕ) (disk : DiskChange) → OpensJournal name disk → OnlyReads name disk
-opened_is_read name disk opens = record {
+pub opened_is_read : (choice : Choice) (disk : DiskChange) → OpensJournal choice disk → OnlyReads choice disk
+opened_is_read choice disk opens = record {
   chosen = inr opens.chosen;
   stays = opens.stays;
   later = let still = opens.still in omega (arith, still);
@@ -61,9 +65,9 @@ opened_is_read name disk opens = record {
 
 -- ---- what is kept
 
-module _ (old mid new : DiskState) (name id : List ℕ) (total base : ℕ) (passes : List Pass)
+module _ (old mid new : DiskState) (choice : Choice) (id : List ℕ) (total base : ℕ) (passes : List Pass)
     (only_now : (image : List ℕ) → old.images_since old.moment image → old.images image)
-    (opens : OpensJournal name (disk_change old mid)) (closed : IsClosed mid new id base total passes) where
+    (opens : OpensJournal choice (disk_change old mid)) (closed : IsClosed mid new id base total passes) where
   before_now : (t : ℕ) (image : List ℕ) → t ≤ old.moment → mid.images_since t image → old.images_since t image ⊎ old.images image
   before_now t image earlier since = elim (opens.stays.time.nothing_else t image earlier since) [
     | inl was ↦ inl was
@@ -88,7 +92,7 @@ module _ (old mid new : DiskState) (name id : List ℕ) (total base : ℕ) (pass
         ];
       }
 
-  pub keeps_ceiling : KeepsCeiling name id total base closed.ceiling closed.mark (disk_change old new)
+  pub keeps_ceiling : KeepsCeiling choice id total base closed.ceiling closed.mark (disk_change old new)
   keeps_ceiling = record {
     chosen = closed.chosen ∙ opens.chosen;
     room = closed.room ∙ opens.stays.room;
@@ -100,5 +104,5 @@ module _ (old mid new : DiskState) (name id : List ℕ) (total base : ℕ) (pass
     exact = closed.exact;
     only = closed.only;
     still = λ none. closed.still none ∙ opens.still;
-    rose = λ some. subst (λ (n : ℕ). Rose n new.faults) opens.still (closed.rose some);
+    rose = λ some. let to = closed.rose some in (subst (λ (n : ℕ). Rose n closed.mark) opens.still to.0, to.1);
   }

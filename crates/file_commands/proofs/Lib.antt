@@ -1,4 +1,5 @@
 pub mod Asking
+pub mod BitsTexts
 pub mod Causes
 pub mod DealOutcomes
 pub mod EvalOutcomes
@@ -7,3 +8,4 @@ pub mod Means
 pub mod Storing
 pub mod MigrateOutcomes
 pub mod Migrating
+pub mod StayTidy

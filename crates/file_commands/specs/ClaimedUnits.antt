@@ -5,7 +5,7 @@ use Rattle.zk_model.specs.Twins.{HoldsTwin}
 use Rattle.zk_model.specs.declared.JournalKind.TheVariants as kind
 use Rattle.zk_model.specs.declared.Span.{Span}
 use Rattle.zk_port.specs.Counts.{Rose}
-use Rattle.zk_port.specs.Disks.{DiskState, LeavesOnly}
+use Rattle.zk_port.specs.Disks.{Choice, DiskState, LeavesOnly}
 use Rattle.zk_port.specs.Logs.{appended}
 use Rattle.lease_core.specs.Spans.{span}
 use Rattle.claim_store.specs.Causes.{AreMore}
@@ -87,11 +87,11 @@ MovesBy id total place used claims asked None disk = LeavesAll id total place cl
 MovesBy id total place used claims asked (Some answer) disk =
     IsSomeAnd asked (λ units. MovesClaims id total place used claims units answer disk)
 
--- The file of this name was chosen, and its journal of claims of this id and total was read, which has these ranges, of which no two touch,
+-- The file was chosen so, and its journal of claims of this id and total was read, which has these ranges, of which no two touch,
 -- in so many slots; it was added to as was asked for and answered.
-pub record KeepsClaims (name id : List ℕ) (total : ℕ) (asked : Option (ℕ × ℕ)) (answer : Option (Result Span ClaimFault)) (disk : DiskChange)
+pub record KeepsClaims (choice : Choice) (id : List ℕ) (total : ℕ) (asked : Option (ℕ × ℕ)) (answer : Option (Result Span ClaimFault)) (disk : DiskChange)
     : Type 0 where
-  pub chosen : disk.new.chosen ≡ appended (name ∷ []) disk.old.chosen
+  pub chosen : disk.new.chosen ≡ appended (choice ∷ []) disk.old.chosen
   pub room : disk.new.room ≡ disk.old.room
   pub place : Place
   pub used : ℕ

@@ -6,16 +6,17 @@ use Rattle.zk_model.specs.declared.JournalKind.{JournalKind}
 use Rattle.zk_model.specs.declared.JournalKind.TheVariants.{Claims}
 use Rattle.zk_model.specs.declared.Span.{Span}
 use Rattle.zk_port.specs.Counts.{Rose}
-use Rattle.zk_port.specs.Disks.{DiskState, Stays, LeavesOnly}
+use Rattle.zk_port.specs.Disks.{Choice, DiskState, Stays, LeavesOnly}
 use Rattle.zk_port.specs.Images.{Only}
 use Rattle.zk_port.specs.Logs.{appended, NotesOnce}
+use Rattle.zk_port.specs.declared.access.Access.TheVariants.{Own, Read}
 use Rattle.claim_store.specs.Causes.{StoreCause}
 use Rattle.claim_store.specs.Claims.{SaysClaims}
 use Rattle.claim_store.specs.declared.fault.StoreFault.TheVariants as store
 use Rattle.lease_journal.specs.Causes.{SaysSlots}
 use Rattle.lease_journal.specs.declared.fault.StartFault.{StartFault}
 use Rattle.lease_journal.specs.declared.fault.StartFault.TheVariants as start
-use Rattle.twin_journal.specs.Starts.{IsTidyFile, SaysTwinSlots}
+use Rattle.twin_journal.specs.Starts.{AreTidy, SaysTwinSlots}
 use Rattle.lease_store.specs.Ceilings.{CeilingStartCause, FindsCeiling, SaysCeiling}
 use Rattle.file_commands.specs.declared.refusal.Refusal.{Refusal}
 use Rattle.file_commands.specs.declared.refusal.Refusal.TheVariants.{JournalFailed, JournalShort, JournalHeader, JournalBody, NoMemory}
@@ -28,11 +29,11 @@ pub record DiskChange : Type 1 where
 abbrev pub disk_change : DiskState → DiskState → DiskChange
 disk_change old new = record { old = old; new = new }
 
--- A disk on which a journal of either side may be opened, or migrated: where it tells its content, in the area that counts no slot after
--- the first closed one is open, as in a journal that stores alone have written; and it has room for the slots that the header says,
--- and behind a journal of one area for the journal that it is migrated to.
+-- A disk on which a journal of either side may be opened, or migrated: where it tells its content and a journal of two areas stands in
+-- that, in the area that counts no slot after the first closed one is open, as in a journal that stores alone have written; and it has room
+-- for the slots that the header says, and behind a journal of one area for the journal that it is migrated to.
 pub record IsJournalDisk (disk : DiskState) : Type 0 where
-  pub tidy : (kind : JournalKind) (bytes : List ℕ) → disk.content ≡ Some bytes → IsTidyFile kind bytes
+  pub tidy : (bytes : List ℕ) → disk.content ≡ Some bytes → AreTidy bytes
   pub room : (size : ℕ) → disk.room ≡ Some size → (kind : JournalKind) (begin slots : ℕ) → SaysTwinSlots kind disk.content begin slots
       → begin + twin_length slots ≤ size
   pub grown : (size : ℕ) → disk.room ≡ Some size → (kind : JournalKind) (total slots : ℕ) → SaysSlots disk.content slots
@@ -42,30 +43,37 @@ pub record IsJournalDisk (disk : DiskState) : Type 0 where
 abbrev pub journal_name : List ℕ → List ℕ
 journal_name file = file ++ codes ".journal"
 
+-- it is taken by this run alone, or for reads beside others
+abbrev pub own_journal : List ℕ → Choice
+own_journal file = (journal_name file, Own)
+
+abbrev pub read_journal : List ℕ → Choice
+read_journal file = (journal_name file, Read)
+
 -- nothing is asked of the disk
 pub record IsUntouched (disk : DiskChange) : Type 0 where
   pub chosen : disk.new.chosen ≡ disk.old.chosen
   pub stays : Stays disk.old disk.new
   pub still : disk.new.faults ≡ disk.old.faults
 
--- the file of this name was chosen, or at most asked for, and nothing is written
-pub record OnlyReads (name : List ℕ) (disk : DiskChange) : Type 0 where
-  pub chosen : NotesOnce name disk.old.chosen disk.new.chosen
+-- the file was chosen so, or at most asked for, and nothing is written
+pub record OnlyReads (choice : Choice) (disk : DiskChange) : Type 0 where
+  pub chosen : NotesOnce choice disk.old.chosen disk.new.chosen
   pub stays : Stays (record disk.old { chosen = disk.new.chosen }) disk.new
   pub later : disk.old.faults ≤ disk.new.faults
 
--- the file of this name was chosen, and its journal opened: nothing is written, no call failed, and a crash leaves the content
-pub record OpensJournal (name : List ℕ) (disk : DiskChange) : Type 0 where
-  pub chosen : disk.new.chosen ≡ appended (name ∷ []) disk.old.chosen
+-- the file was chosen so, and its journal opened: nothing is written, no call failed, and a crash leaves the content
+pub record OpensJournal (choice : Choice) (disk : DiskChange) : Type 0 where
+  pub chosen : disk.new.chosen ≡ appended (choice ∷ []) disk.old.chosen
   pub stays : Stays (record disk.old { chosen = disk.new.chosen }) disk.new
   pub still : disk.new.faults ≡ disk.old.faults
 
--- The file of this name was chosen, and its journal of ceilings of this id and total was read and added to. Where the content was known,
+-- The file was chosen so, and its journal of ceilings of this id and total was read and added to. Where the content was known,
 -- it and each image say this ceiling or a higher one, which is no lower than the base, and what a crash might have left since then is what one might have left before, or
 -- says the base or a higher one. With no mark the content says this very ceiling, a crash leaves the content, and no call of the disk failed;
--- with a mark the count of faults rose.
-pub record KeepsCeiling (name id : List ℕ) (total base ceiling mark : ℕ) (disk : DiskChange) : Type 0 where
-  pub chosen : disk.new.chosen ≡ appended (name ∷ []) disk.old.chosen
+-- a mark is the count of faults to which a call of the disk raised it.
+pub record KeepsCeiling (choice : Choice) (id : List ℕ) (total base ceiling mark : ℕ) (disk : DiskChange) : Type 0 where
+  pub chosen : disk.new.chosen ≡ appended (choice ∷ []) disk.old.chosen
   pub room : disk.new.room ≡ disk.old.room
   pub grows : base ≤ ceiling
   pub told : (bytes : List ℕ) → disk.new.content ≡ Some bytes → (first : List ℕ) × (disk.old.content ≡ Some first)
@@ -77,7 +85,7 @@ pub record KeepsCeiling (name id : List ℕ) (total base ceiling mark : ℕ) (di
   pub exact : mark ≡ 0 → IfSome disk.new.content (SaysCeiling id total ceiling)
   pub only : mark ≡ 0 → Only disk.new.content disk.new.images
   pub still : mark ≡ 0 → disk.new.faults ≡ disk.old.faults
-  pub rose : mark ≢ 0 → Rose disk.old.faults disk.new.faults
+  pub rose : mark ≢ 0 → Rose disk.old.faults mark × (mark ≤ disk.new.faults)
 
 -- the fault that a disk's content has as a journal of ceilings of this id and total, where it is known
 abbrev pub IsCeilingsFault : List ℕ → ℕ → DiskState → StartFault → Type 0

@@ -1,7 +1,10 @@
+pub mod BitsTexts
 pub mod ClaimedUnits
 pub mod DealRuns
 pub mod Effects
 pub mod EvalRuns
+pub mod GivenBits
 pub mod Journals
+pub mod Laws
 pub mod MigrateRuns
 pub mod Stops

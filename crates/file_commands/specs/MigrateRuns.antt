@@ -7,7 +7,7 @@ use Rattle.zk_model.specs.declared.JournalKind.TheVariants.{Claims, Ceilings}
 use Rattle.zk_model.specs.declared.Side.{Side}
 use Rattle.zk_model.specs.declared.Side.TheVariants.{Prover, Verifier}
 use Rattle.zk_port.specs.Counts.{Rose}
-use Rattle.zk_port.specs.Disks.{DiskState}
+use Rattle.zk_port.specs.Disks.{Choice, DiskState, Stays}
 use Rattle.zk_port.specs.Files.{Files}
 use Rattle.zk_port.specs.Images.{Only}
 use Rattle.zk_port.specs.Logs.{appended, NotesOnce}
@@ -19,10 +19,11 @@ use Rattle.journal_migration.specs.declared.Moved.TheVariants.{Done, Already}
 use Rattle.dealer_files.specs.Faults.{IsDealtFile}
 use Rattle.command_words.specs.Words.{MigrateAsk}
 use Rattle.file_commands.specs.Effects.{ShelfChange, SinkFailed, Effects, OnlyLoads, IsName, HasFailed, IsDone}
-use Rattle.file_commands.specs.Journals.{DiskChange, IsUntouched, JournalStop, journal_name}
+use Rattle.file_commands.specs.Journals.{DiskChange, IsUntouched, JournalStop, own_journal}
 use Rattle.file_commands.specs.Stops.{PrintsMade, WritesAll, SaysStop, IsOfStop, HasText, FileStop, IsProverFileAt, IsVerifierFileAt}
 use Rattle.file_commands.specs.declared.migrate_command.DealtUnits.{DealtUnits}
 use Rattle.file_commands.specs.declared.refusal.Refusal.{Refusal}
+use Rattle.file_commands.specs.declared.refusal.Refusal.TheVariants.{JournalFailed}
 
 -- the kind of journal that a side keeps
 abbrev pub journal_kind : Side → JournalKind
@@ -38,23 +39,23 @@ IsDealtAt Verifier told name dealt =
 
 -- ---- what becomes of the journal
 
--- the disk as it was, but for the names of files that are chosen now
+-- the disk as it was, but for the files that are chosen now
 abbrev pub once_chosen : DiskChange → DiskState
 once_chosen disk = record disk.old { chosen = disk.new.chosen }
 
--- The file of this name was chosen, or at most asked for, and no other. Where its content was known, nothing is written, and a crash leaves what it
+-- The file was chosen so, or at most asked for, and no other. Where its content was known, nothing is written, and a crash leaves what it
 -- could leave before; or its journal of one area is moved on: at every moment a crash leaves what it could leave before, or a file that says
 -- the same by whichever journal its gate names.
-pub record MovesJournal (name : List ℕ) (kind : JournalKind) (dealt : DealtUnits) (disk : DiskChange) : Type 0 where
-  pub chosen : NotesOnce name disk.old.chosen disk.new.chosen
+pub record MovesJournal (choice : Choice) (kind : JournalKind) (dealt : DealtUnits) (disk : DiskChange) : Type 0 where
+  pub chosen : NotesOnce choice disk.old.chosen disk.new.chosen
   pub moves : (bytes : List ℕ) → disk.old.content ≡ Some bytes
       → MovesSafely kind dealt.id dealt.total bytes (once_chosen disk) disk.new
   pub later : disk.old.faults ≤ disk.new.faults
 
--- The file of this name was chosen, and its journal is migrated, now or before, as the answer says; no call failed, and a crash leaves
+-- The file was chosen so, and its journal is migrated, now or before, as the answer says; no call failed, and a crash leaves
 -- the content.
-pub record MigratesJournal (name : List ℕ) (kind : JournalKind) (dealt : DealtUnits) (disk : DiskChange) (moved : Moved) : Type 0 where
-  pub chosen : disk.new.chosen ≡ appended (name ∷ []) disk.old.chosen
+pub record MigratesJournal (choice : Choice) (kind : JournalKind) (dealt : DealtUnits) (disk : DiskChange) (moved : Moved) : Type 0 where
+  pub chosen : disk.new.chosen ≡ appended (choice ∷ []) disk.old.chosen
   pub says : (bytes : List ℕ) → disk.old.content ≡ Some bytes
       → MovedSays kind dealt.id dealt.total bytes (once_chosen disk) disk.new moved
   pub moves : (bytes : List ℕ) → disk.old.content ≡ Some bytes
@@ -69,9 +70,10 @@ abbrev pub IsMigrationFault : JournalKind → DealtUnits → DiskState → Start
 IsMigrationFault kind dealt disk fault =
     (bytes : List ℕ) → disk.content ≡ Some bytes → MigrationCause kind dealt.id dealt.total bytes (store.Journal fault)
 
--- why the journal of a dealt file is not migrated, and what becomes of it
+-- why the journal of a dealt file is not migrated, and what becomes of it: nothing is written but where the disk failed
 pub record MigrationStop (ask : MigrateAsk) (dealt : DealtUnits) (disk : DiskChange) (stop : Refusal) : Type 0 where
-  pub moves : MovesJournal (journal_name ask.file) (journal_kind ask.side) dealt disk
+  pub moves : MovesJournal (own_journal ask.file) (journal_kind ask.side) dealt disk
+  pub refused : ((count : ℕ) → stop ≢ JournalFailed count) → Stays (once_chosen disk) disk.new
   pub cause : JournalStop (IsMigrationFault (journal_kind ask.side) dealt disk.old) disk stop
 
 -- Why nothing is migrated, the first of these: there is no dealt file of this side under the name, and nothing is asked of the disk; or there
@@ -92,7 +94,7 @@ moved_line Already = codes "already migrated\n"
 pub record HasMigrated (ask : MigrateAsk) (told : Option Files) (disk : DiskChange) (moved : Moved) : Type 0 where
   pub dealt : DealtUnits
   pub file : IsDealtAt ask.side told ask.file dealt
-  pub journal : MigratesJournal (journal_name ask.file) (journal_kind ask.side) dealt disk moved
+  pub journal : MigratesJournal (own_journal ask.file) (journal_kind ask.side) dealt disk moved
 
 -- the journal is migrated, and its line is written; or that of a stop is, which has its cause
 abbrev pub MigrateLines : MigrateAsk → DiskChange → Effects → Type 0

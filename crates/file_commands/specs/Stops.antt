@@ -79,7 +79,7 @@ file_line file.NoMemory = codes "memory\n"
 
 -- the line that is written
 abbrev pub stop_line : Refusal → List ℕ
-stop_line stop.Usage = codes "usage: zk deal, eval, rehearse, prove, serve, serve-many, migrate or audit\n"
+stop_line stop.Usage = codes "usage: zk deal, eval, rehearse, prove, serve, serve-many, migrate, status or audit\n"
 stop_line (stop.BadText fault) = fault_line fault
 stop_line (stop.BadFile fault) = file_line fault
 stop_line (stop.TooLong limit) = refused_line (codes "TooLong 0") limit
@@ -258,14 +258,14 @@ DoorStop IsRefused before now stop.DoorFailed = IsRefused × Rose before now
 DoorStop IsRefused before now stop.NoMemory = IsRefused × (now ≡ before)
 DoorStop IsRefused before now other = ⊥
 
--- why the door does not listen at the address, or connect to it
-abbrev pub ListenStop : List ℕ → DoorChange → Refusal → Type 0
-ListenStop address door stop =
-    DoorStop (RefusesListen address door.old door.new) door.old.listen_faults door.new.listen_faults stop
+-- why the door does not listen at the address, or connect to it, with this patience
+abbrev pub ListenStop : List ℕ → ℕ → DoorChange → Refusal → Type 0
+ListenStop address patience door stop =
+    DoorStop (RefusesListen address patience door.old door.new) door.old.listen_faults door.new.listen_faults stop
 
-abbrev pub ConnectStop : List ℕ → DoorChange → Refusal → Type 0
-ConnectStop address door stop =
-    DoorStop (RefusesConnect address door.old door.new) door.old.connect_faults door.new.connect_faults stop
+abbrev pub ConnectStop : List ℕ → ℕ → DoorChange → Refusal → Type 0
+ConnectStop address patience door stop =
+    DoorStop (RefusesConnect address patience door.old door.new) door.old.connect_faults door.new.connect_faults stop
 
 -- what a connect that is refused stops a run by
 abbrev pub connect_refusal : PortFault → Refusal

@@ -23,7 +23,7 @@ use lease_store::{LeaseParts, StoreFault};
 use lease_words::Pass;
 use std::alloc::{AllocError, Global};
 use twin_journal::StartFault;
-use zk_port::Disk;
+use zk_port::{Access, Disk};
 
 /// The name of a file's journal.
 fn name_of(alloc: Global, file: &str) -> Result<String, AllocError>
@@ -33,10 +33,15 @@ fn name_of(alloc: Global, file: &str) -> Result<String, AllocError>
 }
 
 /// Takes the journal of the file of this name from now on.
-pub fn choose_journal<B: Disk>(alloc: Global, journal: &mut B, name: &str) -> Result<(), Refusal>
-    ensures opens { OnOk result (OpensJournal (journal_name name.now)
+pub fn choose_journal<B: Disk>(
+    alloc: Global,
+    journal: &mut B,
+    name: &str,
+    access: Access,
+) -> Result<(), Refusal>
+    ensures opens { OnOk result (OpensJournal (journal_name name.now, access)
         (disk_change (B.state journal.old) (B.state journal.new))) }
-    ensures reads { OnErr result (OnlyReads (journal_name name.now)
+    ensures reads { OnErr result (OnlyReads (journal_name name.now, access)
         (disk_change (B.state journal.old) (B.state journal.new))) }
     ensures stop { IfErr result (λ stop. (stop ≡ stops.NoMemory)
         ⊎ ((stop ≡ stops.JournalFailed (B.state journal.new).faults)
@@ -45,7 +50,7 @@ pub fn choose_journal<B: Disk>(alloc: Global, journal: &mut B, name: &str) -> Re
     let Ok(name) = name_of(alloc, name) else {
         return Err(Refusal::NoMemory);
     };
-    if journal.choose(&name).is_err() {
+    if journal.choose(&name, access).is_err() {
         let count = journal.faults();
         return Err(Refusal::JournalFailed { count });
     }
@@ -70,12 +75,13 @@ pub fn open_ceilings<B: Disk>(
     alloc: Global,
     mut journal: B,
     name: &str,
+    access: Access,
     file: &VerifierFile,
     passes: u32,
 ) -> Result<(LeaseParts<B>, Vec<Pass>), (Refusal, B)>
     requires disk { IsJournalDisk (B.state journal) }
     requires passes { (1 ≤ passes) × (passes ≤ MAX_PASSES) }
-    ensures opens { IfOk result (λ r. OpensJournal (journal_name name.now)
+    ensures opens { IfOk result (λ r. OpensJournal (journal_name name.now, access)
         (disk_change (B.state journal) (B.state r.0.disk))) }
     ensures since { IfOk result (λ _. (image : List ℕ)
         → (B.state journal).images_since (B.state journal).moment image → (B.state journal).images image) }
@@ -88,14 +94,15 @@ pub fn open_ceilings<B: Disk>(
     ensures passes { IfOk result (λ r. All (IsPassAt r.0.table r.0.total) r.1.items) }
     ensures unused { IfOk result (λ r. All IsUnused r.1.items) }
     ensures made { IfOk result (λ r. length r.1.items ≡ r.0.passes) }
+    ensures count { IfOk result (λ r. r.0.passes ≡ passes) }
     ensures some { IfOk result (λ r. 1 ≤ length r.1.items) }
-    ensures reads { IfErr result (λ e. OnlyReads (journal_name name.now)
+    ensures reads { IfErr result (λ e. OnlyReads (journal_name name.now, access)
         (disk_change (B.state journal) (B.state e.1))) }
     ensures stop { IfErr result (λ e. JournalStop
         (IsCeilingsFault file.now.id file.now.params.total (B.state journal))
         (disk_change (B.state journal) (B.state e.1)) e.0) }
 {
-    if let Err(refusal) = choose_journal(alloc, &mut journal, name) {
+    if let Err(refusal) = choose_journal(alloc, &mut journal, name, access) {
         return Err((refusal, journal));
     }
     match LeaseParts::start(alloc, journal, &file.id(), file.total(), passes) {
@@ -113,10 +120,11 @@ pub fn open_claims<B: Disk>(
     alloc: Global,
     mut journal: B,
     name: &str,
+    access: Access,
     file: &ProverFile,
 ) -> Result<ClaimStore<B>, (Refusal, B)>
     requires disk { IsJournalDisk (B.state journal) }
-    ensures opens { IfOk result (λ store. OpensJournal (journal_name name.now)
+    ensures opens { IfOk result (λ store. OpensJournal (journal_name name.now, access)
         (disk_change (B.state journal) (B.state store.disk))) }
     ensures since { IfOk result (λ _. (image : List ℕ)
         → (B.state journal).images_since (B.state journal).moment image → (B.state journal).images image) }
@@ -133,13 +141,13 @@ pub fn open_claims<B: Disk>(
     ensures total { IfOk result (λ store. store.total ≡ file.now.params.total) }
     ensures small { IfOk result (λ store. store.total < 2 ^ 64 - 1) }
     ensures whole { IfOk result (λ store. store.fault ≡ 0) }
-    ensures reads { IfErr result (λ e. OnlyReads (journal_name name.now)
+    ensures reads { IfErr result (λ e. OnlyReads (journal_name name.now, access)
         (disk_change (B.state journal) (B.state e.1))) }
     ensures stop { IfErr result (λ e. JournalStop
         (IsClaimsFault file.now.id file.now.params.total (B.state journal))
         (disk_change (B.state journal) (B.state e.1)) e.0) }
 {
-    if let Err(refusal) = choose_journal(alloc, &mut journal, name) {
+    if let Err(refusal) = choose_journal(alloc, &mut journal, name, access) {
         return Err((refusal, journal));
     }
     match ClaimStore::start(alloc, journal, &file.id(), file.total()) {

@@ -1,4 +1,5 @@
-//! What commands load, open, say and stop by; and the commands that hold no session: `deal`, `eval` and `migrate`.
+//! What commands load, open, say and stop by, the files of bits that words name too; and the commands that hold no session: `deal`, `eval`
+//! and `migrate`.
 //!
 //! `proof_audit` has `audit`, and `zk_cli` the other commands and the top call.
 #![tactic(auto)]
@@ -7,7 +8,9 @@ mod circuit_file;
 mod deal_command;
 mod dealt_file;
 mod eval_command;
+mod given_bits;
 mod journal_file;
+mod laws;
 mod migrate_command;
 mod refusal;
 mod saying;
@@ -18,7 +21,9 @@ pub use circuit_file::{
 pub use deal_command::run_deal;
 pub use dealt_file::{load_prover, load_verifier};
 pub use eval_command::run_eval;
+pub use given_bits::read_given;
 pub use journal_file::{open_ceilings, open_claims};
+pub use laws::journals_stay_tidy;
 pub use migrate_command::run_migrate;
 pub use refusal::Refusal;
 pub use saying::{say, say_memory, say_stop};

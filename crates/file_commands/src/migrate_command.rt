@@ -3,7 +3,7 @@ ghost use Rattle.std.specs.Prelude.{◌≡◌, IfOk, IfErr, OnOk, string_bytes};
 ghost use Rattle.zk_port.specs.Changes.{change};
 ghost use Rattle.command_words.specs.Words.{migrate_ask};
 ghost use Rattle.file_commands.specs.Effects.{IsName, OnlyLoads, effects};
-ghost use Rattle.file_commands.specs.Journals.{IsJournalDisk, disk_change, journal_name};
+ghost use Rattle.file_commands.specs.Journals.{IsJournalDisk, disk_change, own_journal};
 ghost use Rattle.file_commands.specs.MigrateRuns.{HasMigrated, IsDealtAt, MigrateStop, Migrates};
 ghost use Rattle.file_commands.specs.MigrateRuns.{MigratesJournal, MigrationStop, journal_kind, moved_line};
 ghost use Rattle.file_commands.specs.Stops.{FileStop, PrintsMade};
@@ -16,7 +16,7 @@ use claim_store::StoreFault;
 use journal_migration::{Moved, migrate, sound_is_migrated};
 use std::alloc::{AllocError, Global};
 use zk_model::{JournalKind, Side};
-use zk_port::{Disk, Shelf, Sink};
+use zk_port::{Access, Disk, Shelf, Sink};
 
 /// The id of a dealt file, and how many units it has.
 #[derive(Clone, Copy)]
@@ -75,12 +75,12 @@ fn migrate_journal<B: Disk>(
     dealt: DealtUnits,
 ) -> Result<Moved, Refusal>
     requires disk { IsJournalDisk (B.state journal.old) }
-    ensures migrates { IfOk result (MigratesJournal (journal_name name.now) (journal_kind side) dealt
+    ensures migrates { IfOk result (MigratesJournal (own_journal name.now) (journal_kind side) dealt
         (disk_change (B.state journal.old) (B.state journal.new))) }
     ensures stop { IfErr result (MigrationStop (migrate_ask side name.now) dealt
         (disk_change (B.state journal.old) (B.state journal.new))) }
 {
-    if let Err(refusal) = choose_journal(alloc, journal, name) {
+    if let Err(refusal) = choose_journal(alloc, journal, name, Access::Own) {
         return Err(refusal);
     }
     let kind = journal_kind(side);

@@ -85,7 +85,7 @@ fn write_stop(alloc: Global, stop: Refusal) -> Result<String, AllocError>
         Refusal::Usage => {
             String::from_str(
                 alloc,
-                "usage: zk deal, eval, rehearse, prove, serve, serve-many, migrate or audit\n",
+                "usage: zk deal, eval, rehearse, prove, serve, serve-many, migrate, status or audit\n",
             )
         }
         Refusal::BadText(fault) => write_fault(alloc, fault),

@@ -3,9 +3,9 @@ use Rattle.std.proofs.Common.{◌≡◌, ◌⊎◌, ℕ, ◌+◌, ◌≤◌, ◌
 use Rattle.std.specs.Result.{IsErrAnd}
 use Rattle.std.proofs.lemmas.List.{take_all, map-append, take-map, take-append-le, take-append-drop}
 use Rattle.std.proofs.lemmas.Option.{none-some, same_Some}
-use Rattle.zk_model.specs.Frames.{CanGoOn, IsFirstBad, frame_length, bytes_wanted, Frame, frame_spelling, Allows}
+use Rattle.zk_model.specs.Frames.{CanGoOn, IsFirstBad, IsWhole, frame_length, bytes_wanted, Frame, frame_spelling, Allows}
 use Rattle.proof_frames.proofs.Begun.{held_goes_on}
-use Rattle.proof_frames.proofs.Lengths.{told_within}
+use Rattle.proof_frames.proofs.Lengths.{told_within, whole_length}
 use Rattle.proof_frames.proofs.Steps.{nothing_held}
 use Rattle.proof_frames.specs.Readings.{Reading, IsIdle, wanted, Refuses, Takes}
 use Rattle.proof_frames.specs.declared.decoder.BadFrame.{BadFrame}
@@ -14,15 +14,19 @@ use Rattle.frame_link.specs.declared.fault.LineFault.TheVariants as fault
 use Rattle.zk_model.specs.Transcript.{bytes_from}
 use Rattle.zk_model.specs.declared.Expect.{Expect}
 use Rattle.zk_model.specs.declared.Expect.TheVariants as expect
+use Rattle.zk_model.specs.declared.limits.TheConstants.{LONG_HELLO_LENGTH}
 use Rattle.zk_model.specs.declared.Side.{Side}
 use Rattle.zk_port.specs.Counts.{Rose, counted}
-use Rattle.zk_port.specs.Logs.{appended, put_before, bytes_of}
+use Rattle.zk_port.specs.Logs.{appended, put_before, bytes_of, ended_after}
 use Rattle.zk_port.specs.declared.fault.PortFault.{PortFault}
 use Rattle.zk_port.specs.declared.fault.PortFault.TheVariants as port
 use Rattle.frame_link.specs.Sides.{peer_of, side_of, seen_by}
-use Rattle.frame_link.specs.Lines.{LineState, Came, Breaks, PieceComes, PiecesBegin, Fails, PieceFails, CountsFault, IsPartOnly, port_fault, longest, Sends, OnlySends, counted_times, line_state, IsSendRefused, IsSendCause, RefusesReceive}
+use Rattle.frame_link.specs.Lines.{LineState, Came, Breaks, PieceComes, PiecesBegin, Fails, PieceFails, CountsFault, IsPartOnly, port_fault, IsWithinFrame, Sends, OnlySends, counted_times, line_state, IsSendRefused, IsSendCause, RefusesReceive}
 use Rattle.frame_link.specs.declared.fault.LineFault.TheVariants.{Link, NoMemory}
 use Rattle.std.specs.Option.{option_map}
+use Rattle.std.specs.Prelude.{◌↔◌, ◌||◌, ◌&&◌, ◌==◌, nat_lt, IfSome}
+use Rattle.std.proofs.lemmas.Bool.{lt-ltb}
+use Rattle.std.proofs.Math.Bool.{or-true}
 use Rattle.zk_port.specs.Links.{LinkState, after_send, SendsPart, Receives}
 use Rattle.zk_port.specs.declared.way.Way.{Way}
 use Rattle.zk_port.specs.declared.way.Way.TheVariants.{Sent, Received}
@@ -37,14 +41,15 @@ before_none (Some told) = refl
 
 -- nothing came
 pub came_none : (old new : LineState) → new.log ≡ old.log → new.told ≡ old.told → new.to_come ≡ old.to_come → new.side ≡ old.side
-    → new.is_open ≡ old.is_open → new.sends ≡ old.sends → new.room ≡ old.room → Came [] old new
-came_none old new log told to_come side is_open sends room = record {
+    → new.is_open ≡ old.is_open → new.sends ≡ old.sends → new.refused_sends ≡ old.refused_sends → new.room ≡ old.room → Came [] old new
+came_none old new log told to_come side is_open sends refused room = record {
   logged = log ∙ sym (append-nil old.log);
   told = told ∙ appended_none old.told;
   came = sym to_come ∙ before_none new.to_come;
   side = side;
   is_open = is_open;
   sends = sends;
+  refused_sends = refused;
   room = room;
 }
 
@@ -58,23 +63,14 @@ pub counts_by : (old new : LineState) (fault : PortFault) → old.faults ≤ new
 counts_by old new port.Failed later same = record { later = later; unfailed = λ no. absurd no }
 counts_by old new port.NoMemory later same = record { later = later; unfailed = λ _. same refl }
 
--- a receive was refused
-pub unreceived : (place : Expect) (old new : LineState) (fault : PortFault) → Came [] old new → CanGoOn place old.reading.taken
-    → length old.reading.taken ≤ longest place → length old.reading.taken < frame_length place old.reading.taken
-    → new.receives ≤ old.receives + 1 → old.faults ≤ new.faults
-    → (fault ≡ port.Failed → Rose old.faults new.faults) → (fault ≡ port.NoMemory → new.faults ≡ old.faults)
-    → PieceFails place (port_fault fault) old new
-unreceived place old new fault came goes few wanting receives later rose same =
-    let none : old.reading.taken ≡ old.reading.taken ++ [] = sym (append-nil old.reading.taken) in
-    record {
-      bytes = [];
-      part = subst (IsPartOnly place (port_fault fault)) none
-          (record { few = few; unfinished = inl wanting; cut = λ _. record { goes_on = goes; short = wanting } });
-      came = came;
-      broken = subst (λ (l : List ℕ). Breaks place l old new (port_fault fault)) none (breaks_by place old.reading.taken old new fault rose);
-      receives = receives;
-      count = counts_by old new fault later same;
-    }
+-- ---- how much of a frame is taken
+
+-- the length of the longest frame of a place
+abbrev pub longest : Expect → ℕ
+longest expect.Hello = LONG_HELLO_LENGTH
+longest expect.Grant = 21
+longest expect.Verdict = 10
+longest place = frame_length place []
 
 -- no frame is longer than the longest
 pub frame_most : (place : Expect) (bytes : List ℕ) → frame_length place bytes ≤ longest place
@@ -92,6 +88,58 @@ frame_most expect.Grant (first ∷ bytes) = either (nat_eq first 10)
     either true = omega arith
     either false = omega arith
 frame_most place bytes = omega arith
+
+-- so no more than that is taken
+pub within_longest : (place : Expect) (bytes : List ℕ) → IsWithinFrame place bytes → length bytes ≤ longest place
+within_longest place bytes within = omega (arith, within.most, frame_most place (take within.count bytes))
+
+-- bytes that begin a frame, as many as it has at most
+pub begun_within : (place : Expect) (bytes : List ℕ) → CanGoOn place bytes → length bytes ≤ frame_length place bytes → IsWithinFrame place bytes
+begun_within place bytes goes few =
+    let all : take (length bytes) bytes ≡ bytes = take_all (length bytes) bytes (omega arith) in
+    record {
+      count = length bytes;
+      goes_on = subst (CanGoOn place) (sym all) goes;
+      most = subst (λ (l : List ℕ). length bytes ≤ frame_length place l) (sym all) few;
+    }
+
+-- a whole frame
+pub whole_within : (place : Expect) (bytes : List ℕ) (frame : Frame) → IsWhole place bytes frame → IsWithinFrame place bytes
+whole_within place bytes frame whole =
+    begun_within place bytes (record { frame = frame; allowed = whole.allowed; begun = ([], sym whole.spelled ∙ sym (append-nil bytes)) })
+    (omega (arith, whole_length place bytes frame whole))
+
+-- and as many bytes more as are wanted
+pub more_within : (place : Expect) (taken piece : List ℕ) → CanGoOn place taken → length piece ≤ bytes_wanted place taken
+    → length taken ≤ frame_length place taken → IsWithinFrame place (taken ++ piece)
+more_within place taken piece goes few within =
+    let front : take (length taken) (taken ++ piece) ≡ taken =
+    take-append-le (length taken) taken piece (omega arith) ∙ take_all (length taken) taken (omega arith) in
+    record {
+      count = length taken;
+      goes_on = subst (CanGoOn place) (sym front) goes;
+      most = subst (λ (l : List ℕ). length (taken ++ piece) ≤ frame_length place l) (sym front)
+          (omega (arith, length-append taken piece, few, within));
+    }
+
+-- a receive was refused
+pub unreceived : (place : Expect) (old new : LineState) (fault : PortFault) → Came [] old new → CanGoOn place old.reading.taken
+    → length old.reading.taken < frame_length place old.reading.taken
+    → new.receives ≤ old.receives + 1 → old.faults ≤ new.faults
+    → (fault ≡ port.Failed → Rose old.faults new.faults) → (fault ≡ port.NoMemory → new.faults ≡ old.faults)
+    → PieceFails place (port_fault fault) old new
+unreceived place old new fault came goes wanting receives later rose same =
+    let few = begun_within place old.reading.taken goes (omega arith) in
+    let none : old.reading.taken ≡ old.reading.taken ++ [] = sym (append-nil old.reading.taken) in
+    record {
+      bytes = [];
+      part = subst (IsPartOnly place (port_fault fault)) none
+          (record { few = few; unfinished = inl wanting; cut = λ _. record { goes_on = goes; short = wanting } });
+      came = came;
+      broken = subst (λ (l : List ℕ). Breaks place l old new (port_fault fault)) none (breaks_by place old.reading.taken old new fault rose);
+      receives = receives;
+      count = counts_by old new fault later same;
+    }
 
 -- bytes with which a frame of the place begins are no reason to stop
 pub front_goes_on : (place : Expect) (frame : Frame) (rest more tail : List ℕ) (n : ℕ) → Allows place frame
@@ -129,21 +177,20 @@ none_is_some same = none-some _ same
 pub fed_badly : (place : Expect) (old new : LineState) (piece : List ℕ) (bad : BadFrame) → Came piece old new
     → old.reading.bad ≡ None → old.reading.expected ≡ Some place
     → length piece ≤ bytes_wanted place old.reading.taken → length old.reading.taken ≤ frame_length place old.reading.taken
-    → Refuses old.reading piece bad new.reading
+    → CanGoOn place old.reading.taken → Refuses old.reading piece bad new.reading
     → new.receives ≤ old.receives + 1 → new.faults ≡ old.faults
     → PieceFails place (fault.BadFrame bad.place) old new
-fed_badly place old new piece bad came fine expected few within (inl again) receives unfailed = absurd (none_is_some (sym fine ∙ again.0))
-fed_badly place old new piece bad came fine expected few within (inr turns) receives unfailed =
+fed_badly place old new piece bad came fine expected few within goes (inl again) receives unfailed = absurd (none_is_some (sym fine ∙ again.0))
+fed_badly place old new piece bad came fine expected few within goes (inr turns) receives unfailed =
     let there : turns.place ≡ place = same_Some turns.place place (sym turns.expected ∙ expected) in
     let all : take (bytes_wanted turns.place old.reading.taken) piece ≡ piece =
     ap (λ p. take (bytes_wanted p old.reading.taken) piece) there ∙ take_all (bytes_wanted place old.reading.taken) piece few in
-    let most = frame_most place old.reading.taken in
     let first : IsFirstBad place (old.reading.taken ++ piece) turns.n =
     subst (λ (q : Expect × List ℕ). IsFirstBad q.0 (old.reading.taken ++ q.1) turns.n) (λ i. (there i, all i)) turns.first in
     record {
       bytes = piece;
       part = record {
-        few = omega (arith, length-append old.reading.taken piece, few, within, most);
+        few = more_within place old.reading.taken piece goes few within;
         unfinished = inr (turns.n, first);
         cut = λ bad. absurd bad;
       };
@@ -191,6 +238,7 @@ came_more a b old mid new first second =
       side = second.side ∙ first.side;
       is_open = second.is_open ∙ first.is_open;
       sends = second.sends ∙ first.sends;
+      refused_sends = second.refused_sends ∙ first.refused_sends;
       room = second.room ∙ first.room;
     }
 
@@ -225,7 +273,7 @@ fails_since place old reading new f received fails =
     record {
       bytes = fails.bytes;
       part = fails.part;
-      came = came_more [] fails.bytes old mid new (came_none old mid refl refl refl refl refl refl refl) fails.came;
+      came = came_more [] fails.bytes old mid new (came_none old mid refl refl refl refl refl refl refl refl) fails.came;
       broken = breaks_from place fails.bytes old mid new f received refl fails.broken;
       receives = fails.receives;
       count = record { later = fails.count.later; unfailed = fails.count.unfailed };
@@ -237,7 +285,7 @@ pub none_fails : (place : Expect) (old new : LineState) → Came [] old new → 
 none_fails place old new came receives faults = record {
   bytes = [];
   part = record {
-    few = omega arith;
+    few = begun_within place [] (held_goes_on place [] [] [] (nothing_held place)) (omega arith);
     unfinished = inl (omega (arith, told_within place []));
     cut = λ _. record { goes_on = held_goes_on place [] [] [] (nothing_held place); short = omega (arith, told_within place []) };
   };
@@ -265,6 +313,7 @@ pub record IsAnswered (answer : List Frame) (old new : LineState) : Type 0 where
   pub logged : new.log ≡ old.log ++ bytes_from old.side (flat_map frame_spelling answer)
   pub told : new.told ≡ appended (bytes_from old.side (flat_map frame_spelling answer)) old.told
   pub sends : ((answer ≡ []) × (new.sends ≡ old.sends)) ⊎ ((1 ≤ length answer) × (new.sends ≡ counted true old.sends))
+  pub refused_sends : new.refused_sends ≡ old.refused_sends
   pub others : OnlySends old new
   pub unfailed : new.faults ≡ old.faults
 
@@ -273,6 +322,7 @@ nothing_sent old new same = record {
   logged = ap (λ (l : LineState). l.log) same ∙ sym (append-nil old.log);
   told = ap (λ (l : LineState). l.told) same ∙ appended_none old.told;
   sends = inl (refl, ap (λ (l : LineState). l.sends) same);
+  refused_sends = ap (λ (l : LineState). l.refused_sends) same;
   others = record {
     side = ap (λ (l : LineState). l.side) same;
     reading = ap (λ (l : LineState). l.reading) same;
@@ -292,6 +342,7 @@ is_answered answer old new (inr some) = record {
   logged = some.1.logged;
   told = some.1.told;
   sends = inr (some.0, some.1.sends);
+  refused_sends = some.1.refused_sends;
   others = some.1.others;
   unfailed = some.1.unfailed;
 }
@@ -319,6 +370,7 @@ came_by side log was reading room size n piece old new is = record {
   side = refl;
   is_open = ap (λ (s : LinkState). s.is_open) is.taken;
   sends = ap (λ (s : LinkState). s.sends) is.taken;
+  refused_sends = ap (λ (s : LinkState). s.refused_sends) is.taken;
   room = refl;
 }
 
@@ -326,13 +378,57 @@ came_by side log was reading room size n piece old new is = record {
 pub counted_receive : (before now : ℕ) → now ≡ counted true before → now ≤ before + 1
 counted_receive before now is = omega (arith, is)
 
+-- a receive that brought nothing where some bytes would fit: the peer is seen to have ended
+ended_seen : (size n : ℕ) (told : Option Bool) → 0 < size → n ≡ 0 → IfSome (option_map (ended_after size n) told) (λ ended. ended ≡ true)
+ended_seen size n None some none = tt
+ended_seen size n (Some before) some none =
+    let all : (nat_lt 0 size && n == 0) ≡ true = λ i. lt-ltb 0 size some i && none i == 0 in
+    ap (λ b. before || b) all ∙ or-true before
+
+-- and has nothing more to send
+nothing_comes : (n : ℕ) (piece : List ℕ) (old new : Option (List ℕ)) → old ≡ put_before piece new → piece ≡ [] → n ≡ 0
+    → IfSome old (λ bytes. (n ≡ 0) ↔ (bytes ≡ [])) → IfSome new (λ rest. rest ≡ [])
+nothing_comes n piece old new next empty none ends =
+    let same : new ≡ old = before_none new ∙ ap (λ l. put_before l new) (sym empty) ∙ sym next in
+    subst (λ (o : Option (List ℕ)). IfSome o (λ rest. rest ≡ [])) (sym same) (by old ends)
+  where
+    by : (o : Option (List ℕ)) → IfSome o (λ bytes. (n ≡ 0) ↔ (bytes ≡ [])) → IfSome o (λ rest. rest ≡ [])
+    by None ends = tt
+    by (Some bytes) ends = ends.0 none
+
+pub ended_by : (place : Expect) (side : Side) (log : List (Side × ℕ)) (reading : Reading) (room size n at : ℕ) (piece : List ℕ) (old new : LinkState)
+    → Receives size n piece old new → n ≡ 0 → 0 < size → piece ≡ [] → CanGoOn place reading.taken → length reading.taken < frame_length place reading.taken
+    → at ≡ reading.received + length reading.taken → new.faults ≡ old.faults
+    → PieceFails place (fault.PeerEnded at) (line_state side log reading room old) (line_state side (log ++ bytes_from (peer_of side) piece) reading room new)
+ended_by place side log reading room size n at piece old new is none some empty goes wanting place_is faults =
+    let taken = reading.taken in
+    let earlier = line_state side log reading room old in
+    let later = line_state side (log ++ bytes_from (peer_of side) piece) reading room new in
+    let whole : taken ≡ taken ++ piece = sym (append-nil taken) ∙ ap (λ l. taken ++ l) (sym empty) in
+    let ended : IfSome new.ended (λ ended. ended ≡ true) =
+    subst (λ (e : Option Bool). IfSome e (λ ended. ended ≡ true)) (sym (ap (λ (s : LinkState). s.ended) is.taken)) (ended_seen size n old.ended some none) in
+    record {
+      bytes = piece;
+      part = subst (IsPartOnly place (fault.PeerEnded at)) whole (record {
+        few = begun_within place taken goes (omega (arith, wanting));
+        unfinished = inl wanting;
+        cut = λ _. record { goes_on = goes; short = wanting };
+      });
+      came = came_by side log reading reading room size n piece old new is;
+      broken = subst (λ (l : List ℕ). Breaks place l earlier later (fault.PeerEnded at)) whole
+          (place_is, goes, wanting, ended, nothing_comes n piece old.to_come new.to_come is.next empty none (is.none some));
+      receives = counted_receive old.receives new.receives (ap (λ (l : LinkState). l.receives) is.taken);
+      count = record { later = omega (arith, faults); unfailed = λ _. faults };
+    }
+
 -- a receive that was refused
 pub untaken_by : (side : Side) (log : List (Side × ℕ)) (reading : Reading) (room : ℕ) (old new : LinkState) → RefusesReceive old new
     → Came [] (line_state side log reading room old) (line_state side log reading room new)
 untaken_by side log reading room old new is =
     came_none (line_state side log reading room old) (line_state side log reading room new) refl
     (ap (λ (s : LinkState). option_map (seen_by side) s.log) is.untaken) (ap (λ (s : LinkState). s.to_come) is.untaken) refl
-    (ap (λ (s : LinkState). s.is_open) is.untaken) (ap (λ (s : LinkState). s.sends) is.untaken) refl
+    (ap (λ (s : LinkState). s.is_open) is.untaken) (ap (λ (s : LinkState). s.sends) is.untaken)
+    (ap (λ (s : LinkState). s.refused_sends) is.untaken) refl
 
 -- a send
 pub sends_by : (side : Side) (log : List (Side × ℕ)) (reading : Reading) (room left : ℕ) (bytes : List ℕ) (old new : LinkState) → new ≡ after_send bytes old
@@ -341,6 +437,7 @@ sends_by side log reading room left bytes old new is = record {
   logged = refl;
   told = ap (λ (s : LinkState). option_map (seen_by side) s.log) is ∙ seen-appended side Sent bytes old.log;
   sends = ap (λ (s : LinkState). s.sends) is;
+  refused_sends = ap (λ (s : LinkState). s.refused_sends) is;
   others = record {
     side = refl;
     reading = refl;
@@ -371,6 +468,7 @@ unsent_by side log reading room bytes refused old new is later rose same =
             ∙ ap (λ l. appended l (option_map (seen_by side) old.log)) (sym (take-map (λ (byte : ℕ). (side, byte)) is.count bytes));
       };
       sends = ap (λ (s : LinkState). s.sends) is.part;
+      refused_sends = ap (λ (s : LinkState). s.refused_sends) is.part;
       others = record {
         side = refl;
         reading = refl;

@@ -1,10 +1,9 @@
 -- One end of a session's stream: what is logged, what its link tells, and why a frame does not pass.
-use Rattle.std.specs.Prelude.{◌≡◌, ◌⊎◌, ℕ, zero, suc, ◌+◌, ◌≤◌, ◌<◌, List, [], ◌++◌, length, Bool, true, Option, None, IfSome}
+use Rattle.std.specs.Prelude.{◌≡◌, ◌⊎◌, ℕ, zero, suc, ◌+◌, ◌≤◌, ◌<◌, List, [], ◌++◌, length, take, Bool, true, Option, None, IfSome}
 use Rattle.std.specs.Option.{option_map}
 use Rattle.zk_model.specs.Transcript.{bytes_from}
 use Rattle.zk_model.specs.Frames.{Frame, CanGoOn, IsWhole, IsFirstBad, frame_length}
 use Rattle.zk_model.specs.declared.Expect.{Expect}
-use Rattle.zk_model.specs.declared.Expect.TheVariants as expect
 use Rattle.zk_model.specs.declared.Side.{Side}
 use Rattle.zk_port.specs.Counts.{Rose, counted}
 use Rattle.zk_port.specs.Links.{LinkState}
@@ -15,7 +14,6 @@ use Rattle.proof_frames.specs.Readings.{Reading, wanted}
 use Rattle.frame_link.specs.Sides.{peer_of, seen_by}
 use Rattle.frame_link.specs.declared.fault.LineFault.{LineFault}
 use Rattle.frame_link.specs.declared.fault.LineFault.TheVariants.{PeerEnded, BadFrame, Link, NoMemory}
-use Rattle.zk_model.specs.declared.limits.TheConstants.{LONG_HELLO_LENGTH}
 
 -- a receive that was refused, or not made: only the counts of receives and of failed calls differ, that of receives by one at most
 pub record RefusesReceive (old new : LinkState) : Type 0 where
@@ -33,13 +31,14 @@ counted_times zero before = before
 counted_times (suc n) before = counted true (counted_times n before)
 
 -- What is logged at one end of a stream, and what its link tells then: its log, seen from this side, what is to come, whether the
--- peer has ended, and how many sends, receives and failed calls there were.
+-- peer has ended, and how many sends, refused sends, receives and failed calls there were.
 pub record LinkSnapshot : Type 0 where
   pub log : List (Side × ℕ)
   pub told : Option (List (Side × ℕ))
   pub to_come : Option (List ℕ)
   pub ended : Option Bool
   pub sends : ℕ
+  pub refused_sends : ℕ
   pub receives : ℕ
   pub faults : ℕ
 
@@ -51,6 +50,7 @@ snapshot side log link = record {
   to_come = link.to_come;
   ended = link.ended;
   sends = link.sends;
+  refused_sends = link.refused_sends;
   receives = link.receives;
   faults = link.faults;
 }
@@ -87,6 +87,7 @@ pub record Came (bytes : List ℕ) (old new : LineState) : Type 0 where
   pub side : new.side ≡ old.side
   pub is_open : new.is_open ≡ old.is_open
   pub sends : new.sends ≡ old.sends
+  pub refused_sends : new.refused_sends ≡ old.refused_sends
   pub room : new.room ≡ old.room
 
 -- some more bytes of the frame that is expected have come, by one receive
@@ -119,13 +120,6 @@ pub record Arrives (place : Expect) (frame : Frame) (old new : LineState) : Type
   pub read : new.reading ≡ record { received = old.reading.received + length bytes; expected = None; taken = []; bad = None }
   pub receives : new.receives ≤ old.receives + length bytes
   pub unfailed : new.faults ≡ old.faults
-
--- the length of the longest frame of a place
-abbrev pub longest : Expect → ℕ
-longest expect.Hello = LONG_HELLO_LENGTH
-longest expect.Grant = 21
-longest expect.Verdict = 10
-longest place = frame_length place []
 
 -- Why no frame came, where these are all bytes of it that came: the peer has ended, with bytes still wanted; one of them is
 -- bad; the link failed; memory was missing.
@@ -164,9 +158,16 @@ IsNoBadByte fault = Unit {0}
 abbrev pub IsUnfinished : Expect → List ℕ → Type 0
 IsUnfinished place bytes = (length bytes < frame_length place bytes) ⊎ ((n : ℕ) × IsFirstBad place bytes n)
 
+-- No byte was taken past the frame: after some first part of these bytes, which the place allows, no more of them came than the frame
+-- wants that begins so.
+pub record IsWithinFrame (place : Expect) (bytes : List ℕ) : Type 0 where
+  pub count : ℕ
+  pub goes_on : CanGoOn place (take count bytes)
+  pub most : length bytes ≤ frame_length place (take count bytes)
+
 -- These bytes are no more than a frame has, and no whole one; where none of them is bad, they begin one of which more are missing.
 pub record IsPartOnly (place : Expect) (fault : LineFault) (bytes : List ℕ) : Type 0 where
-  pub few : length bytes ≤ longest place
+  pub few : IsWithinFrame place bytes
   pub unfinished : IsUnfinished place bytes
   pub cut : IsNoBadByte fault → IsCutShort place bytes
 
@@ -189,7 +190,7 @@ pub record Fails (place : Expect) (fault : LineFault) (old new : LineState) : Ty
   pub receives : new.receives ≤ old.receives + length bytes + 1
   pub count : CountsFault fault old new
 
--- all but the log, the room in it, what the link tells of it, and the count of sends, is as it was
+-- all but the log, the room in it, what the link tells of it, and the counts of sends and of refused ones, is as it was
 pub record OnlySends (old new : LineState) : Type 0 where
   pub side : new.side ≡ old.side
   pub reading : new.reading ≡ old.reading
@@ -198,11 +199,12 @@ pub record OnlySends (old new : LineState) : Type 0 where
   pub is_open : new.is_open ≡ old.is_open
   pub receives : new.receives ≡ old.receives
 
--- bytes were sent, by one send: they are logged, and the link tells them
+-- bytes were sent, by one send, which was not refused: they are logged, and the link tells them
 pub record Sends (bytes : List ℕ) (old new : LineState) : Type 0 where
   pub logged : new.log ≡ old.log ++ bytes_from old.side bytes
   pub told : new.told ≡ appended (bytes_from old.side bytes) old.told
   pub sends : new.sends ≡ counted true old.sends
+  pub refused_sends : new.refused_sends ≡ old.refused_sends
   pub others : OnlySends old new
   pub unfailed : new.faults ≡ old.faults
 
@@ -212,11 +214,13 @@ IsSendCause old new Link = Rose old.faults new.faults
 IsSendCause old new NoMemory = Unit {0}
 IsSendCause old new fault = ⊥
 
--- The one send of these bytes was refused: nothing of it is logged, and the link tells a first part, maybe none or all.
+-- The one send of these bytes was refused, and counted so: nothing of it is logged, and the link tells a first part, maybe none or
+-- all.
 pub record IsSendRefused (bytes : List ℕ) (fault : LineFault) (old new : LineState) : Type 0 where
   pub logged : new.log ≡ old.log
   pub told : AppendsPart (bytes_from old.side bytes) old.told new.told
   pub sends : new.sends ≡ counted true old.sends
+  pub refused_sends : new.refused_sends ≡ counted true old.refused_sends
   pub others : OnlySends old new
   pub cause : IsSendCause old new fault
   pub count : CountsFault fault old new

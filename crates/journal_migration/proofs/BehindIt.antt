@@ -20,7 +20,7 @@ use Rattle.lease_journal.proofs.Moments.{leaves_also, stays_leaves, stays_then, 
 use Rattle.lease_journal.proofs.Putting.{body_kept, first_same, length-first}
 use Rattle.lease_journal.proofs.Torn.{before_end, written_inside}
 use Rattle.journal_migration.specs.Migrating.{IsDone, MovesOn, MovesSafely, next_ceiling}
-use Rattle.twin_journal.specs.Laying.{IsLaid}
+use Rattle.twin_journal.specs.Laying.{HasAllBytes, IsLaid}
 use Rattle.twin_journal.proofs.SameAreas.{area_stays}
 use Rattle.twin_journal.proofs.TwinHeaders.{stands_same}
 
@@ -257,8 +257,9 @@ module _ (kind : JournalKind) (id : List ℕ) (total slots new_slots : ℕ) (bod
     read = subst (λ n. IfSome new.content (SaysEither kind id total slots bodies n next)) are read;
   }
 
-  pub is_done : (new : DiskState) (used : ℕ) → used ≡ length next → IfSome new.content (SaysMoved kind id total slots new_slots next) → IsDone kind id total bytes used new
-  is_done new used count now = record {
+  pub is_done : (new : DiskState) (used : ℕ) → used ≡ length next → IfSome new.content (SaysMoved kind id total slots new_slots next)
+      → IfSome new.content (HasAllBytes kind id total (one_area_end slots) new_slots next) → IsDone kind id total bytes used new
+  is_done new used count now all = record {
     slots = slots;
     bodies = bodies;
     next = next;
@@ -266,6 +267,7 @@ module _ (kind : JournalKind) (id : List ℕ) (total slots new_slots : ℕ) (bod
     same = same;
     count = count;
     now = subst (λ n. IfSome new.content (SaysMoved kind id total slots n next)) are now;
+    all = subst (λ n. IfSome new.content (HasAllBytes kind id total (one_area_end slots) n next)) are all;
   }
 
 -- after calls that write nothing

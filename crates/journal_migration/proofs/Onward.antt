@@ -1,5 +1,5 @@
 -- How a migration goes on after a journal of one area was read.
-use Rattle.std.proofs.Common.{◌≡◌, ◌≤◌, ◌+◌, ◌^◌, ◌&&◌, ◌==◌, nat_le, not, min, ℕ, List, Bool, true, false, Some, Result, IfOk, IfErr, inr, refl, sym, ◌∙◌, subst, arith}
+use Rattle.std.proofs.Common.{◌≡◌, ◌≤◌, ◌+◌, ◌^◌, ◌&&◌, ◌==◌, nat_le, not, min, ℕ, List, Bool, true, false, Some, Result, Ok, Err, IfOk, IfErr, inr, refl, sym, ◌∙◌, subst, arith}
 use Rattle.std.proofs.lemmas.Bool.Decides.{nat_tests}
 use Rattle.zk_port.specs.Disks.{DiskState, Stays}
 use Rattle.zk_port.specs.Images.{HasDiskRoom}
@@ -16,7 +16,8 @@ use Rattle.claim_store.specs.Claims.{claim_at, first_claims}
 use Rattle.claim_store.specs.declared.fault.StoreFault.{StoreFault}
 use Rattle.claim_store.specs.declared.fault.StoreFault.TheVariants as store
 use Rattle.claim_store.proofs.Starting.{only_on}
-use Rattle.journal_migration.specs.Migrating.{IsDone, IsThere, MigrationCause, MovesOver}
+use Rattle.journal_migration.specs.Migrating.{IsDone, IsThere, MigrationCause, MovesOver, RefusesUnwritten}
+use Rattle.lease_journal.proofs.Moments.{stays_then}
 use Rattle.journal_migration.proofs.BehindIt.{moves_after}
 
 -- the new journal has a number of slots that there may be
@@ -41,6 +42,12 @@ there_after kind id total slots used last {old} {mid} stays there = record {
   room = subst (HasDiskRoom (one_area_end slots + twin_length (moved_slots kind total slots))) (sym stays.room) there.room;
 }
 
+-- a refusal after them writes nothing at all
+refused_after : (result : Result ℕ StoreFault) (old mid new : DiskState) → ((t : ℕ) (c : List ℕ) → t ≤ old.moment → old.images c → old.images_since t c)
+    → Stays old mid → IfErr result (RefusesUnwritten mid new) → IfErr result (RefusesUnwritten old new)
+refused_after (Ok count) old mid new counts stays has = tt
+refused_after (Err fault) old mid new counts stays has = λ other. stays_then counts stays (has other)
+
 -- and what moves it on after them does so after all
 pub moved_after : (kind : JournalKind) (id : List ℕ) (total : ℕ) (result : Result ℕ StoreFault) {old mid new : DiskState}
     → ((t : ℕ) (c : List ℕ) → t ≤ old.moment → old.images c → old.images_since t c) → ((c : List ℕ) → old.images_since old.moment c → old.images c)
@@ -48,6 +55,7 @@ pub moved_after : (kind : JournalKind) (id : List ℕ) (total : ℕ) (result : R
 moved_after kind id total result {old} {mid} {new} counts only stays same over = record {
   done = subst (λ content. IfOk result (λ count. (bytes : List ℕ) → content ≡ Some bytes → IsDone kind id total bytes count new)) stays.content over.done;
   moves = λ bytes is. moves_after kind id total bytes counts only stays (over.moves bytes (stays.content ∙ is));
+  refused = refused_after result old mid new counts stays over.refused;
   durable = over.durable;
   chosen = over.chosen ∙ stays.chosen;
   cause = subst (λ content. IfErr result (λ e. (bytes : List ℕ) → content ≡ Some bytes → MigrationCause kind id total bytes e)) stays.content over.cause;

@@ -1,5 +1,5 @@
 -- What a migration does to a disk, and why it is refused.
-use Rattle.std.specs.Prelude.{◌≡◌, ◌⊎◌, ℕ, ◌+◌, ◌<◌, ◌≤◌, List, length, Option, None, Some, IfSome, Result, IfOk, IfErr, OnOk, true, nat_eq, if◌then◌else◌}
+use Rattle.std.specs.Prelude.{◌≡◌, ◌≢◌, ◌⊎◌, ℕ, ◌+◌, ◌<◌, ◌≤◌, List, length, Option, None, Some, IfSome, Result, IfOk, IfErr, OnOk, true, nat_eq, if◌then◌else◌}
 use Rattle.zk_port.specs.Disks.{DiskState, LeavesOnly, Stays}
 use Rattle.zk_port.specs.Images.{HasDiskRoom, Only}
 use Rattle.zk_model.specs.declared.JournalKind.{JournalKind}
@@ -14,6 +14,7 @@ use Rattle.lease_journal.specs.Causes.{OneAreaCause}
 use Rattle.lease_journal.specs.OneAreas.{IsOneArea}
 use Rattle.lease_journal.specs.Scans.{HasRead}
 use Rattle.lease_journal.specs.declared.fault.StartFault.TheVariants as start
+use Rattle.twin_journal.specs.Laying.{HasAllBytes}
 use Rattle.claim_store.specs.Causes.{HasReadCause}
 use Rattle.claim_store.specs.Claims.{AreClaims, claim_at, first_claims}
 use Rattle.claim_store.specs.declared.fault.StoreFault.{StoreFault}
@@ -37,7 +38,8 @@ pub record MovesOn (kind : JournalKind) (id : List ℕ) (total : ℕ) (bytes : L
 abbrev pub MovesSafely : JournalKind → List ℕ → ℕ → List ℕ → DiskState → DiskState → Type 0
 MovesSafely kind id total bytes old new = (Stays old new × LeavesOnly old new old.images) ⊎ MovesOn kind id total bytes old new
 
--- a journal of one area was in these bytes, and the content says the same with so many bodies in the area that counts now
+-- a journal of one area was in these bytes, and the content says the same with so many bodies in the area that counts now; each byte of the
+-- new journal is written
 pub record IsDone (kind : JournalKind) (id : List ℕ) (total : ℕ) (bytes : List ℕ) (used : ℕ) (new : DiskState) : Type 0 where
   pub slots : ℕ
   pub bodies : List (ℕ × ℕ)
@@ -46,11 +48,16 @@ pub record IsDone (kind : JournalKind) (id : List ℕ) (total : ℕ) (bytes : Li
   pub same : SaysTheSame kind bodies next
   pub count : used ≡ length next
   pub now : IfSome new.content (SaysMoved kind id total slots (moved_slots kind total slots) next)
+  pub all : IfSome new.content (HasAllBytes kind id total (one_area_end slots) (moved_slots kind total slots) next)
 
 -- what the answer says
 abbrev pub MovedSays : JournalKind → List ℕ → ℕ → List ℕ → DiskState → DiskState → Moved → Type 0
 MovedSays kind id total bytes old new Already = HasMovedHeader kind id total bytes × (is_migrated kind bytes ≡ true) × Stays old new
 MovedSays kind id total bytes old new (Done used) = IsDone kind id total bytes used new
+
+-- a migration that is refused for another reason than a fault of the disk writes nothing
+abbrev pub RefusesUnwritten : DiskState → DiskState → StoreFault → Type 0
+RefusesUnwritten old new fault = fault ≢ store.Journal start.Device → Stays old new
 
 -- the body of the last ceiling, where there is one
 abbrev pub next_ceiling : ℕ → Option (ℕ × ℕ)
@@ -95,6 +102,7 @@ pub record EndsAt (kind : JournalKind) (id : List ℕ) (total end slots : ℕ) (
 pub record MovesOver (kind : JournalKind) (id : List ℕ) (total : ℕ) (old new : DiskState) (result : Result ℕ StoreFault) : Type 0 where
   pub done : IfOk result (λ count. (bytes : List ℕ) → old.content ≡ Some bytes → IsDone kind id total bytes count new)
   pub moves : (bytes : List ℕ) → old.content ≡ Some bytes → MovesSafely kind id total bytes old new
+  pub refused : IfErr result (RefusesUnwritten old new)
   pub durable : OnOk result (Only new.content new.images)
   pub chosen : new.chosen ≡ old.chosen
   pub cause : IfErr result (λ e. (bytes : List ℕ) → old.content ≡ Some bytes → MigrationCause kind id total bytes e)

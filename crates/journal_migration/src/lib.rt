@@ -11,7 +11,7 @@ ghost use Rattle.zk_model.specs.Migrations.{moved_slots, one_area_end};
 ghost use Rattle.zk_model.specs.Twins.{twin_length};
 ghost use Rattle.lease_journal.specs.Causes.{SaysSlots};
 ghost use Rattle.claim_store.specs.Causes.{HasReadCause};
-ghost use Rattle.journal_migration.specs.Migrating.{MigrationCause, MovedSays, MovesSafely, SoundIsMigrated};
+ghost use Rattle.journal_migration.specs.Migrating.{MigrationCause, MovedSays, MovesSafely, RefusesUnwritten, SoundIsMigrated};
 
 mod migrating;
 mod moving;
@@ -36,12 +36,13 @@ pub enum Moved {
 /// Migrates the journal of one area of this side, id and total that stands on the disk. The new journal has generation 1:
 /// on the prover's side as many slots as the old one, and the ranges of its claims; on the verifier's its last ceiling.
 /// It syncs, reads the journal, writes the new one behind it in pieces of at most 64 bytes, syncs, opens the gate, and
-/// syncs.
+/// syncs. Each byte of the new journal is written.
 ///
 /// # Errors
 ///
 /// `Device` where a call of the disk failed; the reasons for which the journal is not read; last `BadBody` of the first
-/// open slot whose span has a unit of an earlier one; `NoMemory`, for claims alone, only where memory runs out.
+/// open slot whose span has a unit of an earlier one; `NoMemory`, for claims alone, only where memory runs out. Only
+/// where it is `Device` may something be written.
 pub fn migrate<B: Disk>(
     alloc: Global,
     disk: &mut B,
@@ -56,6 +57,7 @@ pub fn migrate<B: Disk>(
         → MovedSays kind id.now total bytes (B.state disk.old) (B.state disk.new) moved) }
     ensures moves { (bytes : List ℕ) → (B.state disk.old).content ≡ Some bytes
         → MovesSafely kind id.now total bytes (B.state disk.old) (B.state disk.new) }
+    ensures refused { IfErr result (RefusesUnwritten (B.state disk.old) (B.state disk.new)) }
     ensures durable { OnOk result (Only (B.state disk.new).content (B.state disk.new).images) }
     ensures chosen { (B.state disk.new).chosen ≡ (B.state disk.old).chosen }
     ensures cause { IfErr result (λ e. (bytes : List ℕ) → (B.state disk.old).content ≡ Some bytes

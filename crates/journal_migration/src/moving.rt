@@ -6,6 +6,7 @@ ghost use Rattle.zk_port.specs.Images.{HasDiskRoom, Only};
 ghost use Rattle.zk_model.specs.Journals.{AreSound};
 ghost use Rattle.zk_model.specs.Migrations.{SaysEither, SaysMoved};
 ghost use Rattle.zk_model.specs.Twins.{are_twin_slots, twin_length};
+ghost use Rattle.twin_journal.specs.Laying.{HasAllBytes};
 ghost use Rattle.journal_migration.specs.Migrating.{EndsAt};
 
 use lease_journal::storing::store_at;
@@ -47,6 +48,8 @@ pub fn move_behind<B: Disk, F: Bodies>(
         (B.state disk.old)
         → IfSome (B.state disk.new).content (SaysMoved twin.name.kind twin.name.id
         twin.name.total old_slots twin.slots (F.rest next.old))) }
+    ensures bytes { OnOk result (IfSome (B.state disk.new).content (HasAllBytes twin.name.kind twin.name.id
+        twin.name.total twin.begin twin.slots (F.rest next.old))) }
     ensures used { IfOk result (λ used. used ≡ length (F.rest next.old)) }
     ensures durable { OnOk result (Only (B.state disk.new).content (B.state disk.new).images) }
     ensures chosen { (B.state disk.new).chosen ≡ (B.state disk.old).chosen }

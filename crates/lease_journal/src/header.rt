@@ -1,5 +1,5 @@
 // The headers of journals: what names one, and how the 64 bytes of either form are made, read and judged.
-ghost use Rattle.std.specs.Prelude.{◌≡◌, ◌<◌, ◌≤◌, ℕ, List, Option, Some, None, IfOk, IfErr, true};
+ghost use Rattle.std.specs.Prelude.{◌≡◌, ◌<◌, ◌≤◌, ◌^◌, ℕ, List, Option, Some, None, IfOk, IfErr, true};
 ghost use Rattle.zk_port.specs.Disks.{Stays};
 ghost use Rattle.zk_model.specs.Journals.{are_slots, journal_code, slots_at};
 ghost use Rattle.zk_model.specs.Twins.{HasMovedHeader, IsFirstMovedWrong, is_migrated, is_wrong_beside_gate};
@@ -81,6 +81,7 @@ fn is_wrong(header: &[u8; 64], wanted: &[u8; 64], fits: bool, place: usize) -> b
 
 /// Reads the 64 bytes from this place on.
 pub fn read_whole<B: Disk>(disk: &mut B, begin: u64) -> Result<[u8; 64], StartFault>
+    requires { begin ≤ 2 ^ 40 }
     ensures read { IfOk result (λ header. (bytes : List ℕ) → (B.state disk.old).content ≡ Some bytes
         → IsRead header bytes begin 64) }
     ensures cause { IfErr result (λ e. (bytes : List ℕ) → (B.state disk.old).content ≡ Some bytes

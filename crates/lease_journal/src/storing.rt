@@ -1,5 +1,5 @@
 // Bytes that are written and synced, and numbers.
-ghost use Rattle.std.specs.Prelude.{◌≡◌, ◌<◌, ◌≤◌, ◌+◌, length, OnOk};
+ghost use Rattle.std.specs.Prelude.{◌≡◌, ◌<◌, ◌≤◌, ◌+◌, ◌^◌, length, OnOk};
 ghost use Rattle.std.specs.Option.{option_map};
 ghost use Rattle.zk_port.specs.Counts.{HasDiskCause};
 ghost use Rattle.zk_port.specs.Images.{HasDiskRoom, Only, written_at};
@@ -10,7 +10,8 @@ use zk_port::{Disk, Failed};
 
 /// Writes these bytes at this place, and syncs them.
 pub fn store_at<B: Disk>(disk: &mut B, at: u64, bytes: &[u8]) -> Result<(), Failed>
-    requires { HasDiskRoom (at + length bytes.now) (B.state disk.old).room }
+    requires room { HasDiskRoom (at + length bytes.now) (B.state disk.old).room }
+    requires place { at + length bytes.now ≤ 2 ^ 63 }
     ensures written { OnOk result ((B.state disk.new).content
         ≡ option_map (written_at at bytes.now) (B.state disk.old).content) }
     ensures durable { OnOk result (Only (B.state disk.new).content (B.state disk.new).images) }

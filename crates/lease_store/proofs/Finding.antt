@@ -3,12 +3,14 @@ use Rattle.std.proofs.Common.{◌≡◌, ◌≤◌, ℕ, List, [], true, Option,
 use Rattle.std.proofs.lemmas.Bool.Decides.{nat_tests}
 use Rattle.zk_model.specs.declared.JournalKind.TheVariants.{Ceilings}
 use Rattle.zk_model.specs.declared.limits.TheConstants.{MAX_SLOTS}
-use Rattle.zk_model.specs.Twins.{IsTwinTidy, are_twin_slots, SaysTwin, twin_ceiling_slots, twin_slots_at}
+use Rattle.zk_model.specs.Twins.{are_twin_slots, SaysTwin, twin_ceiling_slots}
 use Rattle.lease_journal.proofs.Sound.{none_sound}
 use Rattle.twin_journal.specs.Laws.{IsNewTwin}
+use Rattle.twin_journal.specs.Starts.{AreTidy}
 use Rattle.twin_journal.proofs.NewTwins.{blank_twin_is_new}
+use Rattle.twin_journal.proofs.TidyFiles.{said_is_tidy}
 use Rattle.twin_journal.proofs.TwinLaws.{recovers_one, says_recovers, starts_again}
-use Rattle.lease_store.specs.Ceilings.{FindsCeiling, HasCeilings, HasTidyCeilings, SaysCeiling, last_ceiling}
+use Rattle.lease_store.specs.Ceilings.{FindsCeiling, HasCeilings, SaysCeiling, last_ceiling}
 use Rattle.lease_store.specs.Laws.{BlankSaysZero, CeilingsStartAgain, MayStart}
 use Rattle.lease_store.proofs.Places.{begins_once}
 use Rattle.lease_store.proofs.Starting.{says_ceiling}
@@ -17,8 +19,7 @@ use Rattle.lease_store.proofs.Starting.{says_ceiling}
 pub may_start : (id : List ℕ) (total place generation : ℕ) (bodies : List (ℕ × ℕ)) (bytes : List ℕ) → HasCeilings id total place generation bodies bytes
     → MayStart id total bytes
 may_start id total place generation bodies bytes has = record {
-  tidy = subst (λ n. IsTwinTidy n (twin_slots_at n bytes) bytes) (sym has.holds.begins)
-      (subst (λ n. IsTwinTidy place n bytes) (sym has.holds.stands.says) (says_recovers place (twin_ceiling_slots total) generation bodies bytes has.says).tidy);
+  tidy = said_is_tidy Ceilings id total place (twin_ceiling_slots total) generation bodies bytes has.holds has.says;
   refused = λ fault cause. starts_again Ceilings id total place (twin_ceiling_slots total) generation bodies bytes fault has.holds has.says has.sound has.may_have cause;
 }
 
@@ -74,9 +75,9 @@ blank_zero id total whole some = zero_of (blank_twin_is_new Ceilings id total (t
     }
 
 -- what a next start asks of the bytes
-pub tidy_again : {id : List ℕ} {total ceiling : ℕ} {first bytes : List ℕ} → FindsCeiling id total ceiling first bytes → HasTidyCeilings bytes
+pub tidy_again : {id : List ℕ} {total ceiling : ℕ} {first bytes : List ℕ} → FindsCeiling id total ceiling first bytes → AreTidy bytes
 tidy_again {id} {total} {ceiling} {first} {bytes} found = (may_start id total found.begin found.generation found.bodies bytes found.says).tidy
 
 pub read_tidy : (id : List ℕ) (total ceiling : ℕ) (first : List ℕ) (content : Option (List ℕ)) → IsSomeAnd content (FindsCeiling id total ceiling first)
-    → (bytes : List ℕ) → content ≡ Some bytes → HasTidyCeilings bytes
+    → (bytes : List ℕ) → content ≡ Some bytes → AreTidy bytes
 read_tidy id total ceiling first content found bytes is = tidy_again (subst (λ o. IsSomeAnd o (FindsCeiling id total ceiling first)) is found)

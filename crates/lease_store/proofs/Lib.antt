@@ -4,6 +4,7 @@ pub mod Rounding
 pub mod Contents
 pub mod Covering
 pub mod Starting
-pub mod Refusing
 pub mod Closing
+pub mod Keeping
+pub mod Stopping
 pub mod Finding

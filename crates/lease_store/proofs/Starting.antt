@@ -12,7 +12,7 @@ use Rattle.lease_journal.proofs.Moments.{leaves_also, started}
 use Rattle.lease_journal.proofs.Sound.{slots_sound}
 use Rattle.twin_journal.specs.Starts.{IsTwinOpened}
 use Rattle.twin_journal.specs.States.{IsKept, TwinState}
-use Rattle.lease_words.specs.Views.{journal_at}
+use Rattle.lease_words.specs.Views.{journal_of}
 use Rattle.lease_words.specs.declared.view.View.{View}
 use Rattle.lease_store.specs.Ceilings.{FindsCeiling, HasCeilingHeader, HasCeilings, SaysCeiling}
 use Rattle.lease_store.specs.Desks.{Begins, IsDesk, IsKeptAt}
@@ -92,12 +92,12 @@ found_at state id total journal bytes kept = record {
   began = kept.says.holds.begins;
 }
 
-module _ {D : Type 0} (state : D → DiskState) (id : List ℕ) (total passes : ℕ) (journal : TwinState D) where
+module _ {D : Type 0} (state : D → DiskState) (id name : List ℕ) (total passes : ℕ) (journal : TwinState D) where
   pub opens : IsRight total journal.slots journal.last.0 → journal.fault ≡ 0
       → ((bytes : List ℕ) → (state journal.disk).content ≡ Some bytes → IsKeptAt state id total journal bytes)
       → Only (state journal.disk).content (state journal.disk).images
       → ((c : List ℕ) → (state journal.disk).images_since (state journal.disk).moment c → (state journal.disk).images c)
-      → IsDesk state (state journal.disk) id total journal.last.0 journal (journal_at journal.last.0 total passes)
+      → IsDesk state (state journal.disk) id total journal.last.0 journal (journal_of name journal.last.0 total passes)
   opens right none kept only only_now = record {
     total_is = refl;
     ceiling = refl;

@@ -17,9 +17,9 @@ pub record HasCeilingHeader (id : List ℕ) (total : ℕ) (bytes : List ℕ) : T
   pub slots : ℕ
   pub holds : HoldsTwin Ceilings id total begin slots bytes
 
--- in its active area no slot after one that is not open is open, as in each journal that stores alone have written
-abbrev pub HasTidyCeilings : List ℕ → Type 0
-HasTidyCeilings bytes = IsTidyFile Ceilings bytes
+-- where it does, no slot after one that is not open is open in its active area, as in each journal that stores alone have written
+abbrev pub HasTidyCeilings : List ℕ → ℕ → List ℕ → Type 0
+HasTidyCeilings id total bytes = IsTidyFile Ceilings id total bytes
 
 -- so many bytes are room for as many slots as its header says, where it begins; or, where the content is not known, as a header may say
 abbrev pub HasCeilingRoom : Option (List ℕ) → ℕ → Type 0

@@ -4,11 +4,12 @@ use Rattle.zk_model.specs.declared.JournalKind.TheVariants.{Ceilings}
 use Rattle.zk_model.specs.Twins.{blank_twin_bytes, twin_ceiling_slots}
 use Rattle.lease_journal.specs.declared.fault.StartFault.{StartFault}
 use Rattle.lease_journal.specs.declared.fault.StartFault.TheVariants.{Device}
-use Rattle.lease_store.specs.Ceilings.{CeilingStartCause, FindsCeiling, HasTidyCeilings, SaysCeiling}
+use Rattle.lease_store.specs.Ceilings.{CeilingStartCause, FindsCeiling, SaysCeiling}
+use Rattle.twin_journal.specs.Starts.{AreTidy}
 
--- A store may start on these bytes: they are tidy, and no fault but one of the disk refuses them.
+-- A store may start on these bytes: each journal that stands in them is tidy, and no fault but one of the disk refuses them.
 pub record MayStart (id : List ℕ) (total : ℕ) (bytes : List ℕ) : Type 0 where
-  pub tidy : HasTidyCeilings bytes
+  pub tidy : AreTidy bytes
   pub refused : (fault : StartFault) → CeilingStartCause id total bytes fault → fault ≡ Device
 
 -- So it is of all bytes in which a ceiling is said or found; and bytes say one ceiling.

@@ -29,25 +29,29 @@ parts_code {D} disk =
 pub record StoreState : Type 0 where
   pub base : ℕ
 
--- behind the lock: the journal, the ceiling that its seat shows, and the mark that it set, or 0
+-- behind the lock: the journal, the ceiling that its seat shows, the mark that it set, or 0, how far it knows that units were drawn, and how
+-- many faults it met and gave no word of
 pub record DeskState (D : Type 0) : Type 0 where
   pub journal : TwinState D
   pub ceiling : ℕ
   pub mark : ℕ
+  pub drawn : ℕ
+  pub met : ℕ
 
 abbrev pub desk_code : {D : Type 0} → Coded D → Coded (DeskState D)
 desk_code {D} disk =
-    code_by (TwinState D × (ℕ × ℕ))
-    (coded× (state_code disk) (coded× coded_ℕ coded_ℕ))
-    (λ d. (d.journal, (d.ceiling, d.mark)))
-    (λ p. record { journal = p.0; ceiling = p.1.0; mark = p.1.1 })
+    code_by (TwinState D × (ℕ × (ℕ × (ℕ × ℕ))))
+    (coded× (state_code disk) (coded× coded_ℕ (coded× coded_ℕ (coded× coded_ℕ coded_ℕ))))
+    (λ d. (d.journal, (d.ceiling, (d.mark, (d.drawn, d.met)))))
+    (λ p. record { journal = p.0; ceiling = p.1.0; mark = p.1.1.0; drawn = p.1.1.1.0; met = p.1.1.1.1 })
     (λ _. refl)
 
 -- What parts keep: the seat is of these words, which begin at the journal's ceiling, and the journal and the seat are a desk that has
 -- just started, for each id that the header has.
-pub record AreParts {D : Type 0} (disk_state : D → DiskState) (total base : ℕ) (table seat : TableId) (journal : TwinState D) (v : View) : Type 0 where
+pub record AreParts {D : Type 0} (disk_state : D → DiskState) (total base : ℕ) (table seat : TableId) (journal : TwinState D) (name : List ℕ) (v : View) : Type 0 where
   pub few : total ≤ MAX_STORE_UNITS
   pub own : seat ≡ table
+  pub named : name ≡ v.keeper
   pub base_is : base ≡ journal.last.0
   pub kept : (id : List ℕ)
       → ((bytes : List ℕ) → (disk_state journal.disk).content ≡ Some bytes → HasCeilingHeader id total bytes)
@@ -55,10 +59,11 @@ pub record AreParts {D : Type 0} (disk_state : D → DiskState) (total base : �
   pub whole : journal.fault ≡ 0
 
 -- what the desk keeps, of the store that has this table, total, number of passes, base, id, and disk at its start
-pub record IsDeskOf {D : Type 0} (disk_state : D → DiskState) (table : TableId) (total passes base : ℕ) (id : List ℕ) (start : DiskState) (seat : TableId) (journal : TwinState D) (own_total : ℕ) (v : View) : Type 0 where
+pub record IsDeskOf {D : Type 0} (disk_state : D → DiskState) (table : TableId) (total passes base : ℕ) (id : List ℕ) (start : DiskState) (seat : TableId) (journal : TwinState D) (name : List ℕ) (own_total : ℕ) (v : View) : Type 0 where
   pub few : own_total ≤ MAX_STORE_UNITS
   pub total_is : own_total ≡ total
   pub own : seat ≡ table
+  pub named : name ≡ v.keeper
   pub made : v.made ≡ passes
   pub kept : IsDesk disk_state start id total base journal v
   pub never : NeverFails disk_state → journal.fault ≡ 0

@@ -1,9 +1,9 @@
 // The calls that threads make.
-ghost use Rattle.std.specs.Prelude.{◌≡◌, ◌≢◌, ◌⊎◌, ◌<◌, ◌≤◌};
+ghost use Rattle.std.specs.Prelude.{◌≡◌, ◌≢◌, ◌≤◌, IfOk};
 ghost use Rattle.lease_words.specs.Calls.{known_of, mark_of, seen, words_id};
 ghost use Rattle.lease_store.specs.Ceilings.{NeverFails};
 ghost use Rattle.lease_store.specs.Leases.{Goes, IsJournals, IsPassAt, Leased, Tried, Watched};
-ghost use Rattle.lease_store.specs.declared.LeaseFault.TheVariants as lease;
+ghost use Rattle.lease_store.specs.Stops.{WasStored};
 ghost use Rattle.zk_model.specs.declared.limits.TheConstants.{MAX_UNITS};
 
 use crate::LeaseFault;
@@ -31,6 +31,7 @@ impl<B: Disk, N: LeaseName> LeaseStore<B, N> {
         ensures own { IsPassAt N.table N.total pass.new }
         ensures goes { Goes pass.old pass.new }
         ensures leased { Leased pass.old count result pass.new }
+        ensures stored { IfOk result (λ span. WasStored B.state span.end) }
         ensures never { NeverFails B.state → IsJournals result → ⊥ }
     {
         let span = match self.words.draw(pass, count) {
@@ -42,13 +43,26 @@ impl<B: Disk, N: LeaseName> LeaseStore<B, N> {
         if self.words.look(pass) >= span.end {
             return Ok(span);
         }
-        let covered = self.desk.lock(rt).cover(&self.words, span.end);
+        let receipt = self.words.receipt(pass);
+        let (covered, word) = {
+            let mut desk = self.desk.lock(rt);
+            desk.learn(&self.words, receipt);
+            let covered = desk.cover(&self.words, span.end);
+            (covered, desk.tell(&self.words))
+        };
         match covered {
             Ok(()) => {
                 self.await_ceiling(rt, pass, span.end);
                 Ok(span)
             }
-            Err(fault) => Err(refusal(fault, self.await_mark(rt, pass))),
+            Err(JournalFault::Device) => {
+                self.words.be_told(pass, word);
+                self.await_mark(rt, pass);
+                Err(LeaseFault::Device)
+            }
+            Err(_) => Err(LeaseFault::Broken {
+                first: self.await_mark(rt, pass),
+            }),
         }
     }
 
@@ -57,6 +71,7 @@ impl<B: Disk, N: LeaseName> LeaseStore<B, N> {
         requires { IsPassAt N.table N.total pass.old }
         ensures watched { Watched pass.old pass.new }
         ensures reached { end ≤ known_of pass.new }
+        ensures stored { WasStored B.state end }
     {
         for _ in rt.forever() {
             if self.words.look(pass) >= end {
@@ -96,6 +111,7 @@ impl<B: Disk, N: LeaseName> LeaseStore<B, N> {
         ensures own { IsPassAt N.table N.total pass.new }
         ensures goes { Goes pass.old pass.new }
         ensures tried { Tried pass.old count result pass.new }
+        ensures stored { IfOk result (λ span. WasStored B.state span.end) }
     {
         let span = match self.words.draw(pass, count) {
             Ok(span) => span,
@@ -111,15 +127,5 @@ impl<B: Disk, N: LeaseName> LeaseStore<B, N> {
             });
         }
         Ok(span)
-    }
-}
-
-/// Why units are not leased where the journal refuses and this is its mark.
-fn refusal(fault: JournalFault, first: u64) -> LeaseFault
-    ensures { (result ≡ lease.Device) ⊎ (result ≡ lease.Broken first) }
-{
-    match fault {
-        JournalFault::Broken { .. } => LeaseFault::Broken { first },
-        _ => LeaseFault::Device,
     }
 }

@@ -8,7 +8,9 @@
 #![tactic(auto)]
 
 ghost use Rattle.lease_store.specs.Laws.{BlankSaysZero, CeilingsStartAgain};
+ghost use Rattle.lease_store.specs.Stops.{StopsAreSafe};
 
+mod ceilings;
 mod desk;
 mod fault;
 mod grantor;
@@ -18,6 +20,7 @@ mod parts;
 mod raising;
 mod store;
 
+pub use ceilings::CeilingJournal;
 pub use desk::Desk;
 pub use fault::{StoreFault, TryFault};
 pub use grantor::Grantor;
@@ -25,6 +28,7 @@ pub use name::LeaseName;
 pub use parts::LeaseParts;
 pub use store::LeaseStore;
 use thiserror::Error;
+use zk_port::Disk;
 
 /// Why units are not leased.
 #[derive(Clone, Copy, Debug, PartialEq, Eq, Error)]
@@ -49,4 +53,10 @@ pub fn ceilings_start_again()
 /// A new journal for one unit or more says ceiling 0.
 pub fn blank_says_zero()
     ensures { BlankSaysZero }
+{}
+
+/// A run may be stopped at any moment, whether or not what it does ever returns: each span that was granted by then ends
+/// at or below the ceiling that each image of the disk recovers.
+pub fn stops_are_safe<B: Disk>()
+    ensures { StopsAreSafe B.state }
 {}

@@ -11,6 +11,7 @@ ghost use Rattle.lease_store.specs.Leases.{IsPassAt};
 ghost use Rattle.lease_store.specs.declared.fault.StoreFault.TheVariants as store;
 ghost use Rattle.zk_model.specs.declared.limits.TheConstants.{MAX_PASSES, MAX_STORE_UNITS};
 
+use crate::ceilings::CeilingJournal;
 use crate::desk::Desk;
 use crate::fault::StoreFault;
 use crate::name::LeaseName;
@@ -26,10 +27,8 @@ use zk_port::Disk;
 /// its era, the total and how many passes there are (`PartsState`).
 #[derive(Drop)]
 pub struct LeaseParts<B: Disk> {
-    words: Words,
-    journal: Twin<B>,
-    seat: JournalSeat,
-    total: u64,
+    words: Words<CeilingJournal<B>>,
+    seat: JournalSeat<CeilingJournal<B>>,
 }
 
 impl<B: Disk> Model for LeaseParts<B> {
@@ -41,15 +40,15 @@ impl<B: Disk> Model for LeaseParts<B> {
     ghost coded = { model.parts_code B.code };
 
     ghost view = { λ p. record {
-      disk = p.journal.disk;
+      disk = p.seat.keeper.journal.disk;
       table = words_id p.words;
       base = base_of p.words;
-      total = p.total;
+      total = p.seat.keeper.total;
       passes = p.seat.seat.me.0.made;
     } };
 
-    ghost invariant = { λ p. model.AreParts B.state p.total (base_of p.words) (words_id p.words)
-        p.seat.seat.table_id p.journal p.seat.seat.me.0 };
+    ghost invariant = { λ p. model.AreParts B.state p.seat.keeper.total (base_of p.words) (words_id p.words)
+        p.seat.seat.table_id p.seat.keeper.journal p.seat.keeper.id p.seat.seat.me.0 };
 }
 
 impl<B: Disk> LeaseParts<B> {
@@ -70,7 +69,8 @@ impl<B: Disk> LeaseParts<B> {
         requires passes { (1 ≤ passes) × (passes ≤ MAX_PASSES) }
         requires room { (size : ℕ) → (B.state disk).room ≡ Some size
             → HasCeilingRoom (B.state disk).content size }
-        requires tidy { (bytes : List ℕ) → (B.state disk).content ≡ Some bytes → HasTidyCeilings bytes }
+        requires tidy { (bytes : List ℕ) → (B.state disk).content ≡ Some bytes
+            → HasTidyCeilings id.now total bytes }
         ensures base { IfOk result (λ r. (bytes : List ℕ) → (B.state disk).content ≡ Some bytes
             → SaysCeiling id.now total r.0.base bytes) }
         ensures header { IfOk result (λ r. (bytes : List ℕ) → (B.state r.0.disk).content ≡ Some bytes
@@ -99,25 +99,36 @@ impl<B: Disk> LeaseParts<B> {
             Err((fault, disk)) => return Err((StoreFault::Journal(fault), disk)),
         };
         let base = journal.last().0;
-        match lease_words::start(alloc, base, total, passes) {
+        let keeper = CeilingJournal {
+            journal,
+            id: *id,
+            total,
+        };
+        match lease_words::start(alloc, keeper, base, total, passes) {
             Ok((words, seat, passes)) => {
-                let parts = LeaseParts {
-                    words,
-                    journal,
-                    seat,
-                    total,
-                };
+                let parts = LeaseParts { words, seat };
                 Ok((parts, passes))
             }
-            Err(AllocError) => Err((StoreFault::NoMemory, journal.into_disk())),
+            Err((AllocError, keeper)) => {
+                let CeilingJournal { journal, .. } = keeper;
+                Err((StoreFault::NoMemory, journal.into_disk()))
+            }
         }
+    }
+
+    /// The first unit of the store's era: the ceiling that the journal says.
+    pub fn base(&self) -> u64
+        ensures { result ≡ self.now.base }
+    {
+        self.seat.keeper().journal.last().0
     }
 
     /// The disk as it stands.
     pub fn into_disk(self) -> B
         ensures { result ≡ self.disk }
     {
-        let LeaseParts { journal, .. } = self;
+        let LeaseParts { seat, .. } = self;
+        let CeilingJournal { journal, .. } = seat.into_keeper();
         journal.into_disk()
     }
 
@@ -132,13 +143,8 @@ impl<B: Disk> LeaseParts<B> {
         requires begins { Begins N.start (B.state self.disk) }
         ensures base { result.base ≡ self.base }
     {
-        let LeaseParts {
-            words,
-            journal,
-            seat,
-            total,
-        } = self;
-        let desk = Desk::new(journal, seat, total);
+        let LeaseParts { words, seat } = self;
+        let desk = Desk::new(seat);
         LeaseStore {
             words,
             desk: Mutex::new(desk),

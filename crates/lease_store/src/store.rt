@@ -2,6 +2,7 @@
 ghost use Rattle.std.specs.Prelude.{◌≡◌, length, All};
 ghost use Rattle.lease_store.specs.Leases.{IsClosed, IsPassAt};
 
+use crate::ceilings::CeilingJournal;
 use crate::desk::Desk;
 use crate::name::LeaseName;
 use lease_words::{Pass, Words};
@@ -13,7 +14,7 @@ use zk_port::Disk;
 /// first unit of its era (`StoreState`).
 #[derive(Drop)]
 pub struct LeaseStore<B: Disk, N: LeaseName> {
-    pub(crate) words: Words,
+    pub(crate) words: Words<CeilingJournal<B>>,
     pub(crate) desk: Mutex<Desk<B, N>>,
 }
 
@@ -37,8 +38,8 @@ impl<B: Disk, N: LeaseName> LeaseStore<B, N> {
         ensures { IsClosed N.start (B.state result) N.id self.base N.total passes.items }
     {
         let LeaseStore { words, desk } = self;
-        let (journal, seat) = desk.into_inner().into_parts();
-        words.gather(seat, passes);
+        let seat = desk.into_inner().into_seat();
+        let CeilingJournal { journal, .. } = words.gather(seat, passes);
         journal.into_disk()
     }
 }

@@ -1,11 +1,15 @@
 -- What callers see of the lease words.
+use Rattle.std.specs.List.{sum_by}
 use Rattle.std.specs.Prelude.{◌≡◌, ℕ, ◌+◌, ◌<◌, ◌≤◌, max, ◌⊎◌, List, [], ◌∷◌, length, None, Some, Result, Ok, Err, MatchOption, slice_index_or, All, AllPairs, flat_map}
 use Rattle.atomic_table.specs.Seated.{TableId}
 use Rattle.zk_model.specs.declared.Span.{Span}
+use Rattle.lease_core.specs.Machine.{ceiling_for}
 use Rattle.lease_words.specs.Views.{end_of, report, own, units_drawn, after_draw, taken_in}
 use Rattle.lease_words.specs.declared.fault.Exhausted.{Exhausted}
 use Rattle.lease_words.specs.declared.pass.Pass.{Pass}
+use Rattle.lease_words.specs.declared.pass.FaultWord.{FaultWord}
 use Rattle.lease_words.specs.declared.pass.JournalSeat.{JournalSeat}
+use Rattle.lease_words.specs.declared.pass.Receipt.{Receipt}
 use Rattle.lease_words.specs.declared.view.Entry.{Entry}
 use Rattle.lease_words.specs.declared.view.Report.{Report}
 use Rattle.lease_words.specs.declared.view.View.{View}
@@ -30,39 +34,77 @@ mark_of p = (own (seen p)).mark
 abbrev pub looks_of : Pass → ℕ
 looks_of p = (seen p).looks
 
+-- how many faults of the journal it met
+abbrev pub met_of : Pass → ℕ
+met_of p = (seen p).met
+
+-- how far it knows that units were drawn
+abbrev pub drawn_of : Pass → ℕ
+drawn_of p = (seen p).drawn
+
+-- and how far a receipt says so
+abbrev pub drawn_on : Receipt → ℕ
+drawn_on r = r.seat.me.0.drawn
+
+-- how many a word says
+abbrev pub met_on : FaultWord → ℕ
+met_on w = w.seat.me.0.met
+
 -- what the journal's seat knows
-abbrev pub journal_view : JournalSeat → View
+abbrev pub journal_view : {K : Type 0} → JournalSeat K → View
 journal_view j = j.seat.me.0
 
 -- the ceiling that the journal's seat knows, the mark that it set, how many passes it made, and the total
-abbrev pub ceiling_of : JournalSeat → ℕ
+abbrev pub ceiling_of : {K : Type 0} → JournalSeat K → ℕ
 ceiling_of j = (journal_view j).ceiling
 
-abbrev pub own_mark_of : JournalSeat → ℕ
+abbrev pub own_mark_of : {K : Type 0} → JournalSeat K → ℕ
 own_mark_of j = (journal_view j).own_mark
 
-abbrev pub made_of : JournalSeat → ℕ
+abbrev pub made_of : {K : Type 0} → JournalSeat K → ℕ
 made_of j = (journal_view j).made
 
-abbrev pub limit_of : JournalSeat → ℕ
+abbrev pub limit_of : {K : Type 0} → JournalSeat K → ℕ
 limit_of j = (journal_view j).total
 
+-- how far it knows that units were drawn
+abbrev pub known_drawn_of : {K : Type 0} → JournalSeat K → ℕ
+known_drawn_of j = (journal_view j).drawn
+
+-- the highest ceiling that was asked for by the draws that the journal's seat knows of
+abbrev pub asked_of : {K : Type 0} → JournalSeat K → ℕ
+asked_of j = ceiling_for (limit_of j) (known_drawn_of j)
+
+-- how many faults it met, and gave no word of
+abbrev pub own_met_of : {K : Type 0} → JournalSeat K → ℕ
+own_met_of j = (journal_view j).met
+
+-- the name of what the seat is to own
+abbrev pub keeper_of : {K : Type 0} → JournalSeat K → List ℕ
+keeper_of j = (journal_view j).keeper
+
 -- which table the words lie in, where its units begin, and how many there are
-abbrev pub words_id : Words → TableId
+abbrev pub words_id : {K : Type 0} → Words K → TableId
 words_id w = w.table.shared.table_id
 
-abbrev pub base_of : Words → ℕ
-base_of w = w.table.shared.key.base
+abbrev pub base_of : {K : Type 0} → Words K → ℕ
+base_of w = w.table.shared.key.bounds.base
 
-abbrev pub total_of : Words → ℕ
-total_of w = w.table.shared.key.total
+abbrev pub total_of : {K : Type 0} → Words K → ℕ
+total_of w = w.table.shared.key.bounds.total
 
--- the pass, or the seat, is of these words
-abbrev pub IsPassOf : Words → Pass → Type 0
+-- the pass, the seat, or the receipt, is of these words
+abbrev pub IsPassOf : {K : Type 0} → Words K → Pass → Type 0
 IsPassOf w p = p.seat.table_id ≡ words_id w
 
-abbrev pub IsSeatOf : Words → JournalSeat → Type 0
+abbrev pub IsSeatOf : {K : Type 0} → Words K → JournalSeat K → Type 0
 IsSeatOf w j = j.seat.table_id ≡ words_id w
+
+abbrev pub IsReceiptOf : {K : Type 0} → Words K → Receipt → Type 0
+IsReceiptOf w r = r.seat.table_id ≡ words_id w
+
+abbrev pub IsWordOf : {K : Type 0} → Words K → FaultWord → Type 0
+IsWordOf words w = w.seat.table_id ≡ words_id words
 
 -- the pass with this number, as it is made
 abbrev pub IsFreshPass : TableId → ℕ → ℕ → ℕ → Pass → Type 0
@@ -110,9 +152,13 @@ all_entries passes = flat_map entries_of passes
 abbrev pub all_reports : List Pass → List Report
 all_reports passes = flat_map (λ p. (seen p).reports) passes
 
+-- the faults that these passes met
+abbrev pub all_met_by : List Pass → ℕ
+all_met_by passes = sum_by met_of passes
+
 -- the journal's seat once it has taken in these passes
 abbrev pub with_passes : View → List Pass → View
-with_passes v passes = taken_in v (all_reports passes) (all_entries passes)
+with_passes v passes = taken_in v (all_reports passes) (all_entries passes) (v.met + all_met_by passes)
 
 -- the greatest end, or the base where there is no entry
 abbrev pub greatest_end : ℕ → List Entry → ℕ

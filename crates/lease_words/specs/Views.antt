@@ -1,5 +1,5 @@
 -- What one seat at the lease table knows.
-use Rattle.std.specs.Prelude.{◌≡◌, ℕ, ◌+◌, true, false, cond, ◌&&◌, List, [], ◌∷◌, ◌++◌, map, slice_index_or, nat_eq, nat_lt, nat_le}
+use Rattle.std.specs.Prelude.{◌≡◌, ℕ, ◌+◌, max, true, false, cond, ◌&&◌, List, [], ◌∷◌, ◌++◌, map, slice_index_or, nat_eq, nat_lt, nat_le}
 use Rattle.std.specs.List.{sum_by, count_by}
 use Rattle.lease_words.specs.declared.view.Bounds.{Bounds}
 use Rattle.lease_words.specs.declared.view.Entry.{Entry}
@@ -56,18 +56,25 @@ IsPassView v = (v.journal ≡ false) × (v.reports ≡ own v ∷ [])
 abbrev pub journal_at : ℕ → ℕ → ℕ → View
 journal_at base total made = record {
   journal = true;
+  keeper = [];
   total = total;
   ceiling = base;
   made = made;
   own_mark = 0;
   looks = 0;
+  drawn = 0;
+  met = 0;
   reports = [];
   entries = [];
 }
 
+-- the same, where what keeps the ceiling has this name
+abbrev pub journal_of : List ℕ → ℕ → ℕ → ℕ → View
+journal_of name base total made = record (journal_at base total made) { keeper = name }
+
 -- the journal's seat, before any pass is made
-abbrev pub first_view : Bounds → View
-first_view b = journal_at b.base b.total 0
+abbrev pub first_view : List ℕ → Bounds → View
+first_view name b = journal_of name b.base b.total 0
 
 -- what is left of a pass that was taken in
 abbrev pub spent_view : View
@@ -82,7 +89,7 @@ new_pass v = record spent_view { total = v.total; reports = report v.made v.ceil
 
 -- a pass drew `count` units from `start` on
 abbrev pub after_draw : View → ℕ → ℕ → View
-after_draw v start count = record v { entries = v.entries ++ entry (own v).number start count ∷ [] }
+after_draw v start count = record v { entries = v.entries ++ entry (own v).number start count ∷ []; drawn = start + count }
 
 -- a pass found the ceiling
 abbrev pub after_look : View → ℕ → View
@@ -95,18 +102,36 @@ after_look v found = record v {
 abbrev pub after_marked : View → ℕ → View
 after_marked v found = record v { reports = map (λ r. report r.number r.known found) v.reports }
 
+-- what a pass's receipt says: how far it knows that units were drawn
+abbrev pub receipt_of : View → View
+receipt_of v = record spent_view { drawn = v.drawn }
+
+-- the journal's seat learns it from a receipt, where that is further than it knew
+abbrev pub after_receipt : View → View → View
+after_receipt v w = record v { drawn = max v.drawn w.drawn }
+
+-- the journal's seat gives away the faults that it met, a word has them, and a pass takes them
+abbrev pub after_telling : View → View
+after_telling v = record v { met = 0 }
+
+abbrev pub word_of : View → View
+word_of v = record spent_view { met = v.met }
+
+abbrev pub after_told : View → View → View
+after_told v w = record v { met = v.met + w.met }
+
 -- the journal's seat showed a ceiling
 abbrev pub after_raise : View → ℕ → View
 after_raise v ceiling = record v { ceiling = ceiling }
 
--- the journal's seat set the mark
+-- the journal's seat met a fault, and set the mark
 abbrev pub after_mark : View → ℕ → View
-after_mark v mark = record v { own_mark = mark }
+after_mark v mark = record v { own_mark = mark; met = v.met + 1 }
 
 -- the journal's seat takes in what a pass knows
 abbrev pub after_join : View → View → View
-after_join v w = record v { reports = w.reports ++ v.reports; entries = w.entries ++ v.entries }
+after_join v w = record v { reports = w.reports ++ v.reports; entries = w.entries ++ v.entries; met = v.met + w.met }
 
--- the journal's seat once it has taken in passes with these reports and entries
-abbrev pub taken_in : View → List Report → List Entry → View
-taken_in v reports entries = record v { reports = reports; entries = entries }
+-- the journal's seat once it has taken in passes with these reports, entries and faults
+abbrev pub taken_in : View → List Report → List Entry → ℕ → View
+taken_in v reports entries met = record v { reports = reports; entries = entries; met = met }

@@ -1,5 +1,5 @@
 // What a thread draws with, and what the journal raises the ceiling with.
-ghost use Rattle.lease_words.specs.Passes.{IsPass, IsJournal};
+ghost use Rattle.lease_words.specs.Passes.{IsPass, IsJournal, IsReceipt, IsWord};
 
 use crate::fault::Exhausted;
 use crate::view::View;
@@ -14,9 +14,25 @@ pub struct Pass {
     ghost is_pass: { IsPass seat.me total kept },
 }
 
-/// The one seat that raises the ceiling and sets the mark.
+/// Says how far units were drawn. A pass writes it, for the journal's seat.
 #[derive(Drop)]
-pub struct JournalSeat {
+pub struct Receipt {
     pub(crate) seat: Seat<(), View>,
+    ghost is_receipt: { IsReceipt seat.me },
+}
+
+/// A word of the faults that were met. The journal's seat gives it to the pass for which it met them.
+#[derive(Drop)]
+pub struct FaultWord {
+    pub(crate) seat: Seat<(), View>,
+    ghost is_word: { IsWord seat.me },
+}
+
+/// The one seat that raises the ceiling and sets the mark. It owns what keeps the ceiling, and lends nobody the right to
+/// change it but by `store`, which never lowers what is stored.
+#[derive(Drop)]
+pub struct JournalSeat<K> {
+    pub(crate) seat: Seat<(), View>,
+    pub(crate) keeper: K,
     ghost is_journal: { IsJournal seat.me },
 }

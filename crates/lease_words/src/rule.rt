@@ -1,18 +1,22 @@
 // The rule of the lease table, and the kinds of step.
-use crate::view::{Bounds, View};
+use crate::keeper::Keeper;
+use crate::view::{Key, View};
 use atomic_table::{Join, Play, Split, TableRule};
+use std::marker::PhantomData;
 
-/// The rule of the lease table.
-#[derive(Clone, Copy)]
-pub struct Leases;
+/// The rule of the lease table: among others, that the keeper of the table's name stored the ceiling shown, and that this was
+/// asked for, and that one seat at most met the fault of the journal.
+pub struct Leases<K> {
+    of: PhantomData<K>,
+}
 
-impl TableRule<(), View, Bounds> for Leases {
+impl<K: Keeper> TableRule<(), View, Key> for Leases<K> {
     ghost use Rattle.lease_words.specs.Views.{first_view};
-    ghost use Rattle.lease_words.specs.Rule.{LeaseRule};
+    ghost use Rattle.lease_words.specs.OneFault.{MetRule};
 
-    ghost holds = { LeaseRule };
+    ghost holds = { MetRule K.label K.stores };
 
-    ghost first = { first_view };
+    ghost first = { λ key. first_view key.keeper key.bounds };
 }
 
 /// The journal's seat makes a pass.
@@ -37,6 +41,50 @@ impl Join<View> for TakeIn {
     ghost spent = { spent_view };
 }
 
+/// A pass writes a receipt.
+pub(crate) struct WriteReceipt;
+
+impl Split<View> for WriteReceipt {
+    ghost use Rattle.lease_words.specs.Views.{receipt_of};
+
+    ghost left = { λ v. v };
+
+    ghost right = { receipt_of };
+}
+
+/// The journal's seat learns what a receipt says.
+pub(crate) struct ReadReceipt;
+
+impl Join<View> for ReadReceipt {
+    ghost use Rattle.lease_words.specs.Views.{after_receipt, spent_view};
+
+    ghost both = { after_receipt };
+
+    ghost spent = { spent_view };
+}
+
+/// The journal's seat gives a word of the faults that it met.
+pub(crate) struct Tell;
+
+impl Split<View> for Tell {
+    ghost use Rattle.lease_words.specs.Views.{after_telling, word_of};
+
+    ghost left = { after_telling };
+
+    ghost right = { word_of };
+}
+
+/// A pass takes a word of faults.
+pub(crate) struct BeTold;
+
+impl Join<View> for BeTold {
+    ghost use Rattle.lease_words.specs.Views.{after_told, spent_view};
+
+    ghost both = { after_told };
+
+    ghost spent = { spent_view };
+}
+
 /// A pass draws.
 pub(crate) struct Draw;
 
@@ -46,13 +94,15 @@ impl Play<(), View> for Draw {
     ghost then = { Draws };
 }
 
-/// A pass looks at the ceiling.
-pub(crate) struct Look;
+/// A pass looks at the ceiling, which is stored.
+pub(crate) struct Look<K> {
+    of: PhantomData<K>,
+}
 
-impl Play<(), View> for Look {
-    ghost use Rattle.lease_words.specs.Steps.{Looks};
+impl<K: Keeper> Play<(), View> for Look<K> {
+    ghost use Rattle.lease_words.specs.Stored.{LooksStored};
 
-    ghost then = { Looks };
+    ghost then = { LooksStored K.stores };
 }
 
 /// The journal's seat shows a higher ceiling.

@@ -8,6 +8,13 @@ pub struct Bounds {
     pub total: u64,
 }
 
+/// What the table is told once: its bounds, and the name of what keeps its ceiling.
+#[derive(Clone, Copy)]
+pub struct Key {
+    pub bounds: Bounds,
+    pub keeper: [u8; 32],
+}
+
 /// A draw: which pass drew, from where, and how many.
 #[derive(Clone, Copy, Debug, PartialEq, Eq)]
 pub struct Entry {
@@ -25,13 +32,17 @@ pub struct Report {
 }
 
 /// What a seat knows. A pass has its own report and its own entries, and the journal's seat those of the passes that it took in.
+/// Up to `drawn` units were drawn, as the seat knows. It met so many faults of the journal, and no other seat did those.
 pub struct View {
     pub journal: bool,
+    pub keeper: [u8; 32],
     pub total: u64,
     pub ceiling: u64,
     pub made: u32,
     pub own_mark: u64,
     pub looks: u64,
+    pub drawn: u64,
+    pub met: u64,
     pub reports: LinkedList<Report>,
     pub entries: LinkedList<Entry>,
 }

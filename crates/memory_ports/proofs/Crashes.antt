@@ -6,7 +6,7 @@ use Rattle.std.proofs.lemmas.List.{ext_get_or, length-append, length-take, lengt
 use Rattle.std.proofs.lemmas.List.FromFn.{get_or-map-range_with_len, length-map-range_with_len}
 use Rattle.std.specs.List.{range_with_len}
 use Rattle.zk_port.specs.Images.{IsOutside, IsTorn, written_at}
-use Rattle.zk_port.specs.Disks.{Elapses}
+use Rattle.zk_port.specs.Disks.{Choice, Elapses}
 use Rattle.zk_port.proofs.Torn.{torn_by_nothing, torn_by_write, torn_further}
 use Rattle.memory_ports.specs.Epochs.{left_by, left_by_all, AreOutside, reach, IsImage, Leaves, HadLeft, epoch_state}
 use Rattle.memory_ports.specs.declared.epoch.Epoch.{Epoch}
@@ -169,7 +169,7 @@ drop-push (suc t) [] epoch le = absurd (omega arith)
 drop-push (suc t) (e ∷ past) epoch le = drop-push t past epoch (omega arith)
 
 -- time in an epoch
-pub elapses_within : (names names_later : List (List ℕ)) (bytes bytes_later : List ℕ) (faults faults_later : ℕ) (past : List Epoch) (epoch later : Epoch)
+pub elapses_within : (names names_later : List Choice) (bytes bytes_later : List ℕ) (faults faults_later : ℕ) (past : List Epoch) (epoch later : Epoch)
     → ((image : List ℕ) → Leaves epoch image → Leaves later image)
     → Elapses (epoch_state names bytes past epoch faults) (epoch_state names_later bytes_later past later faults_later)
 elapses_within names names_later bytes bytes_later faults faults_later past epoch later grows = record {
@@ -179,7 +179,7 @@ elapses_within names names_later bytes bytes_later faults faults_later past epoc
 }
 
 -- time from one epoch to the next
-pub elapses_next : (names names_later : List (List ℕ)) (bytes bytes_later : List ℕ) (faults faults_later : ℕ) (past past_later : List Epoch) (epoch later : Epoch)
+pub elapses_next : (names names_later : List Choice) (bytes bytes_later : List ℕ) (faults faults_later : ℕ) (past past_later : List Epoch) (epoch later : Epoch)
     → past_later ≡ past ++ epoch ∷ []
     → Elapses (epoch_state names bytes past epoch faults) (epoch_state names_later bytes_later past_later later faults_later)
 elapses_next names names_later bytes bytes_later faults faults_later past past_later epoch later is =

@@ -3,3 +3,4 @@ pub mod Halves
 pub mod Scripts
 pub mod Laying
 pub mod Crashes
+pub mod Asked

@@ -1,5 +1,5 @@
 -- How a door in memory hands out links.
-use Rattle.std.specs.Prelude.{◌≡◌, ◌⊎◌, ◌==◌, ◌&&◌, ℕ, List, [], ◌∷◌, ◌++◌, Bool, true, false, not, Option, Some, None}
+use Rattle.std.specs.Prelude.{◌≡◌, ◌==◌, ◌&&◌, ℕ, List, [], ◌∷◌, Bool, true, false, not, Option, Some, None}
 use Rattle.zk_port.specs.Links.{LinkState}
 use Rattle.zk_port.specs.declared.way.Way.{Way}
 
@@ -20,8 +20,4 @@ is_unended (Some ended) = not ended
 -- whether a link is fresh, as a test
 abbrev pub is_fresh : LinkState → Bool
 is_fresh link =
-    is_unlogged link.log && is_unended link.ended && link.is_open && (link.sends == 0) && (link.receives == 0) && (link.faults == 0)
-
--- an address that a refused call was given is noted after the others, or is not, where there was no memory for it
-abbrev pub NotesText : List ℕ → List (List ℕ) → List (List ℕ) → Type 0
-NotesText address old new = (new ≡ old) ⊎ (new ≡ old ++ address ∷ [])
+    is_unlogged link.log && is_unended link.ended && link.is_open && (link.sends == 0) && (link.refused_sends == 0) && (link.receives == 0) && (link.faults == 0)

@@ -3,7 +3,8 @@ use Rattle.std.specs.Prelude.{◌≡◌, ◌⊎◌, ℕ, ◌<◌, ◌≤◌, ◌
 use Rattle.std.specs.Vec.{vec_capacity}
 use mathlib.Core.Logic.{inl, inr}
 use Rattle.zk_port.specs.Images.{IsOutside, written_at}
-use Rattle.zk_port.specs.Disks.{DiskState}
+use Rattle.zk_port.specs.declared.access.Access.{Access}
+use Rattle.zk_port.specs.Disks.{Choice, DiskState}
 use Rattle.memory_ports.specs.declared.epoch.Epoch.{Epoch}
 use Rattle.memory_ports.specs.declared.epoch.Pending.{Pending}
 use Rattle.memory_ports.specs.declared.epoch.Turn.{Turn}
@@ -41,17 +42,17 @@ HadLeft (epoch ∷ epochs) image = Leaves epoch image ⊎ HadLeft epochs image
 abbrev pub LeavesSince : List Epoch → Epoch → ℕ → List ℕ → Type 0
 LeavesSince past epoch t image = Leaves epoch image ⊎ HadLeft (drop t past) image
 
--- the names that were chosen of a disk on which one may be
-abbrev pub chosen_names : Bool → List ℕ → List (List ℕ)
-chosen_names false name = []
-chosen_names true name = name ∷ []
+-- the files that were chosen of a disk on which one may be
+abbrev pub chosen_files : Bool → List ℕ → Access → List Choice
+chosen_files false name access = []
+chosen_files true name access = (name, access) ∷ []
 
 -- whether a name of so many bytes may be chosen: none was before, and there is room to note it
 abbrev pub may_choose : Bool → ℕ → Bool
 may_choose is_chosen size = not is_chosen && nat_le size 4096
 
 -- what a disk in memory tells of itself
-abbrev pub epoch_state : List (List ℕ) → List ℕ → List Epoch → Epoch → ℕ → DiskState
+abbrev pub epoch_state : List Choice → List ℕ → List Epoch → Epoch → ℕ → DiskState
 epoch_state chosen bytes past epoch faults = record {
   chosen = Some chosen;
   content = Some bytes;

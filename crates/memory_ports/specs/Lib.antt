@@ -1,3 +1,4 @@
+pub mod Asking
 pub mod Doors
 pub mod Plans
 pub mod Epochs

@@ -3,8 +3,8 @@
 //!
 //! `memory_shelf`, `memory_sink`, `memory_door` and `scripted_link` have the objects of those names, and `plan` the plans.
 //! `memory_disk` has a disk that a crash may tear (`epoch` says what it may leave), `quiet_disk` the same with nothing told,
-//! `sure_disk` one that never fails; `file_bytes` reads and writes what they hold. `together` has a gate that holds sessions until they
-//! are together.
+//! `sure_disk` one that never fails; `file_bytes` reads and writes what they hold. `meeting` has a link whose peer
+//! waits for those of others.
 //!
 //! A sink whose second call fails, as a test makes it:
 //!
@@ -13,6 +13,7 @@
 
 mod epoch;
 mod file_bytes;
+mod meeting;
 mod memory_disk;
 mod memory_door;
 mod memory_shelf;
@@ -21,9 +22,9 @@ mod plan;
 mod quiet_disk;
 mod scripted_link;
 mod sure_disk;
-mod together;
 
 pub use epoch::Leftover;
+pub use meeting::Meeting;
 pub use memory_disk::MemoryDisk;
 pub use memory_door::MemoryDoor;
 pub use memory_shelf::MemoryShelf;
@@ -32,4 +33,3 @@ pub use plan::{FailAt, FaultPlan, NoFault};
 pub use quiet_disk::QuietDisk;
 pub use scripted_link::ScriptedLink;
 pub use sure_disk::SureDisk;
-pub use together::Together;

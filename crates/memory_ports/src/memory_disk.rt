@@ -3,7 +3,7 @@ ghost use Rattle.std.specs.Prelude.{◌≡◌, ◌<◌, ◌≤◌, ◌+◌, ◌-
 ghost use Rattle.std.specs.List.{list_all};
 ghost use Rattle.zk_port.specs.Images.{written_at, IsTorn, ImagesFollow, StepsBy, Only};
 ghost use Rattle.zk_port.specs.Disks.{Elapses};
-ghost use Rattle.memory_ports.specs.Epochs.{left_by, left_by_all, is_prepared, reach, AreOutside, Leaves, chosen_names, may_choose, epoch_state, turn_of, is_refused, left_after, content_after, ranges_after};
+ghost use Rattle.memory_ports.specs.Epochs.{left_by, left_by_all, is_prepared, reach, AreOutside, Leaves, chosen_files, may_choose, epoch_state, turn_of, is_refused, left_after, content_after, ranges_after};
 ghost use Rattle.memory_ports.specs.Plans.{UsesCall};
 
 use crate::epoch::{Epoch, Leftover, Pending, Turn, prepare};
@@ -11,7 +11,7 @@ use crate::file_bytes::{MAX_ROOM, read_from, write_into};
 use crate::plan::FaultPlan;
 use std::alloc::{AllocError, Global};
 use std::mem;
-use zk_port::{Disk, Failed};
+use zk_port::{Access, Disk, Failed};
 
 /// The most bytes that a name has.
 const NAME_ROOM: usize = 4096;
@@ -31,6 +31,7 @@ pub struct MemoryDisk<P: FaultPlan> {
     most: usize,
     name: Vec<u8>,
     is_chosen: bool,
+    access: Access,
     plan: P,
     ghost strict: { P.forgiving ≡ false },
     ghost sized: { room ≤ 2 ^ 62 },
@@ -252,6 +253,7 @@ impl<P: FaultPlan + Drop> MemoryDisk<P> {
             most: calls,
             name: Vec::with_capacity(alloc, NAME_ROOM)?,
             is_chosen: false,
+            access: Access::Own,
             plan,
         })
     }
@@ -289,9 +291,9 @@ impl<P: FaultPlan + Drop> MemoryDisk<P> {
 impl<P: FaultPlan> Disk for MemoryDisk<P> {
     ghost use Rattle.std.specs.Prelude.{Some, None};
     ghost use Rattle.std.proofs.Common.{inl};
-    ghost use Rattle.memory_ports.specs.Epochs.{chosen_names, epoch_state, leaves_only_now};
+    ghost use Rattle.memory_ports.specs.Epochs.{chosen_files, epoch_state, leaves_only_now};
 
-    ghost state = { λ d. epoch_state (chosen_names d.is_chosen d.name.items) d.bytes.items
+    ghost state = { λ d. epoch_state (chosen_files d.is_chosen d.name.items d.access) d.bytes.items
         d.past.items d.epoch (P.count d.plan) };
 
     ghost counts_now = { λ d t c le now. inl now };
@@ -302,13 +304,13 @@ impl<P: FaultPlan> Disk for MemoryDisk<P> {
         self.plan.faults()
     }
 
-    fn choose(&mut self, name: &str) -> Result<(), Failed>
+    fn choose(&mut self, name: &str, access: Access) -> Result<(), Failed>
         ensures answer { is_err result ≡ is_refused (turn_of (may_choose self.old.is_chosen (length name.now))
             self.old.calls (P.coming self.old.plan 0)) }
-        ensures chosen { OnOk result (chosen_names self.new.is_chosen self.new.name.items
-            ≡ chosen_names self.old.is_chosen self.old.name.items ++ name.now ∷ []) }
+        ensures chosen { OnOk result (chosen_files self.new.is_chosen self.new.name.items self.new.access
+            ≡ chosen_files self.old.is_chosen self.old.name.items self.old.access ++ (name.now, access) ∷ []) }
         ensures refused { OnErr result ((self.new.is_chosen ≡ self.old.is_chosen)
-            × (self.new.name ≡ self.old.name)) }
+            × (self.new.name ≡ self.old.name) × (self.new.access ≡ self.old.access)) }
         ensures bytes { self.new.bytes ≡ self.old.bytes }
         ensures epoch { self.new.epoch ≡ self.old.epoch }
         ensures past { self.new.past ≡ self.old.past }
@@ -322,6 +324,7 @@ impl<P: FaultPlan> Disk for MemoryDisk<P> {
             Turn::Goes => {
                 let _ = self.name.extend_from_slice(name.as_bytes());
                 self.is_chosen = true;
+                self.access = access;
                 Ok(())
             }
             Turn::Fails | Turn::Lost => Err(Failed),
@@ -338,6 +341,7 @@ impl<P: FaultPlan> Disk for MemoryDisk<P> {
         ensures past { self.new.past ≡ self.old.past }
         ensures name { self.new.name ≡ self.old.name }
         ensures is_chosen { self.new.is_chosen ≡ self.old.is_chosen }
+        ensures access { self.new.access ≡ self.old.access }
         ensures room { self.new.room ≡ self.old.room }
         ensures calls { self.new.calls
             ≡ left_after (turn_of true self.old.calls (P.coming self.old.plan 0)) self.old.calls }
@@ -360,6 +364,7 @@ impl<P: FaultPlan> Disk for MemoryDisk<P> {
         ensures past { self.new.past ≡ self.old.past }
         ensures name { self.new.name ≡ self.old.name }
         ensures is_chosen { self.new.is_chosen ≡ self.old.is_chosen }
+        ensures access { self.new.access ≡ self.old.access }
         ensures torn { OnErr result (IsTorn at (length bytes.now) self.old.bytes.items self.new.bytes.items) }
         ensures crash { ImagesFollow (IsTorn at (length bytes.now))
             (Leaves self.old.epoch) (Leaves self.new.epoch) }
@@ -396,6 +401,7 @@ impl<P: FaultPlan> Disk for MemoryDisk<P> {
         ensures past { OnErr result (self.new.past ≡ self.old.past) }
         ensures name { self.new.name ≡ self.old.name }
         ensures is_chosen { self.new.is_chosen ≡ self.old.is_chosen }
+        ensures access { self.new.access ≡ self.old.access }
         ensures crash { (c : List ℕ) → Leaves self.new.epoch c → Leaves self.old.epoch c }
         ensures time { Elapses (⟦<MemoryDisk<P> as Disk>⟧.state self.old)
             (⟦<MemoryDisk<P> as Disk>⟧.state self.new) }

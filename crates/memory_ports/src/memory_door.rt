@@ -1,15 +1,23 @@
 // A door in memory that hands out the links it was given.
-ghost use Rattle.std.specs.Prelude.{◌≡◌, ◌≤◌, ◌+◌, ◌++◌, ◌||◌, ◌&&◌, ◌==◌, ℕ, [], ◌∷◌, true, false, not, map, string_bytes, Some, OnOk, OnErr, IfOk, IfSome, IsTrue, is_err};
+ghost use Rattle.std.specs.Prelude.{◌≡◌, ◌≤◌, ◌+◌, ◌++◌, ◌||◌, ◌&&◌, ◌==◌, ℕ, [], ◌∷◌, true, false, not, map, Some, OnOk, OnErr, IfOk, IfSome, IsTrue, is_err};
 ghost use Rattle.std.specs.List.{list_all};
 ghost use Rattle.std.specs.VecDeque.{deque_len};
 ghost use Rattle.zk_port.specs.Counts.{counted, is_failed};
 ghost use Rattle.zk_port.specs.Doors.{IsFreshLink, unasked_door};
-ghost use Rattle.memory_ports.specs.Doors.{is_fresh, GivesFirst, NotesText};
+ghost use Rattle.memory_ports.specs.Doors.{is_fresh, GivesFirst};
+ghost use Rattle.memory_ports.specs.Asking.{NotesAsked, asked_of};
 
 use crate::plan::FaultPlan;
 use std::alloc::{AllocError, Global};
 use std::collections::VecDeque;
 use zk_port::{Door, Link, PortFault};
+
+/// What a door was asked to listen at, or to connect to: an address, and the patience of its links.
+#[derive(Drop)]
+pub struct Asked {
+    address: String,
+    patience: u32,
+}
 
 /// A door in memory. `next` gives the links that wait, first come first, and `connect` those to be called.
 /// Exactly the calls that the plan names fail, and a connect that finds no link; under a plan by which
@@ -18,8 +26,8 @@ use zk_port::{Door, Link, PortFault};
 pub struct MemoryDoor<L: Link, P> {
     waiting: VecDeque<L>,
     called: VecDeque<L>,
-    listened: Vec<String>,
-    connected: Vec<String>,
+    listened: Vec<Asked>,
+    connected: Vec<Asked>,
     made: u64,
     nexts: u64,
     listen_faults: u64,
@@ -30,14 +38,14 @@ pub struct MemoryDoor<L: Link, P> {
     ghost fresh_called: { list_all (λ l. is_fresh (L.state l)) called.items ≡ true },
 }
 
-/// Adds the text after the others; without memory for it nothing changes.
-fn note(alloc: Global, texts: &mut Vec<String>, text: &str) -> Result<(), AllocError>
-    ensures noted { OnOk result (map string_bytes texts.new.items
-        ≡ map string_bytes texts.old.items ++ text.now ∷ []) }
-    ensures refused { OnErr result (texts.new.items ≡ texts.old.items) }
+/// Notes what is asked after the others; without memory for it nothing changes.
+fn note(alloc: Global, all: &mut Vec<Asked>, address: &str, patience: u32) -> Result<(), AllocError>
+    ensures noted { OnOk result (map asked_of all.new.items
+        ≡ map asked_of all.old.items ++ (address.now, patience) ∷ []) }
+    ensures refused { OnErr result (all.new.items ≡ all.old.items) }
 {
-    let text = String::from_str(alloc, text)?;
-    texts.push(text)?;
+    let address = String::from_str(alloc, address)?;
+    all.push(Asked { address, patience })?;
     Ok(())
 }
 
@@ -93,16 +101,17 @@ impl<L: Link, P: FaultPlan> MemoryDoor<L, P> {
 }
 
 impl<L: Link, P: FaultPlan> Door for MemoryDoor<L, P> {
-    ghost use Rattle.std.specs.Prelude.{Some, map, string_bytes};
+    ghost use Rattle.std.specs.Prelude.{Some, map};
     ghost use Rattle.std.specs.VecDeque.{deque_len};
+    ghost use Rattle.memory_ports.specs.Asking.{asked_of};
 
     type Link = L;
 
     ghost state = { λ d. record {
       left = deque_len d.waiting;
       offers = λ _. deque_len d.waiting;
-      listened = Some (map string_bytes d.listened.items);
-      connected = Some (map string_bytes d.connected.items);
+      listened = Some (map asked_of d.listened.items);
+      connected = Some (map asked_of d.connected.items);
       made = d.made;
       nexts = d.nexts;
       listen_faults = d.listen_faults;
@@ -110,11 +119,17 @@ impl<L: Link, P: FaultPlan> Door for MemoryDoor<L, P> {
       next_faults = d.next_faults;
     } };
 
-    fn listen(&mut self, alloc: Global, address: &str, _sessions: u32) -> Result<(), PortFault>
-        ensures listened { OnOk result (map string_bytes self.new.listened.items
-            ≡ map string_bytes self.old.listened.items ++ address.now ∷ []) }
-        ensures noted { OnErr result (NotesText address.now
-            (map string_bytes self.old.listened.items) (map string_bytes self.new.listened.items)) }
+    fn listen(
+        &mut self,
+        alloc: Global,
+        address: &str,
+        patience: u32,
+        _sessions: u32,
+    ) -> Result<(), PortFault>
+        ensures listened { OnOk result (map asked_of self.new.listened.items
+            ≡ map asked_of self.old.listened.items ++ (address.now, patience) ∷ []) }
+        ensures noted { OnErr result (NotesAsked (address.now, patience)
+            (map asked_of self.old.listened.items) (map asked_of self.new.listened.items)) }
         ensures waiting { self.new.waiting ≡ self.old.waiting }
         ensures called { self.new.called ≡ self.old.called }
         ensures connected { self.new.connected ≡ self.old.connected }
@@ -127,7 +142,7 @@ impl<L: Link, P: FaultPlan> Door for MemoryDoor<L, P> {
         ensures fails { is_failed result ≡ P.coming self.old.plan 0 }
         ensures onward { (n : ℕ) → P.coming self.new.plan n ≡ P.coming self.old.plan (n + 1) }
     {
-        let noted = note(alloc, &mut self.listened, address);
+        let noted = note(alloc, &mut self.listened, address, patience);
         if self.plan.fails() {
             self.listen_faults = self.listen_faults.saturating_add(1);
             return Err(PortFault::Failed);
@@ -139,13 +154,20 @@ impl<L: Link, P: FaultPlan> Door for MemoryDoor<L, P> {
         Ok(())
     }
 
-    fn connect(&mut self, alloc: Global, address: &str) -> Result<L, PortFault>
+    fn address(&self, alloc: Global) -> Result<String, AllocError> {
+        match self.listened.last() {
+            Some(asked) => String::from_str(alloc, &asked.address),
+            None => Err(AllocError),
+        }
+    }
+
+    fn connect(&mut self, alloc: Global, address: &str, patience: u32) -> Result<L, PortFault>
         ensures given { IfOk result (λ link. self.old.called.items ≡ link ∷ self.new.called.items) }
         ensures fresh { IfOk result (λ link. IsFreshLink (L.state link)) }
-        ensures connected { OnOk result (map string_bytes self.new.connected.items
-            ≡ map string_bytes self.old.connected.items ++ address.now ∷ []) }
-        ensures noted { OnErr result (NotesText address.now
-            (map string_bytes self.old.connected.items) (map string_bytes self.new.connected.items)) }
+        ensures connected { OnOk result (map asked_of self.new.connected.items
+            ≡ map asked_of self.old.connected.items ++ (address.now, patience) ∷ []) }
+        ensures noted { OnErr result (NotesAsked (address.now, patience)
+            (map asked_of self.old.connected.items) (map asked_of self.new.connected.items)) }
         ensures refused { OnErr result (self.new.called.items ≡ self.old.called.items) }
         ensures waiting { self.new.waiting ≡ self.old.waiting }
         ensures listened { self.new.listened ≡ self.old.listened }
@@ -159,7 +181,7 @@ impl<L: Link, P: FaultPlan> Door for MemoryDoor<L, P> {
         ensures fails { P.coming self.old.plan 0 ≡ true → IsTrue (is_failed result) }
         ensures onward { (n : ℕ) → P.coming self.new.plan n ≡ P.coming self.old.plan (n + 1) }
     {
-        let noted = note(alloc, &mut self.connected, address);
+        let noted = note(alloc, &mut self.connected, address, patience);
         if self.plan.fails() {
             self.connect_faults = self.connect_faults.saturating_add(1);
             return Err(PortFault::Failed);

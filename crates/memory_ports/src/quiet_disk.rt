@@ -1,7 +1,7 @@
 // A disk in memory that tells nothing of what it holds.
 use crate::memory_disk::MemoryDisk;
 use crate::plan::FaultPlan;
-use zk_port::{Disk, Failed};
+use zk_port::{Access, Disk, Failed};
 
 /// A disk in memory that tells no content and no crash: what a caller proves over it holds on any bytes.
 #[derive(Drop)]
@@ -22,8 +22,8 @@ impl<P: FaultPlan> Disk for QuietDisk<P> {
         self.disk.faults()
     }
 
-    fn choose(&mut self, name: &str) -> Result<(), Failed> {
-        self.disk.choose(name)
+    fn choose(&mut self, name: &str, access: Access) -> Result<(), Failed> {
+        self.disk.choose(name, access)
     }
 
     fn read(&mut self, at: u64, buffer: &mut [u8]) -> Result<usize, Failed> {

@@ -21,6 +21,7 @@ pub struct ScriptedLink<P> {
     ended: bool,
     is_open: bool,
     sends: u64,
+    refused_sends: u64,
     receives: u64,
     plan: P,
     ghost within: { place ≤ vec_len script },
@@ -79,6 +80,7 @@ impl<P: FaultPlan> ScriptedLink<P> {
           ended = Some false;
           is_open = true;
           sends = 0;
+          refused_sends = 0;
           receives = 0;
           faults = P.count plan;
         } }
@@ -91,9 +93,32 @@ impl<P: FaultPlan> ScriptedLink<P> {
             ended: false,
             is_open: true,
             sends: 0,
+            refused_sends: 0,
             receives: 0,
             plan,
         }
+    }
+
+    /// Logs these bytes as sent, or by the plan a first half of them, or none.
+    fn pass(&mut self, alloc: Global, bytes: &[u8]) -> Result<(), PortFault>
+        ensures sent { OnOk result (self.new.log.items ≡ self.old.log.items ++ bytes_of Sent bytes.now) }
+        ensures part { OnErr result ((n : ℕ) ×
+            (self.new.log.items ≡ self.old.log.items ++ bytes_of Sent (take n bytes.now))) }
+        ensures half { OnErr result
+            (length self.new.log.items ≤ length self.old.log.items + length bytes.now / 2) }
+        ensures rest { self.new ≡ record self.old { log = self.new.log; plan = self.new.plan } }
+        ensures fails { is_failed result ≡ P.coming self.old.plan 0 }
+        ensures plan { UsesCall P.coming P.count (is_failed result) self.old.plan self.new.plan }
+    {
+        if self.plan.fails() {
+            note_half(alloc, &mut self.log, Way::Sent, bytes);
+            return Err(PortFault::Failed);
+        }
+        if self.plan.lacks() {
+            return Err(PortFault::NoMemory);
+        }
+        note_bytes(alloc, &mut self.log, Way::Sent, bytes)?;
+        Ok(())
     }
 }
 
@@ -106,6 +131,7 @@ impl<P: FaultPlan> Link for ScriptedLink<P> {
       ended = Some l.ended;
       is_open = l.is_open;
       sends = l.sends;
+      refused_sends = l.refused_sends;
       receives = l.receives;
       faults = P.count l.plan;
     } };
@@ -121,24 +147,28 @@ impl<P: FaultPlan> Link for ScriptedLink<P> {
             (self.new.log.items ≡ self.old.log.items ++ bytes_of Sent (take n bytes.now))) }
         ensures half { OnErr result
             (length self.new.log.items ≤ length self.old.log.items + length bytes.now / 2) }
-        ensures rest { self.new ≡ record self.old {
+        ensures rest { OnOk result (self.new ≡ record self.old {
           log = self.new.log;
           sends = counted true self.old.sends;
           plan = self.new.plan;
-        } }
+        }) }
+        ensures rest_refused { OnErr result (self.new ≡ record self.old {
+          log = self.new.log;
+          sends = counted true self.old.sends;
+          refused_sends = counted true self.old.refused_sends;
+          plan = self.new.plan;
+        }) }
         ensures fails { is_failed result ≡ P.coming self.old.plan 0 }
         ensures plan { UsesCall P.coming P.count (is_failed result) self.old.plan self.new.plan }
     {
         self.sends = self.sends.saturating_add(1);
-        if self.plan.fails() {
-            note_half(alloc, &mut self.log, Way::Sent, bytes);
-            return Err(PortFault::Failed);
+        match self.pass(alloc, bytes) {
+            Ok(()) => Ok(()),
+            Err(fault) => {
+                self.refused_sends = self.refused_sends.saturating_add(1);
+                Err(fault)
+            }
         }
-        if self.plan.lacks() {
-            return Err(PortFault::NoMemory);
-        }
-        note_bytes(alloc, &mut self.log, Way::Sent, bytes)?;
-        Ok(())
     }
 
     #[tactic(auto, using(crate::proofs::Scripts::no_piece))]
@@ -159,6 +189,7 @@ impl<P: FaultPlan> Link for ScriptedLink<P> {
         ensures script { self.new.script ≡ self.old.script }
         ensures is_open { self.new.is_open ≡ self.old.is_open }
         ensures sends { self.new.sends ≡ self.old.sends }
+        ensures refused_sends { self.new.refused_sends ≡ self.old.refused_sends }
         ensures receives { self.new.receives ≡ counted true self.old.receives }
         ensures refused { OnErr result (self.new.log.items ≡ self.old.log.items) }
         ensures kept { OnErr result (self.new

@@ -4,7 +4,7 @@ ghost use Rattle.zk_port.specs.Images.{written_at};
 
 use crate::file_bytes::{MAX_ROOM, read_from, write_into};
 use std::alloc::{AllocError, Global};
-use zk_port::{Disk, Failed};
+use zk_port::{Access, Disk, Failed};
 
 /// A disk in memory that never fails, with room for a stated number of bytes. It has one file, which every name
 /// chooses, and tells no name. No crash comes, so none leaves anything.
@@ -58,7 +58,7 @@ impl Disk for SureDisk {
         0
     }
 
-    fn choose(&mut self, _name: &str) -> Result<(), Failed>
+    fn choose(&mut self, _name: &str, _access: Access) -> Result<(), Failed>
         ensures unchanged { self.new ≡ self.old }
         ensures done { is_ok result ≡ true }
     {

@@ -4,45 +4,93 @@ ghost use Rattle.zk_port.specs.Counts.{counted, HasDiskCause};
 ghost use Rattle.zk_port.specs.Images.{ImagesFollow, IsTorn};
 
 use crate::reading::fill;
-use std::fs::{OpenFile, OpenOptions};
+use crate::reason::{Outside, Reason, keep_reason};
+use std::alloc::Global;
+use std::fs::{File, OpenOptions};
 use std::io;
-use std::io::{ErrorKind, Read, Seek, SeekFrom, Write};
+use std::io::{ErrorKind, Seek, SeekFrom, Write};
 use std::rt::Files;
-use zk_port::{Disk, Failed};
+use zk_port::{Access, Disk, Failed};
 
 /// A file of the system that is read and written in place, and that a sync writes through to the device. The name that was
-/// chosen last is the file's, and without one each call fails.
+/// chosen last is the file's; without one, and after one that could not be chosen, each call fails. As long as a file is chosen
+/// an advisory lock is held on it (flock(2)), an exclusive one or, for reads alone, a shared one: where another disk has the file otherwise,
+/// of this process or of another, it is not chosen.
 #[derive(Drop)]
-pub struct FileDisk<R: Files> {
+pub struct FileDisk<R> {
     rt: R,
-    file: Option<R::File>,
+    file: Option<File>,
+    name: String,
     faults: u64,
+    reason: Option<Reason>,
 }
 
-impl<R: Files> FileDisk<R> {
+impl<R: Files<File = File> + AllocGlobal> FileDisk<R> {
     /// A disk of which no file is chosen yet, and no call has failed.
     pub fn new(rt: R) -> Self
         ensures { (⟦<FileDisk<R> as Disk>⟧.state result).faults ≡ 0 }
     {
+        let alloc: Global = rt.alloc();
         FileDisk {
             rt,
             file: None,
+            name: String::new(alloc),
             faults: 0,
+            reason: None,
         }
+    }
+
+    /// Why the first call that failed did.
+    pub fn reason(&self) -> Option<&Reason> {
+        self.reason.as_ref()
+    }
+
+    /// Notes the name of the file that is asked for, for reasons alone; without memory for it there is none.
+    fn note_name(&mut self, name: &str)
+        ensures { self.new.faults ≡ self.old.faults }
+    {
+        let alloc: Global = self.rt.alloc();
+        self.name = match String::from_str(alloc, name) {
+            Ok(name) => name,
+            Err(_) => String::new(alloc),
+        };
+    }
+
+    /// A call that failed, which is counted.
+    fn failed(&mut self, error: io::Error) -> Failed
+        ensures count { self.new.faults ≡ counted true self.old.faults }
+        ensures faults_grow { self.old.faults ≤ self.new.faults }
+    {
+        let alloc: Global = self.rt.alloc();
+        keep_reason(
+            &mut self.reason,
+            alloc,
+            Outside::Journal,
+            self.name.as_str(),
+            error,
+        );
+        self.faults = self.faults.saturating_add(1);
+        Failed
     }
 }
 
-/// A call that failed, which is counted.
-fn failed(faults: &mut u64) -> Failed
-    ensures count { faults.new ≡ counted true faults.old }
-    ensures faults_grow { faults.old ≤ faults.new }
-{
-    *faults = faults.saturating_add(1);
-    Failed
+/// The file of this name, which nobody else has locked otherwise, and which is locked from now on.
+fn open_locked<R: Files<File = File>>(rt: &R, name: &str, access: Access) -> io::Result<File> {
+    let is_own = access == Access::Own;
+    let file = OpenOptions::new().read(true).write(is_own).open(rt, name)?;
+    let locked = if is_own {
+        file.try_lock()
+    } else {
+        file.try_lock_shared()
+    };
+    match locked {
+        Ok(()) => Ok(file),
+        Err(error) => Err(io::Error::from(error)),
+    }
 }
 
 /// The chosen file.
-fn chosen<F>(file: &mut Option<F>) -> io::Result<&mut F> {
+fn chosen(file: &mut Option<File>) -> io::Result<&mut File> {
     match file {
         Some(file) => Ok(file),
         None => Err(io::Error::from(ErrorKind::NotFound)),
@@ -50,7 +98,7 @@ fn chosen<F>(file: &mut Option<F>) -> io::Result<&mut F> {
 }
 
 /// Reads from this place on until the buffer is full or the file ends, and says how many bytes there were.
-fn read_from<F: Read + Seek>(file: &mut Option<F>, at: u64, buffer: &mut [u8]) -> io::Result<usize>
+fn read_from(file: &mut Option<File>, at: u64, buffer: &mut [u8]) -> io::Result<usize>
     ensures count { IfOk result (λ n. n ≤ length buffer.old) }
     ensures rest { IfOk result (λ n. drop n buffer.new ≡ drop n buffer.old) }
 {
@@ -61,18 +109,18 @@ fn read_from<F: Read + Seek>(file: &mut Option<F>, at: u64, buffer: &mut [u8]) -
 }
 
 /// Writes these bytes from this place on.
-fn write_from<F: Write + Seek>(file: &mut Option<F>, at: u64, bytes: &[u8]) -> io::Result<()> {
+fn write_from(file: &mut Option<File>, at: u64, bytes: &[u8]) -> io::Result<()> {
     let file = chosen(file)?;
     file.seek(SeekFrom::Start(at))?;
     file.write_all(bytes)
 }
 
 /// Has all that was written put on the device.
-fn sync_file<F: OpenFile>(file: &mut Option<F>) -> io::Result<()> {
+fn sync_file(file: &mut Option<File>) -> io::Result<()> {
     chosen(file)?.sync_all()
 }
 
-impl<R: Files> Disk for FileDisk<R> {
+impl<R: Files<File = File> + AllocGlobal> Disk for FileDisk<R> {
     ghost use Rattle.zk_port.specs.Disks.{untold};
 
     ghost state = { λ d. record (untold d.faults) { images = λ _. Unit {0}; images_since = λ _ _. Unit {0} } };
@@ -85,24 +133,22 @@ impl<R: Files> Disk for FileDisk<R> {
         self.faults
     }
 
-    fn choose(&mut self, name: &str) -> Result<(), Failed> {
-        match OpenOptions::new()
-            .read(true)
-            .write(true)
-            .open(&self.rt, name)
-        {
+    fn choose(&mut self, name: &str, access: Access) -> Result<(), Failed> {
+        self.file = None; // its lock goes first: the name may be the same
+        self.note_name(name);
+        match open_locked(&self.rt, name, access) {
             Ok(file) => {
                 self.file = Some(file);
                 Ok(())
             }
-            Err(_) => Err(failed(&mut self.faults)),
+            Err(error) => Err(self.failed(error)),
         }
     }
 
     fn read(&mut self, at: u64, buffer: &mut [u8]) -> Result<usize, Failed> {
         match read_from(&mut self.file, at, buffer) {
             Ok(n) => Ok(n),
-            Err(_) => Err(failed(&mut self.faults)),
+            Err(error) => Err(self.failed(error)),
         }
     }
 
@@ -112,14 +158,14 @@ impl<R: Files> Disk for FileDisk<R> {
     {
         match write_from(&mut self.file, at, bytes) {
             Ok(()) => Ok(()),
-            Err(_) => Err(failed(&mut self.faults)),
+            Err(error) => Err(self.failed(error)),
         }
     }
 
     fn sync(&mut self) -> Result<(), Failed> {
         match sync_file(&mut self.file) {
             Ok(()) => Ok(()),
-            Err(_) => Err(failed(&mut self.faults)),
+            Err(error) => Err(self.failed(error)),
         }
     }
 }

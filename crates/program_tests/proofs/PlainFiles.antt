@@ -4,8 +4,7 @@ use Rattle.std.proofs.lemmas.Bool.Decides.{nat_tests}
 use Rattle.zk_model.specs.declared.JournalKind.{JournalKind}
 use Rattle.zk_model.specs.declared.JournalKind.TheVariants.{Claims, Ceilings}
 use Rattle.zk_model.specs.Journals.{journal_code, slots_at}
-use Rattle.zk_model.specs.Twins.{IsTwinTidy, TwinStands, are_twin_slots, is_migrated, twin_begin, twin_code, twin_slots_at}
-use Rattle.twin_journal.specs.Starts.{IsTidyFile}
+use Rattle.zk_model.specs.Twins.{TwinStands, are_twin_slots, is_migrated, twin_begin, twin_code}
 
 pub begins_first : (kind either : JournalKind) (id : List ℕ) (total slots : ℕ) (bytes : List ℕ) → TwinStands kind id total 0 slots bytes
     → twin_begin either bytes ≡ 0
@@ -26,12 +25,6 @@ begins_first kind either id total slots bytes stands = ap (λ b. if b then 64 + 
 
     plain : is_migrated either bytes ≡ false
     plain = (λ i. nat_le 64 (length bytes) && (other i) && (get_or bytes 15 0 == 90)) ∙ no_middle (nat_le 64 (length bytes)) (get_or bytes 15 0 == 90)
-
-pub tidy_first : (kind either : JournalKind) (id : List ℕ) (total slots : ℕ) (bytes : List ℕ) → TwinStands kind id total 0 slots bytes
-    → IsTwinTidy 0 slots bytes → IsTidyFile either bytes
-tidy_first kind either id total slots bytes stands tidy =
-    subst (λ n. IsTwinTidy n (twin_slots_at n bytes) bytes) (sym (begins_first kind either id total slots bytes stands))
-    (subst (λ n. IsTwinTidy 0 n bytes) (sym stands.says) tidy)
 
 -- areas of one slot may be those of either side's journal of 4 units
 pub one_fits : (kind : JournalKind) → are_twin_slots kind 4 1 ≡ true

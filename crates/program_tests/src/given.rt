@@ -1,7 +1,7 @@
 // What stands there before a session: dealt files, and a new journal of theirs.
 ghost use Rattle.std.specs.Prelude.{◌≡◌, IfOk};
 ghost use Rattle.zk_model.specs.Twins.{twin_begin, twin_slots_at};
-ghost use Rattle.twin_journal.specs.Starts.{IsTidyFile};
+ghost use Rattle.twin_journal.specs.Starts.{AreTidy};
 ghost use Rattle.file_commands.specs.Journals.{IsJournalDisk};
 
 use crate::vectors::FILE_ID;
@@ -11,9 +11,9 @@ use std::collections::BTreeMap;
 use std::sync::Wait;
 use std::test::Fail;
 use std::thread::Threads;
-use twin_journal::{JournalKind, blank_twin, blank_twin_is_new, says_what_it_recovers};
+use twin_journal::{JournalKind, blank_twin, blank_twin_is_new, said_is_tidy};
 use zk_cli::run_zk;
-use zk_port::{Disk, QuietGate};
+use zk_port::Disk;
 
 pub type Files = MemoryShelf<NoFault>;
 
@@ -34,12 +34,12 @@ pub fn words_of(alloc: Global, texts: &[&str]) -> Result<Vec<String>, AllocError
 
 /// A new journal of the dealt files, with areas of one slot.
 fn new_bytes(alloc: Global, kind: JournalKind) -> Result<Vec<u8>, AllocError>
-    ensures tidy { IfOk result (λ bytes. (either : JournalKind) → IsTidyFile either bytes.items) }
+    ensures tidy { IfOk result (λ bytes. AreTidy bytes.items) }
     ensures begins { IfOk result (λ bytes. (either : JournalKind) → twin_begin either bytes.items ≡ 0) }
     ensures says { IfOk result (λ bytes. twin_slots_at 0 bytes.items ≡ 1) }
 {
     blank_twin_is_new();
-    says_what_it_recovers();
+    said_is_tidy();
     let bytes = blank_twin(alloc, kind, &FILE_ID, 4, 1)?;
     Ok(bytes)
 }
@@ -63,10 +63,19 @@ pub fn dealt<R: Threads + Wait + Sync>(rt: &R, alloc: Global) -> Result<Files, F
     files.insert(String::from_str(alloc, "c")?, AND.as_bytes().to_vec(alloc)?)?;
     let mut shelf = MemoryShelf::new(files, NoFault);
     let mut out = MemorySink::new(alloc, NoFault);
+    let mut notices = MemorySink::new(alloc, NoFault);
     let door: MemoryDoor<ScriptedLink<NoFault>, NoFault> = MemoryDoor::new(alloc, NoFault);
     let disk = new_journal(alloc, JournalKind::Claims)?;
     let finish = run_zk(
-        rt, alloc, &words, &mut shelf, disk, door, &QuietGate, &SEED, &mut out,
+        rt,
+        alloc,
+        &words,
+        &mut shelf,
+        disk,
+        door,
+        &SEED,
+        &mut out,
+        &mut notices,
     );
     if finish.status != 0 {
         return Err(Fail::new("not dealt"));

@@ -1,8 +1,8 @@
 //! Tests of what takes objects or threads of its own. What a run's lines and status are stands in the lines of `session_runs` and
 //! `stored_runs`.
 //!
-//! `serve_tests` has services whose gate holds sessions or counts what it is told, with peers that are honest over whichever units they are
-//! granted, and `party_tests` both ends in one process, over a connection: whole runs, through `run_zk`. `fan_tests` has the rounds of units,
+//! `serve_tests` has services with peers that are honest over whichever units they are granted, some of which wait for each other, and
+//! `party_tests` both ends in one process, over a connection: whole runs, through `run_zk`. `fan_tests` has the rounds of units,
 //! and `many_workers` sums along a walk, which are the same by any number of workers; `trees` has trees that are grown at once and leaf by
 //! leaf, `worked_values` a corrected wire, and slots. `given` has dealt files and journals, `made` small elements and programs, `vectors`
 //! bytes that the program did not make.

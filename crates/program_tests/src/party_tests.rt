@@ -10,7 +10,7 @@ use std::thread::{self, Threads, join};
 use std::time::{Clock, Duration};
 use twin_journal::JournalKind;
 use zk_cli::{Finish, run_zk};
-use zk_port::{QuietGate, Sink};
+use zk_port::Sink;
 
 /// How often the prover tries to connect, a millisecond apart.
 const TRIES: u32 = 2_000;
@@ -38,11 +38,12 @@ fn run_party<R>(
     kind: JournalKind,
 ) -> Result<Ended, AllocError>
 where
-    R: Threads + Wait + Sync + Net,
+    R: Threads + Wait + Sync + Net + Clock,
     R::Stream: Send,
     R::Listener: Send,
 {
     let mut out = MemorySink::new(alloc, NoFault);
+    let mut notices = MemorySink::new(alloc, NoFault);
     let disk = new_journal(alloc, kind)?;
     let Finish { status, .. } = run_zk(
         rt,
@@ -51,9 +52,9 @@ where
         shelf,
         disk,
         TcpDoor::new(rt),
-        &QuietGate,
         &SEED,
         &mut out,
+        &mut notices,
     );
     Ok(Ended {
         status,
@@ -64,7 +65,7 @@ where
 /// The verifier's run: one session.
 fn serve<R>(rt: &R, alloc: Global, address: &str, mut shelf: Files) -> Result<Ended, AllocError>
 where
-    R: Threads + Wait + Sync + Net,
+    R: Threads + Wait + Sync + Net + Clock,
     R::Stream: Send,
     R::Listener: Send,
 {

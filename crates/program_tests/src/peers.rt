@@ -55,6 +55,7 @@ impl Link for HonestPeer {
       ended = None;
       is_open = l.is_open;
       sends = l.sends;
+      refused_sends = 0;
       receives = l.receives;
       faults = 0;
     } };

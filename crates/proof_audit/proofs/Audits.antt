@@ -15,7 +15,7 @@ use Rattle.zk_model.specs.declared.Params.{Params}
 use Rattle.zk_laws.proofs.Extracted.{extraction_holds}
 use Rattle.zk_laws.proofs.OneFinding.{one_finding}
 use Rattle.session_laws.proofs.OutputsShown.{extracted_shows_outputs}
-use Rattle.proof_audit.specs.Audits.{IsAudited, Gives, Finds, audit_task}
+use Rattle.proof_audit.specs.Audits.{IsAudited, Gives, Finds, LogGives, audit_task}
 use Rattle.proof_audit.specs.Stages.{transcript_read}
 use Rattle.check_findings.specs.declared.finding.Finding.{Finding}
 use Rattle.check_findings.specs.declared.finding.Finding.TheVariants.{Inputs, ChallengeRoot, KeyRoot, NotAccepted}
@@ -95,17 +95,25 @@ bits_found circuit public outputs inputs bits satisfying are =
 
 -- ---- what an audit finds
 
+gives_so : (circuit : Circuit) (digest : List ℕ) (public outputs : List Bool) (prover : ProverFile) (verifier : VerifierFile) (log : List ℕ)
+    (s : Session) (shown : Finding) → (about : IsAbout circuit digest public outputs prover verifier log s)
+    → Gives prover (circuit_statement circuit digest public outputs)
+    (transcript_read (audit_task circuit digest public outputs verifier) about.audited.greeting s 0 0) shown
+    → LogGives circuit public outputs prover (audit_task circuit digest public outputs verifier) log shown
+gives_so circuit digest public outputs prover verifier log s NotAccepted about gives = absurd gives
+gives_so circuit digest public outputs prover verifier log s (ChallengeRoot section polynomial) about gives =
+    found_in circuit digest public outputs prover verifier log s (model.found_challenge_root section polynomial.items) about gives
+gives_so circuit digest public outputs prover verifier log s (KeyRoot polynomial) about gives =
+    found_in circuit digest public outputs prover verifier log s (model.found_key_root polynomial.items) about gives
+gives_so circuit digest public outputs prover verifier log s (Inputs bits) about gives =
+    let found = found_in circuit digest public outputs prover verifier log s (model.found_inputs gives.inputs) about gives.found in
+    subst (λ (inputs : List ℕ). IsFoundIn circuit public outputs prover (audit_task circuit digest public outputs verifier) log (model.found_inputs inputs))
+    (bits_found circuit public outputs gives.inputs bits.items found.says gives.bits_are) found
+
 pub finds : (circuit : Circuit) (digest : List ℕ) (public outputs : List Bool) (prover : ProverFile) (verifier : VerifierFile) (log : List ℕ)
     (s : Session) (shown : Finding) → (about : IsAbout circuit digest public outputs prover verifier log s)
     → Gives prover (circuit_statement circuit digest public outputs)
     (transcript_read (audit_task circuit digest public outputs verifier) about.audited.greeting s 0 0) shown
     → Finds circuit public outputs prover (audit_task circuit digest public outputs verifier) log shown
-finds circuit digest public outputs prover verifier log s NotAccepted about gives = absurd gives
-finds circuit digest public outputs prover verifier log s (ChallengeRoot section polynomial) about gives =
-    found_in circuit digest public outputs prover verifier log s (model.found_challenge_root section polynomial.items) about gives
-finds circuit digest public outputs prover verifier log s (KeyRoot polynomial) about gives =
-    found_in circuit digest public outputs prover verifier log s (model.found_key_root polynomial.items) about gives
-finds circuit digest public outputs prover verifier log s (Inputs bits) about gives =
-    let found = found_in circuit digest public outputs prover verifier log s (model.found_inputs gives.inputs) about gives.found in
-    subst (λ (inputs : List ℕ). IsFoundIn circuit public outputs prover (audit_task circuit digest public outputs verifier) log (model.found_inputs inputs))
-    (bits_found circuit public outputs gives.inputs bits.items found.says gives.bits_are) found
+finds circuit digest public outputs prover verifier log s shown about gives =
+    (about.audited.dealt, gives_so circuit digest public outputs prover verifier log s shown about gives)

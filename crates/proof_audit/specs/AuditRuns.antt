@@ -11,6 +11,7 @@ use Rattle.zk_model.specs.Statement.{Statement}
 use Rattle.zk_model.specs.Transcript.{Transcript}
 use Rattle.zk_model.specs.declared.Side.TheVariants.{Prover, Verifier}
 use Rattle.zk_port.specs.Files.{Files}
+use Rattle.command_words.specs.BitWords.{Bits}
 use Rattle.command_words.specs.BitWords.{bits_word}
 use Rattle.command_words.specs.Words.{AuditAsk, audit_ask}
 use Rattle.dealer_files.specs.Faults.{IsDealtFile}
@@ -26,7 +27,7 @@ use Rattle.file_commands.specs.declared.refusal.Refusal.{Refusal}
 use Rattle.file_commands.specs.declared.refusal.Refusal.TheVariants.{NotDealt, BadLog, NoMemory}
 
 -- what is asked for
-abbrev pub audit_words : AuditWords → AuditAsk
+abbrev pub audit_words : AuditWords → AuditAsk Bits
 audit_words words =
     audit_ask words.circuit.now words.public.now words.outputs.now words.prover.now words.verifier.now words.log.now
 
@@ -63,18 +64,18 @@ finding_status NotAccepted = 1
 -- ---- what is audited
 
 -- the names of the files that are loaded
-abbrev pub IsAuditName : AuditAsk → List ℕ → Type 0
+abbrev pub IsAuditName : AuditAsk Bits → List ℕ → Type 0
 IsAuditName ask name = (name ≡ ask.circuit) ⊎ (name ≡ ask.prover) ⊎ (name ≡ ask.verifier) ⊎ (name ≡ ask.log)
 
 -- where a shelf tells, the claim and both dealt files stand under their names
-pub record AreFiles (told : Option Files) (ask : AuditAsk) (circuit : Circuit) (prover : ProverFile) (task : VerifierTask)
+pub record AreFiles (told : Option Files) (ask : AuditAsk Bits) (circuit : Circuit) (prover : ProverFile) (task : VerifierTask)
     : Type 0 where
   pub claim : IsClaim told ask.circuit ask.public ask.outputs circuit task.statement
   pub prover_file : IsProverFileAt told ask.prover prover
   pub verifier_file : IsVerifierFileAt told ask.verifier task.file
 
 -- this holds of such files, and of the bytes of the log under its name
-pub record HasAudit (told : Option Files) (ask : AuditAsk)
+pub record HasAudit (told : Option Files) (ask : AuditAsk Bits)
     (Holds : Circuit → ProverFile → VerifierTask → List ℕ → Type 0) : Type 0 where
   pub circuit : Circuit
   pub prover : ProverFile
@@ -85,34 +86,34 @@ pub record HasAudit (told : Option Files) (ask : AuditAsk)
   pub holds : Holds circuit prover task log
 
 -- this is what is found in the log
-abbrev pub FindsIn : Option Files → AuditAsk → Finding → Type 0
+abbrev pub FindsIn : Option Files → AuditAsk Bits → Finding → Type 0
 FindsIn told ask finding =
     HasAudit told ask (λ circuit prover task log. Finds circuit ask.public ask.outputs prover task log finding)
 
 -- ---- why nothing is found
 
 -- there is a claim, but no prover's file
-abbrev pub LacksProver : AuditAsk → ShelfChange → Refusal → Type 0
+abbrev pub LacksProver : AuditAsk Bits → ShelfChange → Refusal → Type 0
 LacksProver ask shelf stop =
     (circuit : Circuit) × (statement : Statement) × IsClaim shelf.old.told ask.circuit ask.public ask.outputs circuit statement
     × FileStop Prover ask.prover shelf stop
 
 -- there is a prover's file too, but no verifier's
-abbrev pub LacksVerifier : AuditAsk → ShelfChange → Refusal → Type 0
+abbrev pub LacksVerifier : AuditAsk Bits → ShelfChange → Refusal → Type 0
 LacksVerifier ask shelf stop =
     (circuit : Circuit) × (statement : Statement) × (prover : ProverFile)
     × IsClaim shelf.old.told ask.circuit ask.public ask.outputs circuit statement
     × IsProverFileAt shelf.old.told ask.prover prover × FileStop Verifier ask.verifier shelf stop
 
 -- there are both, but no log
-abbrev pub LacksLog : AuditAsk → ShelfChange → Refusal → Type 0
+abbrev pub LacksLog : AuditAsk Bits → ShelfChange → Refusal → Type 0
 LacksLog ask shelf stop =
     (circuit : Circuit) × (prover : ProverFile) × (task : VerifierTask) × AreFiles shelf.old.told ask circuit prover task
     × LoadStop ask.log shelf stop
 
 -- Why nothing is found, the first of these: the circuit can't be had, has too few inputs for the public bits, or another number of
 -- outputs; the prover's file can't be had; the verifier's can't; the log can't; the files are not of one dealing; the log has a fault.
-abbrev pub AuditStop : AuditAsk → ShelfChange → Refusal → Type 0
+abbrev pub AuditStop : AuditAsk Bits → ShelfChange → Refusal → Type 0
 AuditStop ask shelf (NotDealt unit) =
     HasAudit shelf.old.told ask (λ circuit prover task log. AuditCause prover task log (fault.NotDealt unit))
 AuditStop ask shelf (BadLog place) =
@@ -123,21 +124,21 @@ AuditStop ask shelf stop = ClaimStop ask.circuit ask.public ask.outputs shelf st
 -- ---- what its run promises
 
 -- the line of what is found is written, or that of a stop, which has its cause
-abbrev pub AuditLines : AuditAsk → Effects → Type 0
+abbrev pub AuditLines : AuditAsk Bits → Effects → Type 0
 AuditLines ask run =
     ((finding : Finding) × FindsIn run.shelf.old.told ask finding
     × PrintsMade (finding_status finding) (finding_line finding) run.status run.sink)
     ⊎ SaysStop (AuditStop ask run.shelf) run
 
 -- the line of a finding of this status is written, and the sink did not fail
-abbrev pub WritesFinding : ℕ → AuditAsk → Effects → Type 0
+abbrev pub WritesFinding : ℕ → AuditAsk Bits → Effects → Type 0
 WritesFinding status ask run =
     (finding : Finding) × FindsIn run.shelf.old.told ask finding × (finding_status finding ≡ status)
     × WritesAll (finding_line finding) run.sink
 
 -- What the status says. 0: inputs are found; 1: something else is; 3: the cause of a stop; 4: a call for one of the files failed, or
 -- one of the sink; 7: no memory.
-abbrev pub AuditMeans : AuditAsk → Effects → Type 0
+abbrev pub AuditMeans : AuditAsk Bits → Effects → Type 0
 AuditMeans ask run =
     ((run.status ≡ 0) × WritesFinding 0 ask run)
     ⊎ ((run.status ≡ 1) × WritesFinding 1 ask run)
@@ -160,7 +161,7 @@ pub record IsOfSession (prover : ProverFile) (task : VerifierTask) (log : List �
 
 -- a shelf that tells has a circuit with inputs for the public bits and as many outputs as are claimed, both dealt files, and the log of an
 -- accepted session over them, with this finding
-pub record IsAuditable (told : Option Files) (ask : AuditAsk) (finding : model.Finding) : Type 0 where
+pub record IsAuditable (told : Option Files) (ask : AuditAsk Bits) (finding : model.Finding) : Type 0 where
   pub tells : told ≢ None
   pub circuit : HasCircuit told ask.circuit (λ circuit. (length ask.public ≤ circuit.inputs) × (length ask.outputs ≡ circuit.outputs))
   pub prover_file : HasText told ask.prover (IsDealtFile Prover)
@@ -172,7 +173,7 @@ pub record IsAuditable (told : Option Files) (ask : AuditAsk) (finding : model.F
 
 -- The line of what is found in the log is written, or that of a stop with its cause; nothing but the four files is asked of the shelf;
 -- what the status says; and on the log of an accepted session, where nothing fails, it is that of the session's one finding.
-pub record Audits (ask : AuditAsk) (run : Effects) : Type 0 where
+pub record Audits (ask : AuditAsk Bits) (run : Effects) : Type 0 where
   pub lines : AuditLines ask run
   pub kept : OnlyLoads (IsAuditName ask) run.shelf
   pub means : AuditMeans ask run

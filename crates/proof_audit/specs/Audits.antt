@@ -56,18 +56,23 @@ abbrev pub audit_task : Circuit → List ℕ → List Bool → List Bool → Ver
 audit_task circuit digest public outputs file =
     record { file = file; statement = circuit_statement circuit digest public outputs }
 
--- what an audit finds: the finding of an accepted session, whose inputs are bits; or that none was accepted
-abbrev pub Finds : Circuit → List Bool → List Bool → ProverFile → VerifierTask → List ℕ → Finding → Type 0
-Finds circuit public outputs prover task log (Inputs bits) =
+-- what the log gives: the finding of an accepted session, whose inputs are bits; or that none was accepted
+abbrev pub LogGives : Circuit → List Bool → List Bool → ProverFile → VerifierTask → List ℕ → Finding → Type 0
+LogGives circuit public outputs prover task log (Inputs bits) =
     IsFoundIn circuit public outputs prover task log (model.found_inputs (map from_bit bits.items))
-Finds circuit public outputs prover task log (ChallengeRoot section polynomial) =
+LogGives circuit public outputs prover task log (ChallengeRoot section polynomial) =
     IsFoundIn circuit public outputs prover task log (model.found_challenge_root section polynomial.items)
-Finds circuit public outputs prover task log (KeyRoot polynomial) =
+LogGives circuit public outputs prover task log (KeyRoot polynomial) =
     IsFoundIn circuit public outputs prover task log (model.found_key_root polynomial.items)
-Finds circuit public outputs prover task log NotAccepted = IsNotAccepted task log
+LogGives circuit public outputs prover task log NotAccepted = IsNotAccepted task log
 
--- why it finds nothing: the files are not dealt together, from this unit on; the log has a fault; or memory is missing
+-- what an audit finds: the files are dealt together, and the log gives this
+abbrev pub Finds : Circuit → List Bool → List Bool → ProverFile → VerifierTask → List ℕ → Finding → Type 0
+Finds circuit public outputs prover task log finding =
+    AreDealt prover task.file × LogGives circuit public outputs prover task log finding
+
+-- why it finds nothing: the files are not dealt together, from this unit on; they are, and the log has a fault; or memory is missing
 abbrev pub AuditCause : ProverFile → VerifierTask → List ℕ → AuditFault → Type 0
 AuditCause prover task log (NotDealt unit) = IsFirstApart prover task.file unit
-AuditCause prover task log (LogFault place) = HasFaultAt task log place
+AuditCause prover task log (LogFault place) = AreDealt prover task.file × HasFaultAt task log place
 AuditCause prover task log NoMemory = Unit {0}

@@ -2,4 +2,6 @@ pub mod AcceptedLogs
 pub mod ClaimsInTurn
 pub mod Eras
 pub mod MachineRuns
+pub mod MigrationsInTurn
 pub mod RunsInTurn
+pub mod StoppedRuns

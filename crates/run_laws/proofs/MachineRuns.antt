@@ -4,9 +4,9 @@ use Rattle.std.specs.Prelude.{AllPairs, ◌%◌}
 use Rattle.std.specs.List.Sorted.{IsNonDecreasingBy}
 use Rattle.std.proofs.Math.ListN.{get_or-append}
 use Rattle.std.proofs.Math.Seq.{get_or-append_seam}
-use Rattle.std.proofs.lemmas.Bool.{and_from, le-leb, lt-ltb, not_from_false}
+use Rattle.std.proofs.lemmas.Bool.{and_from, cases_lt, le-leb, lt-ltb, not_from_false}
 use Rattle.std.proofs.lemmas.Bool.Decides.{nat_tests}
-use Rattle.std.proofs.lemmas.List.{length-append}
+use Rattle.std.proofs.lemmas.List.{get_or_past, length-append}
 use Rattle.std.proofs.lemmas.List.Folds.{list_any_none}
 use Rattle.zk_model.specs.Journals.{AreSound, body_before, keeps_rule}
 use Rattle.zk_model.specs.declared.JournalKind.TheVariants.{Ceilings}
@@ -18,10 +18,18 @@ use Rattle.lease_core.specs.declared.event.Event.TheVariants.{Begin, Claim, Cras
 use Rattle.lease_core.proofs.Reached.{is_consistent, reached_first, reached_goes_on, reached_inv}
 use Rattle.lease_store.specs.Ceilings.{FindsCeiling, SaysCeiling, last_ceiling}
 use Rattle.claim_store.specs.Claims.{AreClaims}
-use Rattle.session_pool.specs.Notes.{AreApart}
-use Rattle.run_laws.specs.RunsInTurn.{IsGranted}
+use Rattle.session_pool.specs.Notes.{AreApart, IsBetween}
+use Rattle.session_core.specs.Jobs.{VerifierJob, VerifierJobs, all_jobs, noted_job, units_of_job}
+use Rattle.session_verifier.specs.declared.note.SessionNote.{SessionNote}
+use Rattle.statement_file.specs.Services.{Service}
+use Rattle.zk_port.specs.Disks.{DiskState}
+use Rattle.zk_port.specs.Files.{Files}
+use Rattle.zk_cli.specs.ServeRuns.{AreFew, units_of_note}
+use Rattle.run_laws.specs.RunsInTurn.{Granted, IsOver, MayBeFound}
+use Rattle.run_laws.proofs.RunsInTurn.{began, left}
+use Rattle.run_laws.proofs.StoppedRuns.{of_deeds}
 use Rattle.session_verifier.specs.NoteLines.{start_of}
-use Rattle.run_laws.specs.MachineRuns.{AreInTurn, ClaimsAreEvents, EventsLead, HasClaimed, HasRanges, IsDown, IsMachineOf, PastRun, RunLeaves, RunsAreEvents, RunsLeave, all_granted, granted_spans}
+use Rattle.run_laws.specs.MachineRuns.{AreInTurn, ClaimsAreEvents, EventsLead, HasClaimed, HasRanges, IsDown, IsMachineOf, PastRun, RunLeaves, RunsAreEvents, RunsLeave, all_granted, granted_spans, with_granted}
 use Rattle.run_laws.proofs.Eras.{IsCeiling, Serves, ServesBelow, at_once, by_event, grant, raise_to, then}
 use Rattle.claim_store.proofs.Joining.{merged_self, merged_through}
 use Rattle.claim_store.proofs.Meeting.{claims_more}
@@ -50,6 +58,10 @@ is_ceiling id total ceiling bytes said =
 
 -- ---- what a run was granted
 
+-- granted units, if any are, are 1 to 4,096, and lie between these
+abbrev IsGranted : ℕ → ℕ → Option Span → Type 0
+IsGranted base ceiling granted = (units : ℕ) × (0 < units) × (units ≤ 4096) × IsBetween units base ceiling granted
+
 -- what comes after a span among those of a run
 after_it : (units low ceiling : ℕ) (s : Span) (o : Option Span) → 0 < units → s.end ≡ s.start + units → s.start ≤ start_of o → AreApart (Some s) o
     → IsGranted low ceiling o → IsGranted s.end ceiling o
@@ -60,46 +72,76 @@ after_it units low ceiling s (Some t) some size later (inr apart) between =
     let own = between.1 in
     absurd (omega (arith, own, ends, later, apart))
 
-in_turn : (low ceiling : ℕ) (granted : List (Option Span)) → low ≤ ceiling → IsNonDecreasingBy start_of granted
-    → AllPairs AreApart granted → All (IsGranted low ceiling) granted → AreInTurn low (granted_spans granted) ceiling
-in_turn low ceiling [] rises ordered apart between = rises
-in_turn low ceiling (None ∷ granted) rises ordered apart between =
-    in_turn low ceiling granted rises
-    (λ i j d less within. ordered (suc i) (suc j) d (omega (arith, less)) (omega (arith, within)))
-    (λ i j d less within. apart (suc i) (suc j) d (omega (arith, less)) (omega (arith, within)))
-    (λ k d within. between (suc k) d (omega (arith, within)))
-in_turn low ceiling (Some s ∷ granted) rises ordered apart between =
-    let first = between 0 None (omega arith) in
-    let some = first.1 in
-    let few = first.2 in
-    let size = first.3.1 in (
-      first.3.0,
-      omega (arith, size, some),
-      omega (arith, size, few),
-      in_turn s.end ceiling granted first.3.2
-          (λ i j d less within. ordered (suc i) (suc j) d (omega (arith, less)) (omega (arith, within)))
-          (λ i j d less within. apart (suc i) (suc j) d (omega (arith, less)) (omega (arith, within)))
-          (λ k d within. after_it first.0 low ceiling s (get_or granted k d) some size (ordered 0 (suc k) d (omega arith) (omega (arith, within)))
-          (apart 0 (suc k) d (omega arith) (omega (arith, within))) (between (suc k) d (omega (arith, within)))),
-    )
+-- the first is granted a span, or none
+with_turn : (o : Option Span) (rest : List Span) (low ceiling : ℕ) → (o ≡ None → AreInTurn low rest ceiling)
+    → ((s : Span) → o ≡ Some s → AreInTurn low (s ∷ rest) ceiling) → AreInTurn low (with_granted o rest) ceiling
+with_turn None rest low ceiling none some = none refl
+with_turn (Some s) rest low ceiling none some = some s refl
+
+module _ {M : Type 0} (granted : M → Option Span) where
+  in_turn : (low ceiling : ℕ) (notes : List M) → low ≤ ceiling → IsNonDecreasingBy (λ note. start_of (granted note)) notes
+      → AllPairs (λ one other. AreApart (granted one) (granted other)) notes → All (λ note. IsGranted low ceiling (granted note)) notes
+      → AreInTurn low (granted_spans granted notes) ceiling
+  in_turn low ceiling [] rises ordered apart between = rises
+  in_turn low ceiling (note ∷ notes) rises ordered apart between =
+      with_turn (granted note) (granted_spans granted notes) low ceiling
+      (λ none. in_turn low ceiling notes rises
+      (λ i j d less within. ordered (suc i) (suc j) d (omega (arith, less)) (omega (arith, within)))
+      (λ i j d less within. apart (suc i) (suc j) d (omega (arith, less)) (omega (arith, within)))
+      (λ k d within. between (suc k) d (omega (arith, within))))
+      (λ s is.
+      let first = subst (IsGranted low ceiling) is (between 0 note (omega arith)) in
+      let some = first.1 in
+      let few = first.2 in
+      let size = first.3.1 in (
+        first.3.0,
+        omega (arith, size, some),
+        omega (arith, size, few),
+        in_turn s.end ceiling notes first.3.2
+            (λ i j d less within. ordered (suc i) (suc j) d (omega (arith, less)) (omega (arith, within)))
+            (λ i j d less within. apart (suc i) (suc j) d (omega (arith, less)) (omega (arith, within)))
+            (λ k d within. after_it first.0 low ceiling s (granted (get_or notes k d)) some size
+            (subst (λ (o : Option Span). start_of o ≤ start_of (granted (get_or notes k d))) is (ordered 0 (suc k) d (omega arith) (omega (arith, within))))
+            (subst (λ (o : Option Span). AreApart o (granted (get_or notes k d))) is (apart 0 (suc k) d (omega arith) (omega (arith, within))))
+            (between (suc k) d (omega (arith, within)))),
+      ))
 
 turn_rises : (low high : ℕ) (spans : List Span) → AreInTurn low spans high → low ≤ high
 turn_rises low high [] stand = stand
 turn_rises low high (s ∷ spans) stand = let rest = turn_rises s.end high spans stand.3 in let a = stand.0 in let b = stand.1 in omega (arith, a, b, rest)
 
-of_run : (id : List ℕ) (total base ceiling : ℕ) (granted : List (Option Span)) (first later : List ℕ) → SaysCeiling id total base first → base ≤ ceiling → FindsCeiling id total ceiling first later → IsNonDecreasingBy start_of granted
-    → AllPairs AreApart granted → All (IsGranted base ceiling) granted → RunLeaves id total first (granted_spans granted) later
-of_run id total base ceiling granted first later began rises found ordered apart between = record {
-  base = base;
-  ceiling = last_ceiling found.bodies;
-  began = began;
-  left = says_found id total ceiling first later found;
-  stand = higher base ceiling (last_ceiling found.bodies) (granted_spans granted) found.reaches
-      (in_turn base ceiling granted rises ordered apart between);
-} where
-  higher : (low high above : ℕ) (spans : List Span) → high ≤ above → AreInTurn low spans high → AreInTurn low spans above
-  higher low high above [] more stand = omega (arith, more, stand)
-  higher low high above (s ∷ spans) more stand = (stand.0, stand.1, stand.2, higher s.end high above spans more stand.3)
+higher : (low high above : ℕ) (spans : List Span) → high ≤ above → AreInTurn low spans high → AreInTurn low spans above
+higher low high above [] more stand = omega (arith, more, stand)
+higher low high above (s ∷ spans) more stand = (stand.0, stand.1, stand.2, higher s.end high above spans more stand.3)
+
+-- the session of a note takes no more units than each does
+noted_few : (jobs : VerifierJobs) → AreFew jobs → (taken : Option ℕ) → units_of_job (noted_job jobs taken) ≤ 4096
+noted_few jobs few None = few 0 jobs.first (omega arith)
+noted_few jobs few (Some n) = elim (cases_lt n (length (all_jobs jobs))) [
+  | inl within ↦ few n jobs.first within
+  | inr beyond ↦ subst (λ (job : VerifierJob). units_of_job job ≤ 4096) (sym (get_or_past (all_jobs jobs) n jobs.first beyond)) (few 0 jobs.first (omega arith))
+]
+
+-- a session takes a unit, and few
+units_some : (jobs : VerifierJobs) → AreFew jobs → (taken : Option ℕ) → (0 < units_of_job (noted_job jobs taken)) × (units_of_job (noted_job jobs taken) ≤ 4096)
+units_some jobs few taken = (omega arith, noted_few jobs few taken)
+
+of_run : {D L : Type 0} (state : D → DiskState) (told : Option Files) (service : Service) (notes : List (SessionNote L)) (old new : D) (id : List ℕ) (total : ℕ)
+    → (run : Granted state told service notes old new) → IsOver id total run → (first later : List ℕ) → (state old).content ≡ Some first
+    → MayBeFound (state new) later → RunLeaves id total first (granted_spans (λ note. note.granted) notes) later
+of_run {D} {L} state told service notes old new id total run over first later known there =
+    let found : FindsCeiling id total run.ceiling first later = left state told service notes old new id total run over first later known there in
+    let units = λ (note : SessionNote L). units_some run.jobs run.few note.statement in
+    record {
+      base = run.base;
+      ceiling = last_ceiling found.bodies;
+      began = began state told service notes old new id total run over first known;
+      left = says_found id total run.ceiling first later found;
+      stand = higher run.base run.ceiling (last_ceiling found.bodies) (granted_spans (λ note. note.granted) notes) found.reaches
+          (in_turn (λ (note : SessionNote L). note.granted) run.base run.ceiling notes run.grows run.ordered run.apart
+          (λ k d within. let note : SessionNote L = get_or notes k d in
+          (units_of_note run.jobs note, (units note).0, (units note).1, run.spans k d within)));
+    }
 
 of_stop : (id : List ℕ) (total base : ℕ) (first later : List ℕ) → SaysCeiling id total base first → FindsCeiling id total base first later
     → RunLeaves id total first [] later
@@ -209,9 +251,12 @@ all_runs id total first before (run ∷ runs) later m of leave =
     then n (all_runs id total run.left (before ++ run.granted) runs later n one leave.1) (λ l all.
     at_once l (subst (λ (spans : List Span). IsMachineOf id total later spans l) (append_assoc before run.granted (all_granted runs)) all)))
 
-pub runs_are_events : RunsAreEvents
-runs_are_events = record {
-  of_run = of_run;
+pub runs_are_events : (L : Type 0) {D : Type 0} (state : D → DiskState)
+    → ((disk : D) (t : ℕ) (c : List ℕ) → t ≤ (state disk).moment → (state disk).images c → (state disk).images_since t c)
+    → ((disk : D) (c : List ℕ) → (state disk).images_since (state disk).moment c → (state disk).images c) → RunsAreEvents L state
+runs_are_events L {D} state counts_now only_now = record {
+  of_run = of_run state;
+  of_deeds = of_deeds state counts_now only_now;
   of_stop = of_stop;
   begins = first_machine;
   apart = λ id total ceiling first runs later said leave.

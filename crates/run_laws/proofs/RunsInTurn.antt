@@ -1,10 +1,15 @@
 -- Runs over one file's journal, one after the other.
-use Rattle.std.proofs.Common.{◌≡◌, ◌≤◌, ℕ, List, Option, None, Some, inl, arith}
+use Rattle.std.proofs.Common.{◌≡◌, ◌≤◌, ℕ, List, Option, None, Some, IsSomeAnd, inl, inr, sym, subst, arith}
 use Rattle.zk_model.specs.declared.Span.{Span}
+use Rattle.zk_port.specs.Disks.{DiskState}
+use Rattle.zk_port.specs.Files.{Files}
 use Rattle.lease_store.specs.Ceilings.{FindsCeiling, SaysCeiling, last_ceiling}
 use Rattle.lease_store.proofs.Finding.{one_ceiling, says_found}
-use Rattle.session_pool.specs.Notes.{AreApart}
-use Rattle.run_laws.specs.RunsInTurn.{IsGranted, KeepsUp, RunsGrantOnce}
+use Rattle.session_pool.specs.Notes.{AreApart, IsBetween}
+use Rattle.session_verifier.specs.declared.note.SessionNote.{SessionNote}
+use Rattle.statement_file.specs.Services.{Service}
+use Rattle.zk_cli.specs.ServeRuns.{units_of_note}
+use Rattle.run_laws.specs.RunsInTurn.{Granted, IsOver, KeepsUp, MayBeFound, RunsGrantOnce}
 
 keeps_up : (id : List ℕ) (total base ceiling : ℕ) (first image : List ℕ) → SaysCeiling id total base first → base ≤ ceiling
     → FindsCeiling id total ceiling first image → KeepsUp id total first image
@@ -30,13 +35,13 @@ in_turn id total first middle last one other = record {
 }
 
 -- a span below a ceiling and one above it are apart
-apart_at : (base ceiling later_base later_ceiling : ℕ) (one other : Option Span) → ceiling ≤ later_base
-    → IsGranted base ceiling one → IsGranted later_base later_ceiling other → AreApart one other
-apart_at base ceiling later_base later_ceiling None other low below above = tt
-apart_at base ceiling later_base later_ceiling (Some s) None low below above = tt
-apart_at base ceiling later_base later_ceiling (Some s) (Some t) low below above =
-    let ends = below.3.2 in
-    let starts = above.3.0 in
+apart_at : (units base ceiling later_units later_base later_ceiling : ℕ) (one other : Option Span) → ceiling ≤ later_base
+    → IsBetween units base ceiling one → IsBetween later_units later_base later_ceiling other → AreApart one other
+apart_at units base ceiling later_units later_base later_ceiling None other low below above = tt
+apart_at units base ceiling later_units later_base later_ceiling (Some s) None low below above = tt
+apart_at units base ceiling later_units later_base later_ceiling (Some s) (Some t) low below above =
+    let ends = below.2 in
+    let starts = above.0 in
     inl (omega (arith, low, ends, starts))
 
 -- where an earlier run left a ceiling, a later one begins at or above it
@@ -49,12 +54,40 @@ begins_above id total ceiling base first image later found kept said =
     let grows = kept.grows in
     omega (arith, same, next, reaches, grows)
 
-pub runs_grant_once : RunsGrantOnce
-runs_grant_once = record {
-  keeps_up = keeps_up;
+-- what content that is known has
+pub of_some : (P : List ℕ → Type 0) (content : Option (List ℕ)) (bytes : List ℕ) → content ≡ Some bytes → IsSomeAnd content P → P bytes
+of_some P content bytes is has = subst (λ (o : Option (List ℕ)). IsSomeAnd o P) is has
+
+-- ---- a run, from its record
+
+module _ {D L : Type 0} (state : D → DiskState) (told : Option Files) (service : Service) (notes : List (SessionNote L)) (old new : D)
+    (id : List ℕ) (total : ℕ) (run : Granted state told service notes old new) (over : IsOver id total run) where
+  pub began : (first : List ℕ) → (state old).content ≡ Some first → SaysCeiling id total run.base first
+  began first known = subst (λ (f : List ℕ × ℕ). SaysCeiling f.0 f.1 run.base first) (λ i. (over.0 i, over.1 i)) (run.recovered first known)
+
+  pub found_at : (ceiling : ℕ) (first bytes : List ℕ) → FindsCeiling run.jobs.first.task.file.id run.jobs.first.task.file.params.total ceiling first bytes
+      → FindsCeiling id total ceiling first bytes
+  found_at ceiling first bytes found = subst (λ (f : List ℕ × ℕ). FindsCeiling f.0 f.1 ceiling first bytes) (λ i. (over.0 i, over.1 i)) found
+
+  pub left : (first found : List ℕ) → (state old).content ≡ Some first → MayBeFound (state new) found → FindsCeiling id total run.ceiling first found
+  left first found known (inl content) = found_at run.ceiling first found
+      (of_some (FindsCeiling run.jobs.first.task.file.id run.jobs.first.task.file.params.total run.ceiling first) (state new).content found content (run.read first known))
+  left first found known (inr image) = found_at run.ceiling first found (run.durable first known found image)
+
+pub runs_grant_once : (L : Type 0) {D : Type 0} (state : D → DiskState) → RunsGrantOnce L state
+runs_grant_once L {D} state = record {
+  keeps_up = λ told service notes old new id total run over first found known found_there.
+      keeps_up id total run.base run.ceiling first found (began state told service notes old new id total run over first known) run.grows
+      (left state told service notes old new id total run over first found known found_there);
+  any_moment = λ told service notes old new id total run over first image known since. elim ((run.any_moment first known).each image since) [
+    | inl was ↦ inl was
+    | inr found ↦ inr (keeps_up id total run.base run.base first image (began state told service notes old new id total run over first known) (omega arith)
+        (found_at state told service notes old new id total run over run.base first image found))
+  ];
   in_turn = in_turn;
-  apart = λ id total base ceiling granted first image later_base later_ceiling later_granted later below found kept said above.
-      let low = begins_above id total ceiling later_base first image later found kept said in
+  apart = λ told later_told service later_service notes later_notes old new later_old later_new id total run over later later_over first found begun known found_there kept later_known.
+      let low = begins_above id total run.ceiling later.base first found begun (left state told service notes old new id total run over first found known found_there) kept
+      (began state later_told later_service later_notes later_old later_new id total later later_over begun later_known) in
       λ k default within other_k other_default other_within.
-      apart_at base ceiling later_base later_ceiling _ _ low (below k default within) (above other_k other_default other_within);
+      apart_at _ run.base run.ceiling _ later.base later.ceiling _ _ low (run.spans k default within) (later.spans other_k other_default other_within);
 }

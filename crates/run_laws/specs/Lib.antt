@@ -1,3 +1,4 @@
 pub mod AcceptedLogs
 pub mod MachineRuns
+pub mod MigrationsInTurn
 pub mod RunsInTurn

@@ -1,26 +1,34 @@
 -- Runs over one file's journals, one after the other, as events of the lease machine.
-use Rattle.std.specs.Prelude.{◌≡◌, ◌⊎◌, ℕ, ◌+◌, ◌<◌, ◌≤◌, true, false, List, [], ◌∷◌, ◌++◌, Option, None, Some, All, AllPairs}
-use Rattle.std.specs.List.Sorted.{IsNonDecreasingBy}
+use Rattle.std.specs.Prelude.{◌≡◌, ◌⊎◌, ℕ, ◌+◌, ◌<◌, ◌≤◌, true, false, List, [], ◌∷◌, ◌++◌, Option, None, Some, All}
+use Rattle.std.specs.List.{Contains}
 use Rattle.zk_model.specs.ClaimedRanges.{AreMerged, RiseFrom}
 use Rattle.zk_model.specs.declared.Span.{Span}
 use Rattle.zk_model.specs.declared.limits.TheConstants.{MAX_UNITS}
+use Rattle.zk_port.specs.Disks.{DiskState}
+use Rattle.zk_port.specs.Files.{Files}
 use Rattle.lease_core.specs.Kept.{IsReached}
 use Rattle.lease_core.specs.Machine.{Machine, after_all, are_possible, durable}
 use Rattle.lease_core.specs.Spans.{AreApart}
 use Rattle.lease_core.specs.declared.event.Event.{Event}
 use Rattle.lease_store.specs.Ceilings.{FindsCeiling, SaysCeiling}
+use Rattle.lease_store.specs.Stops.{Deed, asks, shows, grants, MayDo}
+use Rattle.lease_store.specs.Storing.{Stores}
+use Rattle.twin_journal.specs.States.{TwinState}
 use Rattle.claim_store.specs.Claims.{AreClaims}
-use Rattle.session_pool.specs.Notes as note
-use Rattle.run_laws.specs.RunsInTurn.{IsGranted}
-use Rattle.session_verifier.specs.NoteLines.{start_of}
+use Rattle.session_verifier.specs.declared.note.SessionNote.{SessionNote}
+use Rattle.statement_file.specs.Services.{Service}
+use Rattle.run_laws.specs.RunsInTurn.{Granted, IsOver, MayBeFound, MayBeLeft}
 
 -- ---- runs of `serve`
 
--- the spans among these answers
-abbrev pub granted_spans : List (Option Span) → List Span
-granted_spans [] = []
-granted_spans (None ∷ granted) = granted_spans granted
-granted_spans (Some s ∷ granted) = s ∷ granted_spans granted
+-- the spans among what these were granted
+abbrev pub with_granted : Option Span → List Span → List Span
+with_granted None spans = spans
+with_granted (Some s) spans = s ∷ spans
+
+abbrev pub granted_spans : {M : Type 0} → (M → Option Span) → List M → List Span
+granted_spans granted [] = []
+granted_spans granted (note ∷ notes) = with_granted (granted note) (granted_spans granted notes)
 
 -- from low up to high, each after the ones before, and of 1 to 4,096 units
 abbrev pub AreInTurn : ℕ → List Span → ℕ → Type 0
@@ -74,15 +82,38 @@ pub record EventsLead (m : Machine) (IsSuch : Machine → Type 0) : Type 0 where
   pub possible : are_possible m events ≡ true
   pub led : IsSuch (after_all m events)
 
+-- the ends that a run grants by these deeds
+abbrev pub granted_ends : {D : Type 0} → List (Deed D) → List ℕ
+granted_ends [] = []
+granted_ends (asks ceiling answer now ∷ deeds) = granted_ends deeds
+granted_ends (shows ceiling ∷ deeds) = granted_ends deeds
+granted_ends (grants end ∷ deeds) = end ∷ granted_ends deeds
+
+-- a crash after these deeds, or within the last of them, may leave these bytes
+abbrev pub MayLeave : {D : Type 0} → (D → DiskState) → TwinState D → List (Deed D) → List ℕ → Type 0
+MayLeave state journal [] left = (state journal.disk).images left
+MayLeave state journal (asks ceiling answer now ∷ []) left = MayBeLeft (state journal.disk) (state now.disk) left
+MayLeave state journal (asks ceiling answer now ∷ deed ∷ deeds) left = MayLeave state now (deed ∷ deeds) left
+MayLeave state journal (shows ceiling ∷ deeds) left = MayLeave state journal deeds left
+MayLeave state journal (grants end ∷ deeds) left = MayLeave state journal deeds left
+
 -- Runs over one file's journal of ceilings are events of the lease machine: what a run is granted is what the machine spends in their order,
 -- and the ceiling that the journal says, whatever a crash leaves, is the machine's durable one. So for any number of runs there is a
 -- machine that was granted the same, and no two of these spans have a unit in common.
-pub record RunsAreEvents : Type 0 where
-  -- a run that handed its sessions back, from its record `GrantsOnce`
-  pub of_run : (id : List ℕ) (total base ceiling : ℕ) (granted : List (Option Span)) (first later : List ℕ) → SaysCeiling id total base first → base ≤ ceiling → FindsCeiling id total ceiling first later
-      → IsNonDecreasingBy start_of granted → AllPairs note.AreApart granted → All (IsGranted base ceiling) granted
-      → RunLeaves id total first (granted_spans granted) later
-  -- a run that was stopped: nobody was told what it had granted
+pub record RunsAreEvents (L : Type 0) {D : Type 0} (state : D → DiskState) : Type 0 where
+  -- a run that handed its sessions back, whatever of its disk the next one finds
+  pub of_run : (told : Option Files) (service : Service) (notes : List (SessionNote L)) (old new : D) (id : List ℕ) (total : ℕ)
+      → (run : Granted state told service notes old new) → IsOver id total run
+      → (first found : List ℕ) → (state old).content ≡ Some first → MayBeFound (state new) found
+      → RunLeaves id total first (granted_spans (λ note. note.granted) notes) found
+  -- a run that was stopped, whatever it had granted by then: a crash after some of its deeds, or within the last of them, left what the next
+  -- one finds; and what it had granted stood one after the other from the base on
+  pub of_deeds : (id : List ℕ) (total base ceiling high : ℕ) (journal : TwinState D) (deeds : List (Deed D)) (granted : List Span) (first left : List ℕ)
+      → SaysCeiling id total base first → (state journal.disk).content ≡ Some first → Stores state total journal base
+      → MayDo state total journal base deeds → MayLeave state journal deeds left → SaysCeiling id total ceiling left
+      → AreInTurn base granted high → All (λ span. Contains (granted_ends deeds) span.end) granted
+      → RunLeaves id total first granted left
+  -- a run that was stopped, of which no more is known than its record says
   pub of_stop : (id : List ℕ) (total base : ℕ) (first later : List ℕ)
       → SaysCeiling id total base first → FindsCeiling id total base first later → RunLeaves id total first [] later
   -- whatever ceiling a journal says at first, a machine has it

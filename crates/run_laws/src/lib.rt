@@ -8,4 +8,6 @@ mod accepted_logs;
 mod runs_in_turn;
 
 pub use accepted_logs::headline_is_of_accepted_log;
-pub use runs_in_turn::{claims_are_events, runs_are_events, runs_claim_once, runs_grant_once};
+pub use runs_in_turn::{
+    claims_are_events, migrations_keep, runs_are_events, runs_claim_once, runs_grant_once,
+};

@@ -1,15 +1,15 @@
 -- How a session goes on, turn by turn, and how it ends.
 use Rattle.std.proofs.Common.{◌≡◌, ◌⊎◌, inl, inr, ℕ, ◌+◌, ◌≤◌, List, [], ◌∷◌, ◌++◌, flat_map, length, true, ap, sym, ◌∙◌, arith, append_assoc, append-nil, ◌*◌, ◌^◌, ◌<◌, None, refl, subst, length-append, Option, Some}
 use Rattle.std.proofs.lemmas.Grind.{flat_map-append}
-use Rattle.zk_model.specs.Transcript.{bytes_from, sent_by}
+use Rattle.zk_model.specs.Transcript.{bytes_from, sent_by, refuse_frame}
 use Rattle.zk_model.specs.Frames.{Frame, frame_spelling, IsWhole}
 use Rattle.zk_model.specs.declared.Side.{Side}
 use Rattle.zk_model.specs.declared.Side.TheVariants.{Prover, Verifier}
 use Rattle.frame_laws.proofs.SentBytes.{sent_by-append, own_bytes, none_of_verifier, none_of_prover}
 use Rattle.zk_port.specs.Counts.{counted, Rose}
 use Rattle.frame_link.specs.Sides.{peer_of}
-use Rattle.frame_link.specs.Lines.{counted_times, LineState, Arrives, longest, Fails, Breaks}
-use Rattle.frame_link.proofs.LineLemmas.{one_send_more, appended_none, appended_more, before_none, before_more, frame_most, IsAnswered, is_answered, came_none, none_fails}
+use Rattle.frame_link.specs.Lines.{counted_times, LineState, Arrives, Fails, Breaks}
+use Rattle.frame_link.proofs.LineLemmas.{one_send_more, appended_none, appended_more, before_none, before_more, longest, frame_most, IsAnswered, is_answered, came_none, none_fails}
 use Rattle.session_driver.specs.Runs.{Turn, said, turn_log, whole_log, sends_of, answers_sent, sends_in, Moves, IsTurn, Goes, IsFresh, HasPassed, SendsAll, TurnGoes, Runs, IsUnsent, TurnStops, TriesRefusal, LeavesUnsent, LacksFrame, RefusesFrame, Lacks, IsMissing, IsRun, StopsBy, seen_as}
 use Rattle.zk_model.specs.declared.Expect.{Expect}
 use Rattle.zk_port.specs.Logs.{appended, put_before}
@@ -99,6 +99,7 @@ none_passed first fresh = record {
   side = refl;
   is_open = fresh.is_open;
   sends = refl;
+  refused_sends = refl;
   receives = omega arith;
   faults = refl;
 }
@@ -123,6 +124,7 @@ passed_heard log sends room first was heard place frame passed arrives =
       side = arrives.came.side ∙ passed.side;
       is_open = arrives.came.is_open ∙ passed.is_open;
       sends = arrives.came.sends ∙ passed.sends;
+      refused_sends = arrives.came.refused_sends ∙ passed.refused_sends;
       receives = omega (arith, arrives.receives, passed.receives, counted);
       faults = arrives.unfailed ∙ passed.faults;
     })
@@ -143,6 +145,7 @@ passed_sent log sends first was now frames passed sent = answered (is_answered f
           side = by.others.side ∙ passed.side;
           is_open = by.others.is_open ∙ passed.is_open;
           sends = sends_counted frames sends first.sends was.sends now.sends passed.sends by.sends;
+          refused_sends = by.refused_sends ∙ passed.refused_sends;
           receives = omega (arith, by.others.receives, passed.receives, ap length same);
           faults = by.unfailed ∙ passed.faults;
         }
@@ -217,7 +220,8 @@ lacks_room place old new same =
     let before = record old { room = new.room } in
     none_fails place before new
     (came_none before new (ap (λ (l : LineState). l.log) same) (ap (λ (l : LineState). l.told) same) (ap (λ (l : LineState). l.to_come) same)
-    (ap (λ (l : LineState). l.side) same) (ap (λ (l : LineState). l.is_open) same) (ap (λ (l : LineState). l.sends) same) refl)
+    (ap (λ (l : LineState). l.side) same) (ap (λ (l : LineState). l.is_open) same) (ap (λ (l : LineState). l.sends) same)
+    (ap (λ (l : LineState). l.refused_sends) same) refl)
     (ap (λ (l : LineState). l.receives) same) (ap (λ (l : LineState). l.faults) same)
 
 module _ {S F : Type 0} (moves : Moves S F) (old new : S) (place : Expect) (frame : Frame) (room : ℕ) (line heard now : LineState)
@@ -299,6 +303,7 @@ missing moves log sends room mid new place fault first was now same expected pas
             ∙ before_more (sent_by (peer_of first.side) log) bytes now.to_come
             ∙ ap (λ l. put_before l now.to_come) (sym came);
         sends = fails.came.sends ∙ passed.sends;
+        refused_sends = fails.came.refused_sends ∙ passed.refused_sends;
         receives = omega (arith, fails.receives, passed.receives, counted);
         cause = lacks log place bytes fault first (record was { room = room }) now (ap (λ (r : Reading). r.received) passed.reading) counted passed.faults fails.broken;
         count = record { later = omega (arith, fails.count.later, passed.faults); unfailed = λ no. fails.count.unfailed no ∙ passed.faults };
@@ -454,3 +459,56 @@ module _ {S T F : Type 0} (view : S → T) (moves : Moves T F) where
     side = run.side;
     is_open = run.is_open;
   }
+
+-- ---- what came of the peer's bytes is what the link no longer has to come
+
+-- of moments between which nothing but own bytes are logged
+own_bytes_logged : (first was now : LineState) (bytes : List ℕ) → was.side ≡ first.side → now.log ≡ was.log ++ bytes_from was.side bytes → now.to_come ≡ was.to_come
+    → first.to_come ≡ put_before (sent_by (peer_of first.side) was.log) was.to_come
+    → first.to_come ≡ put_before (sent_by (peer_of first.side) now.log) now.to_come
+own_bytes_logged first was now bytes side logged same came =
+    let own : sent_by (peer_of first.side) now.log ≡ sent_by (peer_of first.side) was.log =
+    ap (sent_by (peer_of first.side)) (logged ∙ ap (λ (s : Side). was.log ++ bytes_from s bytes) side) ∙ came_same first.side was.log bytes in
+    came ∙ (λ i. put_before (sym own i) (sym same i))
+
+none_logged : (first was now : LineState) → now.log ≡ was.log → now.to_come ≡ was.to_come
+    → first.to_come ≡ put_before (sent_by (peer_of first.side) was.log) was.to_come
+    → first.to_come ≡ put_before (sent_by (peer_of first.side) now.log) now.to_come
+none_logged first was now log same came = came ∙ (λ i. put_before (sent_by (peer_of first.side) (sym log i)) (sym same i))
+
+tried_came : (code : Option ℕ) (first was now : LineState) → was.side ≡ first.side → TriesRefusal code was now
+    → first.to_come ≡ put_before (sent_by (peer_of first.side) was.log) was.to_come
+    → first.to_come ≡ put_before (sent_by (peer_of first.side) now.log) now.to_come
+tried_came None first was now side same came = none_logged first was now (ap (λ (l : LineState). l.log) same) (ap (λ (l : LineState). l.to_come) same) came
+tried_came (Some code) first was now side (inl sends) came = own_bytes_logged first was now (refuse_frame code) side sends.logged sends.others.to_come came
+tried_came (Some code) first was now side (inr fails) came = none_logged first was now fails.1.logged fails.1.others.to_come came
+
+unsent_came : (code : Option ℕ) (frames : List Frame) (fault : LineFault) (first was now : LineState) → was.side ≡ first.side
+    → IsUnsent code frames fault was now → first.to_come ≡ put_before (sent_by (peer_of first.side) was.log) was.to_come
+    → first.to_come ≡ put_before (sent_by (peer_of first.side) now.log) now.to_come
+unsent_came code frames fault first was now side fails came = elim fails.unsent [
+  | inl lacks ↦ tried_came code first was now side lacks.1 came
+  | inr refused ↦ none_logged first was now refused.logged refused.others.to_come came
+]
+
+passed_came : (log : List (Side × ℕ)) (number : ℕ) (first now : LineState) → HasPassed log number first now
+    → first.to_come ≡ put_before (sent_by (peer_of first.side) now.log) now.to_come
+passed_came log number first now passed = passed.came ∙ ap (λ l. put_before (sent_by (peer_of first.side) l) now.to_come) (sym passed.logged)
+
+-- however a session stopped
+pub stops_came : {S F : Type 0} (moves : Moves S F) (greeting : List Frame) (turns : List Turn) (mid new : S) (outcome : Outcome F) (first now : LineState)
+    → StopsBy moves greeting turns mid new outcome first now → first.to_come ≡ put_before (sent_by (peer_of first.side) now.log) now.to_come
+stops_came moves greeting turns mid new Done first now stop = passed_came _ _ first now stop.passed
+stops_came moves greeting turns mid new (Refused fault) first now stop =
+    tried_came stop.code first stop.heard now stop.passed.side stop.tried (passed_came _ _ first stop.heard stop.passed)
+stops_came moves greeting turns mid new (Cut fault) first now (inl stop) = stop.came
+stops_came moves greeting turns mid new (Cut fault) first now (inr (inl stop)) =
+    unsent_came _ stop.turn.answer fault first stop.heard now stop.passed.side stop.unsent (passed_came _ _ first stop.heard stop.passed)
+stops_came moves greeting turns mid new (Cut fault) first now (inr (inr stop)) =
+    unsent_came None greeting fault first first now refl stop.unsent (passed_came [] 0 first first (none_passed first stop.fresh))
+
+pub run_came : {S F : Type 0} (moves : Moves S F) (greeting : List Frame) (old new : S) (outcome : Outcome F) (first now : LineState) (side : Side)
+    → IsRun moves greeting old new outcome first now → first.side ≡ side → first.to_come ≡ put_before (sent_by (peer_of side) now.log) now.to_come
+run_came moves greeting old new outcome first now side run same =
+    subst (λ (s : Side). first.to_come ≡ put_before (sent_by (peer_of s) now.log) now.to_come) same
+    (stops_came moves greeting run.turns run.mid new outcome first now run.stops)

@@ -99,8 +99,8 @@ pub record IsFresh (line : LineState) : Type 0 where
   pub reading : line.reading ≡ record { received = 0; expected = None; taken = []; bad = None }
   pub is_open : line.is_open ≡ true
 
--- What passed since a first moment: all of it is logged, and the link tells it, in so many sends and at most as many receives as
--- bytes came; no frame is under way, and nothing failed.
+-- What passed since a first moment: all of it is logged, and the link tells it, in so many sends, of which none was refused, and at most
+-- as many receives as bytes came; no frame is under way, and nothing failed.
 pub record HasPassed (log : List (Side × ℕ)) (number : ℕ) (first now : LineState) : Type 0 where
   pub logged : now.log ≡ log
   pub reading : now.reading ≡ record { received = length (sent_by (peer_of first.side) log); expected = None; taken = []; bad = None }
@@ -109,6 +109,7 @@ pub record HasPassed (log : List (Side × ℕ)) (number : ℕ) (first now : Line
   pub side : now.side ≡ first.side
   pub is_open : now.is_open ≡ true
   pub sends : now.sends ≡ counted_times number first.sends
+  pub refused_sends : now.refused_sends ≡ first.refused_sends
   pub receives : now.receives ≤ first.receives + length (sent_by (peer_of first.side) log)
   pub faults : now.faults ≡ first.faults
 
@@ -116,7 +117,7 @@ pub record HasPassed (log : List (Side × ℕ)) (number : ℕ) (first now : Line
 abbrev pub SendsAll : List Frame → LineState → LineState → Type 0
 SendsAll frames old new = ((frames ≡ []) × (new ≡ old)) ⊎ ((1 ≤ length frames) × Sends (flat_map frame_spelling frames) old new)
 
--- A refusal of this code went out by one send, if there is a code, or that send was refused.
+-- A refusal of this code went out by one send, if there is a code, or that send was refused, and counted so.
 abbrev pub TriesRefusal : Option ℕ → LineState → LineState → Type 0
 TriesRefusal None old new = new ≡ old
 TriesRefusal (Some code) old new =
@@ -196,7 +197,7 @@ Lacks place rest (BadFrame at) first now =
 Lacks place rest Link first now = Rose first.faults now.faults
 Lacks place rest NoMemory first now = Unit {0}
 
--- after this log and so many sends these bytes of a frame came, which are no whole one; nothing more was sent
+-- after this log and so many sends, of which none was refused, these bytes of a frame came, which are no whole one; nothing more was sent
 pub record ComesInPart
     (log : List (Side × ℕ))
     (number : ℕ)
@@ -210,6 +211,7 @@ pub record ComesInPart
   pub told : now.told ≡ appended now.log first.told
   pub came : first.to_come ≡ put_before (sent_by (peer_of first.side) now.log) now.to_come
   pub sends : now.sends ≡ counted_times number first.sends
+  pub refused_sends : now.refused_sends ≡ first.refused_sends
   pub receives : now.receives ≤ first.receives + length (sent_by (peer_of first.side) now.log) + 1
   pub cause : Lacks place rest fault first now
   pub count : CountsFault fault first now

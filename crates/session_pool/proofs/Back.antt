@@ -1,14 +1,16 @@
 -- A worker that comes back.
 use Rattle.std.proofs.Common.{◌≡◌, ℕ, ◌+◌, max, List, [], ◌∷◌, ◌++◌, ap, ◌∙◌, arith, refl, All, Option, Some, length-append, append-nil}
+use Rattle.std.proofs.lemmas.List.Sums.{sum_by_push, sum_by-append}
 use Rattle.std.proofs.lemmas.List.Elements.{All-push, All-pop}
 use Rattle.std.proofs.lemmas.List.Concat.{flat_map-append}
 use Rattle.atomic_table.specs.Seated.{TableId}
 use Rattle.zk_model.specs.declared.Span.{Span}
-use Rattle.lease_words.specs.Calls.{entries_of, known_of, all_entries}
+use Rattle.lease_words.specs.Calls.{entries_of, known_of, met_of, all_entries}
 use Rattle.lease_words.specs.declared.pass.Pass.{Pass}
 use Rattle.lease_words.specs.declared.view.Entry.{Entry}
 use Rattle.lease_store.specs.Leases.{IsPassAt}
 use Rattle.lease_store.specs.declared.LeaseFault.{LeaseFault}
+use Rattle.session_pool.specs.Notes.{meets_fault}
 use Rattle.session_pool.specs.Works.{AllowsMark, IsWorker, AreBack, most_known}
 use Rattle.session_pool.proofs.Works.{joined}
 
@@ -36,6 +38,7 @@ module _ {M : Type 0} (granted : M → Option Span) (refused : M → Option Leas
       drawn = λ f. omega arith;
       reached = λ f k d l. absurd (omega (arith, l));
     };
+    faults = omega arith;
   }
 
   pub one_back : (ps ps_now : List Pass) (p : Pass) (parts more amount merged amount_now : ℕ) (notes notes_now own : List M)
@@ -49,4 +52,5 @@ module _ {M : Type 0} (granted : M → Option Span) (refused : M → Option Leas
     work = rw (entries_push ps p, known_push ps p)
         (joined granted refused is_note fresh size total (all_entries ps) (entries_of p) (most_known ps) (known_of p)
         (λ mark. All (λ q. AllowsMark q mark) ps) (AllowsMark p) (λ mark. All (λ q. AllowsMark q mark) (ps ++ p ∷ [])) notes own (allowed_parts ps p) b.work w.work);
+    faults = let x = b.faults in let y = w.faults in let z = sum_by-append (λ (m : M). meets_fault (refused m)) notes own in let s = sum_by_push met_of ps p in omega (arith, x, y, z, s);
   })

@@ -1,20 +1,21 @@
 -- What the notes of a whole run say.
-use Rattle.std.proofs.Common.{◌≡◌, ◌∙◌, ℕ, suc, ◌+◌, ◌-◌, ◌<◌, ◌≤◌, max, ◌⊎◌, inl, inr, ⊎_elim, List, [], ◌∷◌, length, get_or, ap, subst, arith, All, Option, None, Some, IfSome}
+use Rattle.std.proofs.Common.{◌≡◌, ◌∙◌, ℕ, suc, ◌+◌, ◌-◌, ◌<◌, ◌≤◌, max, ◌⊎◌, inl, inr, ⊎_elim, List, [], ◌∷◌, length, get_or, refl, ap, subst, arith, All, Option, None, Some, IfSome}
 use Rattle.std.specs.List.{AllPairs, sum_by}
 use Rattle.std.proofs.lemmas.List.Sums.{sum_by-cons, get_or-le-sum_by}
 use Rattle.std.proofs.lemmas.Bool.{cases_lt}
 use Rattle.std.proofs.lemmas.Bool.Decides.{nat_tests}
 use Rattle.zk_model.specs.declared.Span.{Span}
 use Rattle.zk_port.specs.Disks.{DiskState}
+use Rattle.lease_core.specs.Machine.{ceiling_for}
 use Rattle.lease_words.specs.Views.{end_of, inside, times_drawn, units_drawn}
-use Rattle.lease_words.specs.Calls.{known_of, greatest_end, all_entries, IsApart}
+use Rattle.lease_words.specs.Calls.{known_of, greatest_end, all_entries, all_met_by, IsApart}
 use Rattle.lease_words.specs.declared.pass.Pass.{Pass}
 use Rattle.lease_words.specs.declared.view.Entry.{Entry}
 use Rattle.lease_words.proofs.Whole.{two_le, at_most_one, within}
 use Rattle.lease_store.specs.Leases.{IsClosed}
 use Rattle.lease_store.specs.declared.LeaseFault.{LeaseFault}
 use Rattle.lease_store.specs.declared.LeaseFault.TheVariants as lease
-use Rattle.session_pool.specs.Notes.{AreApart, IsBetween, IsRefusedBy, IsRefusedAmong, IsLeft}
+use Rattle.session_pool.specs.Notes.{AreApart, IsBetween, IsRefusedBy, IsRefusedAmong, IsLeft, IsUnused, faults_met}
 use Rattle.session_pool.specs.Works.{has_unit, IsUpTo, IsReachedBy, IsReached, AllowsMark, IsWork, most_known}
 use Rattle.session_pool.proofs.Works.{if_weaker}
 
@@ -108,15 +109,24 @@ refused_among size base total entries notes m fault low few r = record {
   refused = refused_by (size r.drawer) (size m) total (greatest_end 0 entries) (units_drawn entries) (sum_by size notes) base fault low few r.reached;
 }
 
+-- ---- how far the ceiling was raised
+
+most_of : (base total ceiling drawn taken : ℕ) → drawn ≤ taken → ceiling ≤ max base (ceiling_for total (base + drawn)) → ceiling ≤ max base (ceiling_for total (base + taken))
+most_of base total ceiling drawn taken few most = omega arith
+
+none_drawn : (ps : List Pass) → All IsUnused ps → all_entries ps ≡ []
+none_drawn [] h = refl
+none_drawn (p ∷ ps) h = let here = (h 0 p (omega arith)).1 in let rest = none_drawn ps (λ k d l. h (suc k) d (omega arith)) in rw (here, rest)
+
 -- ---- the store, by another name of its first unit
 
 module _ (start disk : DiskState) (id : List ℕ) (total : ℕ) (ps : List Pass) where
   pub same_closed : (base first : ℕ) → base ≡ first → IsClosed start disk id base total ps → IsClosed start disk id first total ps
   same_closed base first is closed = subst (λ (x : ℕ). IsClosed start disk id x total ps) is closed
 
-  pub none_left : {M : Type 0} (size : M → ℕ) (granted : M → Option Span) (refused : M → Option LeaseFault) (first notes : List M) (base : ℕ) → first ≡ [] → notes ≡ first
-      → IsClosed start disk id base total ps → IsLeft start disk id base total size granted refused notes
-  none_left {M} size granted refused first notes base none same closed =
+  pub none_left : {M : Type 0} (fresh : Type 0) → (fresh → All IsUnused ps) → (size : M → ℕ) (granted : M → Option Span) (refused : M → Option LeaseFault) (first notes : List M) (base workers : ℕ) → first ≡ [] → notes ≡ first
+      → length ps ≡ workers → IsClosed start disk id base total ps → IsLeft fresh start disk id base total workers size granted refused notes
+  none_left {M} fresh unused size granted refused first notes base workers none same count closed =
       let empty : length notes ≡ 0 = ap (length {A = M}) same ∙ ap (length {A = M}) none in record {
         passes = ps;
         closed = closed;
@@ -124,25 +134,29 @@ module _ (start disk : DiskState) (id : List ℕ) (total : ℕ) (ps : List Pass)
         within = λ k d l. absurd (omega (arith, l, empty));
         marked = λ k d l. absurd (omega (arith, l, empty));
         told = λ k d l. absurd (omega (arith, l, empty));
+        once = let zero_met : faults_met refused notes ≡ 0 = ap (faults_met refused) same ∙ ap (faults_met refused) none in omega (arith, zero_met);
+        most = λ f. let all = closed.most in let undrawn : units_drawn (all_entries ps) ≡ 0 = (let e = none_drawn ps (unused f) in ap units_drawn e) in
+            most_of base total closed.ceiling (units_drawn (all_entries ps)) (sum_by size notes) (omega (arith, undrawn)) all;
+        count = count;
       }
 
 -- ---- all of it
 
 pub record IsRun {M : Type 0} (granted : M → Option Span) (refused : M → Option LeaseFault) (fresh : Type 0) (size : M → ℕ) (notes : List M)
-    (start disk : DiskState) (id : List ℕ) (base total : ℕ) : Type 0 where
+    (start disk : DiskState) (id : List ℕ) (base total workers : ℕ) : Type 0 where
   pub apart : AllPairs (λ m n. AreApart (granted m) (granted n)) notes
-  pub left : IsLeft start disk id base total size granted refused notes
+  pub left : IsLeft fresh start disk id base total workers size granted refused notes
   pub refusals : fresh → All (λ m. IfSome (refused m) (IsRefusedAmong size base total notes m)) notes
 
 module _ {M : Type 0} (granted : M → Option Span) (refused : M → Option LeaseFault) (is_note : M → Type 0) (fresh : Type 0) (size : M → ℕ) (notes : List M) (ps : List Pass)
-    (start disk : DiskState) (id : List ℕ) (base total : ℕ)
-    (w : IsWork granted refused is_note fresh size total (all_entries ps) (most_known ps) (λ mark. All (λ p. AllowsMark p mark) ps) notes) (closed : IsClosed start disk id base total ps) where
+    (start disk : DiskState) (id : List ℕ) (base total workers : ℕ) (count : length ps ≡ workers)
+    (w : IsWork granted refused is_note fresh size total (all_entries ps) (most_known ps) (λ mark. All (λ p. AllowsMark p mark) ps) notes) (few : faults_met refused notes ≤ all_met_by ps) (closed : IsClosed start disk id base total ps) where
   all_apart : AllPairs (λ m n. AreApart (granted m) (granted n)) notes
   all_apart i j d h l =
       apart_two (size (get_or notes i d)) (size (get_or notes j d)) total (most_known ps) (granted (get_or notes i d)) (granted (get_or notes j d)) (w.upto i d (omega (arith, h, l))) (w.upto j d l)
       (λ unit. let two = two_le (λ (m : M). has_unit (granted m) unit) notes i j d h l in let a = w.once unit in let b = apart_once unit (all_entries ps) closed.gathered.apart in omega (arith, two, a, b))
 
-  all_left : IsLeft start disk id base total size granted refused notes
+  all_left : IsLeft fresh start disk id base total workers size granted refused notes
   all_left = record {
     passes = ps;
     closed = closed;
@@ -151,6 +165,9 @@ module _ {M : Type 0} (granted : M → Option Span) (refused : M → Option Leas
     within = λ k d l. inside_total (size (get_or notes k d)) total (most_known ps) (granted (get_or notes k d)) (w.upto k d l);
     marked = λ k d l. (w.marked closed.mark closed.gathered.marks k d l).0;
     told = λ k d l. (w.marked closed.mark closed.gathered.marks k d l).1;
+    once = let a = closed.once in omega (arith, few, a);
+    most = λ f. most_of base total closed.ceiling (units_drawn (all_entries ps)) (sum_by size notes) (w.drawn f) closed.most;
+    count = count;
   }
 
   all_refused : fresh → All (λ m. IfSome (refused m) (IsRefusedAmong size base total notes m)) notes
@@ -161,5 +178,5 @@ module _ {M : Type 0} (granted : M → Option Span) (refused : M → Option Leas
       (refused (get_or notes k d)) (w.reached f k d l)
 
   -- all of that together
-  pub is_run : IsRun granted refused fresh size notes start disk id base total
+  pub is_run : IsRun granted refused fresh size notes start disk id base total workers
   is_run = record { apart = all_apart; left = all_left; refusals = all_refused }

@@ -9,14 +9,14 @@ use Rattle.atomic_table.specs.Seated.{TableId}
 use Rattle.zk_model.specs.declared.Span.{Span}
 use Rattle.zk_model.specs.declared.limits.TheConstants.{MAX_UNITS}
 use Rattle.lease_words.specs.Views.{entry, end_of, inside, times_drawn, units_drawn}
-use Rattle.lease_words.specs.Calls.{seen, entries_of, known_of, mark_of, number_of, greatest_end, IsExhausted}
+use Rattle.lease_words.specs.Calls.{seen, entries_of, known_of, mark_of, met_of, number_of, greatest_end, IsExhausted}
 use Rattle.lease_words.specs.declared.fault.Exhausted.{Exhausted as Refusal}
 use Rattle.lease_words.specs.declared.pass.Pass.{Pass}
 use Rattle.lease_words.specs.declared.view.Entry.{Entry}
 use Rattle.lease_store.specs.Leases.{Goes, IsPassAt}
 use Rattle.lease_store.specs.declared.LeaseFault.{LeaseFault}
 use Rattle.lease_store.specs.declared.LeaseFault.TheVariants as lease
-use Rattle.session_pool.specs.Notes.{granted_by, Lends, IsServed, IsMarked, TellsMark}
+use Rattle.session_pool.specs.Notes.{granted_by, Lends, IsServed, IsMarked, TellsMark, meets_fault}
 use Rattle.session_pool.specs.Works.{has_unit, IsUpTo, IsReachedBy, IsReached, AllowsMark, IsWork, IsKept, IsWorker, IsShiftOf}
 
 -- ---- facts that stay
@@ -299,13 +299,23 @@ module _ {M : Type 0} (fresh : Type 0) (size : M → ℕ) (total : ℕ) (notes :
       )
   step_of (Some (Err (lease.Exhausted at n all))) g o is cause lends sized = exhausted_step at n all g o is cause sized lends.0 p.kept refl lends.1
   step_of (Some (Err lease.Device)) g o is cause lends sized =
-      burnt_step (Some (Err lease.Device)) g o lends.0 is cause (is_more (entries_of p) (entries_of q) (number_of p) lends.0 (size x) lends.1.drawn.entry_is)
-      (λ z. lends.1.marked) (λ first z. absurd (cc))
-      (λ f fault z. same_refusal (Refuses (size x)) lease.Device fault z (own_refused sized (size x) lease.Device tt)) (free_keeps lends.1.drawn.is_free)
+      burnt_step (Some (Err lease.Device)) g o lends.1 is cause (is_more (entries_of p) (entries_of q) (number_of p) lends.1 (size x) lends.2.drawn.entry_is)
+      (λ z. lends.2.marked) (λ first z. absurd (cc))
+      (λ f fault z. same_refusal (Refuses (size x)) lease.Device fault z (own_refused sized (size x) lease.Device tt)) (free_keeps lends.2.drawn.is_free)
   step_of (Some (Err (lease.Broken first))) g o is cause lends sized =
       burnt_step (Some (Err (lease.Broken first))) g o lends.1 is cause (is_more (entries_of p) (entries_of q) (number_of p) lends.1 (size x) lends.2.drawn.entry_is)
       (λ z. absurd (cc)) (λ f z. let same : first ≡ f = cc in (lends.2.marked, lends.0 ∙ same))
       (λ f fault z. same_refusal (Refuses (size x)) (lease.Broken first) fault z (own_refused sized (size x) (lease.Broken first) tt)) (free_keeps lends.2.drawn.is_free)
+
+-- a session whose own lease the journal refused adds a fault to its pass
+fault_step : (p q : Pass) (units : ℕ) (answer : Option (Result Span LeaseFault)) (o : Option LeaseFault) → Causes answer o → Lends p units answer q
+    → met_of p ≤ met_of q → meets_fault o + met_of p ≤ met_of q
+fault_step p q units answer None cause lends goes = omega (arith, goes)
+fault_step p q units answer (Some (lease.Exhausted at count all)) cause lends goes = omega (arith, goes)
+fault_step p q units answer (Some lease.Device) cause lends goes =
+    let told : Lends p units (Some (Err lease.Device)) q = subst (λ (a : Option (Result Span LeaseFault)). Lends p units a q) cause lends in
+    let more = told.0 in omega (arith, more)
+fault_step p q units answer (Some (lease.Broken first)) cause lends goes = omega (arith, goes)
 
 -- ---- a worker behind one session
 
@@ -335,4 +345,6 @@ next_worker {M} is_note granted refused fresh size table total IsNote session_gr
       work = pushed granted refused is_note fresh size total (entries_of p) (entries_of q) (known_of p) (known_of q) (AllowsMark p) (AllowsMark q)
           notes x w.work (of.notes x (served.answer, served.is_note)) step.0;
       kept = step.1;
+      faults = let a = w.faults in let b = sum_by_push (λ (y : M). meets_fault (refused y)) notes x in
+          let c = fault_step p q (size x) served.answer (refused x) refused_is lends goes.met in omega (arith, a, b, c);
     })

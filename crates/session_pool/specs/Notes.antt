@@ -1,8 +1,9 @@
 -- What notes of sessions say of the units that they leased.
-use Rattle.std.specs.Prelude.{◌≡◌, ◌≢◌, ◌⊎◌, ℕ, ◌+◌, ◌-◌, ◌<◌, ◌≤◌, max, List, [], All, Contains, sum_by, Option, None, Some, IfSome, Result, Ok, Err}
+use Rattle.std.specs.Prelude.{◌≡◌, ◌≢◌, ◌⊎◌, ℕ, ◌+◌, ◌-◌, ◌<◌, ◌≤◌, max, List, [], length, All, Contains, sum_by, Option, None, Some, IfSome, Result, Ok, Err}
 use Rattle.zk_model.specs.declared.Span.{Span}
 use Rattle.zk_model.specs.declared.limits.TheConstants.{MAX_UNITS}
 use Rattle.zk_port.specs.Disks.{DiskState}
+use Rattle.lease_core.specs.Machine.{ceiling_for}
 use Rattle.lease_words.specs.declared.pass.Pass.{Pass}
 use Rattle.lease_words.specs.Calls.{entries_of}
 use Rattle.lease_store.specs.Leases.{IsClosed, Leased}
@@ -83,10 +84,23 @@ TellsMark mark (Some (Exhausted at count total)) = Unit {0}
 TellsMark mark (Some Device) = Unit {0}
 TellsMark mark (Some (Broken first)) = first ≡ mark
 
+-- 1 where the journal failed in a session's own lease, and else 0
+abbrev pub meets_fault : Option LeaseFault → ℕ
+meets_fault None = 0
+meets_fault (Some (Exhausted at count total)) = 0
+meets_fault (Some Device) = 1
+meets_fault (Some (Broken first)) = 0
+
+-- in how many sessions it did
+abbrev pub faults_met : {M : Type 0} → (M → Option LeaseFault) → List M → ℕ
+faults_met refused notes = sum_by (λ note. meets_fault (refused note)) notes
+
 -- What is left of the store that served these notes. It is closed with its passes; every granted span has its note's size and lies between
 -- the base and the ceiling, which the content and each image of the disk recover, or a higher one, and ends within the total; and where a
--- journal is said to have failed, the store is marked, so a call of the disk failed, and one that failed before is told by that mark.
-pub record IsLeft {M : Type 0} (start disk : DiskState) (id : List ℕ) (base total : ℕ) (size : M → ℕ)
+-- journal is said to have failed, the store is marked, so a call of the disk failed, and one that failed before is told by that mark; it is
+-- said to have failed in the lease of one session at most. Where no pass had drawn before, the ceiling is the base, or at most the one for as
+-- many units as all notes take. There was a pass for each worker.
+pub record IsLeft {M : Type 0} (fresh : Type 0) (start disk : DiskState) (id : List ℕ) (base total workers : ℕ) (size : M → ℕ)
     (granted : M → Option Span) (refused : M → Option LeaseFault) (notes : List M) : Type 0 where
   pub passes : List Pass
   pub closed : IsClosed start disk id base total passes
@@ -94,3 +108,6 @@ pub record IsLeft {M : Type 0} (start disk : DiskState) (id : List ℕ) (base to
   pub within : All (λ note. IfSome (granted note) (λ span. span.end ≤ total)) notes
   pub marked : All (λ note. IsMarked closed.mark (refused note)) notes
   pub told : All (λ note. TellsMark closed.mark (refused note)) notes
+  pub once : faults_met refused notes ≤ 1
+  pub most : fresh → closed.ceiling ≤ max base (ceiling_for total (base + sum_by size notes))
+  pub count : length passes ≡ workers

@@ -5,14 +5,14 @@ use Rattle.atomic_table.specs.Seated.{TableId}
 use Rattle.zk_model.specs.declared.Span.{Span}
 use Rattle.zk_model.specs.declared.limits.TheConstants.{MAX_UNITS}
 use Rattle.lease_words.specs.Views.{inside, times_drawn, units_drawn}
-use Rattle.lease_words.specs.Calls.{entries_of, known_of, mark_of, greatest_end, all_entries}
+use Rattle.lease_words.specs.Calls.{entries_of, known_of, mark_of, met_of, greatest_end, all_entries, all_met_by}
 use Rattle.lease_words.specs.declared.fault.Exhausted.{Exhausted as Refusal}
 use Rattle.lease_words.specs.declared.pass.Pass.{Pass}
 use Rattle.lease_words.specs.declared.view.Entry.{Entry}
 use Rattle.lease_store.specs.Leases.{IsPassAt}
 use Rattle.lease_store.specs.declared.LeaseFault.{LeaseFault}
 use Rattle.lease_store.specs.declared.LeaseFault.TheVariants.{Exhausted, Device, Broken}
-use Rattle.session_pool.specs.Notes.{IsNoteOf, IsMarked, TellsMark}
+use Rattle.session_pool.specs.Notes.{IsNoteOf, IsMarked, TellsMark, faults_met}
 
 -- What the workers of a run agree on is this of the session: what its notes say, and that its units are those of the store
 pub record IsShiftOf {M : Type 0} (is_note : M → Type 0) (granted : M → Option Span) (refused : M → Option LeaseFault)
@@ -85,6 +85,7 @@ pub record IsWorker {M : Type 0} (granted : M → Option Span) (refused : M → 
   pub counted : amount ≡ length notes
   pub work : IsWork granted refused is_note fresh size total (entries_of pass) (known_of pass) (AllowsMark pass) notes
   pub kept : IsKept fresh size total notes pass
+  pub faults : faults_met refused notes ≤ met_of pass
 
 -- the greatest ceiling that one of these passes knows
 abbrev pub most_known : List Pass → ℕ
@@ -98,3 +99,4 @@ pub record AreBack {M : Type 0} (granted : M → Option Span) (refused : M → O
   pub counted : amount ≡ length notes
   pub work : IsWork granted refused is_note fresh size total (all_entries passes) (most_known passes)
       (λ mark. All (λ p. AllowsMark p mark) passes) notes
+  pub faults : faults_met refused notes ≤ all_met_by passes

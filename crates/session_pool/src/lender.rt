@@ -11,7 +11,7 @@ use std::alloc::Global;
 use std::sync::Wait;
 use std::thread::Threads;
 use zk_model::Span;
-use zk_port::{Disk, Gate, Link};
+use zk_port::{Disk, Link};
 
 /// Leases from a store, once, with a pass that is lent, and waits where the store does by the handle that it holds.
 pub(crate) struct Lender<'a, 'p, B: Disk, N: LeaseName, R: Wait> {
@@ -48,21 +48,19 @@ impl<'a, 'p, B: Disk, N: LeaseName, R: Wait> Grantor for Lender<'a, 'p, B, N, R>
 }
 
 /// The session over a fresh link, with units that are leased by the pass where the session asks for them.
-pub fn serve_one<S, L, B, N, G, R>(
+pub fn serve_one<S, L, B, N, R>(
     rt: &R,
     alloc: Global,
     session: &S,
     store: &LeaseStore<B, N>,
     pass: &mut Pass,
     link: L,
-    gate: &G,
 ) -> S::Note
 where
     S: Session<L>,
     L: Link,
     B: Disk,
     N: LeaseName,
-    G: Gate,
     R: Threads + Wait + Sync,
     requires own { IsPassAt N.table N.total pass.old }
     requires total { N.total ≡ S.total session.now }
@@ -79,7 +77,7 @@ where
         asked: None,
         answer: None,
     };
-    let note = session.lead(rt, alloc, &mut lender, link, gate);
+    let note = session.lead(rt, alloc, &mut lender, link);
     let Lender {
         rt: _,
         store: _,

@@ -21,7 +21,7 @@ use std::sync::ledger::{Blank, Share};
 use std::sync::{Mutex, Wait};
 use std::thread;
 use std::thread::Threads;
-use zk_port::{Disk, Door, Gate, Link};
+use zk_port::{Disk, Door, Link};
 
 /// A worker for each pass, with a part of the ledger.
 fn hire<M: Drop, N: LeaseName, W: Shift<M>>(
@@ -103,14 +103,13 @@ fn take_all_back<M: Drop, N: LeaseName, W: Shift<M>, D: Door>(
 }
 
 /// Goes on with one worker, where no other thread serves, until the door is done.
-fn serve_rest<M, L, S, N, W, D, B, G, R>(
+fn serve_rest<M, L, S, N, W, D, B, R>(
     rt: &R,
     alloc: Global,
     session: &S,
     store: &LeaseStore<B, N>,
     worker: &mut Worker<M, N, W>,
     doorway: &mut Doorway<D, W>,
-    gate: &G,
 )
 where
     L: Link,
@@ -119,21 +118,20 @@ where
     W: Shift<M>,
     D: Door<Link = L>,
     B: Disk,
-    G: Gate,
     R: Threads + Wait + Sync,
     requires { IsShiftOf W.is_note W.granted W.refused W.size N.total
         (S.is_note session.now) S.granted S.refused (S.size session.now) (S.total session.now) }
     ensures { doorway.new.is_done ≡ true }
 {
     'rest: while !doorway.is_done() {
-        if !worker.serve_alone(rt, alloc, session, store, doorway, gate) {
+        if !worker.serve_alone(rt, alloc, session, store, doorway) {
             return;
         }
     }
 }
 
 /// Serves with all workers at once, and goes on with the first of them.
-fn serve_with<M, L, S, N, W, D, B, G, R>(
+fn serve_with<M, L, S, N, W, D, B, R>(
     rt: &R,
     alloc: Global,
     session: &S,
@@ -141,7 +139,6 @@ fn serve_with<M, L, S, N, W, D, B, G, R>(
     workers: &mut Vec<Worker<M, N, W>>,
     doorway: Doorway<D, W>,
     sessions: u32,
-    gate: &G,
 ) -> Doorway<D, W>
 where
     M: Drop + Send,
@@ -151,7 +148,6 @@ where
     W: Shift<M> + Send,
     D: Door<Link = L> + Send,
     B: Disk + Send,
-    G: Gate + Sync,
     R: Threads + Wait + Sync,
     requires some { 0 < vec_len workers.old }
     requires shift { IsShiftOf W.is_note W.granted W.refused W.size N.total
@@ -168,23 +164,15 @@ where
             requires { IsSync R.row
                 × IsShiftOf W.is_note W.granted W.refused W.size N.total
                 (S.is_note session.now) S.granted S.refused (S.size session.now) (S.total session.now) }
-        { worker.serve(rt, alloc, session, store, &doorway, sessions, gate) },
+        { worker.serve(rt, alloc, session, store, &doorway, sessions) },
     );
     let mut doorway = doorway.into_inner();
-    serve_rest(
-        rt,
-        alloc,
-        session,
-        store,
-        &mut workers[0],
-        &mut doorway,
-        gate,
-    );
+    serve_rest(rt, alloc, session, store, &mut workers[0], &mut doorway);
     doorway
 }
 
 /// All sessions, under the names of the store and of the run.
-fn serve_named<M, L, S, N, W, D, B, G, R>(
+fn serve_named<M, L, S, N, W, D, B, R>(
     rt: &R,
     alloc: Global,
     session: &S,
@@ -193,7 +181,6 @@ fn serve_named<M, L, S, N, W, D, B, G, R>(
     door: D,
     blank: Blank,
     sessions: u32,
-    gate: &G,
 ) -> Served<M, D, B>
 where
     M: Drop + Send,
@@ -203,7 +190,6 @@ where
     W: Shift<M> + Send,
     D: Door<Link = L> + Send,
     B: Disk + Send,
-    G: Gate + Sync,
     R: Threads + Wait + Sync,
     requires table { parts.table ≡ N.table }
     requires total { parts.total ≡ N.total }
@@ -227,7 +213,7 @@ where
     ensures taken { Takes W.sessions (length result.notes.items) result.door_failed result.memory_failed
         W.first (D.state result.door) }
     ensures apart { AllPairs (λ m n. AreApart (W.granted m) (W.granted n)) result.notes.items }
-    ensures left { IsLeft N.start (B.state result.disk) N.id parts.base N.total
+    ensures left { IsLeft W.fresh N.start (B.state result.disk) N.id parts.base N.total N.passes
         W.size W.granted W.refused result.notes.items }
     ensures refused { W.fresh → All (λ note. IfSome (W.refused note)
         (IsRefusedAmong W.size parts.base N.total result.notes.items note)) result.notes.items }
@@ -242,23 +228,14 @@ where
         return doorway.close(all, notes, disk);
     }
     hire::<M, N, W>(alloc, &mut passes, &mut workers, &mut all);
-    let mut doorway = serve_with(
-        rt,
-        alloc,
-        session,
-        &store,
-        &mut workers,
-        doorway,
-        sessions,
-        gate,
-    );
+    let mut doorway = serve_with(rt, alloc, session, &store, &mut workers, doorway, sessions);
     take_all_back(workers, &mut passes, &mut notes, &mut all, &mut doorway);
     let disk = store.close(passes);
     doorway.close(all, notes, disk)
 }
 
 /// Leads sessions with the peers that call at the door, so many at most, and as many at once as there are passes.
-pub fn serve_all<S, D, B, G, R>(
+pub fn serve_all<S, D, B, R>(
     rt: &R,
     alloc: Global,
     session: &S,
@@ -266,7 +243,6 @@ pub fn serve_all<S, D, B, G, R>(
     passes: Vec<Pass>,
     door: D,
     sessions: u32,
-    gate: &G,
 ) -> Served<S::Note, D, B>
 where
     S: Session<D::Link> + Sync,
@@ -274,7 +250,6 @@ where
     D: Door + Send,
     D::Link: Drop + Send,
     B: Disk + Send,
-    G: Gate + Sync,
     R: Threads + Wait + Sync,
     requires own { All (IsPassAt parts.table parts.total) passes.items }
     requires all { length passes.items ≡ parts.passes }
@@ -287,14 +262,15 @@ where
     ensures taken { Takes sessions (length result.notes.items) result.door_failed result.memory_failed
         (D.state door) (D.state result.door) }
     ensures apart { AllPairs (λ m n. AreApart (S.granted m) (S.granted n)) result.notes.items }
-    ensures left { IsLeft (B.state parts.disk) (B.state result.disk) (S.id session.now) parts.base parts.total
-        (S.size session.now) S.granted S.refused result.notes.items }
+    ensures left { IsLeft (All IsUnused passes.items) (B.state parts.disk) (B.state result.disk)
+        (S.id session.now) parts.base parts.total parts.passes (S.size session.now) S.granted S.refused
+        result.notes.items }
     ensures refused { All IsUnused passes.items → All (λ note. IfSome (S.refused note)
         (IsRefusedAmong (S.size session.now) parts.base parts.total result.notes.items note))
         result.notes.items }
 {
     let blank = Blank::new(passes.len() as u64 + 1);
-    serve_named::<S::Note, D::Link, S, Brand, Brand, D, B, G, R>(
-        rt, alloc, session, parts, passes, door, blank, sessions, gate,
+    serve_named::<S::Note, D::Link, S, Brand, Brand, D, B, R>(
+        rt, alloc, session, parts, passes, door, blank, sessions,
     )
 }

@@ -7,7 +7,7 @@ ghost use Rattle.zk_port.specs.Doors.{IsFreshLink};
 use lease_store::Grantor;
 use std::alloc::Global;
 use std::thread::Threads;
-use zk_port::{Gate, Link};
+use zk_port::Link;
 
 /// What is led over each link of a door: a session that leases units once at most, all of them at once, and of which a note is made.
 pub trait Session<L: Link> {
@@ -37,13 +37,12 @@ pub trait Session<L: Link> {
     ghost refused: { Self.Note → Option LeaseFault };
 
     /// Leads it over a fresh link, which is ended then. It may have threads of its own.
-    fn lead<R: Threads + Sync, T: Grantor, G: Gate>(
+    fn lead<R: Threads + Sync, T: Grantor>(
         &self,
         rt: &R,
         alloc: Global,
         grantor: &mut T,
         link: L,
-        gate: &G,
     ) -> Self::Note
         requires shared { IsSync R.row }
         requires fresh { IsFreshLink (L.state link) }

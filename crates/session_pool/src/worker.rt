@@ -15,7 +15,7 @@ use std::marker::{Model, PhantomData};
 use std::sync::ledger::Share;
 use std::sync::{Mutex, Wait};
 use std::thread::Threads;
-use zk_port::{Disk, Door, Gate, Link};
+use zk_port::{Disk, Door, Link};
 
 /// Serves one peer after another: with a pass and a share of its own, and the notes so far.
 #[derive(Drop)]
@@ -54,21 +54,19 @@ impl<M, N: LeaseName, W: Shift<M>> Worker<M, N, W> {
     }
 
     /// Serves the next peer, if there is one.
-    fn serve_next<L, S, D, B, G, R>(
+    fn serve_next<L, S, D, B, R>(
         &mut self,
         rt: &R,
         alloc: Global,
         session: &S,
         store: &LeaseStore<B, N>,
         doorway: &Mutex<Doorway<D, W>>,
-        gate: &G,
     ) -> bool
     where
         L: Link,
         S: Session<L, Note = M>,
         D: Door<Link = L>,
         B: Disk,
-        G: Gate,
         R: Threads + Wait + Sync,
         requires { IsShiftOf W.is_note W.granted W.refused W.size N.total
             (S.is_note session.now) S.granted S.refused (S.size session.now) (S.total session.now) }
@@ -76,13 +74,13 @@ impl<M, N: LeaseName, W: Shift<M>> Worker<M, N, W> {
         let Some(link) = take_next(rt, alloc, doorway, &mut self.share, &mut self.notes) else {
             return false;
         };
-        let note = serve_one(rt, alloc, session, store, &mut self.pass, link, gate);
+        let note = serve_one(rt, alloc, session, store, &mut self.pass, link);
         self.notes.push_reserved(note);
         true
     }
 
     /// Serves until no peer is left, or as many sessions as are wanted were given out.
-    pub(crate) fn serve<L, S, D, B, G, R>(
+    pub(crate) fn serve<L, S, D, B, R>(
         &mut self,
         rt: &R,
         alloc: Global,
@@ -90,41 +88,37 @@ impl<M, N: LeaseName, W: Shift<M>> Worker<M, N, W> {
         store: &LeaseStore<B, N>,
         doorway: &Mutex<Doorway<D, W>>,
         sessions: u32,
-        gate: &G,
     )
     where
         L: Link,
         S: Session<L, Note = M>,
         D: Door<Link = L>,
         B: Disk,
-        G: Gate,
         R: Threads + Wait + Sync,
         requires { IsShiftOf W.is_note W.granted W.refused W.size N.total
             (S.is_note session.now) S.granted S.refused (S.size session.now) (S.total session.now) }
     {
         for _ in 0..sessions {
-            if !self.serve_next(rt, alloc, session, store, doorway, gate) {
+            if !self.serve_next(rt, alloc, session, store, doorway) {
                 return;
             }
         }
     }
 
     /// Serves the next peer, if there is one, where no other thread does.
-    pub(crate) fn serve_alone<L, S, D, B, G, R>(
+    pub(crate) fn serve_alone<L, S, D, B, R>(
         &mut self,
         rt: &R,
         alloc: Global,
         session: &S,
         store: &LeaseStore<B, N>,
         doorway: &mut Doorway<D, W>,
-        gate: &G,
     ) -> bool
     where
         L: Link,
         S: Session<L, Note = M>,
         D: Door<Link = L>,
         B: Disk,
-        G: Gate,
         R: Threads + Wait + Sync,
         requires { IsShiftOf W.is_note W.granted W.refused W.size N.total
             (S.is_note session.now) S.granted S.refused (S.size session.now) (S.total session.now) }
@@ -134,7 +128,7 @@ impl<M, N: LeaseName, W: Shift<M>> Worker<M, N, W> {
         let Some(link) = doorway.take(alloc, &mut self.share, &mut self.notes) else {
             return false;
         };
-        let note = serve_one(rt, alloc, session, store, &mut self.pass, link, gate);
+        let note = serve_one(rt, alloc, session, store, &mut self.pass, link);
         self.notes.push_reserved(note);
         true
     }

@@ -7,14 +7,14 @@ use Rattle.zk_model.specs.declared.Expect.{Expect}
 use Rattle.zk_model.specs.declared.Side.{Side}
 use Rattle.zk_model.specs.declared.Side.TheVariants.{Verifier, Prover}
 use Rattle.claim_store.specs.declared.ClaimFault.{ClaimFault}
-use Rattle.frame_link.specs.Lines.{IsUnfinished, LineState, IsSendRefused, counted_times, snapshot_of, CountsFault, IsCutShort}
+use Rattle.frame_link.specs.Lines.{IsUnfinished, LineState, LinkSnapshot, IsSendRefused, counted_times, snapshot_of, CountsFault, IsCutShort}
 use Rattle.proof_frames.proofs.Lengths.{whole_length}
 use Rattle.proof_frames.proofs.Unique.{one_frame}
-use Rattle.frame_link.proofs.LineLemmas.{none_is_some, front_goes_on, appended_none, appended_more, one_send_more}
+use Rattle.frame_link.proofs.LineLemmas.{none_is_some, front_goes_on, appended_none, appended_more, one_send_more, longest, within_longest}
 use Rattle.session_core.specs.Jobs.{ProverJob, Suits}
 use Rattle.session_prover.specs.declared.note.ProverOutcome.{ProverOutcome}
 use Rattle.session_prover.specs.Outcomes.{claim_outcome, line_outcome, session_outcome, verdict_outcome}
-use Rattle.session_prover.specs.Stages.{Claim, ClaimedFor, greeted_log, granted_log, IsLogAt, IsLogTaken, replied_log, fixed_log, answers_in, Course, GoesWell, IsLineTaken, all_asks, sums_for, openings_for, IsOpenedLog, opened_log, RefusedFor, greeting, IsSound, SendStops, IsBehindGrant, Comes, IsRejection, IsGrantTaken, IsNoGrant}
+use Rattle.session_prover.specs.Stages.{TriesSend, Claim, ClaimedFor, greeted_log, granted_log, IsLogAt, IsLogTaken, replied_log, fixed_log, answers_in, Course, GoesWell, IsLineTaken, all_asks, sums_for, openings_for, IsOpenedLog, opened_log, RefusedFor, greeting, IsSound, SendStops, IsBehindGrant, Comes, IsRejection, IsGrantTaken, IsNoGrant}
 use Rattle.session_prover.specs.Notes.{AnswersGrantPlace, IsClaimRefused, IsRelated, task_of, IsGrantRead, IsAskedRight, SendsOnceClaimed, IsAnswerDue, IsOutcome, CountsOutcome, SendsHonestly, SendsEach, AnswersVerdict, IsEnded, ComesBehind, IsLogged, ReadsVerdict}
 use Rattle.session_prover.proofs.Heard.{same_bytes_grant, greeted_heard, granted_heard, frame_is_some, granted_sent, turns_at, next_frame, IsUnheard, unread, Hears, read_so, answers_heard, same_stage, greeted_sent, not_heard, has_answered, from_ended, opened_sent, opened_heard, made, made_is, made_honest, finishes, all_sent, honest_bytes, one_grant}
 use Rattle.session_prover.proofs.Answering.{suits_is, related_greeting, related_asks, related_replied, related_fixed, related_at, read_is, IsUnder, IsGrantAnswer, grant_answer, spelled_asks, answer_leads, answer_exists, answer_is_honest, read_under, related_part, next_of}
@@ -207,7 +207,7 @@ stops_before bytes line = record {
   begun = (bytes, refl);
   logged = refl;
   told = appended_none line.told;
-  sends = inl (refl, refl, refl);
+  sends = inl (refl, refl, refl, refl);
   others = record { side = refl; reading = refl; to_come = refl; ended = refl; is_open = refl; receives = refl };
   cause = tt;
   count = record { later = omega arith; unfailed = λ _. refl };
@@ -220,7 +220,7 @@ stops_refused bytes f old new refused = record {
   begun = (drop refused.told.count bytes, sym (take-append-drop refused.told.count bytes));
   logged = refused.logged;
   told = refused.told.part ∙ ap (λ l. appended l old.told) (take-map (λ (byte : ℕ). (old.side, byte)) refused.told.count bytes);
-  sends = inr refused.sends;
+  sends = inr (refused.sends, refused.refused_sends);
   others = refused.others;
   cause = refused.cause;
   count = refused.count;
@@ -277,6 +277,7 @@ stops_sending_at job course bytes f old new well due owed stops related unheard 
     told = stops.told ∙ (λ i. appended (bytes_from (well.side i) stops.part) (well.told i))
         ∙ appended_more old.log (bytes_from Prover stops.part) course.first.told ∙ ap (λ l. appended (l ++ bytes_from Prover stops.part) course.first.told) (sym stops.logged);
     none = (at_fault f stops.cause).2;
+    refused = refused_each stops.sends;
     honest = λ inputs wires witness. subst (λ l. IsFromHonestProver (task_of job inputs) (l ++ bytes_from Prover stops.part)) (sym stops.logged)
         (from_due inputs wires witness stops.part stops.begun.0 stops.begun.1);
     claimed = subst (λ l. SendsOnceClaimed job course.claim (l ++ bytes_from Prover stops.part)) (sym stops.logged) (due.claimed stops.part stops.begun.0 stops.begun.1);
@@ -312,10 +313,16 @@ stops_sending_at job course bytes f old new well due owed stops related unheard 
     one_more one = one_send_more (answers_in old.log) course.first.sends new.sends (one ∙ ap (counted true) well.sends)
         ∙ ap (λ (l : List (Side × ℕ)). counted_times (answers_in l + 1) course.first.sends) (sym stops.logged)
 
-    sent_each : (((f ≡ fault.NoMemory) × (stops.part ≡ []) × (new.sends ≡ old.sends)) ⊎ (new.sends ≡ counted true old.sends))
-        → SendsEach (line_outcome f) new.log course.first.sends new.sends
-    sent_each (inl none) = inl (none.2 ∙ well.sends ∙ ap (λ (l : List (Side × ℕ)). counted_times (answers_in l) course.first.sends) (sym stops.logged))
-    sent_each (inr one) = inr ((at_fault f stops.cause).1, one_more one)
+    refused_each : TriesSend stops.part f old new → notes.RefusesSends (line_outcome f) stops.part (snapshot_of course.first) (snapshot_of new)
+    refused_each (inl none) = inl (none.1, none.3 ∙ well.refused_sends)
+    refused_each (inr one) = inr ((at_fault f stops.cause).1, one.1 ∙ ap (counted true) well.refused_sends)
+
+    sent_each : TriesSend stops.part f old new → SendsEach (line_outcome f) new.log (snapshot_of course.first) (snapshot_of new)
+    sent_each (inl none) = inl (
+      none.2 ∙ well.sends ∙ ap (λ (l : List (Side × ℕ)). counted_times (answers_in l) course.first.sends) (sym stops.logged),
+      none.3 ∙ well.refused_sends,
+    )
+    sent_each (inr one) = inr ((at_fault f stops.cause).1, one_more one.0, one.1 ∙ ap (counted true) well.refused_sends)
 
     no_link : fault.Link ≡ fault.NoMemory → ⊥
     no_link same = subst lines.IsNoLink (sym same) tt
@@ -324,10 +331,10 @@ stops_sending_at job course bytes f old new well due owed stops related unheard 
     owes least owed = subst (IsAnswerDue job course.claim least) (sym stops.logged) owed
 
     caused : (f : LineFault) → lines.IsSendCause old new f → IsAnswerDue job course.claim (least_for f) old.log
-        → ((f ≡ fault.NoMemory) × (stops.part ≡ []) × (new.sends ≡ old.sends)) ⊎ (new.sends ≡ counted true old.sends)
+        → TriesSend stops.part f old new
         → IsOutcome job course.claim new.log (snapshot_of course.first) (snapshot_of new) (line_outcome f)
     caused fault.Link cause owed (inl none) = absurd (no_link none.0)
-    caused fault.Link cause owed (inr one) = (subst (λ n. Rose n new.faults) well.faults cause, inr (owes 1 owed, one_more one))
+    caused fault.Link cause owed (inr one) = (subst (λ n. Rose n new.faults) well.faults cause, inr (owes 1 owed, one_more one.0, one.1 ∙ ap (counted true) well.refused_sends))
     caused fault.NoMemory cause owed sends = inr (inl (owes 0 owed))
     caused other cause owed sends = absurd cause
 
@@ -506,14 +513,15 @@ answers_at job claim stage awaited before bytes outcome sound at expected unfini
 -- ---- what the link tells
 
 -- the log alone
-pub logged_whole : (job : ProverJob) (claim : Claim) (outcome : ProverOutcome) (log : List (Side × ℕ)) (before after : Option (List (Side × ℕ)))
-    → after ≡ appended log before
+pub logged_whole : (job : ProverJob) (claim : Claim) (outcome : ProverOutcome) (log : List (Side × ℕ)) (first now : LinkSnapshot)
+    → now.told ≡ appended log first.told → now.refused_sends ≡ first.refused_sends
     → ((inputs wires : List ℕ) → IsWitness job.statement inputs wires job.given → IsFromHonestProver (task_of job inputs) log)
-    → SendsOnceClaimed job claim log → IsLogged job claim outcome log before after
-logged_whole job claim outcome log before after told honest claimed = record {
+    → SendsOnceClaimed job claim log → IsLogged job claim outcome log first now
+logged_whole job claim outcome log first now told unrefused honest claimed = record {
   part = [];
-  told = told ∙ ap (λ l. appended l before) (sym none);
+  told = told ∙ ap (λ l. appended l first.told) (sym none);
   none = λ no. refl;
+  refused = inl (refl, unrefused);
   honest = λ inputs wires witness. subst (λ l. IsFromHonestProver (task_of job inputs) l) (sym none) (honest inputs wires witness);
   claimed = subst (λ l. SendsOnceClaimed job claim l) (sym none) claimed;
 }
@@ -536,8 +544,8 @@ ends_well job course outcome line well is asked claimed related answers answered
   related = related;
   answers = answers;
   verdict = answered;
-  sends = inl well.sends;
-  logged = logged_whole job course.claim outcome line.log course.first.told line.told well.told from claimed;
+  sends = inl (well.sends, well.refused_sends);
+  logged = logged_whole job course.claim outcome line.log (snapshot_of course.first) (snapshot_of line) well.told well.refused_sends from claimed;
   came = well.came;
   receives = omega (arith, well.receives);
   count = record { later = omega (arith, well.faults); unfailed = λ _. well.faults };
@@ -589,11 +597,11 @@ stops_taking moves job claim stage log number mid other f first now sound at sam
       (answers_at job claim stage missing.place log missing.rest (line_outcome f) sound at expected missing.unfinished);
   verdict = unread job (line_outcome f) now.log (record {
     turn = turns_at job stage;
-    unheard = λ heard. not_heard job claim stage missing.place log missing.rest [] sound at expected missing.few missing.unfinished
+    unheard = λ heard. not_heard job claim stage missing.place log missing.rest [] sound at expected within missing.unfinished
         (subst (λ l. Hears (task_of job []) l (turns_at job stage)) (ap (sent_by Verifier) missing.logged ∙ came_more Prover log missing.rest) heard);
   });
-  sends = inl sends;
-  logged = logged_whole job claim (line_outcome f) now.log first.told now.told missing.told
+  sends = inl (sends, missing.refused_sends);
+  logged = logged_whole job claim (line_outcome f) now.log (snapshot_of (mine first)) (snapshot_of now) missing.told missing.refused_sends
       (λ inputs wires witness. from_ended job inputs now.log (ended inputs wires witness)) claimed;
   came = missing.came;
   receives = missing.receives;
@@ -603,12 +611,15 @@ stops_taking moves job claim stage log number mid other f first now sound at sam
     expected : prover_expects job stage ≡ Some missing.place
     expected = sym same ∙ missing.expected
 
+    within : length missing.rest ≤ longest missing.place
+    within = within_longest missing.place missing.rest missing.few
+
     sends : now.sends ≡ counted_times (answers_in now.log) first.sends
     sends = missing.sends ∙ ap (λ (k : ℕ). counted_times k first.sends) (counts ∙ sym (ap answers_in missing.logged ∙ answers_heard log missing.rest))
 
     ended : (inputs wires : List ℕ) → IsWitness job.statement inputs wires job.given → HasEndedHonestly (task_of job inputs) now.log
     ended inputs wires witness = subst (λ l. HasEndedHonestly (task_of job inputs) l) (sym missing.logged)
-        (has_answered job claim stage missing.place log missing.rest inputs wires sound at expected missing.few missing.unfinished witness)
+        (has_answered job claim stage missing.place log missing.rest inputs wires sound at expected within missing.unfinished witness)
 
     claimed : SendsOnceClaimed job claim now.log
     claimed = subst (λ l. SendsOnceClaimed job claim l) (sym missing.logged) (once_claimed job claim stage log missing.rest at)
@@ -629,7 +640,7 @@ stops_taking moves job claim stage log number mid other f first now sound at sam
         let begun = cut tt in
         (record { behind = behind; cause = (begun.goes_on, begun.short) }, cause.0, cause.1, cause.2)
     by_fault (fault.BadFrame place_at) cause cut = (cause.0, record { behind = behind; cause = (cause.1, cause.2) })
-    by_fault fault.Link cause cut = (cause, inl (record { behind = behind; cause = cut tt }, sends))
+    by_fault fault.Link cause cut = (cause, inl (record { behind = behind; cause = cut tt }, sends, missing.refused_sends))
     by_fault fault.NoMemory cause cut = inl (record { behind = behind; cause = cut tt })
 
 -- ---- a verdict has come

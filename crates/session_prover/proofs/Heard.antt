@@ -33,8 +33,8 @@ use Rattle.session_laws.proofs.Followed.{last_two}
 use Rattle.session_laws.proofs.Sizes.{count_is}
 use Rattle.zk_model.specs.Program.{Program}
 use Rattle.zk_model.specs.declared.Expect.{Expect}
-use Rattle.frame_link.specs.Lines.{longest, IsUnfinished}
-use Rattle.frame_link.proofs.LineLemmas.{frame_most}
+use Rattle.frame_link.specs.Lines.{IsUnfinished}
+use Rattle.frame_link.proofs.LineLemmas.{longest, frame_most}
 use Rattle.proof_frames.proofs.Unique.{one_frame}
 use Rattle.frame_laws.proofs.OneTranscript.{one_transcript}
 use Rattle.session_prover.specs.declared.note.ProverOutcome.{ProverOutcome}

@@ -11,7 +11,7 @@ use Rattle.zk_model.specs.declared.Span.{Span}
 use Rattle.claim_store.specs.declared.ClaimFault.{ClaimFault}
 use Rattle.frame_link.specs.Lines.{LineState, LinkSnapshot}
 use Rattle.frame_link.specs.declared.fault.LineFault.{LineFault}
-use Rattle.frame_link.proofs.LineLemmas.{none_is_some, frame_most}
+use Rattle.frame_link.proofs.LineLemmas.{none_is_some, frame_most, within_longest}
 use Rattle.proof_frames.specs.Frames.{IsShort}
 use Rattle.session_core.specs.Jobs.{ProverJob, Suits}
 use Rattle.session_core.specs.Cores.{ProverStage, ProverState, ProverAnswers, awaits_grant, awaits_replies, awaits_challenge, awaits_verdict, has_ended, prover_expects}
@@ -617,7 +617,7 @@ no_bad : (job : ProverJob) (claim : Claim) (log : List (Side × ℕ)) (n : ℕ) 
     → (stops : StopsBehind job claim log (λ awaited rest. IsFirstBad awaited rest n)) → ⊥
 no_bad job claim log n sound said stops =
     let next = said_next job claim stops.expect stops.before log stops.rest [] sound said stops.logged stops.waits in
-    none_bad stops.expect next.frame stops.rest said.more next.tail n next.allowed (omega (arith, stops.few, next.long)) next.begun stops.cause
+    none_bad stops.expect next.frame stops.rest said.more next.tail n next.allowed (omega (arith, within_longest stops.expect stops.rest stops.few, next.long)) next.begun stops.cause
 
 -- and the verifier has not said all where a frame is wanted
 no_end : (job : ProverJob) (claim : Claim) (log : List (Side × ℕ)) → IsSound job → (said : IsSaid job (sent_by Verifier log)) → said.more ≡ []

@@ -14,11 +14,11 @@ use Rattle.zk_model.specs.declared.Kind.TheVariants.{Extended}
 use Rattle.zk_model.specs.declared.Side.{Side}
 use Rattle.zk_model.specs.declared.Side.TheVariants.{Prover, Verifier}
 use Rattle.zk_model.specs.declared.Span.{Span}
-use Rattle.zk_port.specs.Counts.{Rose}
+use Rattle.zk_port.specs.Counts.{Rose, counted}
 use Rattle.zk_port.specs.Logs.{appended, put_before}
 use Rattle.claim_store.specs.declared.ClaimFault.{ClaimFault}
 use Rattle.claim_store.specs.declared.ClaimFault.TheVariants as refusal
-use Rattle.frame_link.specs.Lines.{LineState, LinkSnapshot, IsCutShort, counted_times, longest, snapshot_of}
+use Rattle.frame_link.specs.Lines.{LineState, LinkSnapshot, IsCutShort, IsWithinFrame, counted_times, snapshot_of}
 use Rattle.session_core.specs.Jobs.{ProverJob, Suits}
 use Rattle.session_core.specs.Cores.{ProverStage, ProverAnswers, prover_expects}
 use Rattle.session_prover.specs.Outcomes.{claim_outcome, verdict_outcome}
@@ -81,14 +81,14 @@ pub record WaitsFor (job : ProverJob) (claim : Claim) (before : List (Side × �
   pub waited : IsLogAt job claim stage before
   pub expected : prover_expects job stage ≡ Some expect
 
--- after what is logged where the prover waited, bytes came of the frame that it expected, no more than such a frame has
+-- after what is logged where the prover waited, bytes came of the frame that it expected, and none past it
 pub record ComesBehind (job : ProverJob) (claim : Claim) (log : List (Side × ℕ)) : Type 0 where
   pub before : List (Side × ℕ)
   pub expect : Expect
   pub waits : WaitsFor job claim before expect
   pub open waits use *
   pub rest : List ℕ
-  pub few : length rest ≤ longest expect
+  pub few : IsWithinFrame expect rest
   pub logged : log ≡ before ++ bytes_from Verifier rest
 
 -- and this holds of the frame that was expected and of those bytes
@@ -120,12 +120,14 @@ pub record OwesAnswer (job : ProverJob) (claim : Claim) (least : ℕ) (log : Lis
 abbrev pub IsAnswerDue : ProverJob → Claim → ℕ → List (Side × ℕ) → Type 0
 IsAnswerDue job claim least log = ((claim.answer ≡ None) × (log ≡ [])) ⊎ OwesAnswer job claim least log
 
--- Where the link failed: where a frame was expected of which bytes are missing, with no send but those of the answers that are logged;
--- or in the one send of an answer that was due.
+-- Where the link failed: where a frame was expected of which bytes are missing, with no send but those of the answers that are logged,
+-- of which none was refused; or in the one send of an answer that was due.
 abbrev pub FailsLink : ProverJob → Claim → List (Side × ℕ) → LinkSnapshot → LinkSnapshot → Type 0
 FailsLink job claim log first now =
-    (StopsBehind job claim log IsCutShort × (now.sends ≡ counted_times (answers_in log) first.sends))
-    ⊎ (IsAnswerDue job claim 1 log × (now.sends ≡ counted_times (answers_in log + 1) first.sends))
+    (StopsBehind job claim log IsCutShort × (now.sends ≡ counted_times (answers_in log) first.sends)
+    × (now.refused_sends ≡ first.refused_sends))
+    ⊎ (IsAnswerDue job claim 1 log × (now.sends ≡ counted_times (answers_in log + 1) first.sends)
+    × (now.refused_sends ≡ counted true first.refused_sends))
 
 -- where memory was missing: for a frame of which bytes are missing, for an answer that was due, or for the claim
 abbrev pub LacksMemory : ProverJob → Claim → List (Side × ℕ) → Type 0
@@ -201,11 +203,13 @@ IsFault Link = Unit {0}
 IsFault NoMemory = Unit {0}
 IsFault outcome = ⊥
 
--- Each answer that is logged was sent by one send, and there was no other; or one more, which was refused, where the link failed or
+-- Each answer that is logged was sent by one send, and there was no other; or one more, which alone was refused, where the link failed or
 -- memory was missing.
-abbrev pub SendsEach : ProverOutcome → List (Side × ℕ) → ℕ → ℕ → Type 0
-SendsEach outcome log before after = (after ≡ counted_times (answers_in log) before)
-    ⊎ (IsFault outcome × (after ≡ counted_times (answers_in log + 1) before))
+abbrev pub SendsEach : ProverOutcome → List (Side × ℕ) → LinkSnapshot → LinkSnapshot → Type 0
+SendsEach outcome log first now =
+    ((now.sends ≡ counted_times (answers_in log) first.sends) × (now.refused_sends ≡ first.refused_sends))
+    ⊎ (IsFault outcome × (now.sends ≡ counted_times (answers_in log + 1) first.sends)
+    × (now.refused_sends ≡ counted true first.refused_sends))
 
 -- What was sent of a log in a session that ended so, by an honest prover for what it received: all of it; the greeting alone
 -- where the grant is refused by either end; a beginning where the link failed or memory was missing.
@@ -226,6 +230,12 @@ abbrev pub SendsHonestly : ProverJob → List (Side × ℕ) → ProverOutcome �
 SendsHonestly job log outcome = (inputs wires : List ℕ) → IsWitness job.statement inputs wires job.given
     → IsSentFor (task_of job inputs) (greeting job) log outcome
 
+-- No send was refused, and nothing is told beside the log; or one was, where the link failed or memory was missing.
+abbrev pub RefusesSends : ProverOutcome → List ℕ → LinkSnapshot → LinkSnapshot → Type 0
+RefusesSends outcome part first now =
+    ((part ≡ []) × (now.refused_sends ≡ first.refused_sends))
+    ⊎ (IsFault outcome × (now.refused_sends ≡ counted true first.refused_sends))
+
 -- What the link tells is what it told before and the log; where a send was refused, a first part of one answer more, which an
 -- honest prover would send too, and none before the units are claimed.
 pub record IsLogged
@@ -233,10 +243,11 @@ pub record IsLogged
     (claim : Claim)
     (outcome : ProverOutcome)
     (log : List (Side × ℕ))
-    (before after : Option (List (Side × ℕ))) : Type 0 where
+    (first now : LinkSnapshot) : Type 0 where
   pub part : List ℕ
-  pub told : after ≡ appended (log ++ bytes_from Prover part) before
+  pub told : now.told ≡ appended (log ++ bytes_from Prover part) first.told
   pub none : IsNoFault outcome → part ≡ []
+  pub refused : RefusesSends outcome part first now
   pub honest : (inputs wires : List ℕ) → IsWitness job.statement inputs wires job.given
       → IsFromHonestProver (task_of job inputs) (log ++ bytes_from Prover part)
   pub claimed : SendsOnceClaimed job claim (log ++ bytes_from Prover part)
@@ -282,8 +293,8 @@ pub record HasEnded (job : ProverJob) (claim : Claim) (outcome : ProverOutcome) 
   pub related : IsRelated job now.log
   pub answers : AnswersGrantPlace job claim outcome now.log
   pub verdict : AnswersVerdict job outcome now.log
-  pub sends : SendsEach outcome now.log first.sends now.sends
-  pub logged : IsLogged job claim outcome now.log first.told now.told
+  pub sends : SendsEach outcome now.log first now
+  pub logged : IsLogged job claim outcome now.log first now
   pub came : first.to_come ≡ put_before (sent_by Verifier now.log) now.to_come
   pub receives : now.receives ≤ first.receives + length (sent_by Verifier now.log) + 1
   pub count : CountsOutcome outcome first.faults now.faults

@@ -36,9 +36,9 @@ pub record IsSessionOf
   pub honest : SendsHonestly job log outcome
   pub claimed : SendsOnceClaimed job claim log
   pub related : IsRelated job log
-  pub told : IsLogged job claim outcome log (snapshot Prover [] first).told (snapshot Prover log link).told
+  pub told : IsLogged job claim outcome log (snapshot Prover [] first) (snapshot Prover log link)
   pub came : first.to_come ≡ put_before (sent_by Verifier log) link.to_come
-  pub sends : SendsEach outcome log first.sends link.sends
+  pub sends : SendsEach outcome log (snapshot Prover [] first) (snapshot Prover log link)
   pub receives : link.receives ≤ first.receives + length (sent_by Verifier log) + 1
   pub faults : CountsOutcome outcome first.faults link.faults
   pub ended : link.is_open ≡ false

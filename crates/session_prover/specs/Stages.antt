@@ -200,8 +200,8 @@ pub record Course : Type 0 where
   pub first : LineState
   pub claim : Claim
 
--- All that passed since a first moment is logged, each answer was sent by one send, no frame is under way, and there were at most
--- as many receives as bytes came; nothing failed.
+-- All that passed since a first moment is logged, each answer was sent by one send, none of which was refused, no frame is under way, and
+-- there were at most as many receives as bytes came; nothing failed.
 abbrev pub GoesWell : LineState → LineState → Type 0
 GoesWell first now = HasPassed now.log (answers_in now.log) (record first { side = Prover }) now
 
@@ -245,14 +245,20 @@ answers_left (awaits_replies given came) = given.count - length came + 1
 answers_left (awaits_challenge given pairs wires) = 1
 answers_left stage = 0
 
+-- nothing was sent, for want of memory; or a part of what one send was given, and that send was refused
+abbrev pub TriesSend : List ℕ → LineFault → LineState → LineState → Type 0
+TriesSend part fault old new =
+    ((fault ≡ NoMemory) × (part ≡ []) × (new.sends ≡ old.sends) × (new.refused_sends ≡ old.refused_sends))
+    ⊎ ((new.sends ≡ counted true old.sends) × (new.refused_sends ≡ counted true old.refused_sends))
+
 -- These bytes were not sent: nothing of them is logged, and the link tells a first part of them, which is none where memory was
--- missing before any send.
+-- missing before any send; else their one send was refused.
 pub record SendStops (bytes : List ℕ) (fault : LineFault) (old new : LineState) : Type 0 where
   pub part : List ℕ
   pub begun : BeginsWith bytes part
   pub logged : new.log ≡ old.log
   pub told : new.told ≡ appended (bytes_from old.side part) old.told
-  pub sends : ((fault ≡ NoMemory) × (part ≡ []) × (new.sends ≡ old.sends)) ⊎ (new.sends ≡ counted true old.sends)
+  pub sends : TriesSend part fault old new
   pub others : OnlySends old new
   pub cause : IsSendCause old new fault
   pub count : CountsFault fault old new

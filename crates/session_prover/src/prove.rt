@@ -50,10 +50,11 @@ pub fn prove_session<R: Threads + Sync, C: Claimant, L: Link>(
     ensures related { IsRelated job.now result.log }
     ensures logged { IsLogged job.now
         (record { asked = C.asked claimant.new; answer = C.answer claimant.new }) result.outcome result.log
-        (snapshot Prover [] (L.state link)).told (snapshot Prover result.log (L.state result.link)).told }
+        (snapshot Prover [] (L.state link)) (snapshot Prover result.log (L.state result.link)) }
     ensures came { (L.state link).to_come
         ≡ put_before (sent_by Verifier result.log) (L.state result.link).to_come }
-    ensures sends { SendsEach result.outcome result.log (L.state link).sends (L.state result.link).sends }
+    ensures sends { SendsEach result.outcome result.log
+        (snapshot Prover [] (L.state link)) (snapshot Prover result.log (L.state result.link)) }
     ensures receives { (L.state result.link).receives
         ≤ (L.state link).receives + length (sent_by Verifier result.log) + 1 }
     ensures faults { CountsOutcome result.outcome (L.state link).faults (L.state result.link).faults }

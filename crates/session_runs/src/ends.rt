@@ -16,7 +16,7 @@ use session_verifier::{SessionNote, verify_session};
 use std::alloc::{AllocError, Global};
 use std::thread::Threads;
 use zk_model::{Side, Span};
-use zk_port::{Link, QuietGate};
+use zk_port::Link;
 
 /// What came of a session of either end.
 #[derive(Drop)]
@@ -72,7 +72,7 @@ fn verify<R: Threads + Sync>(
         asked: None,
         answer: None,
     };
-    let note = verify_session(rt, alloc, jobs, &mut grantor, link, &QuietGate);
+    let note = verify_session(rt, alloc, jobs, &mut grantor, link);
     verified(grantor.asked, note)
 }
 

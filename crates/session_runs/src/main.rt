@@ -72,12 +72,13 @@
 //! | Word | What it says | Else |
 //! |---|---|---|
 //! | `sessions=N`, `workers=W`, `logs=PREFIX` | the values of these options | 1, none, none |
+//! | `follow=1` | the service is followed | it is not |
 //! | `peers=N` | how many peers call | 1 |
 //! | `peer=N` | the number of the peer that the words are about, counted from 0 | 0 |
 //!
 //! The peer of a proof is an honest verifier that grants units from `start` on, but for what the words of its bytes and of its link say.
 //!
-//! A line of a run has its number, where there is a range; the status; what is written; what is handed back, with the outcome, the units
+//! A line of a run has its number, where there is a range; the status; what is written, and what is said to who follows it; what is handed back, with the outcome, the units
 //! and the log of each session; and the files that are shown.
 //!
 //! A line of a rehearsal has the verdict, the units that it took, and its log; that of an audit what is found, or why nothing is.

@@ -65,6 +65,9 @@ fn push_service(alloc: Global, words: &mut Vec<String>, service: &Service<'_>) -
     push_option(alloc, words, "--sessions", service.sessions)?;
     push_option(alloc, words, "--workers", service.workers)?;
     push_option(alloc, words, "--logs", service.logs)?;
+    if service.follows {
+        words.push(String::from_str(alloc, "--follow")?)?;
+    }
     Ok(())
 }
 

@@ -6,7 +6,7 @@ use crate::scenario::{NO_REFUSED_CALLS, RefusedCalls, Scenario};
 use crate::sessions::SEED;
 use anyhow::{Error, Result};
 use frame_link::Log;
-use memory_ports::{FailAt, Leftover, MemoryDoor, MemoryShelf, MemorySink, QuietDisk};
+use memory_ports::{FailAt, Leftover, MemoryDoor, MemoryShelf, MemorySink, NoFault, QuietDisk};
 use session_prover::ProverNote;
 use session_verifier::SessionNote;
 use sha2::{Digest, Sha256};
@@ -17,7 +17,7 @@ use std::thread::Threads;
 use twin_journal::JournalKind;
 use zk_cli::{Finish, Part, Rehearsal, run_zk};
 use zk_model::Span;
-use zk_port::{QuietGate, Shelf};
+use zk_port::Shelf;
 
 /// A door of peers in memory.
 pub type Peers = MemoryDoor<PieceLink, FailAt>;
@@ -167,6 +167,7 @@ pub struct Doors {
 struct Ran {
     status: u8,
     out: MemorySink<FailAt>,
+    notices: MemorySink<NoFault>,
     part: Part<PieceLink>,
     shelf: MemoryShelf<FailAt>,
     disk: QuietDisk<FailAt>,
@@ -181,8 +182,9 @@ fn run_words<R: Threads + Wait + Sync>(
     disk: QuietDisk<FailAt>,
     door: Peers,
     out: &mut MemorySink<FailAt>,
+    notices: &mut MemorySink<NoFault>,
 ) -> Finish<QuietDisk<FailAt>, Peers> {
-    run_zk(rt, alloc, words, shelf, disk, door, &QuietGate, &SEED, out)
+    run_zk(rt, alloc, words, shelf, disk, door, &SEED, out, notices)
 }
 
 /// A run of these words over what stands there, with this door.
@@ -197,7 +199,17 @@ fn run<R: Threads + Wait + Sync>(
     let (shelf, disk) = given.opened(alloc, refused)?;
     let mut shelf = shelf;
     let mut out = MemorySink::new(alloc, plan_of(alloc, refused.sink)?);
-    let finish = run_words(rt, alloc, words, &mut shelf, disk, door, &mut out);
+    let mut notices = MemorySink::new(alloc, NoFault);
+    let finish = run_words(
+        rt,
+        alloc,
+        words,
+        &mut shelf,
+        disk,
+        door,
+        &mut out,
+        &mut notices,
+    );
     let Finish {
         status,
         part,
@@ -207,6 +219,7 @@ fn run<R: Threads + Wait + Sync>(
     Ok(Ran {
         status,
         out,
+        notices,
         part,
         shelf,
         disk,
@@ -218,9 +231,17 @@ fn line_of(alloc: Global, name: &str, ran: &Ran, shown: &str) -> Result<String> 
     let Ok(written) = str::from_utf8(ran.out.bytes()) else {
         return Err(Error::msg("no text is written"));
     };
+    let Ok(said) = str::from_utf8(ran.notices.bytes()) else {
+        return Err(Error::msg("no text is said"));
+    };
     let status = ran.status;
     let part = HandedBack { part: &ran.part };
-    Ok(format!(in alloc; "{name}status={status} written={written:?} {part}{shown}\n")?)
+    if said.is_empty() {
+        return Ok(format!(in alloc; "{name}status={status} written={written:?} {part}{shown}\n")?);
+    }
+    Ok(format!(in alloc;
+        "{name}status={status} written={written:?} said={said:?} {part}{shown}\n"
+    )?)
 }
 
 /// What a crash may leave of a disk: this, of each write since the last sync.
@@ -260,12 +281,15 @@ pub fn run_lines<R: Threads + Wait + Sync>(
     Ok(lines)
 }
 
-/// The kind of the journal that the disk has: `prove` and `migrate prover` are about the prover's.
+/// The kind of the journal that the disk has: `prove`, `migrate prover` and `status` of a prover's file are about the prover's.
 fn kind_of(words: &[String]) -> JournalKind {
     let mut words = words.iter();
     let first = words.next().map_or("", String::as_str);
     let second = words.next().map_or("", String::as_str);
-    if first == "prove" || (first == "migrate" && second == "prover") {
+    if first == "prove"
+        || (first == "migrate" && second == "prover")
+        || (first == "status" && second.ends_with(".prover"))
+    {
         return JournalKind::Claims;
     }
     JournalKind::Ceilings

@@ -145,6 +145,7 @@ pub struct Service<'a> {
     pub sessions: &'a str,
     pub workers: &'a str,
     pub logs: &'a str,
+    pub follows: bool,
     pub peers: u64,
     pub peer: u64,
 }
@@ -238,6 +239,7 @@ fn plain(end: End) -> Scenario<'static> {
             sessions: "1",
             workers: "",
             logs: "",
+            follows: false,
             peers: 1,
             peer: 0,
         },
@@ -422,6 +424,7 @@ fn set_service<'a>(scenario: &mut Scenario<'a>, name: &str, value: &'a str) -> R
         "sessions" => scenario.service.sessions = value,
         "workers" => scenario.service.workers = value,
         "logs" => scenario.service.logs = value,
+        "follow" => scenario.service.follows = number(value)? == 1,
         "peers" => scenario.service.peers = number(value)?,
         "peer" => scenario.service.peer = number(value)?,
         _ => set_outside(&mut scenario.outside, name, value)?,

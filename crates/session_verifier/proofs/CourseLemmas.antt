@@ -5,13 +5,13 @@ use Rattle.zk_model.specs.Field.{IsElement, from_word}
 use Rattle.zk_model.specs.Program.{section_count}
 use Rattle.zk_model.specs.Statement.{IsStatement}
 use Rattle.zk_model.specs.Files.{IsVerifierFile, rounds_of}
-use Rattle.frame_laws.proofs.Hellos.{fitting_is_hello, long_hello, long_fits, hello_most, long_length}
+use Rattle.frame_laws.proofs.Hellos.{fitting_is_hello, long_hello, long_fits, long_length}
 use Rattle.zk_model.specs.Transcript.{Grant, Transcript, IsGrant, IsHello, BeginsWith, hello_frame, ask_frame, sums_frame, openings_frame, verdict_frame, refuse_frame, bytes_from, turn_bytes, sent_by, spelling, TreeAsk, Round, Setup, Commitment, IsSetup, corrections_frame, session_turns}
 use Rattle.zk_model.specs.Frames.{hello, AreElements}
 use Rattle.zk_model.specs.declared.Expect.{Expect}
 use Rattle.frame_laws.proofs.SentBytes.{none_of_prover, sent_by-verifier}
 use Rattle.proof_frames.proofs.Lengths.{whole_length}
-use Rattle.frame_link.proofs.LineLemmas.{none_is_some}
+use Rattle.frame_link.proofs.LineLemmas.{none_is_some, longest, within_longest, whole_within}
 use Rattle.zk_model.specs.View.{ChecksHold, verdict_number, verdict_code}
 use Rattle.zk_model.specs.ServedVerifier.{challenge_coin, IsServed, IsAccepted, IsCutInTurn, ServesWith}
 use Rattle.zk_model.specs.declared.Side.{Side}
@@ -27,7 +27,7 @@ use Rattle.session_core.specs.Cores.{has_judged, VerifierStage, awaits_hello, aw
 use Rattle.session_core.specs.declared.judgement.Judgement.{Judgement}
 use Rattle.session_core.proofs.Enough.{parts_within}
 use Rattle.session_core.proofs.Served.{AreRanged, served_is}
-use Rattle.frame_link.specs.Lines.{LinkSnapshot, IsCutShort, longest}
+use Rattle.frame_link.specs.Lines.{LinkSnapshot, IsCutShort, IsWithinFrame}
 use Rattle.session_verifier.specs.Outcomes.{Refuses, lease_outcome, lease_code, judgement_outcome, refusal_of, lease_fault}
 use Rattle.session_verifier.specs.Stages.{Greeting, IsGreeted, StopCause, IsBehind, IsStopped, IsSent, IsFault, SendsUpTo, IsNoLink, CountsOutcome, IsLogAt, IsWholeHello, IsRefusalTried, IsRefusalSent, IsRefusalUnsent, IsRefusedGrant, IsGrantUnsent, LacksTheGrant, RefusesHello, IsJudgedLog, IsCourse, first_turn, second_turn, IsFixedLog}
 use Rattle.session_pool.specs.Notes.{granted_by}
@@ -43,7 +43,7 @@ use Rattle.session_laws.specs.Cuts.{CutIsNotAccepted, VerdictIsSaid}
 use Rattle.session_laws.specs.Rounds.{RepliesAreInRange}
 use Rattle.session_laws.proofs.Cut.{greeted, greeted_is}
 use Rattle.proof_frames.proofs.FrameLemmas.{length-elements, length-sums}
-use Rattle.session_verifier.proofs.StageLemmas.{turns_append, some_rounds, few_of}
+use Rattle.session_verifier.proofs.StageLemmas.{turns_append, some_rounds, few_of, within_of}
 use Rattle.frame_link.proofs.FramesLemmas.{asks_length}
 use Rattle.zk_model.specs.declared.Expect.TheVariants as expect
 use Rattle.lease_store.specs.declared.LeaseFault.TheVariants as lease
@@ -260,7 +260,8 @@ counts_of : (outcome : VerifierOutcome) (first now : LinkSnapshot) → CountsOut
 counts_of outcome first now count rose = record { later = count.later; failed = rose; unfailed = by outcome count.unfailed }
   where
     by : (other : VerifierOutcome) → (IsNoLink other → now.faults ≡ first.faults)
-        → (now.faults ≡ first.faults) ⊎ (other ≡ Link) ⊎ (Refuses other × (sent_by Verifier now.log ≡ []) × (now.sends ≡ counted true first.sends))
+        → (now.faults ≡ first.faults) ⊎ (other ≡ Link) ⊎ (Refuses other × (sent_by Verifier now.log ≡ []) × (now.sends ≡ counted true first.sends)
+        × (now.refused_sends ≡ counted true first.refused_sends))
     by Link same = inr (inl refl)
     by other same = inl (same tt)
 
@@ -270,22 +271,28 @@ counts_stop job stage outcome first now stopped =
     counts_of outcome first now stopped.count (λ is. subst (StopCause job stage stopped.rest first now) is stopped.cause)
 
 counts_refusal : (code : ℕ) (outcome : VerifierOutcome) (first mid now : LinkSnapshot) → Refuses outcome → mid.faults ≡ first.faults → mid.sends ≡ first.sends
-    → sent_by Verifier mid.log ≡ [] → IsRefusalTried code mid now → CountsFaults outcome first now
-counts_refusal code outcome first mid now refuses faults sends none refused = record {
+    → mid.refused_sends ≡ first.refused_sends → sent_by Verifier mid.log ≡ [] → IsRefusalTried code mid now → CountsFaults outcome first now
+counts_refusal code outcome first mid now refuses faults sends unrefused none refused = record {
   later = omega (arith, faults, refused.later);
   failed = λ is. absurd (not_link outcome refuses is);
   unfailed = either refused.sent;
 }
   where
     either : (IsRefusalSent code mid now ⊎ IsRefusalUnsent code mid now)
-        → (now.faults ≡ first.faults) ⊎ (outcome ≡ Link) ⊎ (Refuses outcome × (sent_by Verifier now.log ≡ []) × (now.sends ≡ counted true first.sends))
+        → (now.faults ≡ first.faults) ⊎ (outcome ≡ Link) ⊎ (Refuses outcome × (sent_by Verifier now.log ≡ []) × (now.sends ≡ counted true first.sends)
+        × (now.refused_sends ≡ counted true first.refused_sends))
     either (inl sent) = inl (sent.faults ∙ faults)
-    either (inr unsent) = inr (inr (refuses, ap (sent_by Verifier) unsent.log ∙ none, refused.sends ∙ ap (counted true) sends))
+    either (inr unsent) = inr (inr (
+      refuses,
+      ap (sent_by Verifier) unsent.log ∙ none,
+      refused.sends ∙ ap (counted true) sends,
+      unsent.refused_sends ∙ ap (counted true) unrefused,
+    ))
 
 counts_refused : (job : VerifierJob) (code : ℕ) (outcome : VerifierOutcome) (first now : LinkSnapshot) → Refuses outcome → IsRefusedGrant job code first now
     → CountsFaults outcome first now
 counts_refused job code outcome first now refuses is =
-    counts_refusal code outcome first is.mid now refuses is.waiting.faults is.waiting.sent.sends
+    counts_refusal code outcome first is.mid now refuses is.waiting.faults is.waiting.sent.sends is.waiting.sent.refused_sends
     (none_answered is.mid.log (hello_frame is.waiting.log.greeting.hello) is.waiting.log.bytes) is.refused
 
 -- the code of a lease that was refused
@@ -299,7 +306,7 @@ counts_unmet : (job : VerifierJob) (outcome : VerifierOutcome) (first mid now : 
 counts_unmet job outcome first mid now stopped (inl refused) =
     let sent = hello_sent job stopped.expect stopped.rest outcome first mid stopped.sends in
     let refuses : Refuses outcome = (refused.0, refused.1) in
-    counts_refusal refused.0 outcome first mid now refuses (stopped.count.unfailed (no_link outcome refuses)) sent.sends
+    counts_refusal refused.0 outcome first mid now refuses (stopped.count.unfailed (no_link outcome refuses)) sent.sends sent.refused_sends
     (none_answered mid.log stopped.rest (hello_bytes job outcome first mid stopped)) refused.3
 counts_unmet job outcome first mid now stopped (inr none) =
     subst (CountsFaults outcome first) (sym none.1) (counts_stop job awaits_hello outcome first mid stopped)
@@ -370,6 +377,7 @@ unmet_cause job NoMemory first mid now stopped (inl refused) =
         came = hello_bytes job NoMemory first mid stopped ∙ ap (bytes_from Prover) refused.2.2;
         told = sent.told;
         unsent = sent.sends;
+        unrefused = sent.refused_sends;
         unfailed = stopped.count.unfailed tt;
         refused = refused_as stopped.rest NoMemory 4 mid now refl refused.2 (inl refused);
       })),
@@ -429,6 +437,7 @@ lacking_cause job span outcome first now known (inl lacks) =
         came = is.waiting.log.bytes;
         told = is.waiting.sent.told;
         unsent = is.waiting.sent.sends;
+        unrefused = is.waiting.sent.refused_sends;
         unfailed = is.waiting.faults;
         refused = is.refused;
       })),
@@ -870,32 +879,35 @@ cut_behind job start other rest log ranges law known starts waits stopped = absu
 
 -- ---- what the verifier sends
 
--- a hello for the job's file and statement has 134 bytes at most
-pub greeting_most : (job : VerifierJob) → IsKnown job → (greeting : Greeting job) → length (hello_frame greeting.hello) ≤ 134
-greeting_most job known greeting = hello_most greeting.hello (greeting_is_hello job known greeting)
+-- a hello for the job's file and statement is a frame, with nothing past it
+pub greeting_within : (job : VerifierJob) → IsKnown job → (greeting : Greeting job) → IsWithinFrame expect.Hello (hello_frame greeting.hello)
+greeting_within job known greeting =
+    whole_within expect.Hello (hello_frame greeting.hello) (hello greeting.hello)
+    (record { allowed = (greeting.hello, refl, greeting_is_hello job known greeting); spelled = refl })
 
 -- a refusal, or nothing, after the hello
-ungranted_alone : (outcome : VerifierOutcome) (rest : List ℕ) (log : List (Side × ℕ)) → length rest ≤ 134 → log ≡ bytes_from Prover rest → IsUngranted outcome log
-ungranted_alone outcome rest log most is =
-    record { rest = rest; most = most; answer = []; refused = inl refl; bytes = is ∙ sym (append-nil (bytes_from Prover rest)) }
+ungranted_alone : (outcome : VerifierOutcome) (rest : List ℕ) (log : List (Side × ℕ)) → IsWithinFrame expect.Hello rest → log ≡ bytes_from Prover rest
+    → IsUngranted outcome log
+ungranted_alone outcome rest log few is =
+    record { rest = rest; few = few; answer = []; refused = inl refl; bytes = is ∙ sym (append-nil (bytes_from Prover rest)) }
 
-ungranted_refused : (outcome : VerifierOutcome) (code : ℕ) (rest : List ℕ) (mid now : LinkSnapshot) → length rest ≤ 134 → refusal_of outcome ≡ Some code
+ungranted_refused : (outcome : VerifierOutcome) (code : ℕ) (rest : List ℕ) (mid now : LinkSnapshot) → IsWithinFrame expect.Hello rest → refusal_of outcome ≡ Some code
     → mid.log ≡ bytes_from Prover rest → IsRefusalTried code mid now → IsUngranted outcome now.log
-ungranted_refused outcome code rest mid now most of log refused = elim refused.sent [
+ungranted_refused outcome code rest mid now few of log refused = elim refused.sent [
   | inl sent ↦ record {
     rest = rest;
-    most = most;
+    few = few;
     answer = refuse_frame code;
     refused = inr (code, of, refl);
     bytes = sent.log ∙ ap (λ l. l ++ bytes_from Verifier (refuse_frame code)) log;
   }
-  | inr unsent ↦ ungranted_alone outcome rest now.log most (unsent.log ∙ log)
+  | inr unsent ↦ ungranted_alone outcome rest now.log few (unsent.log ∙ log)
 ]
 
-ungranted : (outcome : VerifierOutcome) (rest : List ℕ) (mid now : LinkSnapshot) → length rest ≤ 134 → mid.log ≡ bytes_from Prover rest
+ungranted : (outcome : VerifierOutcome) (rest : List ℕ) (mid now : LinkSnapshot) → IsWithinFrame expect.Hello rest → mid.log ≡ bytes_from Prover rest
     → RefusesHello rest outcome mid now → IsUngranted outcome now.log
-ungranted outcome rest mid now most log (inl refused) = ungranted_refused outcome refused.0 rest mid now most refused.1 log refused.3
-ungranted outcome rest mid now most log (inr none) = ungranted_alone outcome rest now.log most (ap (λ (m : LinkSnapshot). m.log) none.1 ∙ log)
+ungranted outcome rest mid now few log (inl refused) = ungranted_refused outcome refused.0 rest mid now few refused.1 log refused.3
+ungranted outcome rest mid now few log (inr none) = ungranted_alone outcome rest now.log few (ap (λ (m : LinkSnapshot). m.log) none.1 ∙ log)
 
 -- before the grant
 pub before_grant : (job : VerifierJob) (start : ℕ) (log : List (Side × ℕ)) → RepliesAreInRange → ServedSessionExists → IsKnown job
@@ -944,13 +956,13 @@ pub sends_rightly : (job : VerifierJob) (answer : Option (Result Span LeaseFault
 sends_rightly job None granted outcome first now ranges law known course =
     let stopped = course.1.stopped in
     subst (λ g. SendsRightly job g outcome now.log) (sym course.0)
-    (ungranted outcome stopped.rest course.1.mid now (few_of job awaits_hello outcome first course.1.mid stopped expect.Hello refl)
+    (ungranted outcome stopped.rest course.1.mid now (within_of job awaits_hello outcome first course.1.mid stopped expect.Hello refl)
     (hello_bytes job outcome first course.1.mid stopped) course.1.refused)
 sends_rightly job (Some (Err fault)) granted outcome first now ranges law known course =
     let is = course.1.refused in
     subst (λ g. SendsRightly job g outcome now.log) (sym course.0)
     (ungranted_refused outcome (lease_code fault) (hello_frame is.waiting.log.greeting.hello) is.mid now
-    (greeting_most job known is.waiting.log.greeting) (ap refusal_of course.1.named ∙ lease_refusal fault) is.waiting.log.bytes is.refused)
+    (greeting_within job known is.waiting.log.greeting) (ap refusal_of course.1.named ∙ lease_refusal fault) is.waiting.log.bytes is.refused)
 sends_rightly job (Some (Ok span)) granted outcome first now ranges law known course =
     let within : span.start + units_of_job job ≤ job.task.file.params.total = omega (arith, course.1.units, course.1.within) in
     subst (λ g. SendsRightly job g outcome now.log) (sym course.0) (elim course.1.course [
@@ -966,9 +978,10 @@ sends_rightly job (Some (Ok span)) granted outcome first now ranges law known co
 -- ---- no cut session is accepted
 
 -- no part of the prover's first turn is accepted, nor of that with the longest hello
-first_is_cut : (job : VerifierJob) (log : List (Side × ℕ)) (rest : List ℕ) → CutIsNotAccepted → IsKnown job → log ≡ bytes_from Prover rest → length rest ≤ 134
+first_is_cut : (job : VerifierJob) (log : List (Side × ℕ)) (rest : List ℕ) → CutIsNotAccepted → IsKnown job → log ≡ bytes_from Prover rest → IsWithinFrame expect.Hello rest
     → IsAccepted job.task log → ⊥
-first_is_cut job log rest law known is most accepted =
+first_is_cut job log rest law known is few accepted =
+    let most : length rest ≤ 134 = within_longest expect.Hello rest few in
     let hello = long_hello job.task.file.id job.task.statement in
     let greets : IsHello hello = fitting_is_hello job.task.file.id job.task.statement hello known.file.id known.stated
     (long_fits job.task.file.id job.task.statement) in
@@ -1004,7 +1017,7 @@ ungranted_is_cut : (job : VerifierJob) (outcome : VerifierOutcome) (log : List (
     → IsAccepted job.task log → ⊥
 ungranted_is_cut job outcome log law known is accepted = elim is.refused [
   | inl none ↦ first_is_cut job log is.rest law known
-      (is.bytes ∙ ap (λ l. bytes_from Prover is.rest ++ bytes_from Verifier l) none ∙ append-nil (bytes_from Prover is.rest)) is.most accepted
+      (is.bytes ∙ ap (λ l. bytes_from Prover is.rest ++ bytes_from Verifier l) none ∙ append-nil (bytes_from Prover is.rest)) is.few accepted
   | inr refused ↦ refusal_is_cut job log is.rest refused.0
       (is.bytes ∙ ap (λ l. bytes_from Prover is.rest ++ bytes_from Verifier l) refused.2) accepted
 ]
@@ -1038,6 +1051,6 @@ accepts_exactly job (Some (Ok span)) granted outcome first now ranges law cut sa
     lacking_is_cut : LacksTheGrant job span.start outcome first now → IsAccepted job.task now.log → ⊥
     lacking_is_cut (inl (named, is)) accepted = ungranted_is_cut job NoMemory now.log cut known
         (ungranted_refused NoMemory 4 (hello_frame is.waiting.log.greeting.hello) is.mid now
-        (greeting_most job known is.waiting.log.greeting) refl is.waiting.log.bytes is.refused) accepted
+        (greeting_within job known is.waiting.log.greeting) refl is.waiting.log.bytes is.refused) accepted
     lacking_is_cut (inr unsent) accepted = first_is_cut job now.log (hello_frame unsent.log.greeting.hello) cut known
-        unsent.log.bytes (greeting_most job known unsent.log.greeting) accepted
+        unsent.log.bytes (greeting_within job known unsent.log.greeting) accepted

@@ -1,5 +1,5 @@
 -- What is told and kept of a session, and that one with an honest peer does not stop.
-use Rattle.std.proofs.Common.{◌≡◌, inl, inr, ℕ, ◌+◌, ◌≤◌, List, [], ◌++◌, flat_map, take, drop, length, Option, Some, None, Result, Ok, Err, refl, ap, sym, ◌∙◌, subst, arith, append-nil, append_assoc, ◌⊎◌, zero, suc, ◌<◌, ◌∷◌, slice_index_or, length-append, ◌-◌, ◌*◌, get_or, length-take-le}
+use Rattle.std.proofs.Common.{◌≡◌, inl, inr, ℕ, ◌+◌, ◌≤◌, List, [], ◌++◌, flat_map, take, drop, length, Option, Some, None, Result, Ok, Err, refl, ap, sym, ◌∙◌, subst, arith, append-nil, append_assoc, ◌⊎◌, zero, suc, ◌<◌, ◌∷◌, slice_index_or, length-append, ◌-◌, ◌*◌, get_or, length-take-le, true}
 use Rattle.std.proofs.lemmas.Option.{same_Some}
 use Rattle.std.proofs.lemmas.List.{take-append-drop, take-map, nil_from_length, drop_at, length-map}
 use Rattle.zk_model.specs.Files.{rounds_of}
@@ -12,8 +12,8 @@ use Rattle.zk_model.specs.declared.Span.{Span}
 use Rattle.zk_port.specs.Logs.{appended}
 use Rattle.session_laws.specs.Serving.{ServedSessionExists}
 use Rattle.session_laws.specs.Rounds.{RepliesAreInRange}
-use Rattle.frame_link.specs.Lines.{LinkSnapshot, longest}
-use Rattle.frame_link.proofs.LineLemmas.{appended_more, none_is_some, front_goes_on}
+use Rattle.frame_link.specs.Lines.{LinkSnapshot}
+use Rattle.frame_link.proofs.LineLemmas.{appended_more, none_is_some, front_goes_on, longest}
 use Rattle.lease_store.specs.declared.LeaseFault.{LeaseFault}
 use Rattle.session_core.specs.Jobs.{VerifierJob, units_of_job, granted_from, VerifierJobs, IsFirstFor, IsHelloOf, all_jobs, job_at, noted_job}
 use Rattle.session_core.specs.Judgements.{verdict_in}
@@ -21,9 +21,9 @@ use Rattle.session_core.specs.Cores.{VerifierStage, VerifierAnswers, awaits_hell
 use Rattle.session_core.specs.declared.judgement.Judgement.{Judgement}
 use Rattle.session_verifier.specs.Outcomes.{Refuses, lease_code, refusal_of}
 use Rattle.session_verifier.specs.Stages.{IsHeldJob, IsLogAt, IsUnsent, IsAnswer, IsFault, SendsUpTo, IsBehind, IsStopped, IsWholeHello, IsRefusalTried, IsRefusedGrant, LacksTheGrant, RefusesHello, IsCourse, StopCause, IsUnmet, IsGranted}
-use Rattle.session_verifier.specs.Notes.{BeginsRefusal, SendsRightly, TellsRightly, IsAllSent, IsTold, IsUngranted, KeepsKeys, BeginsByHello, IsPeerEnd, HasHonestPeer, TakesStatement, CompletesForEach}
+use Rattle.session_verifier.specs.Notes.{BeginsRefusal, RefusesSends, SendsRightly, TellsRightly, IsAllSent, IsTold, IsUngranted, KeepsKeys, BeginsByHello, IsPeerEnd, HasHonestPeer, TakesStatement, CompletesForEach}
 use Rattle.session_verifier.proofs.StageLemmas.{logs_on, grant_behind, either_kind, behind_direct, behind_extended, turns_append, one_expected, few_of}
-use Rattle.session_verifier.proofs.CourseLemmas.{IsKnown, judged_session, hello_sent, hello_bytes, greeting_is_hello, lease_refusal, IsCutOf, cut_of_log, cut_asks, cut_corrections, cut_sums, serves_with, sends_rightly, greeting_most, unrefused, cut_of_stop, in_next, in_last, cut_openings, length_corrections, length_sums, length_openings, accepted_judgement, answered_alone}
+use Rattle.session_verifier.proofs.CourseLemmas.{IsKnown, judged_session, hello_sent, hello_bytes, greeting_is_hello, lease_refusal, IsCutOf, cut_of_log, cut_asks, cut_corrections, cut_sums, serves_with, sends_rightly, greeting_within, unrefused, cut_of_stop, in_next, in_last, cut_openings, length_corrections, length_sums, length_openings, accepted_judgement, answered_alone}
 use Rattle.session_verifier.specs.declared.note.VerifierOutcome.{VerifierOutcome}
 use Rattle.session_verifier.specs.declared.note.VerifierOutcome.TheVariants.{Link, NoMemory, Accepted, PeerEnded, BadFrame, BadHello}
 use Rattle.std.specs.Prelude.{All}
@@ -52,7 +52,7 @@ use Rattle.zk_model.specs.View.{verdict_code}
 use Rattle.zk_model.specs.declared.Expect.{Expect}
 use Rattle.zk_laws.specs.Completeness.{AreCounterparts}
 use Rattle.session_laws.specs.Peers.{IsServedTurns, IsHonestUpTo, HonestTurn, HonestTurnEnds, HonestWholeIsAccepted, said_in}
-use Rattle.zk_port.specs.Counts.{Rose}
+use Rattle.zk_port.specs.Counts.{Rose, counted}
 use Rattle.session_core.specs.declared.fault.HelloDiffers.{HelloDiffers}
 use Rattle.zk_model.specs.declared.Expect.TheVariants as expect
 use Rattle.session_core.specs.Rounds.{round_turns}
@@ -173,10 +173,12 @@ record TellsRefusal (outcome : VerifierOutcome) (first now : LinkSnapshot) : Typ
   part : List ℕ
   told : now.told ≡ appended (now.log ++ bytes_from Verifier part) first.told
   begins : BeginsRefusal outcome (now.log ++ bytes_from Verifier part)
+  refused : ((part ≡ []) × (now.refused_sends ≡ first.refused_sends)) ⊎ (now.refused_sends ≡ counted true first.refused_sends)
 
 tells_refusal : (outcome : VerifierOutcome) (code : ℕ) (rest : List ℕ) (first mid now : LinkSnapshot) → IsWholeHello rest → refusal_of outcome ≡ Some code
-    → mid.log ≡ bytes_from Prover rest → mid.told ≡ appended mid.log first.told → IsRefusalTried code mid now → TellsRefusal outcome first now
-tells_refusal outcome code rest first mid now whole of log told refused = elim refused.sent [
+    → mid.log ≡ bytes_from Prover rest → mid.told ≡ appended mid.log first.told → mid.refused_sends ≡ first.refused_sends
+    → IsRefusalTried code mid now → TellsRefusal outcome first now
+tells_refusal outcome code rest first mid now whole of log told unrefused refused = elim refused.sent [
   | inl sent ↦ record {
     part = [];
     told = sent.told ∙ ap (appended (bytes_from Verifier (refuse_frame code))) told
@@ -191,6 +193,7 @@ tells_refusal outcome code rest first mid now whole of log told refused = elim r
       begun = ([], sym (append-nil (refuse_frame code)));
       bytes = append-nil now.log ∙ sent.log ∙ ap (λ l. l ++ bytes_from Verifier (refuse_frame code)) log;
     };
+    refused = inl (refl, sent.refused_sends ∙ unrefused);
   }
   | inr unsent ↦
       let count = unsent.told.count in
@@ -211,6 +214,7 @@ tells_refusal outcome code rest first mid now whole of log told refused = elim r
           begun = (drop count (refuse_frame code), sym (take-append-drop count (refuse_frame code)));
           bytes = ap (λ l. l ++ bytes_from Verifier part) (unsent.log ∙ log);
         };
+        refused = inr (unsent.refused_sends ∙ ap (counted true) unrefused);
       }
 ]
 
@@ -219,19 +223,31 @@ refuses_never : (outcome : VerifierOutcome) → Refuses outcome → IsAllSent ou
 refuses_never Link refuses all = all
 refuses_never other refuses all = none_is_some (sym all ∙ refuses.1)
 
+-- one send was refused at most
+sends_refused : (outcome : VerifierOutcome) (first now : LinkSnapshot) → (IsAllSent outcome → ⊥) → (tells : TellsRefusal outcome first now)
+    → RefusesSends outcome tells.part first now
+sends_refused outcome first now never tells = elim tells.refused [ inl none ↦ inl none | inr one ↦ inr (never, one) ]
+
 told_unleased : (job : VerifierJob) (outcome : VerifierOutcome) (first now : LinkSnapshot) → (IsAllSent outcome → ⊥) → TellsRefusal outcome first now
     → IsTold job None outcome first now
 told_unleased job outcome first now never tells =
-    record { part = tells.part; told = tells.told; none = λ all. absurd (never all); rightly = inr tells.begins }
+    record {
+      part = tells.part;
+      told = tells.told;
+      none = λ all. absurd (never all);
+      refused = sends_refused outcome first now never tells;
+      rightly = inr tells.begins;
+    }
 
 -- ---- all is told
 
 told_whole : (job : VerifierJob) (granted : Option Span) (outcome : VerifierOutcome) (first now : LinkSnapshot) → now.told ≡ appended now.log first.told
-    → TellsRightly job granted outcome now.log → IsTold job granted outcome first now
-told_whole job granted outcome first now told rightly = record {
+    → now.refused_sends ≡ first.refused_sends → TellsRightly job granted outcome now.log → IsTold job granted outcome first now
+told_whole job granted outcome first now told unrefused rightly = record {
   part = [];
   told = told ∙ ap (λ l. appended l first.told) (sym (append-nil now.log));
   none = λ _. refl;
+  refused = inl (refl, unrefused);
   rightly = subst (TellsRightly job granted outcome) (sym (append-nil now.log)) rightly;
 }
 
@@ -240,10 +256,13 @@ told_unmet : (job : VerifierJob) (outcome : VerifierOutcome) (first mid now : Li
     → (stopped : IsStopped job awaits_hello outcome first mid) → RefusesHello stopped.rest outcome mid now → IsTold job None outcome first now
 told_unmet job outcome first mid now sends stopped (inl refused) = told_unleased job outcome first now (refuses_never outcome (refused.0, refused.1))
     (tells_refusal outcome refused.0 stopped.rest first mid now refused.2 refused.1
-    (hello_bytes job outcome first mid stopped) (hello_sent job stopped.expect stopped.rest outcome first mid stopped.sends).told refused.3)
+    (hello_bytes job outcome first mid stopped) (hello_sent job stopped.expect stopped.rest outcome first mid stopped.sends).told
+    (hello_sent job stopped.expect stopped.rest outcome first mid stopped.sends).refused_sends refused.3)
 told_unmet job outcome first mid now sends stopped (inr none) = told_whole job None outcome first now
     (subst (λ (m : LinkSnapshot). m.told ≡ appended m.log first.told) (sym none.1)
-    (hello_sent job stopped.expect stopped.rest outcome first mid stopped.sends).told) (inl sends)
+    (hello_sent job stopped.expect stopped.rest outcome first mid stopped.sends).told)
+    (subst (λ (m : LinkSnapshot). m.refused_sends ≡ first.refused_sends) (sym none.1)
+    (hello_sent job stopped.expect stopped.rest outcome first mid stopped.sends).refused_sends) (inl sends)
 
 fault_never : (outcome : VerifierOutcome) → IsFault outcome → IsAllSent outcome → ⊥
 fault_never Link is all = all
@@ -256,7 +275,7 @@ tells_refused_grant : (job : VerifierJob) (outcome : VerifierOutcome) (code : �
 tells_refused_grant job outcome code first now known of is =
     let greeting = is.waiting.log.greeting in
     tells_refusal outcome code (hello_frame greeting.hello) first is.mid now
-    (greeting.hello, greeting_is_hello job known greeting, refl) of is.waiting.log.bytes is.waiting.sent.told is.refused
+    (greeting.hello, greeting_is_hello job known greeting, refl) of is.waiting.log.bytes is.waiting.sent.told is.waiting.sent.refused_sends is.refused
 
 -- a part of an answer is told
 told_part : (job : VerifierJob) (span : Span) (outcome : VerifierOutcome) (answers : ℕ) (answer : List ℕ) (first now : LinkSnapshot) → IsFault outcome
@@ -264,14 +283,26 @@ told_part : (job : VerifierJob) (span : Span) (outcome : VerifierOutcome) (answe
     → ServesWith job.task (granted_from job span.start) (now.log ++ bytes_from Verifier (take unsent.count answer))
     → IsTold job (Some span) outcome first now
 told_part job span outcome answers answer first now is unsent serves =
-    record { part = take unsent.count answer; told = unsent.told; none = λ all. absurd (fault_never outcome is all); rightly = inl serves }
+    record {
+      part = take unsent.count answer;
+      told = unsent.told;
+      none = λ all. absurd (fault_never outcome is all);
+      refused = inr (fault_never outcome is, unsent.refused_sends);
+      rightly = inl serves;
+    }
 
 told_lacking : (job : VerifierJob) (span : Span) (outcome : VerifierOutcome) (first now : LinkSnapshot) → RepliesAreInRange → ServedSessionExists → IsKnown job
     → span.start + units_of_job job ≤ job.task.file.params.total → LacksTheGrant job span.start outcome first now → IsTold job (Some span) outcome first now
 told_lacking job span outcome first now ranges law known within (inl refused) =
     let tells = tells_refused_grant job NoMemory 4 first now known refl refused.1 in
     subst (λ o. IsTold job (Some span) o first now) (sym refused.0)
-    (record { part = tells.part; told = tells.told; none = λ all. absurd (fault_never NoMemory tt all); rightly = inr (refl, tells.begins) })
+    (record {
+      part = tells.part;
+      told = tells.told;
+      none = λ all. absurd (fault_never NoMemory tt all);
+      refused = sends_refused NoMemory first now (fault_never NoMemory tt) tells;
+      rightly = inr (refl, tells.begins);
+    })
 told_lacking job span outcome first now ranges law known within (inr unsent) =
     told_part job span outcome 0 (grant_frame (granted_from job span.start)) first now unsent.fault unsent.unsent
     (granted_part job span.start now.log unsent.unsent.count ranges law known within unsent.log)
@@ -307,7 +338,7 @@ is_told job (Some (Ok span)) granted outcome first now ranges law known course =
     (elim course.1.course [
       | inl lacks ↦ told_lacking job span outcome first now ranges law known within lacks
       | inr (inl stops) ↦ stops_told stops.stage stops.behind stops.stopped stops.stopped.sends
-      | inr (inr found) ↦ told_whole job (Some span) outcome first now found.2.sent.told (serves_of job span outcome now.log known sends)
+      | inr (inr found) ↦ told_whole job (Some span) outcome first now found.2.sent.told found.2.sent.refused_sends (serves_of job span outcome now.log known sends)
     ])
   where
     within : span.start + units_of_job job ≤ job.task.file.params.total
@@ -318,7 +349,7 @@ is_told job (Some (Ok span)) granted outcome first now ranges law known course =
 
     stops_told : (stage : VerifierStage) → IsBehind span.start stage → (stopped : IsStopped job stage outcome first now)
         → SendsUpTo job stage stopped.expect stopped.rest outcome first now → IsTold job (Some span) outcome first now
-    stops_told stage starts stopped (inl sent) = told_whole job (Some span) outcome first now sent.0.told (serves_of job span outcome now.log known sends)
+    stops_told stage starts stopped (inl sent) = told_whole job (Some span) outcome first now sent.0.told sent.0.refused_sends (serves_of job span outcome now.log known sends)
     stops_told stage starts stopped (inr unsent) =
         let is = unsent.1 in
         told_part job span outcome _ is.0 first now unsent.0 is.2
@@ -456,7 +487,7 @@ told_replies job (Some span) outcome log setup known (inl sends) is begins exten
     served_replies job (granted_from job span.start) log setup known extended is begins sends
 told_replies job (Some span) outcome log setup known (inr refused) is begins extended = absurd (no_setup NoMemory log setup (record {
   rest = hello_frame refused.1.0.hello;
-  most = greeting_most job known refused.1.0;
+  few = greeting_within job known refused.1.0;
   answer = refuse_frame 4;
   refused = inr (4, refl, refl);
   bytes = refused.1.1;

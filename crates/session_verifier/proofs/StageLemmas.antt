@@ -9,7 +9,7 @@ use Rattle.std.proofs.lemmas.List.Folds.{flat_map-map}
 use Rattle.std.proofs.lemmas.Grind.{flat_map-append}
 use Rattle.zk_model.specs.Files.{AreWithinLimits, rounds_of}
 use Rattle.zk_model.specs.Transcript.{Grant, TreeAsk, TreeReply, Round, IsRound, IsTreeAsk, ForEachTree, ask_frame, reply_frame, bytes_from, turn_bytes, hello_frame, grant_frame, corrections_frame, challenge_frame, sums_frame, openings_frame, verdict_frame, Hello, IsHello, refuse_frame, sent_by}
-use Rattle.zk_model.specs.Frames.{asks, replies, frame_spelling, AreAsks, AreReplies, Frame, corrections, challenge, sums, openings, verdict, Allows, AreElements, AreSums, hello, IsWhole}
+use Rattle.zk_model.specs.Frames.{asks, replies, frame_spelling, AreAsks, AreReplies, Frame, corrections, challenge, sums, openings, verdict, Allows, AreElements, AreSums, hello}
 use Rattle.zk_model.specs.ServedVerifier.{round_replies, challenge_coin}
 use Rattle.zk_model.specs.declared.Kind.{Kind}
 use Rattle.zk_model.specs.declared.Kind.TheVariants.{Direct, Extended}
@@ -28,8 +28,8 @@ use Rattle.zk_model.specs.Program.{section_count}
 use Rattle.zk_model.specs.Replies.{unit_reply}
 use Rattle.zk_model.specs.View.{verdict_code, verdict_number}
 use Rattle.zk_model.specs.declared.Expect.{Expect}
-use Rattle.frame_link.specs.Lines.{LinkSnapshot, longest, LineState, IsSendRefused, IsSendCause, CountsFault, IsNoBadByte, IsCutShort, counted_times, snapshot_of}
-use Rattle.frame_link.proofs.LineLemmas.{none_is_some, frame_most, appended_more, one_send_more}
+use Rattle.frame_link.specs.Lines.{LinkSnapshot, LineState, IsSendRefused, IsSendCause, CountsFault, IsNoBadByte, IsCutShort, counted_times, snapshot_of, IsWithinFrame}
+use Rattle.frame_link.proofs.LineLemmas.{none_is_some, longest, within_longest, whole_within, appended_more, one_send_more}
 use Rattle.session_core.specs.Judgements.{verdict_in}
 use Rattle.session_core.specs.declared.judgement.Judgement.{Judgement}
 use Rattle.session_core.specs.Extending.{asks_in}
@@ -39,7 +39,6 @@ use Rattle.session_verifier.specs.declared.note.VerifierOutcome.{VerifierOutcome
 use Rattle.frame_link.proofs.FramesLemmas.{reply_length}
 use Rattle.zk_port.specs.Logs.{appended, AppendsPart}
 use Rattle.zk_port.specs.Counts.{Rose, counted}
-use Rattle.proof_frames.proofs.Lengths.{whole_length}
 use Rattle.frame_link.specs.declared.fault.LineFault.{LineFault}
 use Rattle.session_core.specs.declared.fault.VerifierFault.{VerifierFault}
 use Rattle.session_verifier.specs.Outcomes.{line_outcome, session_outcome, hello_code}
@@ -451,7 +450,13 @@ one_expected some other stage is also = same_Some other some (sym also ∙ is)
 pub few_of : (job : VerifierJob) (stage : VerifierStage) (outcome : VerifierOutcome) (first now : LinkSnapshot) → (stopped : IsStopped job stage outcome first now)
     → (other : Expect) → verifier_expects job stage ≡ Some other → length stopped.rest ≤ longest other
 few_of job stage outcome first now stopped other also =
-    subst (λ p. length stopped.rest ≤ longest p) (sym (one_expected stopped.expect other (verifier_expects job stage) stopped.expected also)) stopped.few
+    subst (λ p. length stopped.rest ≤ longest p) (sym (one_expected stopped.expect other (verifier_expects job stage) stopped.expected also))
+    (within_longest stopped.expect stopped.rest stopped.few)
+
+pub within_of : (job : VerifierJob) (stage : VerifierStage) (outcome : VerifierOutcome) (first now : LinkSnapshot) → (stopped : IsStopped job stage outcome first now)
+    → (other : Expect) → verifier_expects job stage ≡ Some other → IsWithinFrame other stopped.rest
+within_of job stage outcome first now stopped other also =
+    subst (λ p. IsWithinFrame p stopped.rest) (sym (one_expected stopped.expect other (verifier_expects job stage) stopped.expected also)) stopped.few
 
 -- From how a run of a verifier's end stopped to where its session stopped.
 
@@ -468,6 +473,7 @@ waiting_of job stage log sends first now at counts passed = record {
   sent = record {
     told = passed.told ∙ ap (λ l. appended l first.told) (sym passed.logged);
     sends = passed.sends ∙ ap (λ (k : ℕ). counted_times k first.sends) counts;
+    refused_sends = passed.refused_sends;
   };
   receives = subst (λ l. now.receives ≤ first.receives + length (sent_by Prover l)) (sym passed.logged) passed.receives;
   faults = passed.faults;
@@ -513,7 +519,11 @@ stops_without moves job stage log sends mid new broke first now same at counts m
       log = missing.logged;
       cause = lacking_cause job stage missing.place missing.rest broke first now expects missing.cut missing.cause;
       sends = inl (
-        record { told = missing.told; sends = missing.sends ∙ ap (λ (k : ℕ). counted_times k first.sends) counts },
+        record {
+          told = missing.told;
+          sends = missing.sends ∙ ap (λ (k : ℕ). counted_times k first.sends) counts;
+          refused_sends = missing.refused_sends;
+        },
         frame_left missing.place missing.rest broke missing.cut,
       );
       receives = missing.receives;
@@ -522,10 +532,8 @@ stops_without moves job stage log sends mid new broke first now same at counts m
 
 -- ---- a frame came
 
-frame_few : (place : Expect) (frame : Frame) → Allows place frame → length (frame_spelling frame) ≤ longest place
-frame_few place frame allowed =
-    let whole : IsWhole place (frame_spelling frame) frame = record { allowed = allowed; spelled = refl } in
-    omega (arith, whole_length place (frame_spelling frame) frame whole, frame_most place (frame_spelling frame))
+frame_few : (place : Expect) (frame : Frame) → Allows place frame → IsWithinFrame place (frame_spelling frame)
+frame_few place frame allowed = whole_within place (frame_spelling frame) frame (record { allowed = allowed; spelled = refl })
 
 abbrev pub hello_in : Hello → Frame → Hello
 hello_in other (hello x) = x
@@ -593,6 +601,7 @@ unsent_of answers bytes broke log first heard now passed refused =
           ∙ appended_more log part first.told
           ∙ ap (λ l. appended (l ++ part) first.told) (sym (refused.logged ∙ passed.logged));
       sends = one_send_more answers first.sends now.sends (refused.sends ∙ ap (counted true) passed.sends);
+      refused_sends = refused.refused_sends ∙ ap (counted true) passed.refused_sends;
     }
 
 -- the core refused it
@@ -613,6 +622,7 @@ stops_refused job stage place frame fault log sends first heard expects allowed 
     record {
       told = passed.told ∙ ap (λ l. appended l first.told) (sym passed.logged);
       sends = passed.sends ∙ ap (λ (k : ℕ). counted_times k first.sends) counts;
+      refused_sends = passed.refused_sends;
     },
     frame_whole place frame fault allowed,
   );
@@ -682,6 +692,7 @@ refusal_tried code old new side (inl sent) = record {
   sent = inl (record {
     log = sent.logged ∙ ap (λ s. old.log ++ bytes_from s (refuse_frame code)) side;
     told = sent.told ∙ ap (λ s. appended (bytes_from s (refuse_frame code)) old.told) side;
+    refused_sends = sent.refused_sends;
     faults = sent.unfailed;
   });
   sends = sent.sends;
@@ -694,6 +705,7 @@ refusal_tried code old new side (inr (broke, fails)) = record {
   sent = inr (record {
     log = fails.logged;
     told = subst (λ s. AppendsPart (bytes_from s (refuse_frame code)) old.told new.told) side fails.told;
+    refused_sends = fails.refused_sends;
   });
   sends = fails.sends;
   ended = fails.others.ended;

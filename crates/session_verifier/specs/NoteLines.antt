@@ -1,7 +1,7 @@
 -- How a note of a session is said.
 use Rattle.std.specs.Prelude.{◌==◌, ◌||◌, ℕ, List, [], ◌++◌, codes, flat_map, Bool, true, false, if◌then◌else◌}
 use Rattle.std.specs.Prelude.{◌≡◌, ◌^◌, ◌-◌, ◌∷◌, Option, None, Some, is_some}
-use Rattle.std.specs.Option.{option_map, option_to_list}
+use Rattle.std.specs.Option.{option_map, option_map_or, option_to_list}
 use Rattle.std.specs.Ordering.{nat_cmp}
 use Rattle.std.specs.Cmp.Lexicographic.{slice_cmp}
 use Rattle.std.specs.List.Sorted.{IsPermutation, IsSorted}
@@ -52,6 +52,10 @@ unit_line span outcome =
 -- the line of one that was granted none
 abbrev pub refusal_line : VerifierOutcome → List ℕ
 refusal_line outcome = codes "no grant " ++ outcome_words outcome ++ codes "\n"
+
+-- the line of either
+abbrev pub note_line : {L : Type 0} → SessionNote L → List ℕ
+note_line note = option_map_or (λ span. unit_line span note.outcome) note.granted (refusal_line note.outcome)
 
 -- the lines of the first kind, in the order of the notes, and those of the second
 abbrev pub unit_lines : {L : Type 0} → List (SessionNote L) → List (List ℕ)

@@ -6,6 +6,7 @@ use Rattle.zk_model.specs.Correlations.{IsProverView, span_keys}
 use Rattle.zk_model.specs.View.{ChecksHold, SaysVerdict, span_of}
 use Rattle.zk_model.specs.Transcript.{Hello, Setup, Transcript, IsHello, IsHelloFor, IsSetup, IsInOrder, BeginsWith, hello_frame, refuse_frame, bytes_from, turn_bytes, setup_turns, sent_by}
 use Rattle.zk_model.specs.ServedVerifier.{IsServed, IsAccepted, ServesWith, challenge_coin}
+use Rattle.zk_model.specs.declared.Expect.TheVariants as expect
 use Rattle.zk_model.specs.declared.Side.{Side}
 use Rattle.zk_model.specs.declared.Side.TheVariants.{Prover, Verifier}
 use Rattle.zk_model.specs.declared.Span.{Span}
@@ -17,7 +18,7 @@ use Rattle.zk_laws.specs.Completeness.{AreCounterparts}
 use Rattle.session_laws.specs.Peers.{HasWitness, GivesClaims}
 use Rattle.zk_port.specs.Counts.{Rose, counted}
 use Rattle.zk_port.specs.Logs.{appended}
-use Rattle.frame_link.specs.Lines.{LinkSnapshot}
+use Rattle.frame_link.specs.Lines.{LinkSnapshot, IsWithinFrame}
 use Rattle.lease_store.specs.declared.LeaseFault.{LeaseFault}
 use Rattle.lease_store.specs.declared.LeaseFault.TheVariants as lease
 use Rattle.session_core.specs.Jobs.{VerifierJob, VerifierJobs, IsFirstFor, IsForNone, job_at, units_of_job, granted_from}
@@ -30,7 +31,6 @@ use Rattle.session_verifier.specs.Outcomes.{Refuses, lease_outcome, judgement_ou
 use Rattle.session_verifier.specs.Stages.{Greeting, IsStopped, IsRefusalTried, IsRefusedGrant, IsGrantUnsent, IsWaiting, IsWholeHello}
 use Rattle.session_verifier.specs.declared.note.VerifierOutcome.{VerifierOutcome}
 use Rattle.session_verifier.specs.declared.note.VerifierOutcome.TheVariants.{Accepted, RejectedSum, RejectedOpening, PeerEnded, BadFrame, BadHello, Exhausted, Device, Broken, Link, NoMemory}
-use Rattle.zk_model.specs.declared.limits.TheConstants.{LONG_HELLO_LENGTH}
 
 -- A whole session, with a grant of the units that were leased, that the verifier serves: it is in order, the challenge is its
 -- coin, and its verdict, which was sent, is that of its checks, with both sides of the equation that fails.
@@ -68,11 +68,11 @@ pub record IsShown (job : VerifierJob) (granted : Option Span) (log : List (Side
   pub extracted : (prover : ProverFile) → IsProverFile prover → AreDealt prover job.task.file
       → IsExtracted prover job.task.file job.task.statement t
 
--- The log of a session in which no units were leased: no more of the prover than a hello has; and nothing of the verifier, or the
--- refusal of its outcome.
+-- The log of a session in which no units were leased: of the prover nothing past its hello; and nothing of the verifier, or the refusal of
+-- its outcome.
 pub record IsUngranted (outcome : VerifierOutcome) (log : List (Side × ℕ)) : Type 0 where
   pub rest : List ℕ
-  pub most : length rest ≤ LONG_HELLO_LENGTH
+  pub few : IsWithinFrame expect.Hello rest
   pub answer : List ℕ
   pub refused : (answer ≡ []) ⊎ ((code : ℕ) × (refusal_of outcome ≡ Some code) × (answer ≡ refuse_frame code))
   pub bytes : log ≡ bytes_from Prover rest ++ bytes_from Verifier answer
@@ -147,6 +147,7 @@ pub record LacksGrant
   pub came : mid.log ≡ bytes_from Prover (hello_frame hello)
   pub told : mid.told ≡ appended mid.log first.told
   pub unsent : mid.sends ≡ first.sends
+  pub unrefused : mid.refused_sends ≡ first.refused_sends
   pub unfailed : mid.faults ≡ first.faults
   pub refused : IsRefusalTried 4 mid now
 
@@ -214,12 +215,19 @@ abbrev pub IsAllSent : VerifierOutcome → Type 0
 IsAllSent Link = ⊥
 IsAllSent outcome = refusal_of outcome ≡ None
 
+-- No send was refused, and nothing is told beside the log; or one was, where one may be.
+abbrev pub RefusesSends : VerifierOutcome → List ℕ → LinkSnapshot → LinkSnapshot → Type 0
+RefusesSends outcome part first now =
+    ((part ≡ []) × (now.refused_sends ≡ first.refused_sends))
+    ⊎ (¬ IsAllSent outcome × (now.refused_sends ≡ counted true first.refused_sends))
+
 -- What the link tells is what it told before and the log; where a send was refused, a first part of the one answer that was due
--- then, and nothing else.
+-- then, and nothing else. No more than that one was refused, and only where one was is any of that part told.
 pub record IsTold (job : VerifierJob) (granted : Option Span) (outcome : VerifierOutcome) (first now : LinkSnapshot) : Type 0 where
   pub part : List ℕ
   pub told : now.told ≡ appended (now.log ++ bytes_from Verifier part) first.told
   pub none : IsAllSent outcome → part ≡ []
+  pub refused : RefusesSends outcome part first now
   pub rightly : TellsRightly job granted outcome (now.log ++ bytes_from Verifier part)
 
 -- The count of failed calls does not fall. It rises where the outcome is `Link`; else only by the one send of a refusal that was
@@ -228,7 +236,8 @@ pub record CountsFaults (outcome : VerifierOutcome) (first now : LinkSnapshot) :
   pub later : first.faults ≤ now.faults
   pub failed : outcome ≡ Link → Rose first.faults now.faults
   pub unfailed : (now.faults ≡ first.faults) ⊎ (outcome ≡ Link)
-      ⊎ (Refuses outcome × (sent_by Verifier now.log ≡ []) × (now.sends ≡ counted true first.sends))
+      ⊎ (Refuses outcome × (sent_by Verifier now.log ≡ []) × (now.sends ≡ counted true first.sends)
+      × (now.refused_sends ≡ counted true first.refused_sends))
 
 -- at most one receive more than bytes of the prover came
 abbrev pub ReceivesFew : LinkSnapshot → LinkSnapshot → Type 0

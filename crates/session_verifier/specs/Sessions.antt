@@ -1,10 +1,12 @@
 -- What a note of a session says of it, as one record.
 use Rattle.std.specs.Prelude.{◌≡◌, ℕ, List, [], false, Option, Result}
+use Rattle.zk_model.specs.Transcript.{sent_by}
 use Rattle.zk_model.specs.declared.Side.{Side}
-use Rattle.zk_model.specs.declared.Side.TheVariants.{Verifier}
+use Rattle.zk_model.specs.declared.Side.TheVariants.{Prover, Verifier}
 use Rattle.zk_model.specs.declared.Span.{Span}
 use Rattle.zk_port.specs.Doors.{IsFreshLink}
 use Rattle.zk_port.specs.Links.{LinkState}
+use Rattle.zk_port.specs.Logs.{put_before}
 use Rattle.frame_link.specs.Lines.{snapshot}
 use Rattle.lease_store.specs.declared.LeaseFault.{LeaseFault}
 use Rattle.session_core.specs.Jobs.{VerifierJob, VerifierJobs, noted_job}
@@ -17,8 +19,8 @@ use Rattle.session_verifier.specs.declared.note.VerifierOutcome.TheVariants.{Acc
 -- A session about the job over a link that was fresh, and now tells this, in which the one who leases units answered so, if it was
 -- asked: which units were granted, that a refused lease is the outcome, and that a hello for the statement came before; that an outcome which judges is the verdict of the checks
 -- on a whole session, and that an accepted log has no other; what acceptance shows; what the verifier sent; that its keys fit the
--- pairs of whatever prover; why the session ended; what the link tells beside the log; how often it failed; that it is ended; and
--- that with an honest peer the session is accepted, unless memory was missing.
+-- pairs of whatever prover; why the session ended; what the link tells beside the log; that what came is what it no longer has to come;
+-- how often it failed; that it is ended; and that with an honest peer the session is accepted, unless memory was missing.
 pub record IsSessionOf
     (job : VerifierJob)
     (answer : Option (Result Span LeaseFault))
@@ -38,6 +40,7 @@ pub record IsSessionOf
   pub fresh : IsFreshLink first
   pub cause : EndsBecause job answer outcome (snapshot Verifier [] first) (snapshot Verifier log link)
   pub told : IsTold job granted outcome (snapshot Verifier [] first) (snapshot Verifier log link)
+  pub came : first.to_come ≡ put_before (sent_by Prover log) link.to_come
   pub faults : CountsFaults outcome (snapshot Verifier [] first) (snapshot Verifier log link)
   pub receives : ReceivesFew (snapshot Verifier [] first) (snapshot Verifier log link)
   pub complete : Completes job answer outcome (snapshot Verifier [] first) (snapshot Verifier log link)

@@ -11,7 +11,7 @@ use Rattle.zk_model.specs.declared.Side.{Side}
 use Rattle.zk_model.specs.declared.Side.TheVariants.{Prover, Verifier}
 use Rattle.zk_port.specs.Counts.{Rose, counted}
 use Rattle.zk_port.specs.Logs.{appended, AppendsPart}
-use Rattle.frame_link.specs.Lines.{LinkSnapshot, counted_times, longest, IsCutShort}
+use Rattle.frame_link.specs.Lines.{LinkSnapshot, counted_times, IsCutShort, IsWithinFrame}
 use Rattle.session_core.specs.Jobs.{VerifierJob, IsVerifierJob, granted_from, units_of_job}
 use Rattle.session_core.specs.Judgements.{IsJudgement, session_transcript, verdict_in}
 use Rattle.session_core.specs.Rounds.{AreServedRounds, round_turns}
@@ -113,16 +113,19 @@ answers_before job (awaits_openings start d both) = rounds_of job.task.file.para
 answers_before job (has_judged start judgement) = rounds_of job.task.file.params.kind + 3
 answers_before job has_refused = 0
 
--- all that was sent is logged, and the link tells it: so many answers, each by one send
+-- all that was sent is logged, and the link tells it: so many answers, each by one send, none of which was refused
 pub record IsSent (answers : ℕ) (first now : LinkSnapshot) : Type 0 where
   pub told : now.told ≡ appended now.log first.told
   pub sends : now.sends ≡ counted_times answers first.sends
+  pub refused_sends : now.refused_sends ≡ first.refused_sends
 
--- after so many answers, the one send of another was refused: after the log the link tells a first part of it, maybe none or all
+-- after so many answers, the one send of another was refused, and no other: after the log the link tells a first part of it, maybe none
+-- or all
 pub record IsUnsent (answers : ℕ) (answer : List ℕ) (first now : LinkSnapshot) : Type 0 where
   pub count : ℕ
   pub told : now.told ≡ appended (now.log ++ bytes_from Verifier (take count answer)) first.told
   pub sends : now.sends ≡ counted_times (answers + 1) first.sends
+  pub refused_sends : now.refused_sends ≡ counted true first.refused_sends
 
 -- ---- why it stops
 
@@ -207,14 +210,14 @@ IsBehind start (awaits_openings begun d both) = begun ≡ start
 IsBehind start (has_judged begun judgement) = begun ≡ start
 IsBehind start has_refused = ⊥
 
--- A session that stopped: what is logged where the verifier waited, and then bytes of the frame that was expected.
+-- A session that stopped: what is logged where the verifier waited, and then bytes of the frame that was expected, none past it.
 pub record IsStopped (job : VerifierJob) (stage : VerifierStage) (outcome : VerifierOutcome) (first now : LinkSnapshot) : Type 0 where
   pub before : List (Side × ℕ)
   pub waited : IsLogAt job stage before
   pub expect : Expect
   pub expected : verifier_expects job stage ≡ Some expect
   pub rest : List ℕ
-  pub few : length rest ≤ longest expect
+  pub few : IsWithinFrame expect rest
   pub log : now.log ≡ before ++ bytes_from Prover rest
   pub cause : StopCause job stage rest first now outcome
   pub sends : SendsUpTo job stage expect rest outcome first now
@@ -229,19 +232,21 @@ pub record StopsBehind (job : VerifierJob) (start : ℕ) (outcome : VerifierOutc
 
 -- ---- refusals
 
--- a refusal of this code is logged, and the link tells it
+-- a refusal of this code is logged, and the link tells it; its send was not refused
 pub record IsRefusalSent (code : ℕ) (old now : LinkSnapshot) : Type 0 where
   pub log : now.log ≡ old.log ++ bytes_from Verifier (refuse_frame code)
   pub told : now.told ≡ appended (bytes_from Verifier (refuse_frame code)) old.told
+  pub refused_sends : now.refused_sends ≡ old.refused_sends
   pub faults : now.faults ≡ old.faults
 
 -- its send was refused: it is not logged, and the link tells a first part of it, maybe none or all
 pub record IsRefusalUnsent (code : ℕ) (old now : LinkSnapshot) : Type 0 where
   pub log : now.log ≡ old.log
   pub told : AppendsPart (bytes_from Verifier (refuse_frame code)) old.told now.told
+  pub refused_sends : now.refused_sends ≡ counted true old.refused_sends
 
--- A refusal of this code was sent once, in a grant's place: it is logged, unless that send was refused. Whether it was changes
--- nothing but the count of failed calls.
+-- A refusal of this code was sent once, in a grant's place: it is logged, unless that send was refused, and counted so. Whether it was
+-- changes nothing else but the count of failed calls.
 pub record IsRefusalTried (code : ℕ) (old now : LinkSnapshot) : Type 0 where
   pub sent : IsRefusalSent code old now ⊎ IsRefusalUnsent code old now
   pub sends : now.sends ≡ counted true old.sends

@@ -3,7 +3,7 @@ ghost use Rattle.std.specs.Prelude.{◌≡◌, ◌++◌, IfOk, OnOk, codes, map,
 ghost use Rattle.std.specs.Fmt.{decimal};
 ghost use Rattle.std.specs.List.{concat};
 ghost use Rattle.std.specs.Option.{option_map, option_to_list};
-ghost use Rattle.session_verifier.specs.NoteLines.{field_words, outcome_words, is_judged, unit_line, refusal_line};
+ghost use Rattle.session_verifier.specs.NoteLines.{field_words, outcome_words, is_judged, unit_line, refusal_line, note_line};
 ghost use Rattle.session_verifier.specs.NoteLines.{unit_lines, refusal_lines};
 ghost use Rattle.session_verifier.specs.NoteLines.{IsServedText, start_of};
 ghost use Rattle.std.specs.List.Sorted.{IsPermutation, IsNonDecreasingBy};
@@ -83,6 +83,25 @@ fn write_units(alloc: Global, span: Span, how: &str, words: &str) -> Result<Stri
     Ok(format!(in alloc; "units {start}..{end}{how}{words}\n")?)
 }
 
+/// The line of a session with these units that ended so.
+fn write_session(alloc: Global, span: Span, outcome: &VerifierOutcome) -> Result<String, AllocError>
+    ensures { IfOk result (λ line. string_bytes line ≡ unit_line span outcome.now) }
+{
+    let words = write_outcome(alloc, outcome)?;
+    let how = if is_judged(outcome) { " " } else { " broken " };
+    write_units(alloc, span, how, &words)
+}
+
+/// The line of a session, whether it was granted units or not.
+pub fn write_note<L>(alloc: Global, note: &SessionNote<L>) -> Result<String, AllocError>
+    ensures { IfOk result (λ line. string_bytes line ≡ note_line note.now) }
+{
+    match note.granted {
+        Some(span) => write_session(alloc, span, &note.outcome),
+        None => write_refusal(alloc, &note.outcome),
+    }
+}
+
 /// The line of a session with these units that ended so, and no line where there are no units.
 fn write_granted(
     alloc: Global,
@@ -95,9 +114,7 @@ fn write_granted(
     let Some(span) = granted else {
         return Ok(String::new(alloc));
     };
-    let words = write_outcome(alloc, outcome)?;
-    let how = if is_judged(outcome) { " " } else { " broken " };
-    write_units(alloc, span, how, &words)
+    write_session(alloc, span, outcome)
 }
 
 /// The lines of the sessions that were granted units.

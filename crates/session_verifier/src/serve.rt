@@ -3,11 +3,12 @@ ghost use Rattle.std.specs.Prelude.{◌≡◌, ◌+◌, ◌<◌, ◌≤◌, ℕ,
 ghost use Rattle.zk_model.specs.Frames as model;
 ghost use Rattle.zk_model.specs.Frames.{Allows};
 ghost use Rattle.zk_model.specs.declared.Expect.TheVariants as expect;
-ghost use Rattle.zk_model.specs.declared.Side.TheVariants.{Verifier};
+ghost use Rattle.zk_model.specs.declared.Side.TheVariants.{Prover, Verifier};
+ghost use Rattle.zk_port.specs.Logs.{put_before};
 ghost use Rattle.frame_link.specs.Lines.{snapshot_of};
 ghost use Rattle.proof_frames.specs.Frames.{frame_value, IsShort};
 ghost use Rattle.session_core.specs.Jobs.{TakesHello, all_jobs, granted_from, noted_job, units_of_job};
-ghost use Rattle.zk_model.specs.Transcript.{Hello, IsHello};
+ghost use Rattle.zk_model.specs.Transcript.{Hello, IsHello, sent_by};
 ghost use Rattle.zk_model.specs.declared.limits.TheConstants.{MAX_UNITS};
 ghost use Rattle.session_core.specs.Cores.{VerifierAnswers, VerifierRefuses, awaits_hello, owes_grant, behind_grant, judgement_at, verifier_expects};
 ghost use Rattle.session_driver.specs.Runs.{IsFresh};
@@ -29,14 +30,13 @@ use session_laws::replies_are_in_range;
 use std::alloc::{AllocError, Global};
 use std::thread::Threads;
 use zk_model::{Expect, Span};
-use zk_port::{Gate, Link, Phase};
+use zk_port::Link;
 
 /// A verifier's end of a session, as the driver leads it: its core is about the statement that was taken, or else about the first.
 #[derive(Drop)]
-pub(crate) struct Serving<'a, 'g, G> {
+pub(crate) struct Serving<'a> {
     jobs: &'a VerifierJobs<'a>,
     core: VerifierCore<'a>,
-    gate: &'g G,
     taken: Option<u32>,
     granted: Option<Span>,
 }
@@ -126,12 +126,11 @@ fn grant_frames(
     Ok(frames)
 }
 
-/// Meets a hello, and has units leased, of which the gate is told: their grant is the answer.
-fn grant_units<'a, R: Grantor, G: Gate>(
+/// Meets a hello, and has units leased: their grant is the answer.
+fn grant_units<'a, R: Grantor>(
     alloc: Global,
     jobs: &'a VerifierJobs<'a>,
     core: &mut VerifierCore<'a>,
-    gate: &G,
     taken: &mut Option<u32>,
     granted: &mut Option<Span>,
     grantor: &mut R,
@@ -168,7 +167,6 @@ fn grant_units<'a, R: Grantor, G: Gate>(
             })
         }
         Ok(span) => {
-            gate.phase(Phase::Granted { start: span.start });
             *granted = Some(span);
             match grant_frames(alloc, core, span) {
                 Ok(frames) => Ok(frames),
@@ -219,12 +217,11 @@ fn answer<H: Threads + Sync>(
 }
 
 /// Takes a frame that is expected, and hands back what is answered.
-fn step<'a, H: Threads + Sync, R: Grantor, G: Gate>(
+fn step<'a, H: Threads + Sync, R: Grantor>(
     rt: &H,
     alloc: Global,
     jobs: &'a VerifierJobs<'a>,
     core: &mut VerifierCore<'a>,
-    gate: &G,
     taken: &mut Option<u32>,
     granted: &mut Option<Span>,
     grantor: &mut R,
@@ -253,12 +250,12 @@ fn step<'a, H: Threads + Sync, R: Grantor, G: Gate>(
         (served jobs.now core.new taken.new granted.new grantor.new)) }
 {
     match *granted {
-        None => grant_units(alloc, jobs, core, gate, taken, granted, grantor, frame),
+        None => grant_units(alloc, jobs, core, taken, granted, grantor, frame),
         Some(span) => answer(rt, alloc, jobs.noted(*taken), core, frame, span),
     }
 }
 
-impl<'a, 'g, R: Grantor, G: Gate> Party<R> for Serving<'a, 'g, G> {
+impl<'a, R: Grantor> Party<R> for Serving<'a> {
     ghost use Rattle.std.specs.Prelude.{[]};
     ghost use Rattle.session_core.specs.Cores.{verifier_expects};
     ghost use Rattle.session_verifier.specs.Serving.{IsServing, frames_left, grants_of, lack_code_at, served, serves};
@@ -313,7 +310,6 @@ impl<'a, 'g, R: Grantor, G: Gate> Party<R> for Serving<'a, 'g, G> {
             alloc,
             self.jobs,
             &mut self.core,
-            self.gate,
             &mut self.taken,
             &mut self.granted,
             asked,
@@ -345,20 +341,12 @@ fn outcome_of(core: &VerifierCore<'_>, outcome: Outcome<VerifierOutcome>) -> Ver
     }
 }
 
-/// Tells the gate that a session has ended whose units were leased.
-fn tell_end<G: Gate>(gate: &G, granted: Option<Span>) {
-    if let Some(span) = granted {
-        gate.phase(Phase::Ended { start: span.start });
-    }
-}
-
-/// The whole session. The gate is told when units are leased, and when such a session has ended.
-pub(crate) fn serve<H: Threads + Sync, L: Link, R: Grantor, G: Gate>(
+/// The whole session.
+pub(crate) fn serve<H: Threads + Sync, L: Link, R: Grantor>(
     rt: &H,
     alloc: Global,
     jobs: &VerifierJobs<'_>,
     grantor: &mut R,
-    gate: &G,
     line: &mut Line<L>,
 ) -> Course
     requires once { R.answer grantor.old ≡ None }
@@ -375,6 +363,7 @@ pub(crate) fn serve<H: Threads + Sync, L: Link, R: Grantor, G: Gate>(
         result.outcome line.new.log }
     ensures course { IsCourse (noted_job jobs.now result.taken) (R.answer grantor.new) result.granted
         result.outcome (snapshot_of line.old) (snapshot_of line.new) }
+    ensures came { line.old.to_come ≡ put_before (sent_by Prover line.new.log) line.new.to_come }
     ensures within { IfSome result.taken (λ n. n < length (all_jobs jobs.now)) }
     ensures side { line.new.side ≡ Verifier }
     ensures open_still { IsTrue line.new.is_open }
@@ -384,12 +373,10 @@ pub(crate) fn serve<H: Threads + Sync, L: Link, R: Grantor, G: Gate>(
     let mut serving = Serving {
         jobs: &*jobs,
         core: VerifierCore::new(jobs.noted(None)),
-        gate,
         taken: None,
         granted: None,
     };
     let outcome = run(rt, alloc, &mut serving, grantor, line);
-    tell_end(gate, serving.granted);
     Course {
         taken: serving.taken,
         granted: serving.granted,

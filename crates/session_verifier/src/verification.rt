@@ -1,6 +1,7 @@
 // A verifier's sessions, as a pool leads them.
 ghost use Rattle.std.specs.Prelude.{◌≡◌};
 
+use crate::log_desk::LogKeeper;
 use crate::note::SessionNote;
 use crate::verify::verify_session;
 use lease_store::Grantor;
@@ -8,24 +9,26 @@ use session_core::VerifierJobs;
 use session_pool::Session;
 use std::alloc::Global;
 use std::thread::Threads;
-use zk_port::{Gate, Link};
+use zk_port::Link;
 
-/// A verifier's sessions, each about one of its statements, as a pool leads them.
+/// A verifier's sessions, each about one of its statements, as a pool leads them: one is told of each that has ended, before its worker
+/// takes another link.
 #[derive(Drop)]
-pub struct Verification<'a> {
+pub struct Verification<'a, K> {
     pub jobs: &'a VerifierJobs<'a>,
+    pub keeper: &'a K,
 }
 
-impl<'a> Verification<'a> {
+impl<'a, K> Verification<'a, K> {
     /// The sessions about the statements of these jobs.
-    pub fn new(jobs: &'a VerifierJobs<'a>) -> Self
+    pub fn new(jobs: &'a VerifierJobs<'a>, keeper: &'a K) -> Self
         ensures { result.jobs.now ≡ jobs.now }
     {
-        Verification { jobs }
+        Verification { jobs, keeper }
     }
 }
 
-impl<'a, L: Link + Drop> Session<L> for Verification<'a> {
+impl<'a, L: Link + Drop, K: LogKeeper> Session<L> for Verification<'a, K> {
     ghost use Rattle.session_core.specs.Jobs.{noted_job, units_of_job};
     ghost use Rattle.session_verifier.specs.Outcomes.{lease_fault};
     ghost use Rattle.session_verifier.specs.Sessions.{IsAnsweredNote};
@@ -44,14 +47,15 @@ impl<'a, L: Link + Drop> Session<L> for Verification<'a> {
 
     ghost refused = { λ note. lease_fault note.outcome };
 
-    fn lead<R: Threads + Sync, T: Grantor, G: Gate>(
+    fn lead<R: Threads + Sync, T: Grantor>(
         &self,
         rt: &R,
         alloc: Global,
         grantor: &mut T,
         link: L,
-        gate: &G,
     ) -> SessionNote<L> {
-        verify_session(rt, alloc, self.jobs, grantor, link, gate)
+        let note = verify_session(rt, alloc, self.jobs, grantor, link);
+        self.keeper.keep(alloc, &note);
+        note
     }
 }

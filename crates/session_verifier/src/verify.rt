@@ -1,6 +1,8 @@
 // A verifier's session over a link.
 ghost use Rattle.std.specs.Prelude.{◌≡◌, ◌≤◌, ℕ, None, Some, [], length, false, IfSome, IsTrue, MatchOption};
-ghost use Rattle.zk_model.specs.declared.Side.TheVariants.{Verifier};
+ghost use Rattle.zk_model.specs.Transcript.{sent_by};
+ghost use Rattle.zk_model.specs.declared.Side.TheVariants.{Prover, Verifier};
+ghost use Rattle.zk_port.specs.Logs.{put_before};
 ghost use Rattle.frame_link.specs.Lines.{snapshot};
 ghost use Rattle.zk_model.specs.Check.{AllBelow};
 ghost use Rattle.zk_model.specs.Statement.{IsStatement};
@@ -23,7 +25,7 @@ use std::alloc::Global;
 use std::thread::Threads;
 use zk_laws::{extraction_holds, keys_fit};
 use zk_model::Side;
-use zk_port::{Gate, Link};
+use zk_port::Link;
 
 /// Every job is about a statement.
 fn are_stated(jobs: &VerifierJobs<'_>)
@@ -38,17 +40,15 @@ fn are_stated(jobs: &VerifierJobs<'_>)
 /// Leads a session with a peer that may send anything: meets its hello, which may be for any of the verifier's statements, of which the
 /// first is taken that it is for, leases the units that the session takes, grants them,
 /// replies in kind extended to the asks for all of them, in several threads, challenges, and judges (Weng, Yang, Katz and Wang, Wolverine, IEEE S&P
-/// 2021; Yang, Sarkar, Weng and Wang, QuickSilver, ACM CCS 2021). The gate is told when units are leased and when such a session
-/// has ended. Each receive asks for no more bytes than the frame under way still wants; each answer is sent by one send, and `end`
-/// is the last call of the link. A refusal is sent in the grant's place for a hello that differs, for units that are not leased,
+/// 2021; Yang, Sarkar, Weng and Wang, QuickSilver, ACM CCS 2021). Each receive asks for no more bytes than the frame under way still
+/// wants; each answer is sent by one send, and `end` is the last call of the link. A refusal is sent in the grant's place for a hello that differs, for units that are not leased,
 /// and where memory is missing for the grant; its own room is kept first, and whether its send fails changes nothing.
-pub fn verify_session<H: Threads + Sync, L: Link, R: Grantor, G: Gate>(
+pub fn verify_session<H: Threads + Sync, L: Link, R: Grantor>(
     rt: &H,
     alloc: Global,
     jobs: &VerifierJobs<'_>,
     grantor: &mut R,
     link: L,
-    gate: &G,
 ) -> SessionNote<L>
     requires open { IsTrue (L.state link).is_open }
     requires once { R.answer grantor.old ≡ None }
@@ -80,6 +80,8 @@ pub fn verify_session<H: Threads + Sync, L: Link, R: Grantor, G: Gate>(
         result.log }
     ensures told { IsTold (noted_job jobs.now result.statement) result.granted result.outcome
         (snapshot Verifier [] (L.state link)) (snapshot Verifier result.log (L.state result.link)) }
+    ensures came { (L.state link).to_come
+        ≡ put_before (sent_by Prover result.log) (L.state result.link).to_come }
     ensures receives { ReceivesFew
         (snapshot Verifier [] (L.state link)) (snapshot Verifier result.log (L.state result.link)) }
     ensures complete { CompletesForEach jobs.now (R.answer grantor.new) result.outcome
@@ -99,7 +101,7 @@ pub fn verify_session<H: Threads + Sync, L: Link, R: Grantor, G: Gate>(
     keys_fit();
     are_stated(jobs);
     let mut line = Line::new(alloc, link, Side::Verifier);
-    let course = serve(rt, alloc, jobs, grantor, gate, &mut line);
+    let course = serve(rt, alloc, jobs, grantor, &mut line);
     let job = jobs.noted(course.taken);
     let _opened = job.statement().program().opened();
     let _total = job.file().total();

@@ -1,5 +1,6 @@
 -- What is served: where, over which file, and about which claims.
-use Rattle.std.specs.Prelude.{ℕ, List, [], ◌∷◌}
+use Rattle.std.specs.Prelude.{ℕ, List, [], ◌∷◌, Bool}
+use Rattle.command_words.specs.BitWords.{Bits}
 use Rattle.command_words.specs.Words.{ServeAsk, ServeManyAsk, ServeOptions}
 use Rattle.statement_file.specs.Claims.{NamedClaim, named_claim}
 
@@ -13,11 +14,11 @@ pub record Service : Type 0 where
 abbrev pub service : List ℕ → List ℕ → List NamedClaim → ServeOptions → Service
 service address file claims options = record { address = address; file = file; claims = claims; options = options }
 
--- of the one claim that words name
-abbrev pub claim_asked : ServeAsk → NamedClaim
+-- of the one claim that words name, whose bits are known
+abbrev pub claim_asked : ServeAsk Bits → NamedClaim
 claim_asked ask = named_claim ask.circuit ask.public ask.outputs
 
-abbrev pub service_asked : ServeAsk → Service
+abbrev pub service_asked : ServeAsk Bits → Service
 service_asked ask = service ask.address ask.file (claim_asked ask ∷ []) ask.options
 
 -- and of these claims, which a file of statements names

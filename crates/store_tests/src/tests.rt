@@ -5,6 +5,7 @@ mod claim_tests;
 mod disks;
 mod lease_tests;
 mod machine_tests;
+mod noted;
 mod pool_tests;
 mod twin_disks;
 mod word_tests;

@@ -6,11 +6,10 @@
 #![tactic(auto)]
 
 use memory_ports::{FailAt, MemoryDoor, NoFault, ScriptedLink};
-use port_os::{FileDisk, FileShelf, OutputSink};
+use port_os::{FileDisk, FileShelf, NoticeSink, OutputSink};
 use std::alloc::Global;
 use std::io;
 use zk_cli::run_zk;
-use zk_port::QuietGate;
 
 /// The words of a line.
 fn words_of(alloc: Global, line: &str) -> io::Result<Vec<String>> {
@@ -27,11 +26,20 @@ fn main(rt: HostRuntime) -> io::Result<()> {
         let words = words_of(alloc, line?.as_str())?;
         let mut shelf = FileShelf::new(&rt);
         let mut out = OutputSink::new(&rt);
+        let mut notices = NoticeSink::new(&rt);
         let disk = FileDisk::new(&rt);
         let nobody = FailAt::new(Vec::new(alloc));
         let door: MemoryDoor<ScriptedLink<NoFault>, FailAt> = MemoryDoor::new(alloc, nobody);
         let finish = run_zk(
-            &rt, alloc, &words, &mut shelf, disk, door, &QuietGate, &[7; 32], &mut out,
+            &rt,
+            alloc,
+            &words,
+            &mut shelf,
+            disk,
+            door,
+            &[7; 32],
+            &mut out,
+            &mut notices,
         );
         let status = finish.status;
         println!(rt; "status {status}")?;

@@ -9,7 +9,7 @@ use Rattle.zk_port.proofs.Torn.{torn_by_write}
 use Rattle.zk_model.specs.Journals.{IsOpen, body_at, body_before, number_at}
 use Rattle.lease_journal.proofs.Torn.{written_inside, written_size}
 use Rattle.lease_journal.proofs.Putting.{body_kept}
-use Rattle.twin_journal.specs.Filling.{IsClosedSlot, IsFilled, IsOpenSlot, IsSlotFor, last_after}
+use Rattle.twin_journal.specs.Filling.{AreSlotsOf, IsClosedSlot, IsFilled, IsOpenSlot, IsSlotFor, last_after, slot_bytes}
 
 -- a part of what was written
 pub part_written : (at off n : ℕ) (bytes old : List ℕ) → 0 < n → off + n ≤ length bytes → take n (drop (at + off) (written_at at bytes old)) ≡ take n (drop off bytes)
@@ -30,7 +30,8 @@ part_written at off n bytes old some fits =
 pub number_written : (at off : ℕ) (bytes old : List ℕ) → off + 8 ≤ length bytes → number_at (written_at at bytes old) (at + off) ≡ number_at bytes off
 number_written at off bytes old fits = ap (from_le_bytes w64) (part_written at off 8 bytes old (omega arith) fits)
 
-module _ (at slot : ℕ) (bodies : List (ℕ × ℕ)) (bytes written : List ℕ) (so_far : IsFilled at slot bodies bytes) (whole : length written ≡ 32) where
+module _ (at slot : ℕ) (bodies : List (ℕ × ℕ)) (bytes written : List ℕ) (so_far : IsFilled at slot bodies bytes) (whole : length written ≡ 32)
+    (are : written ≡ slot_bytes (drop slot bodies)) where
   abbrev new : List ℕ
   new = written_at (at + 32 * slot) written bytes
 
@@ -60,6 +61,14 @@ module _ (at slot : ℕ) (bodies : List (ℕ × ℕ)) (bytes written : List ℕ)
   last_slot : (other : ℕ) → other < slot + 1 → slot ≤ other → other ≡ slot
   last_slot other below from = omega (arith, below, from)
 
+  exact_now : AreSlotsOf at (slot + 1) bodies new
+  exact_now other below i inside = ⊎_elim
+      (λ ahead. torn.kept (at + 32 * other + i) (omega (arith, ahead, inside, so_far.inside)) (inl (omega (arith, ahead, inside)))
+      ∙ so_far.exact other ahead i inside)
+      (λ from. subst (λ n. get_or new (at + 32 * n + i) 0 ≡ get_or (slot_bytes (drop n bodies)) i 0) (sym (last_slot other below from))
+      (written_inside (at + 32 * slot) written bytes i (omega (arith, whole, inside)) ∙ ap (λ (l : List ℕ). get_or l i 0) are))
+      (cases_lt other slot)
+
   -- there is no body for this slot
   more_closed : length bodies ≤ slot → get_or written 31 0 ≡ 0 → IsFilled at (slot + 1) bodies new
   more_closed gone gate = record {
@@ -72,6 +81,7 @@ module _ (at slot : ℕ) (bodies : List (ℕ × ℕ)) (bytes written : List ℕ)
         let there : get_or new (at + 32 * slot + 31) 0 ≡ 90 = subst (λ n. IsOpen at new n) (last_slot other below from) is_open in
         omega (arith, gate, gate_is, there))
         (cases_lt other slot);
+    exact = exact_now;
   }
 
   more_opened : slot < length bodies → get_or written 31 0 ≡ 90 → ◌≡◌ {A = ℕ × ℕ} (number_at written 0, number_at written 8) (get_or bodies slot (0, 0)) → IsFilled at (slot + 1) bodies new
@@ -86,6 +96,7 @@ module _ (at slot : ℕ) (bodies : List (ℕ × ℕ)) (bytes written : List ℕ)
         (λ from. subst (λ n. body_at at new n ≡ get_or bodies n (0, 0)) (sym (last_slot other below from)) (body_is ∙ body))
         (cases_lt other slot);
     closed = λ other below past. absurd (omega (arith, past, there, below));
+    exact = exact_now;
   }
 
   pub filled_more : IsSlotFor (drop slot bodies) written → IsFilled at (slot + 1) bodies new
@@ -105,14 +116,15 @@ none_filled at bodies bytes starts = record {
   opened = λ slot below has. absurd (omega (arith, below));
   bodies_are = λ slot below has. absurd (omega (arith, below));
   closed = λ slot below past. absurd (omega (arith, below));
+  exact = λ slot below. absurd (omega (arith, below));
 }
 
 -- one slot more, in what a disk tells
 pub told_more : (at slot : ℕ) (bodies : List (ℕ × ℕ)) (written : List ℕ) (old new : Option (List ℕ)) → length written ≡ 32 → IsSlotFor (drop slot bodies) written
-    → new ≡ option_map (written_at (at + 32 * slot) written) old → IfSome old (IsFilled at slot bodies) → IfSome new (IsFilled at (slot + 1) bodies)
-told_more at slot bodies written None after whole is e so_far = subst (λ o. IfSome o (IsFilled at (slot + 1) bodies)) (sym e) tt
-told_more at slot bodies written (Some bytes) after whole is e so_far =
-    subst (λ o. IfSome o (IsFilled at (slot + 1) bodies)) (sym e) (filled_more at slot bodies bytes written so_far whole is)
+    → written ≡ slot_bytes (drop slot bodies) → new ≡ option_map (written_at (at + 32 * slot) written) old → IfSome old (IsFilled at slot bodies) → IfSome new (IsFilled at (slot + 1) bodies)
+told_more at slot bodies written None after whole is are e so_far = subst (λ o. IfSome o (IsFilled at (slot + 1) bodies)) (sym e) tt
+told_more at slot bodies written (Some bytes) after whole is are e so_far =
+    subst (λ o. IfSome o (IsFilled at (slot + 1) bodies)) (sym e) (filled_more at slot bodies bytes written so_far whole are is)
 
 pub slot_size : (bodies : List (ℕ × ℕ)) (written : List ℕ) → IsSlotFor bodies written → length written ≡ 32
 slot_size [] written is = is.whole

@@ -10,9 +10,9 @@ use Rattle.zk_model.specs.declared.JournalKind.{JournalKind}
 use Rattle.zk_model.specs.Twins.{IsHeadOpen, area_at, are_twin_slots, first_head, generation_at, head_at, is_twin_wrong_at, twin_code, twin_header, twin_length, twin_slots_at}
 use Rattle.lease_journal.specs.Causes.{KeptAt}
 use Rattle.lease_journal.proofs.Newly.{not_wrong}
-use Rattle.lease_journal.proofs.Torn.{written_inside, written_size}
-use Rattle.twin_journal.specs.Filling.{IsFilled}
-use Rattle.twin_journal.specs.Laying.{HasFirstBytes, IsLaid}
+use Rattle.lease_journal.proofs.Torn.{behind_torn, written_inside, written_size}
+use Rattle.twin_journal.specs.Filling.{AreSlotsOf, IsFilled}
+use Rattle.twin_journal.specs.Laying.{HasAllBytes, HasFirstBytes, IsLaid}
 use Rattle.twin_journal.proofs.HeaderReads.{fits_few}
 use Rattle.twin_journal.proofs.SameAreas.{filled_recovers, filled_tidy, recovers_still, tidy_same}
 
@@ -138,6 +138,18 @@ module _ (kind : JournalKind) (id : List ℕ) (total begin slots : ℕ) (bodies 
         let there : head_at begin slots true + 31 ≡ second + 32 * 0 + 31 = omega (arith, second_is) in
         empty.closed 0 (omega arith) (omega arith) (sym (ap (λ p. get_or last p 0) there) ∙ is_open)
 
+    pub all_then : HasAllBytes kind id total begin slots bodies last
+    all_then =
+        let place : begin + 96 ≡ area_at begin slots false = omega arith in
+        record {
+          first = first_then;
+          slots_are = subst (λ n. AreSlotsOf n slots bodies last) place (λ slot below i inside.
+              let there : begin + 96 + 32 * slot + i ≡ begin + 96 + (32 * slot + i) = omega arith in
+              ap (λ p. get_or last p 0) there ∙ slots_stay (32 * slot + i) (omega (arith, below, inside)) ∙ sym (ap (λ p. get_or middle p 0) there)
+              ∙ filled.exact slot below i inside);
+          zeros = subst (λ n. AreSlotsOf n (slots + 1) [] last) second_is empty.exact;
+        }
+
     pub full_then : begin + twin_length slots ≤ length last
     full_then = omega (arith, empty.inside, second_is)
 
@@ -193,3 +205,44 @@ told_laid kind id total begin slots second bodies size fits is few (Some b) (Som
     (kept_then kind id total begin slots bodies b size fits first second is few m last one in_slots two in_second)
     (shut_then kind id total begin slots bodies b size fits first second is few m last one in_slots two in_second)
     (full_then kind id total begin slots bodies b size fits first second is few m last one in_slots two in_second)
+
+-- and to the byte
+pub told_all : (kind : JournalKind) (id : List ℕ) (total begin slots second : ℕ) (bodies : List (ℕ × ℕ)) → length id ≡ 32 → are_twin_slots kind total slots ≡ true
+    → second ≡ head_at begin slots true → length bodies ≤ slots → (old middle new : Option (List ℕ)) → IfSome old (HasFirstBytes kind id total begin slots)
+    → StepsBy (IsTorn (begin + 96) (32 * slots)) old middle → ((b : List ℕ) → old ≡ Some b → begin + 96 ≤ length b → IfSome middle (IsFilled (begin + 96) slots bodies))
+    → StepsBy (IsTorn second (32 * (slots + 1))) middle new → ((b : List ℕ) → middle ≡ Some b → second ≤ length b → IfSome new (IsFilled second (slots + 1) []))
+    → IfSome new (HasAllBytes kind id total begin slots bodies)
+told_all kind id total begin slots second bodies size fits is few None middle new first one filled two empty =
+    subst (λ o. IfSome o (HasAllBytes kind id total begin slots bodies)) (sym (gone middle new one two)) tt
+  where
+    gone : (middle new : Option (List ℕ)) → middle ≡ None → StepsBy (IsTorn second (32 * (slots + 1))) middle new → new ≡ None
+    gone middle new none steps = subst (λ o. StepsBy (IsTorn second (32 * (slots + 1))) o new) none steps
+told_all kind id total begin slots second bodies size fits is few (Some b) None new first one filled two empty = absurd one
+told_all kind id total begin slots second bodies size fits is few (Some b) (Some m) None first one filled two empty = absurd two
+told_all kind id total begin slots second bodies size fits is few (Some b) (Some m) (Some last) first one filled two empty =
+    let in_slots = filled b refl first.inside in
+    let in_second = empty m refl (omega (arith, is, in_slots.inside)) in
+    all_then kind id total begin slots bodies b size fits first second is few m last one in_slots two in_second
+
+-- a write before the journal leaves each byte of it
+module _ (kind : JournalKind) (id : List ℕ) (total begin slots : ℕ) (bodies : List (ℕ × ℕ)) (at : ℕ) (bytes : List ℕ) (ahead : at + length bytes ≤ begin) where
+  all_kept : (old : List ℕ) → HasAllBytes kind id total begin slots bodies old → HasAllBytes kind id total begin slots bodies (written_at at bytes old)
+  all_kept old all =
+      let new : List ℕ = written_at at bytes old in
+      let torn : IsTorn at (length bytes) old (written_at at bytes old) = torn_by_write at bytes old in
+      let same : (place : ℕ) → begin ≤ place → get_or (written_at at bytes old) place 0 ≡ get_or old place 0 =
+      λ place from. behind_torn at (length bytes) old (written_at at bytes old) torn place (omega (arith, from, ahead)) in
+      record {
+        first = record {
+          inside = omega (arith, all.first.inside, torn.least);
+          header = λ i inside. same (begin + i) (omega arith) ∙ all.first.header i inside;
+          head = λ i inside. same (begin + 64 + i) (omega arith) ∙ all.first.head i inside;
+        };
+        slots_are = λ slot below i inside. same (area_at begin slots false + 32 * slot + i) (omega arith) ∙ all.slots_are slot below i inside;
+        zeros = λ slot below i inside. same (head_at begin slots true + 32 * slot + i) (omega arith) ∙ all.zeros slot below i inside;
+      }
+
+  pub all_told : (old new : Option (List ℕ)) → new ≡ option_map (written_at at bytes) old → IfSome old (HasAllBytes kind id total begin slots bodies)
+      → IfSome new (HasAllBytes kind id total begin slots bodies)
+  all_told None new is has = subst (λ o. IfSome o (HasAllBytes kind id total begin slots bodies)) (sym is) tt
+  all_told (Some old) new is has = subst (λ o. IfSome o (HasAllBytes kind id total begin slots bodies)) (sym is) (all_kept old has)

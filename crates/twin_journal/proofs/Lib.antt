@@ -11,3 +11,4 @@ pub mod Turning
 pub mod TwinLaws
 pub mod Laid
 pub mod NewTwins
+pub mod TidyFiles

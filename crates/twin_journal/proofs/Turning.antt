@@ -13,6 +13,7 @@ use Rattle.lease_journal.proofs.Moments.{leaves_also, leaves_both}
 use Rattle.lease_journal.proofs.Torn.{same_part, written_inside}
 use Rattle.twin_journal.specs.States.{IsKept, TwinState}
 use Rattle.twin_journal.specs.Compactions.{Closes, HasByte, IsTurned, IsWritten, MayTurn}
+use Rattle.twin_journal.specs.Filling.{AreSlotsOf}
 use Rattle.twin_journal.proofs.SameAreas.{area_ends, area_stays, beside_same, filled_recovers, filled_tidy, own_gate, own_generation, recovers_still, tidy_same}
 
 goes_greater : (k : Bool) (g h : ℕ) → h < g → GoesBefore k g h
@@ -109,6 +110,10 @@ module _ (begin slots active generation : ℕ) (second : Bool) (bodies next : Li
       turned is_open = record {
         area = opened_area is_open;
         other = own_gate begin slots active second bodies c image area full torn.least own ∙ area.active.opened;
+        exact = subst (λ h. AreSlotsOf (h + 32) slots next image) head_is (λ slot below i inside.
+            let there : head + 32 + 32 * slot + i ≡ head + 32 + (32 * slot + i) = omega arith in
+            ap (λ p. get_or image p 0) there ∙ new_slots (32 * slot + i) (omega (arith, below, inside)) ∙ sym (ap (λ p. get_or c p 0) there)
+            ∙ written.filled.exact slot below i inside);
       }
 
 -- ---- over a disk
@@ -281,6 +286,10 @@ module _ (begin slots active generation : ℕ) (second : Bool) (bodies next : Li
         (is ∙ ap (option_map (written_at (head + 31) (90 ∷ []))) wrote.stands.content)
         (turned begin slots active generation second bodies next head may.head_is may.ahead wrote.stands.bytes wrote.stands.area wrote.stands.full wrote.written few
         (written_at (head + 31) (90 ∷ []) wrote.stands.bytes) (torn_by_write (head + 31) (90 ∷ []) wrote.stands.bytes) gate)
+
+pub told_also : (P Q : List ℕ → Type 0) (content : Option (List ℕ)) → ((c : List ℕ) → P c → Q c) → IfSome content P → IfSome content Q
+told_also P Q None follows has = tt
+told_also P Q (Some c) follows has = follows c has
 
 -- a journal that is kept may turn
 pub kept_may : {D : Type 0} (state : D → DiskState) (twin : TwinState D) (bodies : List (ℕ × ℕ)) (bytes : List ℕ) (head generation : ℕ) → IsKept state twin bodies bytes

@@ -6,13 +6,13 @@ use Rattle.std.proofs.lemmas.List.Sums.{sum_by-append}
 use Rattle.zk_model.specs.declared.JournalKind.{JournalKind}
 use Rattle.zk_model.specs.declared.JournalKind.TheVariants.{Claims, Ceilings}
 use Rattle.zk_model.specs.Journals.{AreSound, AreUsed, IsTidy, Recovers, body_before, first_bodies, keeps_rule}
-use Rattle.zk_model.specs.Twins.{HoldsTwin, IsActive, IsTwinTidy, MayHaveGeneration, SaysTwin, TwinStands, area_at, claimed_units, generation_at, twin_slots_at}
+use Rattle.zk_model.specs.Twins.{HoldsTwin, IsActive, MayHaveGeneration, SaysTwin, TwinStands, area_at, claimed_units, generation_at}
 use Rattle.lease_journal.specs.declared.fault.StartFault.{StartFault}
 use Rattle.lease_journal.specs.declared.fault.StartFault.TheVariants.{Device, Short, BadHeader, BadBody}
 use Rattle.lease_journal.proofs.Scanning.{used_recovers}
 use Rattle.lease_journal.proofs.Sound.{before_left, before_more, last_at, recovers_same, sound_slots}
 use Rattle.twin_journal.specs.Laws.{GenerationsGoOn, RecoversOneList, SaysWhatItRecovers, TwinStartsAgain}
-use Rattle.twin_journal.specs.Starts.{HasBadBody, HasBadGeneration, HasNoArea, IsTidyFile, PlaceCause, TwinStartCause}
+use Rattle.twin_journal.specs.Starts.{HasBadBody, HasBadGeneration, HasNoArea, PlaceCause, TwinStartCause}
 
 -- one area is the active one
 pub active_one : (begin slots : ℕ) (bytes : List ℕ) (j k : Bool) → IsActive begin slots bytes j → IsActive begin slots bytes k → j ≡ k
@@ -95,12 +95,6 @@ starts_again kind id total begin slots generation bodies bytes fault holds says 
     (λ there. starts_there kind id total begin slots generation bodies bytes fault holds.stands says sound may
     (subst (λ n. TwinStartCause kind id total n bytes fault) holds.begins there.1))
     cause
-
--- a tidy file has a tidy journal
-pub tidy_there : (kind : JournalKind) (id : List ℕ) (total begin slots : ℕ) (bytes : List ℕ) → HoldsTwin kind id total begin slots bytes → IsTidyFile kind bytes
-    → IsTwinTidy begin slots bytes
-tidy_there kind id total begin slots bytes holds tidy =
-    subst (λ n. IsTwinTidy begin n bytes) holds.stands.says (subst (λ n. IsTwinTidy n (twin_slots_at n bytes) bytes) holds.begins tidy)
 
 -- one body more says no fewer units
 more_claims : (bodies : List (ℕ × ℕ)) (body : ℕ × ℕ) → claimed_units Claims bodies ≤ claimed_units Claims (bodies ++ body ∷ [])

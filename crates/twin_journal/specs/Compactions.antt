@@ -3,8 +3,8 @@ use Rattle.std.specs.Prelude.{◌≡◌, ℕ, ◌+◌, ◌<◌, ◌≤◌, List,
 use Rattle.zk_port.specs.Disks.{DiskState}
 use Rattle.zk_port.specs.Images.{IsTorn}
 use Rattle.zk_model.specs.Journals.{number_at}
-use Rattle.zk_model.specs.Twins.{IsAreaOf, IsHeadOpen, head_at, twin_length}
-use Rattle.twin_journal.specs.Filling.{IsFilled}
+use Rattle.zk_model.specs.Twins.{IsAreaOf, IsHeadOpen, area_at, head_at, twin_length}
+use Rattle.twin_journal.specs.Filling.{AreSlotsOf, IsFilled}
 
 -- a gate is written, which is open now only where it was
 pub record Closes (gate : ℕ) (old new : List ℕ) : Type 0 where
@@ -33,7 +33,8 @@ pub record MayTurn (disk : DiskState) (begin slots : ℕ) (second : Bool) (head 
   pub opened : is_open ≡ true → IsHeadOpen begin slots bytes (not second)
   pub closed : is_open ≡ false → ¬ (IsHeadOpen begin slots bytes (not second))
 
--- and after it: the areas have changed places
+-- and after it: the areas have changed places, and in the one that counts now each byte of the slots is written
 pub record IsTurned (begin slots : ℕ) (second : Bool) (generation : ℕ) (bodies : List (ℕ × ℕ)) (bytes : List ℕ) : Type 0 where
   pub area : IsAreaOf begin slots (not second) generation bodies bytes
   pub other : IsHeadOpen begin slots bytes second
+  pub exact : AreSlotsOf (area_at begin slots (not second)) slots bodies bytes

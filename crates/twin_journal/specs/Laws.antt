@@ -5,7 +5,7 @@ use Rattle.zk_model.specs.Journals.{AreSound}
 use Rattle.zk_model.specs.Twins.{HoldsTwin, IsTwinTidy, MayHaveGeneration, SaysTwin, TwinRecovers, are_twin_slots, blank_twin_bytes, claimed_units}
 use Rattle.lease_journal.specs.declared.fault.StartFault.{StartFault}
 use Rattle.lease_journal.specs.declared.fault.StartFault.TheVariants.{Device}
-use Rattle.twin_journal.specs.Starts.{FileCause}
+use Rattle.twin_journal.specs.Starts.{AreTidy, FileCause}
 
 -- a file of a journal in which nothing is written yet: it stands there from its first byte on, and says no body, in generation 1
 pub record IsNewTwin (kind : JournalKind) (id : List ℕ) (total slots : ℕ) (bytes : List ℕ) : Type 0 where
@@ -27,6 +27,12 @@ abbrev pub SaysWhatItRecovers : Type 0
 SaysWhatItRecovers =
     (begin slots generation : ℕ) (bodies : List (ℕ × ℕ)) (bytes : List ℕ) → SaysTwin begin slots generation bodies bytes
     → RecoversTidily begin slots bodies bytes
+
+-- where a journal stands in a file and says bodies, each journal that stands in it is tidy
+abbrev pub SaidIsTidy : Type 0
+SaidIsTidy =
+    (kind : JournalKind) (id : List ℕ) (total begin slots generation : ℕ) (bodies : List (ℕ × ℕ)) (bytes : List ℕ)
+    → HoldsTwin kind id total begin slots bytes → SaysTwin begin slots generation bodies bytes → AreTidy bytes
 
 -- bytes recover one list
 abbrev pub RecoversOneList : Type 0

@@ -3,7 +3,7 @@ use Rattle.std.specs.Prelude.{◌≡◌, ◌⊎◌, ℕ, ◌+◌, ◌-◌, ◌^�
 use Rattle.zk_model.specs.declared.JournalKind.{JournalKind}
 use Rattle.zk_model.specs.declared.limits.TheConstants.{MAX_SLOTS}
 use Rattle.zk_model.specs.Journals.{AreUsed, IsFirstBad, first_bodies, last_body, number_at}
-use Rattle.zk_model.specs.Twins.{HasMovedHeader, HasTwinHeader, IsActive, IsFirstMovedWrong, IsFirstTwinWrong, IsHeadOpen, IsTwinTidy, MayHaveGeneration, TwinStands, area_at, generation_at, head_at, is_migrated, twin_begin, twin_length, twin_slots_at}
+use Rattle.zk_model.specs.Twins.{HasMovedHeader, HasTwinHeader, HoldsTwin, IsActive, IsFirstMovedWrong, IsFirstTwinWrong, IsHeadOpen, IsTwinTidy, MayHaveGeneration, TwinStands, area_at, generation_at, head_at, is_migrated, twin_begin, twin_length, twin_slots_at}
 use Rattle.lease_journal.specs.declared.fault.StartFault.{StartFault}
 use Rattle.lease_journal.specs.declared.fault.StartFault.TheVariants as start
 
@@ -120,6 +120,10 @@ LocateCause kind id total begin bytes (start.BadHeader place) =
     ⊎ (TwinStands kind id total begin (twin_slots_at begin bytes) bytes × HasNoArea begin (twin_slots_at begin bytes) bytes place)
 LocateCause kind id total begin bytes (start.BadBody bad) = ⊥
 
--- a file of this side is tidy, where a journal begins in it
-abbrev pub IsTidyFile : JournalKind → List ℕ → Type 0
-IsTidyFile kind bytes = IsTwinTidy (twin_begin kind bytes) (twin_slots_at (twin_begin kind bytes) bytes) bytes
+-- where a journal of this kind, id and total stands in a file, it is tidy
+abbrev pub IsTidyFile : JournalKind → List ℕ → ℕ → List ℕ → Type 0
+IsTidyFile kind id total bytes = (begin slots : ℕ) → HoldsTwin kind id total begin slots bytes → IsTwinTidy begin slots bytes
+
+-- each journal of two areas that stands in a file is
+abbrev pub AreTidy : List ℕ → Type 0
+AreTidy bytes = (kind : JournalKind) (id : List ℕ) (total : ℕ) → IsTidyFile kind id total bytes

@@ -26,6 +26,7 @@ pub struct Target {
 
 /// Closes a gate that is open, and syncs.
 fn close<B: Disk>(disk: &mut B, gate: u64, is_open: bool) -> Result<(), Failed>
+    requires place { gate ≤ 2 ^ 38 }
     requires fits { HasDiskRoom (gate + 1) (B.state disk.old).room }
     ensures any_moment { (bytes : List ℕ) → (B.state disk.old).content ≡ Some bytes
         → ((image : List ℕ) → (B.state disk.old).images image → image ≡ bytes)

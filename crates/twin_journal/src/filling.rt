@@ -1,11 +1,11 @@
 // How an area is filled with a list of bodies.
-ghost use Rattle.std.specs.Prelude.{◌≡◌, ◌<◌, ◌≤◌, ◌+◌, ◌*◌, ◌^◌, ℕ, List, length, drop, min, Some, IfSome, IfOk, OnOk};
+ghost use Rattle.std.specs.Prelude.{◌≡◌, ◌<◌, ◌≤◌, ◌+◌, ◌*◌, ◌^◌, ℕ, List, [], length, drop, min, Some, IfSome, IfOk, OnOk};
 ghost use Rattle.zk_port.specs.Counts.{HasDiskCause};
 ghost use Rattle.zk_port.specs.Images.{HasDiskRoom};
 ghost use Rattle.zk_model.specs.Journals.{body_before};
 ghost use Rattle.zk_model.specs.declared.limits.TheConstants.{MAX_SLOTS};
 ghost use Rattle.lease_journal.specs.Keeps.{ChangesAt};
-ghost use Rattle.twin_journal.specs.Filling.{IsClosedSlot, IsFilled, IsOpenSlot, IsSlotFor, last_after};
+ghost use Rattle.twin_journal.specs.Filling.{IsClosedSlot, IsFilled, IsOpenSlot, IsSlotFor, last_after, open_slot, slot_bytes};
 
 use crate::OPEN;
 use crate::bodies::Bodies;
@@ -20,7 +20,8 @@ pub struct Filled {
 
 /// The bytes of an open slot with this body.
 fn open_slot(a: u64, b: u64) -> [u8; 32]
-    ensures { IsOpenSlot (a, b) result }
+    ensures slot { IsOpenSlot (a, b) result }
+    ensures exact { result ≡ open_slot (a, b) }
 {
     let mut slot = [0; 32];
     slot[..8].copy_from_slice(&a.to_le_bytes());
@@ -31,7 +32,8 @@ fn open_slot(a: u64, b: u64) -> [u8; 32]
 
 /// The bytes of a slot that is not open.
 fn closed_slot() -> [u8; 32]
-    ensures { IsClosedSlot result }
+    ensures slot { IsClosedSlot result }
+    ensures exact { result ≡ slot_bytes [] }
 {
     [0; 32]
 }
@@ -40,6 +42,7 @@ fn closed_slot() -> [u8; 32]
 fn next_slot<F: Bodies>(next: &mut F, filled: &mut Filled) -> [u8; 32]
     requires { filled.old.used ≤ MAX_SLOTS }
     ensures slot { IsSlotFor (F.rest next.old) result }
+    ensures exact { result ≡ slot_bytes (F.rest next.old) }
     ensures rest { F.rest next.new ≡ drop 1 (F.rest next.old) }
     ensures used { filled.new.used ≡ filled.old.used + min 1 (length (F.rest next.old)) }
     ensures last { filled.new.last ≡ last_after filled.old.last (F.rest next.old) }

@@ -1,5 +1,5 @@
 // The header of a journal of two areas: its first 64 bytes.
-ghost use Rattle.std.specs.Prelude.{◌≡◌, ◌≤◌, ℕ, List, Some, true, IfOk, IfErr};
+ghost use Rattle.std.specs.Prelude.{◌≡◌, ◌≤◌, ◌^◌, ℕ, List, Some, true, IfOk, IfErr};
 ghost use Rattle.zk_port.specs.Disks.{Stays};
 ghost use Rattle.zk_model.specs.Twins.{HasTwinHeader, IsFirstTwinWrong, are_twin_slots, twin_code, twin_header, twin_slots_at};
 ghost use Rattle.lease_journal.specs.Causes.{HasStartCause};
@@ -33,6 +33,7 @@ pub fn header_of(name: JournalName, slots: u64) -> [u8; 64]
 
 /// Reads the header of the journal that begins at this place, and says how many slots an area has.
 pub fn read_header<B: Disk>(disk: &mut B, begin: u64, name: JournalName) -> Result<u64, StartFault>
+    requires { begin ≤ 2 ^ 36 }
     ensures header { IfOk result (λ slots. (bytes : List ℕ) → (B.state disk.old).content ≡ Some bytes
         → (slots ≡ twin_slots_at begin bytes) × HasTwinHeader name.kind name.id name.total begin bytes) }
     ensures bounded { IfOk result (λ slots. slots ≤ MAX_SLOTS) }

@@ -29,6 +29,7 @@ pub struct Active {
 
 /// Reads the head at this place.
 fn read_head<B: Disk>(disk: &mut B, at: u64) -> Result<Head, StartFault>
+    requires { at ≤ 2 ^ 37 }
     ensures says { IfOk result (λ head. (bytes : List ℕ) → (B.state disk.old).content ≡ Some bytes
         → at + 32 ≤ length bytes → HeadSays at bytes head.is_open head.generation) }
     ensures device { IfErr result (λ e. e ≡ StartFault.Device) }

@@ -4,7 +4,7 @@ ghost use Rattle.zk_port.specs.Counts.{HasDiskCause};
 ghost use Rattle.zk_port.specs.Images.{HasDiskRoom, Only};
 ghost use Rattle.zk_model.specs.Twins.{are_twin_slots, twin_length};
 ghost use Rattle.lease_journal.specs.Keeps.{ChangesAt};
-ghost use Rattle.twin_journal.specs.Laying.{HasFirstBytes, IsLaid};
+ghost use Rattle.twin_journal.specs.Laying.{HasAllBytes, HasFirstBytes, IsLaid};
 
 use crate::bodies::{Bodies, OneBody};
 use crate::filling::write_slots;
@@ -51,6 +51,9 @@ pub fn lay<B: Disk, F: Bodies>(disk: &mut B, twin: NewTwin, next: &mut F) -> Res
     requires few { length (F.rest next.old) ≤ twin.slots }
     ensures laid { OnOk result
         (IfSome (B.state disk.new).content (IsLaid twin.name.kind twin.name.id twin.name.total
+        twin.begin twin.slots (F.rest next.old))) }
+    ensures bytes { OnOk result
+        (IfSome (B.state disk.new).content (HasAllBytes twin.name.kind twin.name.id twin.name.total
         twin.begin twin.slots (F.rest next.old))) }
     ensures used { IfOk result (λ used. used ≡ length (F.rest next.old)) }
     ensures durable { OnOk result (Only (B.state disk.new).content (B.state disk.new).images) }

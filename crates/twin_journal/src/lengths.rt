@@ -11,6 +11,7 @@ use zk_port::Disk;
 
 /// Whether the file has a byte at this place.
 fn has_byte<B: Disk>(disk: &mut B, place: u64) -> Result<bool, StartFault>
+    requires { place ≤ 2 ^ 37 }
     ensures has { IfOk result (λ has. (bytes : List ℕ) → (B.state disk.old).content ≡ Some bytes
         → has ≡ nat_lt place (length bytes)) }
     ensures device { IfErr result (λ e. e ≡ StartFault.Device) }
@@ -24,7 +25,8 @@ fn has_byte<B: Disk>(disk: &mut B, place: u64) -> Result<bool, StartFault>
 
 /// Where a file ends, which is at one of the places from `least` to `most`.
 fn end_between<B: Disk>(disk: &mut B, least: u64, most: u64) -> Result<u64, StartFault>
-    requires { least ≤ most }
+    requires order { least ≤ most }
+    requires place { most ≤ 2 ^ 37 }
     ensures end { IfOk result (λ end. (bytes : List ℕ) → (B.state disk.old).content ≡ Some bytes
         → least ≤ length bytes → length bytes ≤ most → end ≡ length bytes) }
     ensures within { IfOk result (λ end. least ≤ end) }

@@ -20,7 +20,7 @@
 ghost use Rattle.std.specs.Prelude.{◌≡◌, ◌≤◌, IfOk};
 ghost use Rattle.zk_model.specs.Twins.{blank_twin_bytes, first_head, twin_ceiling_slots};
 ghost use Rattle.zk_model.specs.declared.limits.TheConstants.{MAX_SLOTS};
-ghost use Rattle.twin_journal.specs.Laws.{BlankTwinIsNew, GenerationsGoOn, RecoversOneList, SaysWhatItRecovers, TwinStartsAgain};
+ghost use Rattle.twin_journal.specs.Laws.{BlankTwinIsNew, GenerationsGoOn, RecoversOneList, SaidIsTidy, SaysWhatItRecovers, TwinStartsAgain};
 
 mod beginning;
 mod bodies;
@@ -100,6 +100,11 @@ pub fn blank_twin_is_new()
 /// Bytes that say bodies are tidy, and recover these bodies.
 pub fn says_what_it_recovers()
     ensures { SaysWhatItRecovers }
+{}
+
+/// Where a journal stands in a file and says bodies, each journal that stands in that file is tidy.
+pub fn said_is_tidy()
+    ensures { SaidIsTidy }
 {}
 
 /// Bytes recover one list of bodies.

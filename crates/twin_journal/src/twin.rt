@@ -10,6 +10,7 @@ ghost use Rattle.lease_journal.specs.Causes.{BodyCause, PutCause};
 ghost use Rattle.lease_journal.specs.Keeps.{ChangesAt, Keeps};
 ghost use Rattle.lease_journal.specs.Scans.{HasRead};
 ghost use Rattle.lease_journal.specs.declared.fault.StartFault.TheVariants as start;
+ghost use Rattle.twin_journal.specs.Filling.{AreSlotsOf};
 ghost use Rattle.twin_journal.specs.Starts.{FileCause, IsTwinOpened, SaysTwinSlots};
 ghost use Rattle.twin_journal.specs.States.{IsKept};
 
@@ -274,7 +275,8 @@ impl<B: Disk> Twin<B> {
 
     /// Puts these bodies in place of all others: writes them into the area that is not the active one, which then is it,
     /// with the next generation. It closes the head of that area where it is open, writes the generation and all slots,
-    /// and opens the head, each time with a sync. It reads nothing.
+    /// and opens the head, each time with a sync. It reads nothing. Each byte of the slots is written: zeros behind the
+    /// bodies, and between a body and the byte that opens its slot.
     ///
     /// A generation at the end of its type stays; nothing is said of the bodies then.
     ///
@@ -296,6 +298,10 @@ impl<B: Disk> Twin<B> {
         ensures recovered { OnOk result ((bytes : List ℕ) (bodies : List (ℕ × ℕ))
             → IsKept B.state self.old bodies bytes → self.old.generation + 1 < 2 ^ 64
             → IfSome (B.state self.new.disk).content (IsKept B.state self.new (F.rest next.old))) }
+        ensures exact { OnOk result ((bytes : List ℕ) (bodies : List (ℕ × ℕ))
+            → IsKept B.state self.old bodies bytes → self.old.generation + 1 < 2 ^ 64
+            → IfSome (B.state self.new.disk).content (AreSlotsOf
+            (area_at self.old.begin self.old.slots (not self.old.second)) self.old.slots (F.rest next.old))) }
         ensures durable { OnOk result (Only (B.state self.new.disk).content (B.state self.new.disk).images) }
         ensures state { OnOk result (self.new ≡ record self.old {
           disk = self.new.disk;

@@ -1,15 +1,17 @@
 //! The program: the real objects, and the top call.
 #![tactic(auto)]
 
+mod explain;
+
+use crate::explain::explain;
 use command_words::help_text;
-use port_os::{FileDisk, FileShelf, OutputSink, TcpDoor, found_no_memory};
+use port_os::{FileDisk, FileShelf, NoticeSink, OutputSink, TcpDoor, found_no_memory, read_seed};
 use std::alloc::Global;
-use std::io::Read;
 use std::process::ExitCode;
-use std::rt::{Env, Files};
-use std::{env, fs, io};
+use std::rt::Env;
+use std::{env, io};
 use zk_cli::{Finish, run_zk};
-use zk_port::{PortFault, QuietGate, Sink};
+use zk_port::{PortFault, Sink};
 
 /// The words after the program's name.
 fn words<R: Env + AllocGlobal>(rt: &R) -> io::Result<Vec<String>> {
@@ -18,13 +20,6 @@ fn words<R: Env + AllocGlobal>(rt: &R) -> io::Result<Vec<String>> {
         words.push(word)?;
     }
     Ok(words)
-}
-
-/// The seed of this run: 32 bytes of the system's generator.
-fn read_seed(rt: &impl Files) -> io::Result<[u8; 32]> {
-    let mut seed = [0; 32];
-    fs::open(rt, "/dev/urandom")?.read_exact(&mut seed)?;
-    Ok(seed)
 }
 
 /// Has freed memory kept for later use. The C library's allocator gives a large piece back to the system when it is freed, until
@@ -72,10 +67,11 @@ fn main(rt: HostRuntime) -> ExitCode {
         &mut shelf,
         FileDisk::new(&rt),
         TcpDoor::new(&rt),
-        &QuietGate,
         &seed,
         &mut out,
+        &mut NoticeSink::new(&rt),
     );
+    explain(&rt, &shelf, &finish);
     let Finish {
         status,
         journal: _,

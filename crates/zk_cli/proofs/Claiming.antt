@@ -6,7 +6,7 @@ use Rattle.zk_model.specs.Twins.{HoldsTwin}
 use Rattle.zk_model.specs.declared.JournalKind.TheVariants as kind
 use Rattle.zk_model.specs.declared.Span.{Span}
 use Rattle.zk_port.specs.Counts.{Rose}
-use Rattle.zk_port.specs.Disks.{DiskState, LeavesOnly}
+use Rattle.zk_port.specs.Disks.{Choice, DiskState, LeavesOnly}
 use Rattle.zk_port.specs.Images.{Only, StepsBy}
 use Rattle.zk_port.specs.Logs.{appended}
 use Rattle.lease_core.specs.Spans.{span}
@@ -53,9 +53,9 @@ by_store {C} {D} store_of disk_state before after store later asked (Some answer
 abbrev pub place_of : {D : Type 0} → ClaimState D → Place
 place_of store = record { begin = store.begin; slots = store.slots }
 
-module _ {D : Type 0} (disk_state : D → DiskState) (old : DiskState) (store : ClaimState D) (name id : List ℕ) (total : ℕ)
+module _ {D : Type 0} (disk_state : D → DiskState) (old : DiskState) (store : ClaimState D) (choice : Choice) (id : List ℕ) (total : ℕ)
     (only_now : (image : List ℕ) → old.images_since old.moment image → old.images image)
-    (opens : OpensJournal name (disk_change old (disk_state store.disk)))
+    (opens : OpensJournal choice (disk_change old (disk_state store.disk)))
     (holds : (bytes : List ℕ) → old.content ≡ Some bytes → HoldsTwin kind.Claims id total store.begin store.slots bytes)
     (says : (bytes : List ℕ) → old.content ≡ Some bytes → SaysClaims total store.begin store.slots store.claims bytes)
     (only : Only (disk_state store.disk).content (disk_state store.disk).images) where
@@ -253,9 +253,9 @@ module _ {D : Type 0} (disk_state : D → DiskState) (old : DiskState) (store : 
   kept_by : (sound : AreClaims total store.claims) (rising : RiseFrom 0 store.claims)
       (in_use : (bytes : List ℕ) → old.content ≡ Some bytes → AreInUse store.begin store.slots store.used bytes)
       (asked : Option (ℕ × ℕ)) (answer : Option (Result Span ClaimFault)) (now : DiskState)
-      → now.chosen ≡ appended (name ∷ []) old.chosen → now.room ≡ old.room
+      → now.chosen ≡ appended (choice ∷ []) old.chosen → now.room ≡ old.room
       → MovesBy id total (place_of store) store.used store.claims asked answer (disk_change old now)
-      → KeepsClaims name id total asked answer (disk_change old now)
+      → KeepsClaims choice id total asked answer (disk_change old now)
   kept_by sound rising in_use asked answer now chosen room moved = record {
     chosen = chosen;
     room = room;
@@ -277,9 +277,9 @@ module _ {D : Type 0} (disk_state : D → DiskState) (old : DiskState) (store : 
       → (disk_state later.disk).images_since t image)
       (asked : Option (ℕ × ℕ)) (answer : Option (Result Span ClaimFault))
       → MatchOption answer (later ≡ store) (λ a. IsSomeAnd asked (λ units. Claims disk_state store units.0 units.1 a later))
-      → KeepsClaims name id total asked answer (disk_change old (disk_state later.disk))
+      → KeepsClaims choice id total asked answer (disk_change old (disk_state later.disk))
   keeps_claims later whole total_is small sound rising in_use closed counts_now asked None same =
-      subst (λ (s : ClaimState D). KeepsClaims name id total asked None (disk_change old (disk_state s.disk))) (sym same)
+      subst (λ (s : ClaimState D). KeepsClaims choice id total asked None (disk_change old (disk_state s.disk))) (sym same)
       (kept_by sound rising in_use asked None (disk_state store.disk) opens.chosen opens.stays.room leaves_all)
   keeps_claims later whole total_is small sound rising in_use closed counts_now None (Some answer) moved = absurd moved
   keeps_claims later whole total_is small sound rising in_use closed counts_now (Some units) (Some answer) moved =

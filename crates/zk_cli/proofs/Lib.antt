@@ -1,9 +1,10 @@
 pub mod Claiming
 pub mod Pairs
 pub mod ProveOutcomes
-pub mod Lacking
+pub mod Given
 pub mod Loading
 pub mod LeaseCauses
+pub mod LogNames
 pub mod Many
 pub mod NoUsage
 pub mod Opening

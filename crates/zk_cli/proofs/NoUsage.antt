@@ -4,7 +4,8 @@ use Rattle.zk_port.specs.Links.{LinkState}
 use Rattle.dealer_files.specs.declared.fault.FileFault.TheVariants as file
 use Rattle.session_prover.specs.declared.note.ProverOutcome.{ProverOutcome}
 use Rattle.session_prover.specs.declared.note.ProverOutcome.TheVariants as ended
-use Rattle.command_words.specs.Words.{Ask, ProveAsk, ServeManyAsk, rehearse, generate, eval, deal, serve, serve_many, prove, audit, migrate}
+use Rattle.command_words.specs.BitWords.{Bits}
+use Rattle.command_words.specs.Words.{Ask, ProveAsk, ServeManyAsk, rehearse, generate, eval, deal, serve, serve_many, prove, audit, migrate, status}
 use Rattle.statement_file.specs.Services.{Service, service_asked}
 use Rattle.file_commands.specs.Effects.{DoorChange, Effects, ShelfChange}
 use Rattle.file_commands.specs.Journals.{DiskChange}
@@ -49,8 +50,8 @@ two_is_usage (stop.JournalBody slot) two = absurd (omega (arith, two))
 two_is_usage (stop.JournalFailed count) two = absurd (omega (arith, two))
 
 -- a stop for another cause, or want of memory
-stop_two : (Cause : Refusal → Type 0) (status : ℕ) → ¬ Cause stop.Usage → IsOfStop Cause status → status ≡ 2 → ⊥
-stop_two Cause status unused found two = unused (subst Cause (two_is_usage found.0 (sym two ∙ found.2)) found.1)
+pub stop_two : (Cause : Refusal → Type 0) (answer : ℕ) → ¬ Cause stop.Usage → IsOfStop Cause answer → answer ≡ 2 → ⊥
+stop_two Cause answer unused found two = unused (subst Cause (two_is_usage found.0 (sym two ∙ found.2)) found.1)
 
 means_two : (Does : Type 0) (Cause : Refusal → Type 0) (IsNamed : List ℕ → Type 0) (run : Effects) → StatusMeans Does Cause IsNamed run
     → run.status ≡ 2 → ⊥
@@ -93,7 +94,7 @@ many_two link_tells ask part disk door run many two = elim many.runs [
 
 -- ---- proofs
 
-prove_unused : (ask : ProveAsk) (shelf : ShelfChange) (disk : DiskChange) (door : DoorChange) → ProveStop ask shelf disk door stop.Usage → ⊥
+prove_unused : (ask : ProveAsk Bits) (shelf : ShelfChange) (disk : DiskChange) (door : DoorChange) → ProveStop ask shelf disk door stop.Usage → ⊥
 prove_unused ask shelf disk door (inl (inl (inl cause), unasked, unheard)) = absurd cause
 prove_unused ask shelf disk door (inl (inl (inr cause), unasked, unheard)) = absurd cause.is
 prove_unused ask shelf disk door (inl (inr cause, unasked, unheard)) = absurd cause.4
@@ -114,7 +115,7 @@ proved_two ended.Device two = omega (arith, two)
 proved_two ended.Link two = omega (arith, two)
 proved_two ended.NoMemory two = omega (arith, two)
 
-prove_two : {L : Type 0} (ask : ProveAsk) (part : Part L) (disk : DiskChange) (door : DoorChange) (run : Effects)
+prove_two : {L : Type 0} (ask : ProveAsk Bits) (part : Part L) (disk : DiskChange) (door : DoorChange) (run : Effects)
     → ProveMeans ask part disk door run → run.status ≡ 2 → ⊥
 prove_two ask (Proved note) disk door run (inl accepted) two = let zero_is = accepted.0 in omega (arith, zero_is, two)
 prove_two ask (Proved note) disk door run (inr (inl other)) two = proved_two note.outcome (sym two ∙ other.0)
@@ -129,7 +130,7 @@ prove_two ask (Served notes) disk door run means two = means
 
 -- ---- any command
 
-pub command_two : {F L B D : Type 0} (ask : Ask) (seed : List ℕ) (disk : DiskChange) (run : Run F L B D) → Meets ask seed disk run
+pub command_two : {F L B D : Type 0} (ask : Ask Bits) (seed : List ℕ) (disk : DiskChange) (run : Run F L B D) → Meets ask seed disk run
     → run.effects.status ≡ 2 → ⊥
 command_two (rehearse ask) seed disk run meets two = means_two _ _ _ run.effects meets.0.means two
 command_two (generate ask) seed disk run meets two = means_two _ _ _ run.effects meets.0.means two
@@ -143,6 +144,13 @@ command_two (audit ask) seed disk run meets two = elim meets.0.means [
   | inr (inr (inr (inr seven))) ↦ omega (arith, seven, two)
 ]
 command_two (migrate ask) seed disk run meets two = elim meets.0.statuses [
+  | inl zero_is ↦ omega (arith, zero_is, two)
+  | inr (inl three) ↦ omega (arith, three, two)
+  | inr (inr (inl four)) ↦ omega (arith, four, two)
+  | inr (inr (inr (inl five))) ↦ omega (arith, five, two)
+  | inr (inr (inr (inr seven))) ↦ omega (arith, seven, two)
+]
+command_two (status ask) seed disk run meets two = elim meets.0.statuses [
   | inl zero_is ↦ omega (arith, zero_is, two)
   | inr (inl three) ↦ omega (arith, three, two)
   | inr (inr (inl four)) ↦ omega (arith, four, two)

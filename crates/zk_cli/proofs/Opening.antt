@@ -13,7 +13,7 @@ use Rattle.session_verifier.specs.Outcomes.{lease_fault}
 use Rattle.session_verifier.specs.Sessions.{IsAnsweredNote}
 use Rattle.session_verifier.specs.declared.note.SessionNote.{SessionNote}
 use Rattle.statement_file.specs.Services.{Service}
-use Rattle.file_commands.specs.Journals.{DiskChange, JournalStop, OpensJournal, OnlyReads, disk_change, journal_name, IsCeilingsFault}
+use Rattle.file_commands.specs.Journals.{DiskChange, JournalStop, OpensJournal, OnlyReads, disk_change, own_journal, IsCeilingsFault}
 use Rattle.file_commands.specs.Effects.{DoorChange}
 use Rattle.file_commands.proofs.Journals.{keeps_ceiling, opened_is_read}
 use Rattle.zk_cli.specs.ServeRuns.{AreFew, LeadsJobs, OpeningStop, units_of_note}
@@ -27,7 +27,7 @@ first_file jobs job file at is = at ∙ ap (λ (j : VerifierJob). j.task.file) i
 
 -- no session is opened where the journal is not
 pub lacks_journal : (service : Service) (jobs : VerifierJobs) (disk : DiskChange) (door : DoorChange) (why : Refusal)
-    → AreFew jobs → OnlyReads (journal_name service.file) disk
+    → AreFew jobs → OnlyReads (own_journal service.file) disk
     → JournalStop (IsCeilingsFault jobs.first.task.file.id jobs.first.task.file.params.total disk.old) disk why → door.new ≡ door.old
     → OpeningStop service jobs disk door why
 lacks_journal service jobs disk door (stop.TooLarge need units) few reads cause same = absurd cause
@@ -35,26 +35,26 @@ lacks_journal service jobs disk door other few reads cause same = (few, reads, i
 
 -- or the door does not listen
 pub lacks_door : (service : Service) (jobs : VerifierJobs) (disk : DiskChange) (door : DoorChange) (why : Refusal)
-    → AreFew jobs → OpensJournal (journal_name service.file) disk → ListenStop service.address door why
+    → AreFew jobs → OpensJournal (own_journal service.file) disk → ListenStop service.address service.options.timeout door why
     → OpeningStop service jobs disk door why
 lacks_door service jobs disk door (stop.TooLarge need units) few opens cause = absurd cause
-lacks_door service jobs disk door other few opens cause = (few, opened_is_read (journal_name service.file) disk opens, inr cause)
+lacks_door service jobs disk door other few opens cause = (few, opened_is_read (own_journal service.file) disk opens, inr cause)
 
 -- the sessions about these jobs that were led over their file's journal
 pub leads_jobs : {L : Type 0} (link_tells : L → LinkState) (service : Service) (jobs : VerifierJobs) (notes : List (SessionNote L))
     (door_failed memory_failed : Bool) (old mid new : DiskState) (door : DoorChange) (base : ℕ)
     → ((image : List ℕ) → old.images_since old.moment image → old.images image)
-    → AreFew jobs → OpensJournal (journal_name service.file) (disk_change old mid)
+    → AreFew jobs → OpensJournal (own_journal service.file) (disk_change old mid)
     → ((bytes : List ℕ) → old.content ≡ Some bytes → SaysCeiling jobs.first.task.file.id jobs.first.task.file.params.total base bytes)
     → All (IsNoteOf (IsAnsweredNote link_tells jobs)) notes
     → Takes service.options.sessions (length notes) door_failed memory_failed
-    (after_listen service.address service.options.sessions door.old) door.new
+    (after_listen service.address service.options.timeout service.options.sessions door.old) door.new
     → AllPairs (λ (one other : SessionNote L). AreApart one.granted other.granted) notes
-    → IsLeft mid new jobs.first.task.file.id base jobs.first.task.file.params.total (units_of_note jobs) (λ (note : SessionNote L). note.granted)
+    → (fresh : Type 0) → fresh → IsLeft fresh mid new jobs.first.task.file.id base jobs.first.task.file.params.total service.options.workers (units_of_note jobs) (λ (note : SessionNote L). note.granted)
     (λ (note : SessionNote L). lease_fault note.outcome) notes
     → All (λ note. IfSome (lease_fault note.outcome) (IsRefusedAmong (units_of_note jobs) base jobs.first.task.file.params.total notes note)) notes
     → LeadsJobs link_tells service jobs notes door_failed memory_failed (disk_change old new) door
-leads_jobs {L} link_tells service jobs notes door_failed memory_failed old mid new door base only_now few opens recovered each taken apart left refused = record {
+leads_jobs {L} link_tells service jobs notes door_failed memory_failed old mid new door base only_now few opens recovered each taken apart fresh unused left refused = record {
   few = few;
   each = each;
   taken = taken;
@@ -62,11 +62,17 @@ leads_jobs {L} link_tells service jobs notes door_failed memory_failed old mid n
   recovered = recovered;
   ceiling = left.closed.ceiling;
   mark = left.closed.mark;
-  kept = keeps_ceiling old mid new (journal_name service.file) jobs.first.task.file.id jobs.first.task.file.params.total base left.passes only_now
+  kept = keeps_ceiling old mid new (own_journal service.file) jobs.first.task.file.id jobs.first.task.file.params.total base left.passes only_now
       opens left.closed;
   apart = apart;
   spans = left.spans;
   within = left.within;
+  most = left.most unused;
   marked = left.marked;
+  told = left.told;
+  once = left.once;
   refused = refused;
+  passes = left.passes;
+  workers = left.count;
+  gathered = left.closed.gathered;
 }

@@ -9,10 +9,11 @@ use Rattle.zk_model.specs.declared.Span.{Span}
 use Rattle.zk_port.specs.Doors.{after_listen}
 use Rattle.zk_port.specs.Files.{Files}
 use Rattle.zk_port.specs.Links.{LinkState}
+use Rattle.lease_core.specs.Machine.{ceiling_for}
 use Rattle.lease_store.specs.declared.LeaseFault.{LeaseFault}
 use Rattle.session_core.specs.Jobs.{VerifierJobs}
 use Rattle.session_pool.specs.Doors.{Takes}
-use Rattle.session_pool.specs.Notes.{AreApart, IsBetween, IsMarked, IsRefusedAmong, IsRefusedBy}
+use Rattle.session_pool.specs.Notes.{AreApart, IsBetween, IsMarked, IsRefusedAmong, IsRefusedBy, TellsMark, meets_fault}
 use Rattle.session_verifier.specs.Outcomes.{lease_fault}
 use Rattle.session_verifier.specs.Sessions.{IsNote}
 use Rattle.session_verifier.specs.declared.note.SessionNote.{SessionNote}
@@ -108,7 +109,7 @@ leads_permuted {L} link_tells service jobs notes ordered door_failed memory_fail
       few = leads.few;
       each = All-permutation (IsNote link_tells jobs) notes ordered permuted leads.each;
       taken = subst (λ (n : ℕ). Takes service.options.sessions n door_failed memory_failed
-          (after_listen service.address service.options.sessions door.old) door.new) (sym same) leads.taken;
+          (after_listen service.address service.options.timeout service.options.sessions door.old) door.new) (sym same) leads.taken;
       base = leads.base;
       recovered = leads.recovered;
       ceiling = leads.ceiling;
@@ -118,11 +119,18 @@ leads_permuted {L} link_tells service jobs notes ordered door_failed memory_fail
           (λ one other. apart_both one.granted other.granted) notes ordered permuted leads.apart;
       spans = All-permutation (λ (note : SessionNote L). IsBetween (units_of_note jobs note) leads.base leads.ceiling note.granted) notes ordered permuted leads.spans;
       within = All-permutation (λ (note : SessionNote L). IfSome note.granted (λ span. span.end ≤ total)) notes ordered permuted leads.within;
+      most = subst (λ (n : ℕ). leads.ceiling ≤ max leads.base (ceiling_for total (leads.base + n)))
+          (sym (sum_by-IsPermutation (units_of_note jobs) notes ordered permuted)) leads.most;
       marked = All-permutation (λ (note : SessionNote L). IsMarked leads.mark (lease_fault note.outcome)) notes ordered permuted leads.marked;
+      told = All-permutation (λ (note : SessionNote L). TellsMark leads.mark (lease_fault note.outcome)) notes ordered permuted leads.told;
+      once = subst (λ (n : ℕ). n ≤ 1) (sym (sum_by-IsPermutation (λ (note : SessionNote L). meets_fault (lease_fault note.outcome)) notes ordered permuted)) leads.once;
       refused = λ k d within.
           among_permuted (units_of_note jobs) leads.base total notes ordered (get_or ordered k d) (lease_fault (get_or ordered k d).outcome) permuted
           (All-permutation (λ (note : SessionNote L). IfSome (lease_fault note.outcome) (IsRefusedAmong (units_of_note jobs) leads.base total notes note))
           notes ordered permuted leads.refused k d within);
+      passes = leads.passes;
+      workers = leads.workers;
+      gathered = leads.gathered;
     }
 
 -- and what was asked for stands above them still

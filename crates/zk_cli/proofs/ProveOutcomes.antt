@@ -25,9 +25,10 @@ use Rattle.session_prover.specs.Sessions.{IsNote}
 use Rattle.session_prover.specs.declared.note.ProverNote.{ProverNote}
 use Rattle.session_prover.specs.declared.note.ProverOutcome.{ProverOutcome}
 use Rattle.session_prover.specs.declared.note.ProverOutcome.TheVariants as ended
+use Rattle.command_words.specs.BitWords.{Bits}
 use Rattle.command_words.specs.Words.{ProveAsk}
 use Rattle.file_commands.specs.ClaimedUnits.{AnswersClaim, KeepsClaims, MovesBy, asked_span}
-use Rattle.file_commands.specs.Journals.{DiskChange, JournalStop, journal_name, IsClaimsFault, HasClaims}
+use Rattle.file_commands.specs.Journals.{DiskChange, JournalStop, own_journal, IsClaimsFault, HasClaims}
 use Rattle.zk_cli.specs.ProveRuns.{AreFree, HasProveFailed, HoldsAsked, IsProvable, IsProveName, IsSatisfied, IsWithHonestPeer}
 use Rattle.file_commands.specs.Stops.{ConnectStop, PrintsMade, stop_line, stop_status}
 use Rattle.zk_cli.specs.ProveRuns.{OfProved, ProveLines, ProveMeans, Proves, ProveStop, WiresStop, WitnessStop, proved_line, proved_status}
@@ -56,7 +57,7 @@ is_accepted ended.Device = inr (λ same. cc)
 is_accepted ended.Link = inr (λ same. cc)
 is_accepted ended.NoMemory = inr (λ same. cc)
 
-note_means : {L : Type 0} (ask : ProveAsk) (note : ProverNote L) (disk : DiskChange) (door : DoorChange) (run : Effects)
+note_means : {L : Type 0} (ask : ProveAsk Bits) (note : ProverNote L) (disk : DiskChange) (door : DoorChange) (run : Effects)
     → PrintsMade (proved_status note.outcome) (proved_line note.granted disk.new.faults note.outcome) run.status run.sink
     → ProveMeans ask (Proved note) disk door run
 note_means ask note disk door run prints = elim (is_accepted note.outcome) [
@@ -71,7 +72,7 @@ note_means ask note disk door run prints = elim (is_accepted note.outcome) [
   ])
 ]
 
-prove_means : {L : Type 0} (link_tells : L → LinkState) (ask : ProveAsk) (part : Part L) (disk : DiskChange) (door : DoorChange) (run : Effects)
+prove_means : {L : Type 0} (link_tells : L → LinkState) (ask : ProveAsk Bits) (part : Part L) (disk : DiskChange) (door : DoorChange) (run : Effects)
     → ProveLines link_tells ask part disk door run → ProveMeans ask part disk door run
 prove_means link_tells ask (Proved note) disk door run says = note_means ask note disk door run says.1
 prove_means link_tells ask Plain disk door run says = elim (any_answers (stop_status says.stop) (stop_line says.stop) run.status run.sink says.prints) [
@@ -83,7 +84,7 @@ prove_means link_tells ask (Served notes) disk door run says = absurd says
 
 -- ---- why a run stops: for want of memory alone
 
-wires_lack : (ask : ProveAsk) (circuit : Circuit) → IsSatisfied ask circuit → (why : Refusal) → WiresStop circuit ask why → stop_status why ≡ 7
+wires_lack : (ask : ProveAsk Bits) (circuit : Circuit) → IsSatisfied ask circuit → (why : Refusal) → WiresStop circuit ask why → stop_status why ≡ 7
 wires_lack ask circuit ready (stop.ManyPublic inputs got) cause =
     let whole = length-append ask.public ask.bits in
     let fits = ready.inputs in
@@ -95,14 +96,14 @@ wires_lack ask circuit ready (stop.WrongBits need got) cause =
     let whole = length-append ask.public ask.bits in
     let fits = ready.inputs in
     let all : circuit.inputs - length ask.public ≡ length ask.bits = omega (arith, whole, fits) in
-    absurd (cause.differ (cause.needed ∙ all ∙ sym cause.given))
+    absurd (cause.1.differ (cause.1.needed ∙ all ∙ sym cause.1.given))
 wires_lack ask circuit ready (stop.WrongOutputs need got) cause = absurd (cause.3 (cause.1 ∙ sym ready.outputs ∙ sym cause.2))
 wires_lack ask circuit ready (stop.Unsatisfied output) cause =
     absurd (cause.differs.differs (ap (λ (bits : List Bool). get_or bits output false) (sym (cause.only ask.outputs ready.satisfied))))
 wires_lack ask circuit ready stop.NoMemory cause = refl
 wires_lack ask circuit ready other cause = absurd cause
 
-witness_7 : OneCircuit → (ask : ProveAsk) (shelf : ShelfChange) (disk : DiskState) → IsProvable shelf.old.told disk ask → ¬ NameFailed ask.circuit shelf
+witness_7 : OneCircuit → (ask : ProveAsk Bits) (shelf : ShelfChange) (disk : DiskState) → IsProvable shelf.old.told disk ask → ¬ NameFailed ask.circuit shelf
     → (why : Refusal) → WitnessStop ask shelf why → stop_status why ≡ 7
 witness_7 one ask shelf disk ready calm why (inl cause) =
     ap stop_status (circuit_lacks one ask.circuit shelf ready.circuit.circuit ready.tells ready.circuit.file calm why cause)
@@ -121,13 +122,13 @@ journal_7 law id total disk has calm why cause = sound_7 (IsClaimsFault id total
           | inr memory ↦ cc
         ]
 
-connect_7 : (address : List ℕ) (door : DoorChange) → ¬ Rose door.old.connect_faults door.new.connect_faults → (why : Refusal)
-    → ConnectStop address door why → stop_status why ≡ 7
-connect_7 address door calm stop.DoorFailed cause = absurd (calm cause.1)
-connect_7 address door calm stop.NoMemory cause = refl
-connect_7 address door calm other cause = absurd cause
+connect_7 : (address : List ℕ) (patience : ℕ) (door : DoorChange) → ¬ Rose door.old.connect_faults door.new.connect_faults → (why : Refusal)
+    → ConnectStop address patience door why → stop_status why ≡ 7
+connect_7 address patience door calm stop.DoorFailed cause = absurd (calm cause.1)
+connect_7 address patience door calm stop.NoMemory cause = refl
+connect_7 address patience door calm other cause = absurd cause
 
-stop_7 : OneCircuit → ClaimsStartAgain → (ask : ProveAsk) (disk : DiskChange) (door : DoorChange) (run : Effects)
+stop_7 : OneCircuit → ClaimsStartAgain → (ask : ProveAsk Bits) (disk : DiskChange) (door : DoorChange) (run : Effects)
     → IsProvable run.shelf.old.told disk.old ask → ¬ HasProveFailed ask disk door run → (why : Refusal) → ProveStop ask run.shelf disk door why
     → stop_status why ≡ 7
 stop_7 one law ask disk door run ready calm why (inl (inl cause, unasked, unheard)) =
@@ -137,7 +138,7 @@ stop_7 one law ask disk door run ready calm why (inl (inr cause, unasked, unhear
 stop_7 one law ask disk door run ready calm why (inr lacks) = elim lacks.3.cause [
   | inl journal ↦ journal_7 law lacks.1.file.id lacks.1.file.params.total disk (ready.journal lacks.0 lacks.1 lacks.2)
       (λ rose. calm (inr (inl rose))) why journal.0
-  | inr unheard ↦ connect_7 ask.address door (λ rose. calm (inr (inr rose))) why unheard
+  | inr unheard ↦ connect_7 ask.address ask.timeout door (λ rose. calm (inr (inr rose))) why unheard
 ]
 
 -- ---- a session with an honest verifier
@@ -158,7 +159,7 @@ few_or_more slots claims s few more =
     omega (arith, low, high, sizes)
 
 -- a claim that was refused had no memory
-refused_memory : {L : Type 0} (link_tells : L → LinkState) (ask : ProveAsk) (note : ProverNote L) (told : Option Files) (disk : DiskChange)
+refused_memory : {L : Type 0} (link_tells : L → LinkState) (ask : ProveAsk Bits) (note : ProverNote L) (told : Option Files) (disk : DiskChange)
     (door : DoorChange) (asked : HoldsAsked link_tells ask note told disk door)
     → HasClaims asked.job.file.id asked.job.file.params.total disk.old.content → IsWithHonestPeer link_tells told disk.old ask note
     → ¬ Rose disk.old.faults disk.new.faults → (fault : ClaimFault) → asked.holds.claim.answer ≡ Some (Err fault) → fault ≡ claim.NoMemory
@@ -168,7 +169,7 @@ refused_memory link_tells ask note told disk door asked has honest calm fault re
     job : ProverJob
     job = asked.job
 
-    kept : KeepsClaims (journal_name ask.file) job.file.id job.file.params.total asked.holds.claim.asked asked.holds.claim.answer disk
+    kept : KeepsClaims (own_journal ask.file) job.file.id job.file.params.total asked.holds.claim.asked asked.holds.claim.answer disk
     kept = asked.holds.kept
 
     of_cause : (given : Grant) → AreFree job.file.params.total kept.place.slots kept.used kept.claims given → (fault : ClaimFault)
@@ -204,7 +205,7 @@ refused_memory link_tells ask note told disk door asked has honest calm fault re
         of_cause given (free_of given read) fault
         (moved_by asked.holds.claim.asked asked.holds.claim.answer (given.start, given.count) fault other.1.asked refused kept.moved)
 
-note_done : {L : Type 0} (link_tells : L → LinkState) (ask : ProveAsk) (note : ProverNote L) (told : Option Files) (disk : DiskChange)
+note_done : {L : Type 0} (link_tells : L → LinkState) (ask : ProveAsk Bits) (note : ProverNote L) (told : Option Files) (disk : DiskChange)
     (door : DoorChange) (asked : HoldsAsked link_tells ask note told disk door)
     → HasClaims asked.job.file.id asked.job.file.params.total disk.old.content → IsWithHonestPeer link_tells told disk.old ask note
     → ¬ Rose disk.old.faults disk.new.faults → (note.outcome ≡ ended.Accepted) ⊎ (note.outcome ≡ ended.NoMemory)
@@ -227,7 +228,7 @@ note_done {L} link_tells ask note told disk door asked has honest calm = of_answ
         let memory = refused_memory link_tells ask note told disk door asked has honest calm fault is in
         inr ((held.answers.refused fault is).0 ∙ ap claim_outcome memory)
 
-prove_is_done : {L : Type 0} (link_tells : L → LinkState) → OneCircuit → ClaimsStartAgain → (ask : ProveAsk) (part : Part L) (disk : DiskChange)
+prove_is_done : {L : Type 0} (link_tells : L → LinkState) → OneCircuit → ClaimsStartAgain → (ask : ProveAsk Bits) (part : Part L) (disk : DiskChange)
     (door : DoorChange) (run : Effects) → ProveLines link_tells ask part disk door run → ProveMeans ask part disk door run
     → IsProvable run.shelf.old.told disk.old ask → ¬ HasProveFailed ask disk door run
     → OfProved part (IsWithHonestPeer link_tells run.shelf.old.told disk.old ask) → IsDone run.status
@@ -248,7 +249,7 @@ prove_is_done link_tells one law ask Plain disk door run says means ready calm h
 prove_is_done link_tells one law ask (Rehearsed r) disk door run says means ready calm honest = absurd says
 prove_is_done link_tells one law ask (Served notes) disk door run says means ready calm honest = absurd says
 
-pub proves : {L : Type 0} (link_tells : L → LinkState) → OneCircuit → ClaimsStartAgain → (ask : ProveAsk) (part : Part L) (disk : DiskChange)
+pub proves : {L : Type 0} (link_tells : L → LinkState) → OneCircuit → ClaimsStartAgain → (ask : ProveAsk Bits) (part : Part L) (disk : DiskChange)
     (door : DoorChange) (run : Effects) → ProveLines link_tells ask part disk door run → OnlyLoads (IsProveName ask) run.shelf
     → Proves link_tells ask part disk door run
 proves link_tells one law ask part disk door run lines kept =

@@ -4,6 +4,7 @@ use Rattle.std.proofs.lemmas.List.{length-append}
 use Rattle.zk_model.specs.Circuit.{Circuit}
 use Rattle.zk_model.specs.declared.limits.TheConstants.{MAX_UNITS}
 use Rattle.bristol_reader.specs.Laws.{OneCircuit}
+use Rattle.command_words.specs.BitWords.{Bits}
 use Rattle.command_words.specs.Words.{RehearseAsk, GenerateAsk}
 use Rattle.session_rehearsal.specs.Rehearsals.{EndsWithVerdict, rehearsal_units}
 use Rattle.zk_cli.specs.RehearseRuns.{Rehearses, RehearseStop, Accepts, AnswersFor, verdict_status, rehearsal_lines, SaysRehearsal, IsRehearsed, IsGenerated, GenerateStop, Generates}
@@ -19,17 +20,17 @@ use Rattle.zk_model.specs.Generated.{generated_circuit}
 use Rattle.zk_model.specs.declared.Verdict.TheVariants.{Accepted}
 use Rattle.session_rehearsal.specs.declared.rehearsal.Rehearsal.{Rehearsal}
 
-pub rehearse_of_circuit : (ask : RehearseAsk) (shelf : ShelfChange) (why : Refusal) → CircuitStop ask.circuit shelf why
+pub rehearse_of_circuit : (ask : RehearseAsk Bits) (shelf : ShelfChange) (why : Refusal) → CircuitStop ask.circuit shelf why
     → RehearseStop ask shelf why
 rehearse_of_circuit ask shelf (stop.ManyPublic inputs got) cause = absurd cause
 rehearse_of_circuit ask shelf (stop.WrongBits need got) cause = absurd cause
 rehearse_of_circuit ask shelf (stop.TooLarge need units) cause = absurd cause
 rehearse_of_circuit ask shelf other cause = cause
 
-abbrev Lines : {L : Type 0} → RehearseAsk → List ℕ → Part L → Effects → Type 0
+abbrev Lines : {L : Type 0} → RehearseAsk Bits → List ℕ → Part L → Effects → Type 0
 Lines ask seed part run = SaysRehearsal (IsRehearsed run.shelf.old.told ask seed) (RehearseStop ask run.shelf) part run
 
-abbrev Means : {L : Type 0} → RehearseAsk → Part L → Effects → Type 0
+abbrev Means : {L : Type 0} → RehearseAsk Bits → Part L → Effects → Type 0
 Means ask part run = StatusMeans (Accepts part run.sink) (RehearseStop ask run.shelf) (IsName ask.circuit) run
 
 -- what the status says of any rehearsal that is accepted, and of a stop
@@ -46,7 +47,7 @@ rehearsal_means Is Stops IsNamed Plain run accepts stops lines = stops lines
 rehearsal_means Is Stops IsNamed (Served notes) run accepts stops lines = absurd lines
 rehearsal_means Is Stops IsNamed (Proved note) run accepts stops lines = absurd lines
 
-means : {L : Type 0} (ask : RehearseAsk) (seed : List ℕ) (part : Part L) (run : Effects) → Lines ask seed part run
+means : {L : Type 0} (ask : RehearseAsk Bits) (seed : List ℕ) (part : Part L) (run : Effects) → Lines ask seed part run
     → Means ask part run
 means {L} ask seed part run lines =
     rehearsal_means (IsRehearsed run.shelf.old.told ask seed) (RehearseStop ask run.shelf) (IsName ask.circuit) part run
@@ -55,7 +56,7 @@ means {L} ask seed part run lines =
     (λ cause. cause) (λ cause. cause) (λ count cause. cause) (λ output cause. cause) (λ failed. (ask.circuit, refl, failed))) lines
 
 -- why a run stops that a shelf tells a fitting circuit: for want of memory, or since it takes too many units
-lacks : OneCircuit → (ask : RehearseAsk) (shelf : ShelfChange) (circuit : Circuit)
+lacks : OneCircuit → (ask : RehearseAsk Bits) (shelf : ShelfChange) (circuit : Circuit)
     → IsReady shelf.old.told ask.circuit (ask.public ++ ask.bits) circuit → ¬ NameFailed ask.circuit shelf → (why : Refusal) → RehearseStop ask shelf why
     → (stop_status why ≡ 7) ⊎ ((stop_status why ≡ 9) × (MAX_UNITS < rehearsal_units circuit ask.public ask.kind ask.section))
 lacks one ask shelf circuit ready calm (stop.ManyPublic inputs got) cause =
@@ -72,18 +73,18 @@ lacks one ask shelf circuit ready calm (stop.WrongBits need got) cause =
     let whole = length-append ask.public ask.bits in
     let fits = ready.inputs in
     let all : cause.circuit.inputs - length ask.public ≡ length ask.bits = omega (arith, inputs, whole, fits) in
-    absurd (cause.is.differ (cause.is.needed ∙ all ∙ sym cause.is.given))
+    absurd (cause.is.1.differ (cause.is.1.needed ∙ all ∙ sym cause.is.1.given))
 lacks one ask shelf circuit ready calm (stop.TooLarge need units) cause =
     let same = told_circuit one shelf.old.told ask.circuit circuit cause.circuit ready.tells ready.file cause.file in
     inr (
       refl,
-      subst (λ c. MAX_UNITS < rehearsal_units c ask.public ask.kind ask.section) same (subst (λ n. MAX_UNITS < n) cause.is.counted cause.is.many),
+      subst (λ c. MAX_UNITS < rehearsal_units c ask.public ask.kind ask.section) same (subst (λ n. MAX_UNITS < n) cause.is.1.counted cause.is.1.many),
     )
 lacks one ask shelf circuit ready calm other cause =
     inl (ap stop_status (circuit_lacks one ask.circuit shelf circuit ready.tells ready.file calm other cause))
 
 -- a rehearsal that is handed back takes few enough units
-few_units : {L : Type 0} → OneCircuit → (ask : RehearseAsk) (seed : List ℕ) (part : Part L) (run : Effects) (circuit : Circuit)
+few_units : {L : Type 0} → OneCircuit → (ask : RehearseAsk Bits) (seed : List ℕ) (part : Part L) (run : Effects) (circuit : Circuit)
     → IsReady run.shelf.old.told ask.circuit (ask.public ++ ask.bits) circuit → Lines ask seed part run → Accepts part run.sink
     → rehearsal_units circuit ask.public ask.kind ask.section ≤ MAX_UNITS
 few_units one ask seed (Rehearsed r) run circuit ready lines accepts =
@@ -94,7 +95,7 @@ few_units one ask seed Plain run circuit ready lines accepts = absurd accepts
 few_units one ask seed (Served notes) run circuit ready lines accepts = absurd accepts
 few_units one ask seed (Proved note) run circuit ready lines accepts = absurd accepts
 
-done : {L : Type 0} → OneCircuit → (ask : RehearseAsk) (seed : List ℕ) (part : Part L) (run : Effects) (circuit : Circuit)
+done : {L : Type 0} → OneCircuit → (ask : RehearseAsk Bits) (seed : List ℕ) (part : Part L) (run : Effects) (circuit : Circuit)
     → Lines ask seed part run → IsReady run.shelf.old.told ask.circuit (ask.public ++ ask.bits) circuit → ¬ HasFailed (IsName ask.circuit) run
     → Means ask part run → AnswersFor (rehearsal_units circuit ask.public ask.kind ask.section) run.status
 done {L} one ask seed part run circuit lines ready calm means = of_means means
@@ -120,7 +121,7 @@ done {L} one ask seed part run circuit lines ready calm means = of_means means
       | inr nine ↦ inr (inl (m.0, nine.1))
     ]
 
-pub rehearses : {L : Type 0} → OneCircuit → (ask : RehearseAsk) (seed : List ℕ) (part : Part L) (run : Effects)
+pub rehearses : {L : Type 0} → OneCircuit → (ask : RehearseAsk Bits) (seed : List ℕ) (part : Part L) (run : Effects)
     → Lines ask seed part run → OnlyLoads (IsName ask.circuit) run.shelf → Rehearses ask seed part run
 rehearses one ask seed part run lines kept =
     let all = means ask seed part run lines in record {

@@ -44,6 +44,7 @@ use Rattle.zk_cli.specs.declared.finish.Part.TheVariants.{Plain, Proved, Rehears
 use Rattle.file_commands.specs.declared.refusal.Refusal.{Refusal}
 use Rattle.file_commands.specs.declared.refusal.Refusal.TheVariants as stop
 use Rattle.file_commands.proofs.Causes.{claim_lacks, file_7, sound_7}
+use Rattle.file_commands.proofs.Journals.{rose_by}
 use Rattle.lease_store.proofs.Finding.{one_ceiling}
 use Rattle.zk_cli.proofs.LeaseCauses.{not_refused, refusal_is_told}
 use Rattle.zk_cli.proofs.ServeOutcomes.{either_is, serve_means}
@@ -75,11 +76,11 @@ journal_7 law id total units disk leaves calm why cause = sound_7 (IsCeilingsFau
     sound : (fault : StartFault) → fault ≢ start.Device → ¬ IsCeilingsFault id total disk.old fault
     sound fault other cause = not_refused law id total leaves.base leaves.bytes fault leaves.says (cause leaves.bytes leaves.known) other
 
-listen_7 : (address : List ℕ) (door : DoorChange) → ¬ Rose door.old.listen_faults door.new.listen_faults → (why : Refusal)
-    → ListenStop address door why → stop_status why ≡ 7
-listen_7 address door calm stop.DoorFailed cause = absurd (calm cause.1)
-listen_7 address door calm stop.NoMemory cause = refl
-listen_7 address door calm other cause = absurd cause
+listen_7 : (address : List ℕ) (patience : ℕ) (door : DoorChange) → ¬ Rose door.old.listen_faults door.new.listen_faults → (why : Refusal)
+    → ListenStop address patience door why → stop_status why ≡ 7
+listen_7 address patience door calm stop.DoorFailed cause = absurd (calm cause.1)
+listen_7 address patience door calm stop.NoMemory cause = refl
+listen_7 address patience door calm other cause = absurd cause
 
 none_too_large : (jobs : VerifierJobs) (need units : ℕ) → AreFew jobs → IsFirstTooLarge (all_jobs jobs) (record { need = need; units = units }) → ⊥
 none_too_large jobs need units few large =
@@ -95,7 +96,7 @@ opening_7 : CeilingsStartAgain → (service : Service) (jobs : VerifierJobs) (un
 opening_7 law service jobs units disk door few leaves calm quiet (stop.TooLarge need more) cause = absurd (none_too_large jobs need more few cause.0)
 opening_7 law service jobs units disk door few leaves calm quiet other cause = elim cause.2 [
   | inl journal ↦ journal_7 law jobs.first.task.file.id jobs.first.task.file.params.total units disk leaves calm other journal.0
-  | inr unheard ↦ listen_7 service.address door quiet other unheard
+  | inr unheard ↦ listen_7 service.address service.options.timeout door quiet other unheard
 ]
 
 stop_7 : OneCircuit → CeilingsStartAgain → (service : Service) (disk : DiskChange) (door : DoorChange) (run : Effects)
@@ -164,8 +165,8 @@ module _ {L : Type 0} (link_tells : L → LinkState) (service : Service) (notes 
       base_is refused.refused.0) leaves.enough in
       let beyond = refused.refused.3 in
       omega (arith, fits, beyond)
-  unrefused note lease.Device marked refused some = calm (files.leads.kept.rose marked)
-  unrefused note (lease.Broken first) marked refused some = calm (files.leads.kept.rose marked)
+  unrefused note lease.Device marked refused some = calm (rose_by disk.old.faults files.leads.mark disk.new.faults (files.leads.kept.rose marked))
+  unrefused note (lease.Broken first) marked refused some = calm (rose_by disk.old.faults files.leads.mark disk.new.faults (files.leads.kept.rose marked))
 
   note_done : (place : ℕ) (default : SessionNote L) → place < length notes → IsWithHonestPeer link_tells told service (get_or notes place default)
       → ((get_or notes place default).outcome ≡ Accepted) ⊎ ((get_or notes place default).outcome ≡ NoMemory)

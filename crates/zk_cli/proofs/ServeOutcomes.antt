@@ -1,8 +1,6 @@
 -- What is said of the sessions that were served gives what the status says.
 use Rattle.std.proofs.Common.{◌≡◌, ◌≢◌, ◌⊎◌, ◌<◌, ◌++◌, ℕ, zero, suc, Bool, true, false, List, [], ◌∷◌, All, length, get_or, Option, None, Some, refl, sym, ap, ◌∙◌, subst, inl, inr, arith}
 use Rattle.std.specs.Prelude.{◌==◌, ◌||◌, if◌then◌else◌}
-use Rattle.zk_model.specs.declared.Side.{Side}
-use Rattle.zk_model.specs.declared.Span.{Span}
 use Rattle.zk_port.specs.Doors.{DoorState}
 use Rattle.zk_port.specs.Links.{LinkState}
 use Rattle.session_pool.specs.Notes.{IsMarked}
@@ -11,17 +9,18 @@ use Rattle.session_verifier.specs.declared.note.SessionNote.{SessionNote}
 use Rattle.session_verifier.specs.declared.note.VerifierOutcome.{VerifierOutcome}
 use Rattle.session_verifier.specs.declared.note.VerifierOutcome.TheVariants.{Accepted, RejectedSum, RejectedOpening, PeerEnded, BadFrame, BadHello, Exhausted, Device, Broken, Link, NoMemory}
 use Rattle.statement_file.specs.Services.{Service}
-use Rattle.file_commands.specs.DealRuns.{next_name}
 use Rattle.file_commands.specs.Journals.{DiskChange}
 use Rattle.session_verifier.specs.NoteLines.{IsServedText, has_status, served_status, failures, outcome_status}
-use Rattle.file_commands.specs.Effects.{ShelfChange, DoorChange, Effects, SomeFailed}
+use Rattle.file_commands.specs.Effects.{ShelfChange, DoorChange, Effects}
 use Rattle.zk_cli.specs.ServeRuns.{ServeLines, ServeStop, NotesMean, ServeMeans, SaysNotes}
-use Rattle.session_verifier.specs.ServiceLogs.{IsLogName, KeepsLogs, log_store, log_stores}
-use Rattle.file_commands.specs.Stops.{Prints, after_sink_fault, is_shelf_failed, is_memory_missing}
+use Rattle.session_verifier.specs.ServiceLogs.{KeepsLogs, no_faults}
+use Rattle.session_verifier.specs.declared.service_logs.LogFaults.{LogFaults}
+use Rattle.file_commands.specs.Stops.{Prints, after_sink_fault}
 use Rattle.zk_cli.specs.declared.finish.Part.{Part}
 use Rattle.zk_cli.specs.declared.finish.Part.TheVariants.{Plain, Proved, Rehearsed, Served}
 use Rattle.file_commands.specs.declared.refusal.Refusal.{Refusal}
 use Rattle.file_commands.specs.declared.refusal.Refusal.TheVariants as stop
+use Rattle.file_commands.proofs.Journals.{rose_by}
 use Rattle.file_commands.proofs.Means.{IsHigh, stop_answers}
 
 true_is_false : true ≡ false → ⊥
@@ -149,75 +148,35 @@ marks mark (note ∷ notes) five marked = elim (either_is (outcome_status note.o
 
 -- ---- logs
 
-stops_so : (logs : Option Refusal) → is_shelf_failed logs ≡ true → logs ≡ Some stop.ShelfFailed
-stops_so None failed = absurd (true_is_false (sym failed))
-stops_so (Some stop.ShelfFailed) failed = refl
-stops_so (Some other) failed = absurd (true_is_false (sym failed))
-
--- where neither the shelf failed nor memory was missing, all logs are kept
-all_kept : {L : Type 0} (prefix : Option (List ℕ)) (notes : List (SessionNote L)) (shelf : ShelfChange) (logs : Option Refusal)
-    → KeepsLogs prefix notes shelf logs → is_shelf_failed logs ≡ false → is_memory_missing logs ≡ false → KeepsLogs prefix notes shelf None
-all_kept prefix notes shelf None kept failed missing = kept
-all_kept prefix notes shelf (Some why) kept failed missing = elim kept.cause [
-  | inl memory ↦ absurd (true_is_false (sym (ap (λ w. is_memory_missing (Some w)) memory) ∙ missing))
-  | inr shelf_failed ↦ absurd (true_is_false (sym (ap (λ w. is_shelf_failed (Some w)) shelf_failed.0) ∙ failed))
-]
-
--- each store is one of a log
-named_one : (prefix : List ℕ) (granted : Option Span) (log : List (Side × ℕ)) (more : List (List ℕ × List ℕ)) (place : ℕ) (default : List ℕ × List ℕ)
-    → ((at : ℕ) → at < length more → IsLogName (Some prefix) (get_or more at default).0)
-    → place < length (log_store prefix granted log ++ more) → IsLogName (Some prefix) (get_or (log_store prefix granted log ++ more) place default).0
-named_one prefix None log more place default rest within = rest place within
-named_one prefix (Some span) log more zero default rest within = (span.start, refl)
-named_one prefix (Some span) log more (suc place) default rest within = rest place (omega (arith, within))
-
-named : {L : Type 0} (prefix : List ℕ) (notes : List (SessionNote L)) (place : ℕ) (default : List ℕ × List ℕ)
-    → place < length (log_stores (Some prefix) notes) → IsLogName (Some prefix) (get_or (log_stores (Some prefix) notes) place default).0
-named prefix [] place default within = absurd (omega (arith, within))
-named prefix (note ∷ notes) place default within =
-    named_one prefix note.granted note.log (log_stores (Some prefix) notes) place default
-    (λ at inside. named prefix notes at default inside) within
-
--- the shelf failed at the name of a log
-log_failed : {L : Type 0} (prefix : Option (List ℕ)) (notes : List (SessionNote L)) (shelf : ShelfChange) (logs : Option Refusal)
-    → KeepsLogs prefix notes shelf logs → is_shelf_failed logs ≡ true → SomeFailed (IsLogName prefix) shelf
-log_failed prefix notes shelf None kept failed = absurd (true_is_false (sym failed))
-log_failed None notes shelf (Some why) kept failed = let few = kept.some in absurd (omega (arith, few))
-log_failed (Some prefix) notes shelf (Some why) kept failed = (
-  next_name kept.done (log_stores (Some prefix) notes),
-  named prefix notes kept.done ([], []) kept.some,
-  (elim kept.cause [
-    | inl memory ↦ absurd (true_is_false (sym (stop_differs why memory failed)))
-    | inr at ↦ at.1
-  ]),
-)
-  where
-    stop_differs : (why : Refusal) → why ≡ stop.NoMemory → is_shelf_failed (Some why) ≡ true → false ≡ true
-    stop_differs why memory failed = sym (ap (λ w. is_shelf_failed (Some w)) memory) ∙ failed
+-- where no call for a log failed and memory was not missing, nothing did
+all_kept : {L : Type 0} (prefix : Option (List ℕ)) (notes : List (SessionNote L)) (shelf : ShelfChange) (faults : LogFaults)
+    → KeepsLogs prefix notes shelf faults → faults.failed ≡ false → faults.lacked ≡ false → KeepsLogs prefix notes shelf no_faults
+all_kept prefix notes shelf faults kept failed lacked =
+    subst (λ (f : Bool × Bool). KeepsLogs prefix notes shelf (record { failed = f.0; lacked = f.1 })) (λ i. (failed i, lacked i)) kept
 
 -- ---- the status
 
 module _ {L : Type 0} (link_tells : L → LinkState) (service : Service) (notes : List (SessionNote L)) (disk : DiskChange) (door : DoorChange)
     (run : Effects) (says : SaysNotes link_tells service notes disk door run) where
-  abbrev logs : Option Refusal
-  logs = says.says.logs
+  abbrev faults : LogFaults
+  faults = says.says.faults
 
   abbrev status : ℕ
-  status = served_status notes (failures says.door_failed (is_shelf_failed logs) (says.memory_failed || is_memory_missing logs))
+  status = served_status notes (failures says.door_failed faults.failed (says.memory_failed || faults.lacked))
 
   abbrev Means : ℕ → Type 0
-  Means = ChainMeans says.door_failed (is_shelf_failed logs) (says.memory_failed || is_memory_missing logs)
+  Means = ChainMeans says.door_failed faults.failed (says.memory_failed || faults.lacked)
       (has_status notes 1) (has_status notes 4) (has_status notes 5) (has_status notes 6) (has_status notes 7)
 
-  failed_so : (says.door_failed ≡ true) ⊎ (is_shelf_failed logs ≡ true) ⊎ (has_status notes 4 ≡ true) → run.status ≡ 4 → NotesMean service notes disk door run
+  failed_so : (says.door_failed ≡ true) ⊎ (faults.failed ≡ true) ⊎ (has_status notes 4 ≡ true) → run.status ≡ 4 → NotesMean service notes disk door run
   failed_so (inl failed) is = inr (inr (inl (is, inl (inr (says.leads.leads.taken.failed failed)))))
-  failed_so (inr (inl failed)) is = inr (inr (inl (is, inr (inl (log_failed service.options.logs notes run.shelf logs says.says.stored failed)))))
+  failed_so (inr (inl failed)) is = inr (inr (inl (is, inr (inl (says.says.logs.tried.cause failed)))))
   failed_so (inr (inr link)) is = inr (inr (inl (is, inr (inr (inr link)))))
 
   five_so : has_status notes 5 ≡ true → run.status ≡ 5 → NotesMean service notes disk door run
   five_so five is =
       let leads = says.leads.leads in
-      inr (inr (inr (inl (is, leads.kept.rose (marks leads.mark notes five leads.marked), five))))
+      inr (inr (inr (inl (is, rose_by disk.old.faults leads.mark disk.new.faults (leads.kept.rose (marks leads.mark notes five leads.marked)), five))))
 
   mean_written : (text : List ℕ) → IsServedText notes says.door_failed text → Means status → Prints status text run.status run.sink
       → NotesMean service notes disk door run
@@ -229,8 +188,8 @@ module _ {L : Type 0} (link_tells : L → LinkState) (service : Service) (notes 
         record {
           each = all_accepted notes calm.one_is calm.four_is calm.five_is calm.six_is calm.seven_is;
           lines = (text, subst (λ (failed : Bool). IsServedText notes failed text) calm.door_is served, whole.1);
-          logs = all_kept service.options.logs notes run.shelf logs says.says.stored calm.shelf_is
-              (rest_is says.memory_failed (is_memory_missing logs) calm.memory_is);
+          logs = all_kept service.options.logs notes run.shelf faults says.says.logs calm.shelf_is
+              (rest_is says.memory_failed faults.lacked calm.memory_is);
           listen_quiet = ap (λ (s : DoorState). s.listen_faults) says.leads.leads.taken.rest;
           next_quiet = says.leads.leads.taken.calm calm.door_is;
         },
@@ -252,7 +211,7 @@ module _ {L : Type 0} (link_tells : L → LinkState) (service : Service) (notes 
 
   pub notes_mean : NotesMean service notes disk door run
   notes_mean = elim says.says.lines [
-    | inl written ↦ mean_written written.0 written.1 (chain_means says.door_failed (is_shelf_failed logs) (says.memory_failed || is_memory_missing logs)
+    | inl written ↦ mean_written written.0 written.1 (chain_means says.door_failed faults.failed (says.memory_failed || faults.lacked)
         (has_status notes 1) (has_status notes 4) (has_status notes 5) (has_status notes 6) (has_status notes 7)) written.2
     | inr short ↦ inr (inr (inr (inr (inr short.0))))
   ]
@@ -270,8 +229,8 @@ pub serve_means : {L : Type 0} (link_tells : L → LinkState) (service : Service
     → ServeLines link_tells service part disk door run → ServeMeans service part disk door run
 serve_means link_tells service (Served notes) disk door run says = notes_mean link_tells service notes.items disk door run says
 serve_means link_tells service Plain disk door run says =
-    elim (stop_answers says.stop run.status run.sink (serve_is_high service run.shelf disk door says.stop says.cause) says.prints) [
-      | inl e ↦ inl (says.stop, says.cause, e)
+    elim (stop_answers says.0.stop run.status run.sink (serve_is_high service run.shelf disk door says.0.stop says.0.cause) says.0.prints) [
+      | inl e ↦ inl (says.0.stop, says.0.cause, e)
       | inr e ↦ inr e
     ]
 serve_means link_tells service (Rehearsed r) disk door run says = absurd says

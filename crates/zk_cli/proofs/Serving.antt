@@ -1,6 +1,7 @@
 -- What a verifier that serves composes: its files, its notes, and what it says.
 use Rattle.std.proofs.Common.{◌≡◌, ◌≤◌, ◌<◌, ℕ, Bool, List, [], length, All, Contains, Option, Some, None, Result, get_or, refl, sym, ap, ◌∙◌, subst, inl, inr, arith}
-use Rattle.std.specs.Prelude.{slice_get}
+use Rattle.std.specs.Prelude.{◌≢◌, slice_get}
+use Rattle.std.proofs.lemmas.Bool.{cases_eq}
 use Rattle.std.proofs.lemmas.Option.{slice_get-get_or}
 use Rattle.std.specs.List.Sorted.{IsNonDecreasingBy}
 use Rattle.zk_model.specs.Circuit.{Circuit}
@@ -33,6 +34,7 @@ use Rattle.file_commands.specs.Journals.{DiskChange}
 use Rattle.session_verifier.specs.NoteLines.{start_of}
 use Rattle.zk_cli.specs.ServeRuns.{AreServeJobs, IsCircuitName, IsServeJob, IsLoadedName, LeadsFiles}
 use Rattle.file_commands.proofs.Asking.{loads_among, loads_both}
+use Rattle.file_commands.proofs.Journals.{rose_by}
 use Rattle.zk_cli.specs.ServedNotes.{GrantsOnce, IsHeadline, ShowsClaim}
 use Rattle.zk_cli.proofs.Pairs.{zip_at, zip_length}
 use Rattle.file_commands.specs.Stops.{HasText, FileStop}
@@ -115,7 +117,7 @@ ungranted granted span answer by leased none =
     let impossible : None ≡ Some span = sym (by ∙ ap granted_by none) ∙ leased in cc
 
 -- the claim of a number, with its job
-claim_job : (told : Option Files) (service : Service) (jobs : VerifierJobs) → AreServeJobs told service jobs → (n : ℕ) → n < length (all_jobs jobs)
+pub claim_job : (told : Option Files) (service : Service) (jobs : VerifierJobs) → AreServeJobs told service jobs → (n : ℕ) → n < length (all_jobs jobs)
     → (claim : NamedClaim) × (slice_get service.claims n ≡ Some claim) × ((circuit : Circuit) × IsServeJob told service claim circuit (job_at jobs n))
 claim_job told service jobs served n within =
     let IsPair : NamedClaim → VerifierJob → Type 0 = λ claim job. (circuit : Circuit) × IsServeJob told service claim circuit job in
@@ -150,6 +152,13 @@ headlines link_tells law told service notes disk door door_failed memory_failed 
     is.1.statement is.1.session accepted in
     record { number = shows.0; taken = shows.1; claim = shows.2; named = shows.3; shows = shows.4 }
 
+-- no journal is marked where no call of the disk failed
+unmarked : (mark before now : ℕ) → (mark ≢ 0 → Rose before mark × (mark ≤ now)) → ¬ Rose before now → mark ≡ 0
+unmarked mark before now rose quiet = elim (cases_eq mark 0) [
+  | inl is ↦ is
+  | inr not ↦ absurd (quiet (rose_by before mark now (rose not)))
+]
+
 -- and of all of them
 pub grants_once : {L : Type 0} (link_tells : L → LinkState) (told : Option Files) (service : Service) (notes : List (SessionNote L))
     (disk : DiskChange) (door : DoorChange) (door_failed memory_failed : Bool)
@@ -165,7 +174,9 @@ grants_once link_tells told service notes disk door door_failed memory_failed fi
   apart = files.leads.apart;
   ceiling = files.leads.ceiling;
   grows = files.leads.kept.grows;
+  most = files.leads.most;
   spans = files.leads.spans;
+  exact = λ quiet. files.leads.kept.exact (unmarked files.leads.mark disk.old.faults disk.new.faults files.leads.kept.rose quiet);
   read = files.leads.kept.read;
   durable = files.leads.kept.durable;
   any_moment = files.leads.kept.any_moment;

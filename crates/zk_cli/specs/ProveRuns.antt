@@ -31,9 +31,10 @@ use Rattle.session_prover.specs.Stages.{Claim}
 use Rattle.session_prover.specs.declared.note.ProverNote.{ProverNote}
 use Rattle.session_prover.specs.declared.note.ProverOutcome.{ProverOutcome}
 use Rattle.session_prover.specs.declared.note.ProverOutcome.TheVariants as ended
+use Rattle.command_words.specs.BitWords.{Bits}
 use Rattle.command_words.specs.Words.{ProveAsk, prove_ask}
 use Rattle.file_commands.specs.ClaimedUnits.{KeepsClaims}
-use Rattle.file_commands.specs.Journals.{IsClaimsFault, HasClaims, DiskChange, IsUntouched, JournalStop, OnlyReads, journal_name}
+use Rattle.file_commands.specs.Journals.{IsClaimsFault, HasClaims, DiskChange, IsUntouched, JournalStop, OnlyReads, own_journal}
 use Rattle.file_commands.specs.Effects.{ShelfChange, DoorChange, SinkFailed, Effects, HasFailed, IsDone, OnlyLoads}
 use Rattle.file_commands.specs.Stops.{ConnectStop, PrintsMade, SaysStop, IsOfStop, WritesAll, HasCircuit, HasFewInputs, HasText, IsClaim, CircuitStop, FileStop, IsProverFileAt}
 use Rattle.zk_cli.specs.declared.finish.Part.{Part}
@@ -43,17 +44,18 @@ use Rattle.file_commands.specs.declared.refusal.Refusal.{Refusal}
 use Rattle.file_commands.specs.declared.refusal.Refusal.TheVariants.{ManyPublic, WrongBits, WrongOutputs, Unsatisfied, NoMemory}
 
 -- what is asked for
-abbrev pub prove_words : ProveWords → ProveAsk
+abbrev pub prove_words : ProveWords → ProveAsk Bits
 prove_words words =
     prove_ask words.address.now words.file.now words.circuit.now words.public.now words.bits.now words.outputs.now
+    words.timeout
 
 -- the names of the two files that are loaded
-abbrev pub IsProveName : ProveAsk → List ℕ → Type 0
+abbrev pub IsProveName : ProveAsk Bits → List ℕ → Type 0
 IsProveName ask name = (name ≡ ask.circuit) ⊎ (name ≡ ask.file)
 
 -- where a shelf tells, this claim stands under the circuit's name, and at the bits the circuit gives the claimed outputs: these are the bits
 -- of all wires then, and they are what proves the statement
-pub record IsWitnessed (told : Option Files) (ask : ProveAsk) (circuit : Circuit) (statement : Statement) (wires : List Bool)
+pub record IsWitnessed (told : Option Files) (ask : ProveAsk Bits) (circuit : Circuit) (statement : Statement) (wires : List Bool)
     : Type 0 where
   pub claim : IsClaim told ask.circuit ask.public ask.outputs circuit statement
   pub wires_are : AreWireBits circuit (ask.public ++ ask.bits) wires
@@ -62,14 +64,14 @@ pub record IsWitnessed (told : Option Files) (ask : ProveAsk) (circuit : Circuit
       → IsWitness statement (map from_bit ask.bits) (map from_bit wires) (prover_of statement wires file).given
 
 -- there are such a circuit and such bits, and with these values of the inputs a prover has the given values that the bits make
-pub record HasWitness (told : Option Files) (ask : ProveAsk) (statement : Statement) (inputs : List ℕ) : Type 0 where
+pub record HasWitness (told : Option Files) (ask : ProveAsk Bits) (statement : Statement) (inputs : List ℕ) : Type 0 where
   pub circuit : Circuit
   pub wires : List Bool
   pub witnessed : IsWitnessed told ask circuit statement wires
   pub proves : (file : ProverFile) → prover_from statement inputs file ≡ prover_of statement wires file
 
 -- what a prover is to do: to prove the claim by the bits, over its file
-pub record IsProveJob (told : Option Files) (ask : ProveAsk) (circuit : Circuit) (job : ProverJob) : Type 0 where
+pub record IsProveJob (told : Option Files) (ask : ProveAsk Bits) (circuit : Circuit) (job : ProverJob) : Type 0 where
   pub wires : List Bool
   pub witnessed : IsWitnessed told ask circuit job.statement wires
   pub file : IsProverFileAt told ask.file job.file
@@ -83,18 +85,18 @@ pub record DiffersFirst (place : ℕ) (some others : List Bool) : Type 0 where
   pub differs : get_or some place false ≢ get_or others place false
 
 -- the circuit gives these outputs at the bits, and no others; as many are claimed, and this is the first that differs
-pub record GivesOther (circuit : Circuit) (ask : ProveAsk) (output : ℕ) : Type 0 where
+pub record GivesOther (circuit : Circuit) (ask : ProveAsk Bits) (output : ℕ) : Type 0 where
   pub outputs : List Bool
   pub gives : Satisfies circuit (ask.public ++ ask.bits) outputs
   pub only : AreOnlyOutputs circuit (ask.public ++ ask.bits) outputs
   pub count : length ask.outputs ≡ circuit.outputs
   pub differs : DiffersFirst output outputs ask.outputs
 
--- why a circuit has no bits of all wires that prove the claim: it has fewer inputs than there are public bits, or another number of
--- private inputs, or of outputs, or gives other outputs
-abbrev pub WiresStop : Circuit → ProveAsk → Refusal → Type 0
+-- Why a circuit has no bits of all wires that prove the claim, the first of these: it has fewer inputs than there are public bits, or
+-- another number of private inputs, or of outputs, or gives other outputs.
+abbrev pub WiresStop : Circuit → ProveAsk Bits → Refusal → Type 0
 WiresStop circuit ask (ManyPublic inputs got) = HasFewInputs circuit ask.public inputs got
-WiresStop circuit ask (WrongBits need got) = IsWrongLength circuit ask.public ask.bits need got
+WiresStop circuit ask (WrongBits need got) = (length ask.public ≤ circuit.inputs) × IsWrongLength circuit ask.public ask.bits need got
 WiresStop circuit ask (WrongOutputs need got) = (length (ask.public ++ ask.bits) ≡ circuit.inputs) × (need ≡ circuit.outputs)
     × (got ≡ length ask.outputs) × (need ≢ got)
 WiresStop circuit ask (Unsatisfied output) = GivesOther circuit ask output
@@ -102,32 +104,32 @@ WiresStop circuit ask NoMemory = Unit {0}
 WiresStop circuit ask stop = ⊥
 
 -- why there is no claim that the bits prove: the circuit can't be had, or has no such bits
-abbrev pub WitnessStop : ProveAsk → ShelfChange → Refusal → Type 0
+abbrev pub WitnessStop : ProveAsk Bits → ShelfChange → Refusal → Type 0
 WitnessStop ask shelf stop = CircuitStop ask.circuit shelf stop
     ⊎ HasCircuit shelf.old.told ask.circuit (λ circuit. WiresStop circuit ask stop)
 
 -- Why the claim with its proof, and the file, can't be had, the first of these: there is no such claim; or there is, but no file.
-abbrev pub LacksProof : ProveAsk → ShelfChange → Refusal → Type 0
+abbrev pub LacksProof : ProveAsk Bits → ShelfChange → Refusal → Type 0
 LacksProof ask shelf stop = WitnessStop ask shelf stop
     ⊎ ((circuit : Circuit) × (statement : Statement) × (wires : List Bool)
     × IsWitnessed shelf.old.told ask circuit statement wires × FileStop Prover ask.file shelf stop)
 
 -- why no session of a job begins: its file's journal is not opened, and nothing is asked of the door; or the door does not connect. The
 -- journal is at most read.
-pub record BeginningStop (ask : ProveAsk) (job : ProverJob) (disk : DiskChange) (door : DoorChange) (stop : Refusal) : Type 0 where
-  pub reads : OnlyReads (journal_name ask.file) disk
+pub record BeginningStop (ask : ProveAsk Bits) (job : ProverJob) (disk : DiskChange) (door : DoorChange) (stop : Refusal) : Type 0 where
+  pub reads : OnlyReads (own_journal ask.file) disk
   pub cause : (JournalStop (IsClaimsFault job.file.id job.file.params.total disk.old) disk stop × (door.new ≡ door.old))
-      ⊎ ConnectStop ask.address door stop
+      ⊎ ConnectStop ask.address ask.timeout door stop
 
 -- what was to be proved is there, but no session begins
-abbrev pub LacksLink : Option Files → ProveAsk → DiskChange → DoorChange → Refusal → Type 0
+abbrev pub LacksLink : Option Files → ProveAsk Bits → DiskChange → DoorChange → Refusal → Type 0
 LacksLink told ask disk door stop =
     (circuit : Circuit) × (job : ProverJob) × IsProveJob told ask circuit job × BeginningStop ask job disk door stop
 
 -- Why nothing is proved, the first of these: the circuit can't be had, has too few inputs for the public bits, or another number of private
 -- inputs or of outputs, or gives others at
 -- the bits; the file can't be had; the journal is not opened; the door does not connect.
-abbrev pub ProveStop : ProveAsk → ShelfChange → DiskChange → DoorChange → Refusal → Type 0
+abbrev pub ProveStop : ProveAsk Bits → ShelfChange → DiskChange → DoorChange → Refusal → Type 0
 ProveStop ask shelf disk door stop =
     (LacksProof ask shelf stop × IsUntouched disk × (door.new ≡ door.old))
     ⊎ LacksLink shelf.old.told ask disk door stop
@@ -135,15 +137,15 @@ ProveStop ask shelf disk door stop =
 -- ---- what is proved
 
 -- a session about a job was held over a link to the address, and units were claimed for it in the file's journal as it says
-pub record HoldsSession {L : Type 0} (link_tells : L → LinkState) (ask : ProveAsk) (job : ProverJob) (note : ProverNote L)
+pub record HoldsSession {L : Type 0} (link_tells : L → LinkState) (ask : ProveAsk Bits) (job : ProverJob) (note : ProverNote L)
     (disk : DiskChange) (door : DoorChange) : Type 0 where
   pub claim : Claim
   pub is_note : IsNote link_tells job claim note
-  pub connected : door.new ≡ after_connect ask.address door.old
-  pub kept : KeepsClaims (journal_name ask.file) job.file.id job.file.params.total claim.asked claim.answer disk
+  pub connected : door.new ≡ after_connect ask.address ask.timeout door.old
+  pub kept : KeepsClaims (own_journal ask.file) job.file.id job.file.params.total claim.asked claim.answer disk
 
 -- and the job is what was asked
-pub record HoldsAsked {L : Type 0} (link_tells : L → LinkState) (ask : ProveAsk) (note : ProverNote L)
+pub record HoldsAsked {L : Type 0} (link_tells : L → LinkState) (ask : ProveAsk Bits) (note : ProverNote L)
     (told : Option Files) (disk : DiskChange) (door : DoorChange) : Type 0 where
   pub circuit : Circuit
   pub job : ProverJob
@@ -190,7 +192,7 @@ proved_status ended.NoMemory = 7
 proved_status outcome = 8
 
 -- A session is handed back, exactly where the door connected, and its line is written; or the line of a stop is, which has its cause.
-abbrev pub ProveLines : {L : Type 0} → (L → LinkState) → ProveAsk → Part L → DiskChange → DoorChange → Effects → Type 0
+abbrev pub ProveLines : {L : Type 0} → (L → LinkState) → ProveAsk Bits → Part L → DiskChange → DoorChange → Effects → Type 0
 ProveLines link_tells ask (Proved note) disk door run = HoldsAsked link_tells ask note run.shelf.old.told disk door
     × PrintsMade (proved_status note.outcome) (proved_line note.granted disk.new.faults note.outcome) run.status run.sink
 ProveLines link_tells ask Plain disk door run = SaysStop (ProveStop ask run.shelf disk door) run
@@ -198,7 +200,7 @@ ProveLines link_tells ask part disk door run = ⊥
 
 -- What the status says. Of a session: 0 where it is accepted and its line is written; 4 where the sink failed; else that of its outcome,
 -- which is another, or 7. Before that: that of a stop which has its cause, 4 where the sink failed, or 7.
-abbrev pub ProveMeans : {L : Type 0} → ProveAsk → Part L → DiskChange → DoorChange → Effects → Type 0
+abbrev pub ProveMeans : {L : Type 0} → ProveAsk Bits → Part L → DiskChange → DoorChange → Effects → Type 0
 ProveMeans ask (Proved note) disk door run =
     ((run.status ≡ 0) × (note.outcome ≡ ended.Accepted) × WritesAll (proved_line note.granted disk.new.faults note.outcome) run.sink)
     ⊎ ((run.status ≡ proved_status note.outcome) × (note.outcome ≢ ended.Accepted))
@@ -211,13 +213,13 @@ ProveMeans ask part disk door run = ⊥
 -- ---- where nothing is refused and nothing fails
 
 -- the circuit has as many inputs as there are bits, and gives the claimed outputs at them
-pub record IsSatisfied (ask : ProveAsk) (circuit : Circuit) : Type 0 where
+pub record IsSatisfied (ask : ProveAsk Bits) (circuit : Circuit) : Type 0 where
   pub inputs : length (ask.public ++ ask.bits) ≡ circuit.inputs
   pub outputs : length ask.outputs ≡ circuit.outputs
   pub satisfied : Satisfies circuit (ask.public ++ ask.bits) ask.outputs
 
 -- a shelf that tells has a circuit that gives the claimed outputs at the bits, and a prover's file; and the disk has its journal
-pub record IsProvable (told : Option Files) (disk : DiskState) (ask : ProveAsk) : Type 0 where
+pub record IsProvable (told : Option Files) (disk : DiskState) (ask : ProveAsk Bits) : Type 0 where
   pub tells : told ≢ None
   pub circuit : HasCircuit told ask.circuit (IsSatisfied ask)
   pub file : HasText told ask.file (IsDealtFile Prover)
@@ -225,7 +227,7 @@ pub record IsProvable (told : Option Files) (disk : DiskState) (ask : ProveAsk) 
       → HasClaims job.file.id job.file.params.total disk.content
 
 -- a call failed: one of the shelf for one of the names, one of the sink, the disk or the door
-abbrev pub HasProveFailed : ProveAsk → DiskChange → DoorChange → Effects → Type 0
+abbrev pub HasProveFailed : ProveAsk Bits → DiskChange → DoorChange → Effects → Type 0
 HasProveFailed ask disk door run = HasFailed (IsProveName ask) run ⊎ Rose disk.old.faults disk.new.faults
     ⊎ Rose door.old.connect_faults door.new.connect_faults
 
@@ -238,7 +240,7 @@ pub record AreFree (total slots used : ℕ) (claims : List Span) (given : Grant)
 
 -- a session whose link did not fail, whose peer is an honest verifier of what was asked, and in which the units of the grant are free in the
 -- journal that the disk has
-pub record IsWithHonestPeer {L : Type 0} (link_tells : L → LinkState) (told : Option Files) (disk : DiskState) (ask : ProveAsk)
+pub record IsWithHonestPeer {L : Type 0} (link_tells : L → LinkState) (told : Option Files) (disk : DiskState) (ask : ProveAsk Bits)
     (note : ProverNote L) : Type 0 where
   pub calm : ¬ Rose 0 (link_tells note.link).faults
   pub honest : (circuit : Circuit) (job : ProverJob) → IsProveJob told ask circuit job
@@ -258,7 +260,7 @@ OfProved part Holds = Unit {0}
 -- handed back, and the line of a stop with its cause is written. Nothing is sent and nothing is claimed unless the circuit gives the
 -- claimed outputs at the bits. What the status says; that all is done where nothing is refused, nothing fails and the verifier is honest;
 -- and that nothing but the files of the circuit and of the prover is asked of the shelf.
-pub record Proves {L : Type 0} (link_tells : L → LinkState) (ask : ProveAsk) (part : Part L)
+pub record Proves {L : Type 0} (link_tells : L → LinkState) (ask : ProveAsk Bits) (part : Part L)
     (disk : DiskChange) (door : DoorChange) (run : Effects) : Type 0 where
   pub lines : ProveLines link_tells ask part disk door run
   pub means : ProveMeans ask part disk door run

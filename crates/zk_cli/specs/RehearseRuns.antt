@@ -1,11 +1,12 @@
 -- `rehearse CIRCUIT BITS [--section G] [--extended] [--public BITS]`: what it hands back and says, and what it promises of its run.
-use Rattle.std.specs.Prelude.{◌≡◌, ◌⊎◌, ◌<◌, ◌≤◌, ℕ, List, ◌++◌, codes, Option, []}
+use Rattle.std.specs.Prelude.{◌≡◌, ◌⊎◌, ◌<◌, ◌≤◌, ℕ, List, ◌++◌, codes, length, Option, []}
 use Rattle.std.specs.Fmt.{decimal}
 use Rattle.zk_model.specs.Circuit.{Circuit}
 use Rattle.zk_model.specs.declared.Verdict.{Verdict}
 use Rattle.zk_model.specs.declared.Verdict.TheVariants.{Accepted, RejectedSum, RejectedOpening}
 use Rattle.zk_model.specs.declared.limits.TheConstants.{MAX_UNITS}
 use Rattle.zk_port.specs.Files.{Files}
+use Rattle.command_words.specs.BitWords.{Bits}
 use Rattle.command_words.specs.BitWords.{bits_word}
 use Rattle.command_words.specs.Words.{RehearseAsk, rehearse_ask, GenerateAsk, generate_ask}
 use Rattle.session_rehearsal.specs.Rehearsals.{IsRehearsalOf, IsWrongLength, IsTooLarge, EndsWithVerdict}
@@ -22,7 +23,7 @@ use Rattle.zk_cli.specs.declared.generate_command.GenerateWords.{GenerateWords}
 use Rattle.zk_model.specs.Generated.{generated_bits, generated_circuit}
 
 -- what is asked for
-abbrev pub rehearse_words : RehearseWords → RehearseAsk
+abbrev pub rehearse_words : RehearseWords → RehearseAsk Bits
 rehearse_words words = rehearse_ask words.circuit.now words.public.now words.bits.now words.kind words.section
 
 -- 0 where the verifier accepts
@@ -50,18 +51,19 @@ rehearsal_lines r =
 
 -- this is a rehearsal of the circuit under the name: its outputs are the only ones at the bits, its numbers are the
 -- defined ones, and its log is that of an honest session over the files of the seed
-abbrev pub IsRehearsed : Option Files → RehearseAsk → List ℕ → Rehearsal → Type 0
+abbrev pub IsRehearsed : Option Files → RehearseAsk Bits → List ℕ → Rehearsal → Type 0
 IsRehearsed told ask seed r =
     HasCircuit told ask.circuit (λ circuit. IsRehearsalOf circuit ask.public ask.bits ask.kind ask.section seed r)
 
--- why there is no rehearsal: the circuit has fewer inputs than there are public bits, or another number of private ones; it takes too
--- many units; or it can't be had
-abbrev pub RehearseStop : RehearseAsk → ShelfChange → Refusal → Type 0
+-- Why there is no rehearsal, the first of these: the circuit can't be had; it has fewer inputs than there are public bits, or another
+-- number of private ones; it takes too many units.
+abbrev pub RehearseStop : RehearseAsk Bits → ShelfChange → Refusal → Type 0
 RehearseStop ask shelf (ManyPublic inputs got) = HasCircuit shelf.old.told ask.circuit (λ circuit. HasFewInputs circuit ask.public inputs got)
 RehearseStop ask shelf (WrongBits need got) =
-    HasCircuit shelf.old.told ask.circuit (λ circuit. IsWrongLength circuit ask.public ask.bits need got)
+    HasCircuit shelf.old.told ask.circuit (λ circuit. (length ask.public ≤ circuit.inputs) × IsWrongLength circuit ask.public ask.bits need got)
 RehearseStop ask shelf (TooLarge need units) =
-    HasCircuit shelf.old.told ask.circuit (λ circuit. IsTooLarge circuit ask.public ask.bits ask.kind ask.section need units)
+    HasCircuit shelf.old.told ask.circuit
+    (λ circuit. (length ask.public ≤ circuit.inputs) × IsTooLarge circuit ask.public ask.bits ask.kind ask.section need units)
 RehearseStop ask shelf stop = CircuitStop ask.circuit shelf stop
 
 -- such a rehearsal is handed back, and its lines are written; or nothing is, and the line of a stop is, which has its cause
@@ -85,7 +87,7 @@ AnswersFor units status =
 -- What is handed back and said, or the line of a stop with its cause; nothing but the circuit's file is asked of the
 -- shelf; what the status says; and where the shelf tells a circuit that the bits fit, and nothing fails, the rehearsal
 -- is accepted, unless it takes too many units.
-pub record Rehearses {L : Type 0} (ask : RehearseAsk) (seed : List ℕ) (part : Part L) (run : Effects) : Type 0 where
+pub record Rehearses {L : Type 0} (ask : RehearseAsk Bits) (seed : List ℕ) (part : Part L) (run : Effects) : Type 0 where
   pub lines : SaysRehearsal (IsRehearsed run.shelf.old.told ask seed) (RehearseStop ask run.shelf) part run
   pub kept : OnlyLoads (IsName ask.circuit) run.shelf
   pub means : StatusMeans (Accepts part run.sink) (RehearseStop ask run.shelf) (IsName ask.circuit) run

@@ -1,6 +1,6 @@
 -- `serve` and `serve-many`: what is served and said, and what a run of either promises.
-use Rattle.std.specs.Prelude.{◌≡◌, ◌≢◌, ◌⊎◌, ◌*◌, ◌≤◌, ◌++◌, ◌∷◌, ℕ, List, All, AllPairs, Contains, length, Bool, true, false, Option, None, Some, IfSome}
-use Rattle.std.specs.List.{AllZip}
+use Rattle.std.specs.Prelude.{◌≡◌, ◌≢◌, ◌⊎◌, ◌+◌, ◌*◌, ◌≤◌, max, ◌++◌, ◌∷◌, ℕ, List, All, AllPairs, Contains, length, Bool, true, false, Option, None, Some, IfSome}
+use Rattle.std.specs.List.{AllZip, sum_by}
 use Rattle.std.specs.List.Sorted.{IsNonDecreasingBy}
 use Rattle.zk_model.specs.Circuit.{Circuit}
 use Rattle.zk_model.specs.HonestProver.{ProverTask}
@@ -9,6 +9,9 @@ use Rattle.zk_model.specs.declared.Side.TheVariants.{Verifier}
 use Rattle.zk_model.specs.declared.limits.TheConstants.{MAX_UNITS}
 use Rattle.zk_port.specs.Counts.{Rose}
 use Rattle.zk_port.specs.Disks.{DiskState}
+use Rattle.lease_core.specs.Machine.{ceiling_for}
+use Rattle.lease_words.specs.Calls.{AreGathered}
+use Rattle.lease_words.specs.declared.pass.Pass.{Pass}
 use Rattle.lease_store.specs.Ceilings.{SaysCeiling}
 use Rattle.zk_port.specs.Doors.{after_listen}
 use Rattle.zk_port.specs.Files.{Files}
@@ -17,7 +20,7 @@ use Rattle.dealer_files.specs.Faults.{IsDealtFile}
 use Rattle.session_core.specs.Jobs.{VerifierJob, VerifierJobs, AreVerifierJobs, IsTooLarge, all_jobs, noted_job, units_of_job}
 use Rattle.session_core.specs.declared.verifier_job.TooLarge as size
 use Rattle.session_pool.specs.Doors.{Takes}
-use Rattle.session_pool.specs.Notes.{AreApart, IsBetween, IsMarked, IsRefusedAmong}
+use Rattle.session_pool.specs.Notes.{AreApart, IsBetween, IsMarked, IsRefusedAmong, TellsMark, faults_met}
 use Rattle.session_verifier.specs.Notes.{HasHonestCaller}
 use Rattle.session_verifier.specs.Outcomes.{lease_fault}
 use Rattle.session_verifier.specs.Sessions.{IsNote}
@@ -26,11 +29,11 @@ use Rattle.session_verifier.specs.declared.note.VerifierOutcome.TheVariants.{Acc
 use Rattle.command_words.specs.Commands.{named_options}
 use Rattle.statement_file.specs.Claims.{NamedClaim}
 use Rattle.statement_file.specs.Services.{Service, service}
-use Rattle.file_commands.specs.Journals.{IsCeilingsFault, LeavesUnits, DiskChange, IsUntouched, JournalStop, KeepsCeiling, OnlyReads, journal_name}
+use Rattle.file_commands.specs.Journals.{IsCeilingsFault, LeavesUnits, DiskChange, IsUntouched, JournalStop, KeepsCeiling, OnlyReads, own_journal}
 use Rattle.session_verifier.specs.NoteLines.{IsServedText, has_status, start_of}
-use Rattle.file_commands.specs.Effects.{ShelfChange, DoorChange, SomeFailed, SinkFailed, Effects, HasFailed, OthersStay, OnlyAsks, IsDone}
+use Rattle.file_commands.specs.Effects.{ShelfChange, DoorChange, SomeFailed, SinkFailed, Effects, HasFailed, OthersStay, OnlyAsks, OnlyLoads, IsDone}
 use Rattle.zk_cli.specs.Runs.{EachNote}
-use Rattle.session_verifier.specs.ServiceLogs.{IsLogName, KeepsLogs, SaysService}
+use Rattle.session_verifier.specs.ServiceLogs.{IsLogName, KeepsLogs, SaysService, no_faults}
 use Rattle.file_commands.specs.Stops.{ClaimStop, ListenStop, WritesAll, SaysStop, IsOfStop, HasText, HasCircuit, IsClaim, FileStop, IsVerifierFileAt}
 use Rattle.zk_cli.specs.declared.finish.Part.{Part}
 use Rattle.zk_cli.specs.declared.finish.Part.TheVariants.{Plain, Served}
@@ -114,9 +117,9 @@ FitStop jobs stop = ⊥
 abbrev pub OpeningStop : Service → VerifierJobs → DiskChange → DoorChange → Refusal → Type 0
 OpeningStop service jobs disk door (TooLarge need units) =
     IsFirstTooLarge (all_jobs jobs) (record { need = need; units = units }) × IsUntouched disk × (door.new ≡ door.old)
-OpeningStop service jobs disk door stop = AreFew jobs × OnlyReads (journal_name service.file) disk
+OpeningStop service jobs disk door stop = AreFew jobs × OnlyReads (own_journal service.file) disk
     × ((JournalStop (IsCeilingsFault jobs.first.task.file.id jobs.first.task.file.params.total disk.old) disk stop
-    × (door.new ≡ door.old)) ⊎ ListenStop service.address door stop)
+    × (door.new ≡ door.old)) ⊎ ListenStop service.address service.options.timeout door stop)
 
 -- Why nothing is served, the first of these: a claim's circuit can't be had, has too few inputs for the public bits, or another number
 -- of outputs; the file can't be had; a session is too large; the journal is not opened; the door does not listen.
@@ -127,28 +130,36 @@ ServeStop service shelf disk door stop =
 
 -- ---- what is served
 
--- The sessions that were led. The door listened at the address, once and for so many sessions, and as many links were taken as
+-- The sessions that were led. The door listened at the address, once, with the patience that was asked for and for so many sessions, and as many links were taken as
 -- there are notes. The file's journal was opened at the base that it says, and kept. Granted spans have the units of a session about their
 -- note's statement, are apart, lie between the base and a ceiling that every image of the disk recovers, and end within the total. A journal
 -- is said to have failed only where a call of the disk failed; and units to be missing only where those of the other sessions leave too few.
+-- There were as many workers as were asked for, each with a pass, and what these drew tiles from the base on.
 pub record LeadsJobs {L : Type 0} (link_tells : L → LinkState) (service : Service) (jobs : VerifierJobs) (notes : List (SessionNote L))
     (door_failed memory_failed : Bool) (disk : DiskChange) (door : DoorChange) : Type 0 where
   pub few : AreFew jobs
   pub each : All (IsNote link_tells jobs) notes
   pub taken : Takes service.options.sessions (length notes) door_failed memory_failed
-      (after_listen service.address service.options.sessions door.old) door.new
+      (after_listen service.address service.options.timeout service.options.sessions door.old) door.new
   pub base : ℕ
   pub recovered : (bytes : List ℕ) → disk.old.content ≡ Some bytes
       → SaysCeiling jobs.first.task.file.id jobs.first.task.file.params.total base bytes
   pub ceiling : ℕ
   pub mark : ℕ
-  pub kept : KeepsCeiling (journal_name service.file) jobs.first.task.file.id jobs.first.task.file.params.total base ceiling mark disk
+  pub kept : KeepsCeiling (own_journal service.file) jobs.first.task.file.id jobs.first.task.file.params.total base ceiling mark disk
   pub apart : AllPairs (λ one other. AreApart one.granted other.granted) notes
   pub spans : All (λ note. IsBetween (units_of_note jobs note) base ceiling note.granted) notes
   pub within : All (λ note. IfSome note.granted (λ span. span.end ≤ jobs.first.task.file.params.total)) notes
+  pub most : ceiling ≤ max base (ceiling_for jobs.first.task.file.params.total (base + sum_by (units_of_note jobs) notes))
   pub marked : All (λ note. IsMarked mark (lease_fault note.outcome)) notes
+  pub told : All (λ note. TellsMark mark (lease_fault note.outcome)) notes
+  pub once : faults_met (λ note. lease_fault note.outcome) notes ≤ 1
   pub refused : All (λ note. IfSome (lease_fault note.outcome)
       (IsRefusedAmong (units_of_note jobs) base jobs.first.task.file.params.total notes note)) notes
+  -- the passes of the workers, one for each, and what they drew
+  pub passes : List Pass
+  pub workers : length passes ≡ service.options.workers
+  pub gathered : AreGathered base ceiling mark passes
 
 -- the jobs of what was asked stand above all notes
 pub record LeadsFiles {L : Type 0} (link_tells : L → LinkState) (service : Service) (notes : List (SessionNote L))
@@ -167,10 +178,11 @@ pub record SaysNotes {L : Type 0} (link_tells : L → LinkState) (service : Serv
   pub says : SaysService service.options.logs notes door_failed memory_failed run
 
 -- what was served is handed back, exactly where the door listened, and said; or the line of a stop is written, which
--- has its cause
+-- has its cause, and then nothing on the shelf is changed, and no log is asked for
 abbrev pub ServeLines : {L : Type 0} → (L → LinkState) → Service → Part L → DiskChange → DoorChange → Effects → Type 0
 ServeLines link_tells service (Served notes) disk door run = SaysNotes link_tells service notes.items disk door run
-ServeLines link_tells service Plain disk door run = SaysStop (ServeStop service run.shelf disk door) run
+ServeLines link_tells service Plain disk door run =
+    SaysStop (ServeStop service run.shelf disk door) run × OnlyLoads (IsLoadedName service) run.shelf
 ServeLines link_tells service part disk door run = ⊥
 
 -- ---- what the status says
@@ -184,7 +196,7 @@ DoorCallFailed door =
 pub record AllAccepted {L : Type 0} (service : Service) (notes : List (SessionNote L)) (door : DoorChange) (run : Effects) : Type 0 where
   pub each : All (λ note. note.outcome ≡ Accepted) notes
   pub lines : (text : List ℕ) × IsServedText notes false text × WritesAll text run.sink
-  pub logs : KeepsLogs service.options.logs notes run.shelf None
+  pub logs : KeepsLogs service.options.logs notes run.shelf no_faults
   pub listen_quiet : door.new.listen_faults ≡ door.old.listen_faults
   pub next_quiet : door.new.next_faults ≡ door.old.next_faults
 

@@ -1,5 +1,6 @@
 -- What an accepted session that was served shows.
-use Rattle.std.specs.Prelude.{◌≡◌, ◌⊎◌, ℕ, ◌+◌, ◌≤◌, List, All, AllPairs, Option, Some, IsSomeAnd, slice_get}
+use Rattle.std.specs.Prelude.{◌≡◌, ◌⊎◌, ℕ, ◌+◌, ◌≤◌, max, List, All, AllPairs, Option, Some, IfSome, IsSomeAnd, slice_get}
+use Rattle.std.specs.List.{sum_by}
 use Rattle.std.specs.List.Sorted.{IsNonDecreasingBy}
 use Rattle.zk_model.specs.Circuit.{Circuit}
 use Rattle.zk_model.specs.Files.{ProverFile, IsProverFile, AreDealt}
@@ -10,13 +11,16 @@ use Rattle.zk_model.specs.View.{ChecksHold, SaysVerdict}
 use Rattle.zk_model.specs.declared.Side.{Side}
 use Rattle.zk_model.specs.declared.Span.{Span}
 use Rattle.zk_model.specs.declared.Verdict.TheVariants.{Accepted}
+use Rattle.zk_port.specs.Counts.{Rose}
 use Rattle.zk_port.specs.Disks.{LeavesOnly}
 use Rattle.zk_port.specs.Files.{Files}
 use Rattle.session_core.specs.Jobs.{VerifierJob, VerifierJobs, granted_from, units_of_job}
+use Rattle.lease_core.specs.Machine.{ceiling_for}
 use Rattle.lease_store.specs.Ceilings.{FindsCeiling, SaysCeiling}
 use Rattle.session_pool.specs.Notes.{AreApart, IsBetween}
 use Rattle.session_verifier.specs.declared.note.SessionNote.{SessionNote}
 use Rattle.session_verifier.specs.declared.note.VerifierOutcome.TheVariants as ended
+use Rattle.command_words.specs.BitWords.{Bits}
 use Rattle.command_words.specs.Words.{Ask, serve, serve_many}
 use Rattle.statement_file.specs.Claims.{NamedClaim}
 use Rattle.statement_file.specs.Services.{Service, service_asked}
@@ -62,7 +66,8 @@ pub record ShowsClaim {L : Type 0} (told : Option Files) (service : Service) (no
 -- spans of this run, in the order of their first units, have no unit in common; each begins at or above the ceiling that the journal said,
 -- and ends at or below a ceiling that the content and each image of the disk that comes back say, or a higher one. At any moment of the run
 -- a crash leaves what one might have left before it, or says the ceiling that the journal said, or a higher one. So no unit is granted that
--- an earlier run was granted, or a later one will be.
+-- an earlier run was granted, or a later one will be. That ceiling is the one that the journal said, or at most the one for as many units as all
+-- sessions take; and where no call of the disk failed, the content says it exactly. So a run uses up few units that it does not grant.
 pub record GrantsOnce {L : Type 0} (told : Option Files) (service : Service) (notes : List (SessionNote L)) (disk : DiskChange)
     : Type 0 where
   pub jobs : VerifierJobs
@@ -75,7 +80,10 @@ pub record GrantsOnce {L : Type 0} (told : Option Files) (service : Service) (no
   pub apart : AllPairs (λ one other. AreApart one.granted other.granted) notes
   pub ceiling : ℕ
   pub grows : base ≤ ceiling
+  pub most : ceiling ≤ max base (ceiling_for jobs.first.task.file.params.total (base + sum_by (units_of_note jobs) notes))
   pub spans : All (λ note. IsBetween (units_of_note jobs note) base ceiling note.granted) notes
+  pub exact : ¬ Rose disk.old.faults disk.new.faults
+      → IfSome disk.new.content (SaysCeiling jobs.first.task.file.id jobs.first.task.file.params.total ceiling)
   pub read : (bytes : List ℕ) → disk.old.content ≡ Some bytes
       → IsSomeAnd disk.new.content (FindsCeiling jobs.first.task.file.id jobs.first.task.file.params.total ceiling bytes)
   pub durable : (bytes : List ℕ) → disk.old.content ≡ Some bytes → (image : List ℕ) → disk.new.images image
@@ -85,16 +93,16 @@ pub record GrantsOnce {L : Type 0} (told : Option Files) (service : Service) (no
 
 -- this holds of the sessions that a run hands back, with the service that was asked for: of the one claim that words name, or of those that a
 -- file of statements does
-abbrev pub OfServed : {L : Type 0} → Option Files → Ask → Part L → (Service → List (SessionNote L) → Type 0) → Type 0
+abbrev pub OfServed : {L : Type 0} → Option Files → Ask Bits → Part L → (Service → List (SessionNote L) → Type 0) → Type 0
 OfServed told (serve ask) part Holds = OfNotes part (Holds (service_asked ask))
 OfServed told (serve_many ask) part Holds =
     OfNotes part (λ notes. (service : Service) × IsServiceOfMany told ask service × Holds service notes)
 OfServed told ask part Holds = Unit {0}
 
 -- each accepted session shows its claim; and no unit was granted twice
-abbrev pub ShowsClaims : {L : Type 0} → Option Files → Ask → Part L → Type 0
+abbrev pub ShowsClaims : {L : Type 0} → Option Files → Ask Bits → Part L → Type 0
 ShowsClaims told ask part =
     OfServed told ask part (λ service notes. All (λ note. note.outcome ≡ ended.Accepted → ShowsClaim told service note) notes)
 
-abbrev pub GrantsOnceIn : {L : Type 0} → Option Files → Ask → Part L → DiskChange → Type 0
+abbrev pub GrantsOnceIn : {L : Type 0} → Option Files → Ask Bits → Part L → DiskChange → Type 0
 GrantsOnceIn told ask part disk = OfServed told ask part (λ service notes. GrantsOnce told service notes disk)

@@ -2,11 +2,13 @@
 //! sessions. The others, and what all share, are in `file_commands`.
 //!
 //! `run` has the top call. A service (`serve_command`) loads its claims (`claim_files`), makes a job of each (`serve_jobs`) and leads
-//! sessions about them; `many_command` serves those of a file of statements. What is kept and said of sessions is in `service_notes`.
+//! sessions about them, whose logs are kept as they end (`watched`), and says how it goes (`follow`); `many_command` serves those of a file of
+//! statements. What is kept and said of sessions is in `session_verifier`.
 #![tactic(auto)]
 
 mod claim_files;
 mod finish;
+mod follow;
 mod generate_command;
 mod many_command;
 mod prove_command;
@@ -15,6 +17,7 @@ mod rehearse_command;
 mod run;
 mod serve_command;
 mod serve_jobs;
+mod watched;
 
 pub use file_commands::Refusal;
 pub use finish::{Finish, Part};

@@ -1,5 +1,5 @@
-// `serve-many ADDRESS FILE STATEMENTS --sessions N [--workers W] [--section G] [--logs PREFIX]`
-ghost use Rattle.std.specs.Prelude.{◌≡◌, IfOk, IfErr, OnOk};
+// `serve-many ADDRESS FILE STATEMENTS --sessions N [--workers W] [--section G] [--timeout S] [--logs PREFIX] [--follow]`
+ghost use Rattle.std.specs.Prelude.{◌≡◌, false, IfOk, IfErr, OnOk};
 ghost use Rattle.zk_port.specs.Changes.{change};
 ghost use Rattle.command_words.specs.Commands.{AreServeLimits, named_options};
 ghost use Rattle.command_words.specs.Words.{serve_many};
@@ -18,7 +18,7 @@ use statement_file::{NamedClaim, StatementError, StatementFault, read_statements
 use std::alloc::Global;
 use std::sync::Wait;
 use std::thread::Threads;
-use zk_port::{Disk, Door, Gate, Shelf, Sink};
+use zk_port::{Disk, Door, Shelf, Sink};
 
 /// What the words of the command name.
 #[derive(Clone, Copy, Debug)]
@@ -56,26 +56,26 @@ fn load_statements<F: Shelf>(
     }
 }
 
-/// `serve-many ADDRESS FILE STATEMENTS --sessions N [--workers W] [--section G] [--logs PREFIX]`: serves sessions about the
+/// `serve-many ADDRESS FILE STATEMENTS --sessions N [--workers W] [--section G] [--timeout S] [--logs PREFIX] [--follow]`: serves sessions about the
 /// claims that the file of statements names, or says why none is served; with the status.
-pub fn run_serve_many<R, F, D, B, O, G>(
+pub fn run_serve_many<R, F, D, B, O, E>(
     rt: &R,
     alloc: Global,
     shelf: &mut F,
     journal: B,
     door: D,
-    gate: &G,
     out: &mut O,
+    notices: &mut E,
     words: &ManyWords<'_>,
 ) -> Finish<B, D>
 where
     R: Threads + Wait + Sync,
-    F: Shelf,
+    F: Shelf + Send,
     D: Door + Drop + Send,
     D::Link: Drop + Send,
     B: Disk + Drop + Send,
     O: Sink,
-    G: Gate + Sync,
+    E: Sink + Send,
     requires disk { IsJournalDisk (B.state journal) }
     requires limits { AreServeLimits (named_options words.now.options.now) }
     ensures serves { ServesMany D.Link.state (many_words words.now) result.part
@@ -85,6 +85,7 @@ where
     ensures headline { ShowsClaims (F.state shelf.old).told (serve_many (many_words words.now)) result.part }
     ensures once { GrantsOnceIn (F.state shelf.old).told (serve_many (many_words words.now)) result.part
         (disk_change (B.state journal) (B.state result.journal)) }
+    ensures quiet { words.now.options.now.follow ≡ false → E.state notices.new ≡ E.state notices.old }
 {
     let claims = match load_statements(alloc, shelf, words) {
         Ok(claims) => claims,
@@ -103,5 +104,5 @@ where
         claims: &claims,
         options: words.options,
     };
-    run_service(rt, alloc, shelf, journal, door, gate, out, &named)
+    run_service(rt, alloc, shelf, journal, door, out, notices, &named)
 }

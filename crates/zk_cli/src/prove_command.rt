@@ -25,7 +25,7 @@ use session_prover::{ProverNote, StoreClaimant, prove_session};
 use sha2::{Digest, Sha256};
 use std::alloc::{AllocError, Global};
 use std::thread::Threads;
-use zk_port::{Disk, Door, PortFault, Shelf, Sink};
+use zk_port::{Access, Disk, Door, PortFault, Shelf, Sink};
 
 /// What the words of the command name.
 #[derive(Clone, Copy, Debug)]
@@ -36,6 +36,7 @@ pub struct ProveWords<'a> {
     pub public: &'a [bool],
     pub bits: &'a [bool],
     pub outputs: &'a [bool],
+    pub timeout: u32,
 }
 
 /// A claim, and the values of the inputs that prove it.
@@ -177,11 +178,11 @@ fn prove_job<R: Threads + Sync, D: Door, B: Disk>(
     ensures stop { IfErr result (λ r. BeginningStop (prove_words words.now) job.now
         (disk_change (B.state journal) (B.state r.1)) (change (D.state door.old) (D.state door.new)) r.0) }
 {
-    let store = match open_claims(alloc, journal, words.file, job.file()) {
+    let store = match open_claims(alloc, journal, words.file, Access::Own, job.file()) {
         Ok(store) => store,
         Err(stopped) => return Err(stopped),
     };
-    let link = match door.connect(alloc, words.address) {
+    let link = match door.connect(alloc, words.address, words.timeout) {
         Ok(link) => link,
         Err(fault) => return Err((connect_stop(fault), store.close())),
     };

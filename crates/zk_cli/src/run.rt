@@ -1,13 +1,13 @@
 // The top call.
-ghost use Rattle.std.specs.Prelude.{◌≡◌, ◌≢◌, ◌⊎◌, None, Some};
+ghost use Rattle.std.specs.Prelude.{◌≡◌, ◌≢◌, ◌⊎◌, None, Some, true, false};
 ghost use Rattle.zk_port.specs.Changes.{change};
-ghost use Rattle.command_words.specs.Commands.{IsWithinLimits, ask_of};
+ghost use Rattle.command_words.specs.BitWords.{Bits, BitsAsk};
+ghost use Rattle.command_words.specs.Commands.{IsWithinLimits, ask_of, bits_ask};
 ghost use Rattle.command_words.specs.Forms.{IsReadAs};
 ghost use Rattle.command_words.specs.Words.{Ask, texts, asked};
-ghost use Rattle.zk_cli.specs.Meets.{Meets, Promises, SaysUsage};
+ghost use Rattle.zk_cli.specs.Meets.{DoesGiven, GrantsOnceGiven, MeetsGiven, Promises, SaysUsage, ShowsGiven, follows};
 ghost use Rattle.zk_cli.specs.Runs.{run_of};
 ghost use Rattle.file_commands.specs.Journals.{IsJournalDisk, disk_change};
-ghost use Rattle.zk_cli.specs.ServedNotes.{GrantsOnceIn, ShowsClaims};
 
 use crate::finish::{Ending, Finish, Part};
 use crate::generate_command::{GenerateWords, run_generate};
@@ -15,45 +15,45 @@ use crate::many_command::{ManyWords, run_serve_many};
 use crate::prove_command::{ProveWords, run_prove};
 use crate::rehearse_command::{RehearseWords, run_rehearse};
 use crate::serve_command::{ServiceWords, run_service};
-use bristol_reader::one_circuit;
-use claim_store::claims_start_again;
-use command_words::{Command, read_words};
-use file_commands::{Refusal, run_deal, run_eval, run_migrate, say_memory, say_stop};
-use lease_store::ceilings_start_again;
+use command_words::{BitsWord, Command, read_words};
+use file_commands::{Refusal, read_given, run_deal, run_eval, run_migrate, say_memory, say_stop};
 use proof_audit::{AuditWords, run_audit};
 use statement_file::NamedClaim;
+use status_command::{StatusEnd, run_status};
 use std::alloc::Global;
 use std::slice::from_ref;
 use std::sync::Wait;
 use std::thread::Threads;
-use zk_port::{Disk, Door, Gate, Shelf, Sink};
+use zk_port::{Disk, Door, Shelf, Sink};
 
 /// Does what a command asks for.
-fn run_command<R, F, D, B, O, G>(
+fn run_command<R, F, D, B, O, E>(
     rt: &R,
     alloc: Global,
-    command: Command,
+    command: Command<Vec<bool>>,
     shelf: &mut F,
     journal: B,
     door: D,
-    gate: &G,
     seed: &[u8; 32],
     out: &mut O,
+    notices: &mut E,
 ) -> Finish<B, D>
 where
     R: Threads + Wait + Sync,
-    F: Shelf,
+    F: Shelf + Send,
     D: Door + Drop + Send,
     D::Link: Drop + Send,
     B: Disk + Drop + Send,
     O: Sink,
-    G: Gate + Sync,
+    E: Sink + Send,
     requires disk { IsJournalDisk (B.state journal) }
     requires limits { IsWithinLimits command }
-    ensures promises { Promises (ask_of command) seed.now
+    ensures promises { Promises (ask_of (λ v. v.items) command) seed.now
         (disk_change (B.state journal) (B.state result.journal)) (run_of F.state D.state D.Link.state
         result.status result.part (change shelf.old shelf.new) (change (O.state out.old) (O.state out.new))
         (change journal result.journal) (change door result.door)) }
+    ensures quiet { follows (ask_of (λ v. v.items) command) ≡ false
+        → E.state notices.new ≡ E.state notices.old }
 {
     match command {
         Command::Deal { name, params } => Finish {
@@ -125,7 +125,7 @@ where
                 claims: from_ref(&claim),
                 options: &options,
             };
-            run_service(rt, alloc, shelf, journal, door, gate, out, &named)
+            run_service(rt, alloc, shelf, journal, door, out, notices, &named)
         }
         Command::ServeMany {
             address,
@@ -139,7 +139,7 @@ where
                 statements: &statements,
                 options: &options,
             };
-            run_serve_many(rt, alloc, shelf, journal, door, gate, out, &named)
+            run_serve_many(rt, alloc, shelf, journal, door, out, notices, &named)
         }
         Command::Prove {
             address,
@@ -148,6 +148,7 @@ where
             public,
             bits,
             outputs,
+            timeout,
         } => {
             let named = ProveWords {
                 address: &address,
@@ -156,6 +157,7 @@ where
                 public: &public,
                 bits: &bits,
                 outputs: &outputs,
+                timeout,
             };
             run_prove(rt, alloc, shelf, journal, door, out, &named)
         }
@@ -182,6 +184,22 @@ where
                 part: Part::Plain,
             }
         }
+        Command::Status { file, circuit } => {
+            let StatusEnd { status, journal } = run_status(
+                alloc,
+                shelf,
+                journal,
+                out,
+                &file,
+                circuit.as_deref(),
+            );
+            Finish {
+                status,
+                journal,
+                door,
+                part: Part::Plain,
+            }
+        }
         Command::Migrate { side, file } => {
             let mut journal = journal;
             let status = run_migrate(alloc, shelf, &mut journal, out, side, &file);
@@ -195,8 +213,48 @@ where
     }
 }
 
+/// Does what a command asks for, once the files that give bits are read; or says why they give none.
+fn run_words<R, F, D, B, O, E>(
+    rt: &R,
+    alloc: Global,
+    command: Command<BitsWord>,
+    shelf: &mut F,
+    journal: B,
+    door: D,
+    seed: &[u8; 32],
+    out: &mut O,
+    notices: &mut E,
+) -> Finish<B, D>
+where
+    R: Threads + Wait + Sync,
+    F: Shelf + Send,
+    D: Door + Drop + Send,
+    D::Link: Drop + Send,
+    B: Disk + Drop + Send,
+    O: Sink,
+    E: Sink + Send,
+    requires disk { IsJournalDisk (B.state journal) }
+    requires limits { IsWithinLimits command }
+    ensures does { DoesGiven (ask_of bits_ask command) seed.now
+        (disk_change (B.state journal) (B.state result.journal)) (run_of F.state D.state D.Link.state
+        result.status result.part (change shelf.old shelf.new) (change (O.state out.old) (O.state out.new))
+        (change journal result.journal) (change door result.door)) }
+    ensures quiet { follows (ask_of bits_ask command) ≡ false → E.state notices.new ≡ E.state notices.old }
+{
+    match read_given(alloc, shelf, command) {
+        Ok(known) => run_command(rt, alloc, known, shelf, journal, door, seed, out, notices),
+        Err(stop) => Finish {
+            status: say_stop(alloc, out, stop),
+            journal,
+            door,
+            part: Part::Plain,
+        },
+    }
+}
+
 /// Does what the words after the program's name ask for, over these files, this disk, this door and this
-/// output, and hands back the status, the disk, the door and what was made. `deal` and `rehearse` use the seed.
+/// output, and hands back the status, the disk, the door and what was made. `deal` and `rehearse` use the seed. With `--follow` a service says
+/// on the notices how it goes; else nothing is said there. A word of bits `@NAME` is read from that file first.
 ///
 /// Words of no command end with 2, or with 7 where memory is missing. `rehearse CIRCUIT BITS [--section G]
 /// [--extended] [--public BITS]` ends with 0 where it is accepted; 3 where the file, or the bits for it, are refused; 4
@@ -204,37 +262,38 @@ where
 /// more than 4,096 units; and `rehearse --gates N --number S [--section G] [--extended]` with 0, 4, 7 and 9 in the same
 /// cases. `eval CIRCUIT BITS` ends with 0 where it wrote the outputs, and with 3, 4 and 7 in the same cases.
 /// `deal NAME --units N [--trees T --height H --base K]` ends with 0 where all is stored and said, 4 where a store or
-/// the output failed, and 7. `serve ADDRESS FILE CIRCUIT OUTPUTS --sessions N [--workers W] [--section G] [--logs PREFIX]
-/// [--public BITS]` ends with 0 where each session is accepted, or no peer called; 1 where one is not; 3 where a file or
+/// the output failed, and 7. `serve ADDRESS FILE CIRCUIT OUTPUTS --sessions N [--workers W] [--section G] [--timeout S] [--logs PREFIX]
+/// [--follow] [--public BITS]` ends with 0 where each session is accepted, or no peer called; 1 where one is not; 3 where a file or
 /// the journal is refused, or the outputs for it; 4 where a load, the door, a link, a log or the output failed; 5 where
 /// the journal failed; 6 where units are missing; and with 7 and 9; and so does `serve-many ADDRESS FILE STATEMENTS --sessions N
-/// [--workers W] [--section G] [--logs PREFIX]`, also with 3 where the file of statements is refused. `prove ADDRESS FILE CIRCUIT BITS OUTPUTS
-/// [--public BITS]` ends with 0 where it is accepted; 1 where it is rejected, or the circuit gives other outputs; 3 where
+/// [--workers W] [--section G] [--timeout S] [--logs PREFIX] [--follow]`, also with 3 where the file of statements is refused. `prove ADDRESS FILE CIRCUIT BITS OUTPUTS
+/// [--timeout S] [--public BITS]` ends with 0 where it is accepted; 1 where it is rejected, or the circuit gives other outputs; 3 where
 /// a file or the journal is refused, or the bits or outputs for it; 4 where a load, the door, the link or the output
 /// failed; 5 where the journal failed or is full; 8 where the peer broke the protocol; and with 7.
 /// `audit CIRCUIT OUTPUTS PROVERFILE VERIFIERFILE LOG [--public BITS]` ends with 0 where inputs are found; 1 where something else
 /// is; 3 where a file is refused, the outputs for it, both files or the log; 4 where a load or the output failed; and with 7.
 /// `migrate SIDE FILE` ends with 0 where the journal is migrated, now or before; 3 where the file or the journal is refused; 4
-/// where a load or the output failed; 5 where the journal failed; and with 7.
-pub fn run_zk<R, F, D, B, O, G>(
+/// where a load or the output failed; 5 where the journal failed; and with 7. `status FILE [CIRCUIT]` ends with 0 where it is said; 3 where a
+/// file, the circuit or the journal is refused; 4 where a load or the output failed; 5 where the journal failed; and with 7.
+pub fn run_zk<R, F, D, B, O, E>(
     rt: &R,
     alloc: Global,
     words: &[String],
     shelf: &mut F,
     journal: B,
     door: D,
-    gate: &G,
     seed: &[u8; 32],
     out: &mut O,
+    notices: &mut E,
 ) -> Finish<B, D>
 where
     R: Threads + Wait + Sync,
-    F: Shelf,
+    F: Shelf + Send,
     D: Door + Drop + Send,
     D::Link: Drop + Send,
     B: Disk + Drop + Send,
     O: Sink,
-    G: Gate + Sync + Drop,
+    E: Sink + Send,
 
     // The disk is one on which a journal may be opened, or migrated.
     requires disk { IsJournalDisk (B.state journal) }
@@ -243,14 +302,15 @@ where
     ensures usage { asked (texts words.now) ≡ None → SaysUsage (run_of F.state D.state D.Link.state
         result.status result.part (change shelf.old shelf.new) (change (O.state out.old) (O.state out.new))
         (change journal result.journal) (change door result.door))
-        ⊎ ((ask : Ask) × IsReadAs (texts words.now) ask × Promises ask seed.now
+        ⊎ ((ask : Ask BitsAsk) × IsReadAs (texts words.now) ask × DoesGiven ask seed.now
         (disk_change (B.state journal) (B.state result.journal)) (run_of F.state D.state D.Link.state
         result.status result.part (change shelf.old shelf.new) (change (O.state out.old) (O.state out.new))
         (change journal result.journal) (change door result.door))) }
     ensures usage_2 { result.status ≡ 2 → asked (texts words.now) ≡ None }
 
-    // Words of a command: its record holds of this run.
-    ensures meets { (ask : Ask) → asked (texts words.now) ≡ Some ask → Meets ask seed.now
+    // Words of a command: with the bits that they and the files that they name give, its record holds of this run; or such a
+    // file gives none, and that is said.
+    ensures meets { (ask : Ask BitsAsk) → asked (texts words.now) ≡ Some ask → MeetsGiven ask seed.now
         (disk_change (B.state journal) (B.state result.journal)) (run_of F.state D.state D.Link.state
         result.status result.part (change shelf.old shelf.new) (change (O.state out.old) (O.state out.new))
         (change journal result.journal) (change door result.door)) }
@@ -259,20 +319,23 @@ where
     // every prover's file that is dealt with the verifier's, the private input bits that this file and its frames fix, beside
     // the public ones, make the circuit give the claimed outputs, or the challenge is a root of a named nonzero polynomial of at
     // most the number of products in degree, or the key is one of a named nonzero polynomial of degree two at most.
-    ensures headline { (ask : Ask) → asked (texts words.now) ≡ Some ask
-        → ShowsClaims (F.state shelf.old).told ask result.part }
+    ensures headline { (ask : Ask BitsAsk) → asked (texts words.now) ≡ Some ask
+        → ShowsGiven (F.state shelf.old).told ask result.part }
 
     // Its second part: over this run, with the journal that the disk had, no unit is granted that an earlier run or
     // another session was granted, whatever crashes leave.
-    ensures once { (ask : Ask) → asked (texts words.now) ≡ Some ask
-        → GrantsOnceIn (F.state shelf.old).told ask result.part
+    ensures once { (ask : Ask BitsAsk) → asked (texts words.now) ≡ Some ask
+        → GrantsOnceGiven (F.state shelf.old).told ask result.part
         (disk_change (B.state journal) (B.state result.journal)) }
+
+    // Nothing is said beside the output, but by a service that is followed.
+    ensures quiet { (E.state notices.new ≡ E.state notices.old)
+        ⊎ ((ask : Ask BitsAsk) × IsReadAs (texts words.now) ask × (follows ask ≡ true)) }
 {
-    one_circuit();
-    ceilings_start_again();
-    claims_start_again();
     match read_words(alloc, words) {
-        Ok(Some(command)) => run_command(rt, alloc, command, shelf, journal, door, gate, seed, out),
+        Ok(Some(command)) => run_words(
+            rt, alloc, command, shelf, journal, door, seed, out, notices,
+        ),
         Ok(None) => Finish {
             status: say_stop(alloc, out, Refusal::Usage),
             journal,

@@ -1,32 +1,45 @@
 // `serve` and `serve-many`: sessions about claims over a verifier's file.
-ghost use Rattle.std.specs.Prelude.{◌≡◌, ◌≤◌, IfOk, IfErr, OnOk, length};
+ghost use Rattle.std.specs.Prelude.{◌≡◌, ◌≤◌, ◌<◌, ℕ, List, All, AllPairs, Some, IfSome, false, IfOk, IfErr, OnErr, length, string_bytes};
+ghost use Rattle.std.specs.Option.{option_map};
+ghost use Rattle.lease_store.specs.Ceilings.{HasCeilingHeader};
+ghost use Rattle.lease_store.specs.Desks.{Begins};
+ghost use Rattle.lease_store.specs.Leases.{IsPassAt};
+ghost use Rattle.session_pool.specs.Doors.{Takes};
+ghost use Rattle.session_pool.specs.Notes.{AreApart, IsLeft, IsNoteOf, IsRefusedAmong, IsUnused};
+ghost use Rattle.session_verifier.specs.Outcomes.{lease_fault};
+ghost use Rattle.session_verifier.specs.Sessions.{IsAnsweredNote};
 ghost use Rattle.zk_port.specs.Changes.{change};
 ghost use Rattle.zk_model.specs.declared.limits.TheConstants.{MAX_STATEMENTS};
+ghost use Rattle.session_verifier.specs.ServiceLogs.{TriesLogs};
 ghost use Rattle.session_verifier.specs.declared.note.VerifierOutcome.TheVariants.{Accepted};
 ghost use Rattle.command_words.specs.Commands.{AreServeLimits, named_options};
 ghost use Rattle.file_commands.specs.Journals.{IsJournalDisk, disk_change};
 ghost use Rattle.file_commands.specs.Effects.{OnlyLoads, effects};
 ghost use Rattle.zk_cli.specs.Runs.{EachNote, OfNotes};
 ghost use Rattle.zk_cli.specs.ServeRuns.{AreFew, IsLoadedName, LeadsFiles, LeadsJobs};
-ghost use Rattle.zk_cli.specs.ServeRuns.{OpeningStop, Serves, ServeStop, service_words};
+ghost use Rattle.zk_cli.specs.ServeRuns.{OpeningStop, Serves, ServeStop, service_words, units_of_note};
 ghost use Rattle.zk_cli.specs.ServedNotes.{GrantsOnce, ShowsClaim};
 
 use crate::claim_files::load_files;
 use crate::finish::{Finish, Part};
-use crate::serve_jobs::{fit_jobs, statements_of};
+use crate::follow::{Unheard, say_start};
+use crate::serve_jobs::{fit_jobs, most_units, statements_of};
+use crate::watched::{Watched, serve_watched};
 use bristol_reader::one_circuit;
 use command_words::ServedOptions;
 use file_commands::{Refusal, open_ceilings, say_stop};
-use lease_store::ceilings_start_again;
+use lease_store::{LeaseParts, ceilings_start_again};
+use lease_words::Pass;
 use session_core::VerifierJobs;
 use session_laws::extracted_shows_outputs;
-use session_pool::{Served, serve_all};
-use session_verifier::{SessionNote, Verification, order_notes, say_service};
+use session_pool::Served;
+use session_verifier::{LogFaults, LogLoan, SessionNote, order_notes, say_service};
 use statement_file::NamedClaim;
 use std::alloc::Global;
+use std::marker::Brand;
 use std::sync::Wait;
 use std::thread::Threads;
-use zk_port::{Disk, Door, Gate, PortFault, Shelf, Sink};
+use zk_port::{Access, Disk, Door, PortFault, Shelf, Sink};
 
 /// What is served: where, over which file, about which claims, and how.
 #[derive(Clone, Copy, Debug)]
@@ -45,36 +58,108 @@ struct Stopped<B, D> {
     door: D,
 }
 
-/// Opens the file's journal, listens, and leads the sessions about these jobs with the peers that call.
-fn serve_jobs<R, D, B, G>(
+/// The sessions that were led, and what became of the calls for their logs.
+#[derive(Drop)]
+struct Led<B, D: Door> {
+    served: Served<SessionNote<D::Link>, D, B>,
+    faults: LogFaults,
+}
+
+/// Leads the sessions about these jobs with the peers that call at the door, which listens, by the passes of an open journal. Their logs are
+/// kept as they end.
+fn lead_sessions<R, F, E, D, B>(
     rt: &R,
     alloc: Global,
+    jobs: &VerifierJobs<'_>,
+    shelf: &mut F,
+    notices: &mut E,
+    options: &ServedOptions,
+    parts: LeaseParts<B>,
+    passes: Vec<Pass>,
+    door: D,
+) -> Led<B, D>
+where
+    R: Threads + Wait + Sync,
+    F: Shelf + Send,
+    E: Sink + Send,
+    D: Door + Drop + Send,
+    D::Link: Drop + Send,
+    B: Disk + Drop + Send,
+    requires own { All (IsPassAt parts.table parts.total) passes.items }
+    requires all { length passes.items ≡ parts.passes }
+    requires some { 0 < length passes.items }
+    requires total { parts.total ≡ jobs.now.first.task.file.params.total }
+    requires header { (bytes : List ℕ) → (B.state parts.disk).content ≡ Some bytes
+        → HasCeilingHeader jobs.now.first.task.file.id parts.total bytes }
+    requires begins { Begins (B.state parts.disk) (B.state parts.disk) }
+    ensures notes { All (IsNoteOf (IsAnsweredNote D.Link.state jobs.now)) result.served.notes.items }
+    ensures taken { Takes options.now.sessions (length result.served.notes.items) result.served.door_failed
+        result.served.memory_failed (D.state door) (D.state result.served.door) }
+    ensures apart { AllPairs (λ m n. AreApart m.granted n.granted) result.served.notes.items }
+    ensures left { IsLeft (All IsUnused passes.items) (B.state parts.disk) (B.state result.served.disk)
+        jobs.now.first.task.file.id parts.base parts.total parts.passes (units_of_note jobs.now)
+        (λ n. n.granted) (λ n. lease_fault n.outcome) result.served.notes.items }
+    ensures refused { All IsUnused passes.items → All (λ note. IfSome (lease_fault note.outcome)
+        (IsRefusedAmong (units_of_note jobs.now) parts.base parts.total result.served.notes.items note))
+        result.served.notes.items }
+    ensures tried { TriesLogs (option_map string_bytes options.now.logs)
+        (change (F.state shelf.old) (F.state shelf.new)) result.faults.failed }
+{
+    let loan = LogLoan { shelf, notices };
+    let watched = serve_watched::<F, E, Brand, D, B, R>(
+        rt, alloc, jobs, loan, options, parts, passes, door,
+    );
+    let Watched {
+        served,
+        faults,
+        notices: _notices,
+        shelf: _shelf,
+    } = watched;
+    Led { served, faults }
+}
+
+/// Opens the file's journal, listens, and leads the sessions about these jobs with the peers that call.
+fn serve_jobs<R, F, E, D, B>(
+    rt: &R,
+    alloc: Global,
+    shelf: &mut F,
+    notices: &mut E,
     jobs: &VerifierJobs<'_>,
     words: &ServiceWords<'_>,
     journal: B,
     mut door: D,
-    gate: &G,
-) -> Result<Served<SessionNote<D::Link>, D, B>, Stopped<B, D>>
+) -> Result<Led<B, D>, Stopped<B, D>>
 where
     R: Threads + Wait + Sync,
+    F: Shelf + Send,
+    E: Sink + Send,
     D: Door + Drop + Send,
     D::Link: Drop + Send,
     B: Disk + Drop + Send,
-    G: Gate + Sync,
     requires disk { IsJournalDisk (B.state journal) }
     requires limits { AreServeLimits (named_options words.now.options.now) }
     requires few { AreFew jobs.now }
-    ensures leads { IfOk result (λ served. LeadsJobs D.Link.state (service_words words.now) jobs.now
-        served.notes.items served.door_failed served.memory_failed
-        (disk_change (B.state journal) (B.state served.disk))
-        (change (D.state door) (D.state served.door))) }
+    ensures leads { IfOk result (λ led. LeadsJobs D.Link.state (service_words words.now) jobs.now
+        led.served.notes.items led.served.door_failed led.served.memory_failed
+        (disk_change (B.state journal) (B.state led.served.disk))
+        (change (D.state door) (D.state led.served.door))) }
+    ensures tried { IfOk result (λ led. TriesLogs (service_words words.now).options.logs
+        (change (F.state shelf.old) (F.state shelf.new)) led.faults.failed) }
     ensures stop { IfErr result (λ stopped. OpeningStop (service_words words.now) jobs.now
         (disk_change (B.state journal) (B.state stopped.journal))
         (change (D.state door) (D.state stopped.door)) stopped.refusal) }
+    ensures unasked { OnErr result (F.state shelf.new ≡ F.state shelf.old) }
 {
     let options = words.options;
     let file = jobs.job(0).file();
-    let opened = open_ceilings(alloc, journal, words.file, file, options.workers);
+    let opened = open_ceilings(
+        alloc,
+        journal,
+        words.file,
+        Access::Own,
+        file,
+        options.workers,
+    );
     let (parts, passes) = match opened {
         Ok(opened) => opened,
         Err((refusal, journal)) => {
@@ -85,19 +170,21 @@ where
             });
         }
     };
-    let refusal = match door.listen(alloc, words.address, options.sessions) {
+    let refusal = match door.listen(alloc, words.address, options.timeout, options.sessions) {
         Ok(()) => {
-            let session = Verification::new(jobs);
-            return Ok(serve_all(
-                rt,
+            let left = file.total().saturating_sub(parts.base());
+            say_start(
                 alloc,
-                &session,
-                parts,
-                passes,
-                door,
-                options.sessions,
-                gate,
-            ));
+                notices,
+                &door,
+                options.follow,
+                left,
+                most_units(jobs),
+            );
+            let led = lead_sessions(
+                rt, alloc, jobs, shelf, notices, options, parts, passes, door,
+            );
+            return Ok(led);
         }
         Err(PortFault::Failed) => Refusal::DoorFailed,
         Err(PortFault::NoMemory) => Refusal::NoMemory,
@@ -110,36 +197,37 @@ where
 }
 
 /// Loads what is named, makes the jobs of its claims, and serves them; or says why not.
-fn serve_files<R, F, D, B, G>(
+fn serve_files<R, F, E, D, B>(
     rt: &R,
     alloc: Global,
     shelf: &mut F,
+    notices: &mut E,
     words: &ServiceWords<'_>,
     journal: B,
     door: D,
-    gate: &G,
-) -> Result<Served<SessionNote<D::Link>, D, B>, Stopped<B, D>>
+) -> Result<Led<B, D>, Stopped<B, D>>
 where
     R: Threads + Wait + Sync,
-    F: Shelf,
+    F: Shelf + Send,
+    E: Sink + Send,
     D: Door + Drop + Send,
     D::Link: Drop + Send,
     B: Disk + Drop + Send,
-    G: Gate + Sync,
     requires disk { IsJournalDisk (B.state journal) }
     requires limits { AreServeLimits (named_options words.now.options.now) }
     requires some { 1 ≤ length words.now.claims.now }
     requires most { length words.now.claims.now ≤ MAX_STATEMENTS }
-    ensures leads { IfOk result (λ served. LeadsFiles D.Link.state (service_words words.now)
-        served.notes.items served.door_failed served.memory_failed (F.state shelf.old).told
-        (disk_change (B.state journal) (B.state served.disk)) (change (D.state door) (D.state served.door))) }
+    ensures leads { IfOk result (λ led. LeadsFiles D.Link.state (service_words words.now)
+        led.served.notes.items led.served.door_failed led.served.memory_failed (F.state shelf.old).told
+        (disk_change (B.state journal) (B.state led.served.disk)) (change (D.state door) (D.state led.served.door))) }
+    ensures tried { IfOk result (λ led. TriesLogs (service_words words.now).options.logs
+        (change (F.state shelf.old) (F.state shelf.new)) led.faults.failed) }
     ensures stop { IfErr result (λ stopped. ServeStop (service_words words.now)
         (change (F.state shelf.old) (F.state shelf.new))
         (disk_change (B.state journal) (B.state stopped.journal))
         (change (D.state door) (D.state stopped.door)) stopped.refusal) }
-    ensures kept { OnlyLoads (IsLoadedName (service_words words.now))
-        (change (F.state shelf.old) (F.state shelf.new)) }
-    ensures quiet { OnOk result (F.state shelf.new ≡ F.state shelf.old) }
+    ensures kept { OnErr result (OnlyLoads (IsLoadedName (service_words words.now))
+        (change (F.state shelf.old) (F.state shelf.new))) }
 {
     let files = match load_files(alloc, shelf, words) {
         Ok(files) => files,
@@ -172,29 +260,29 @@ where
         unreachable!();
     };
     let jobs = VerifierJobs::new(first, others);
-    serve_jobs(rt, alloc, &jobs, words, journal, door, gate)
+    serve_jobs(rt, alloc, shelf, notices, &jobs, words, journal, door)
 }
 
 /// Serves sessions about the claims over the file's journal, keeps their logs, says what came of them and hands them back, in
-/// the order of their first units, or says why none is served; with the status.
-pub fn run_service<R, F, D, B, O, G>(
+/// the order of their first units, or says why none is served; with the status. How it goes is said to whoever hears it, where it is followed.
+fn serve_heard<R, F, D, B, O, E>(
     rt: &R,
     alloc: Global,
     shelf: &mut F,
     journal: B,
     door: D,
-    gate: &G,
     out: &mut O,
+    notices: &mut E,
     words: &ServiceWords<'_>,
 ) -> Finish<B, D>
 where
     R: Threads + Wait + Sync,
-    F: Shelf,
+    F: Shelf + Send,
     D: Door + Drop + Send,
     D::Link: Drop + Send,
     B: Disk + Drop + Send,
     O: Sink,
-    G: Gate + Sync,
+    E: Sink + Send,
     requires disk { IsJournalDisk (B.state journal) }
     requires limits { AreServeLimits (named_options words.now.options.now) }
     requires some { 1 ≤ length words.now.claims.now }
@@ -211,19 +299,28 @@ where
     one_circuit();
     ceilings_start_again();
     extracted_shows_outputs();
-    match serve_files(rt, alloc, shelf, words, journal, door, gate) {
-        Ok(
-            Served {
+    match serve_files(rt, alloc, shelf, notices, words, journal, door) {
+        Ok(led) => {
+            let Led { served, faults } = led;
+            let Served {
                 mut notes,
                 door,
                 disk,
                 door_failed,
                 memory_failed,
-            },
-        ) => {
+            } = served;
             order_notes(&mut notes);
             let logs = words.options.logs.as_deref();
-            let status = say_service(alloc, shelf, out, &notes, logs, door_failed, memory_failed);
+            let status = say_service(
+                alloc,
+                shelf,
+                out,
+                &notes,
+                logs,
+                faults,
+                door_failed,
+                memory_failed,
+            );
             Finish {
                 status,
                 journal: disk,
@@ -243,5 +340,46 @@ where
             door,
             part: Part::Plain,
         },
+    }
+}
+
+/// Serves sessions about the claims over the file's journal, keeps their logs, says what came of them and hands them back, in
+/// the order of their first units, or says why none is served; with the status. Where it is followed, it says so as it goes.
+pub fn run_service<R, F, D, B, O, E>(
+    rt: &R,
+    alloc: Global,
+    shelf: &mut F,
+    journal: B,
+    door: D,
+    out: &mut O,
+    notices: &mut E,
+    words: &ServiceWords<'_>,
+) -> Finish<B, D>
+where
+    R: Threads + Wait + Sync,
+    F: Shelf + Send,
+    D: Door + Drop + Send,
+    D::Link: Drop + Send,
+    B: Disk + Drop + Send,
+    O: Sink,
+    E: Sink + Send,
+    requires disk { IsJournalDisk (B.state journal) }
+    requires limits { AreServeLimits (named_options words.now.options.now) }
+    requires some { 1 ≤ length words.now.claims.now }
+    requires most { length words.now.claims.now ≤ MAX_STATEMENTS }
+    ensures serves { Serves D.Link.state (service_words words.now) result.part
+        (disk_change (B.state journal) (B.state result.journal)) (change (D.state door) (D.state result.door))
+        (effects result.status
+        (change (F.state shelf.old) (F.state shelf.new)) (change (O.state out.old) (O.state out.new))) }
+    ensures headline { EachNote result.part (λ note. note.outcome ≡ Accepted →
+        ShowsClaim (F.state shelf.old).told (service_words words.now) note) }
+    ensures once { OfNotes result.part (λ notes. GrantsOnce (F.state shelf.old).told (service_words words.now)
+        notes (disk_change (B.state journal) (B.state result.journal))) }
+    ensures quiet { words.now.options.now.follow ≡ false → E.state notices.new ≡ E.state notices.old }
+{
+    if words.options.follow {
+        serve_heard(rt, alloc, shelf, journal, door, out, notices, words)
+    } else {
+        serve_heard(rt, alloc, shelf, journal, door, out, &mut Unheard, words)
     }
 }

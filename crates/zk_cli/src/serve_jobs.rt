@@ -1,12 +1,12 @@
 // What a verifier that serves is to do about each claim.
-ghost use Rattle.std.specs.Prelude.{◌≡◌, ◌≤◌, All, IfOk, IfErr, map};
+ghost use Rattle.std.specs.Prelude.{◌≡◌, ◌≤◌, ◌<◌, All, IfOk, IfErr, map};
 ghost use Rattle.zk_model.specs.declared.limits.TheConstants.{MAX_SECTION_LENGTH, MAX_UNITS};
 ghost use Rattle.session_core.specs.Jobs.{units_of_job, verifier_of};
 ghost use Rattle.zk_cli.specs.ServeRuns.{FitStop};
 
 use dealer_files::VerifierFile;
 use file_commands::Refusal;
-use session_core::{CircuitClaim, Statement, TooLarge, VerifierJob};
+use session_core::{CircuitClaim, Statement, TooLarge, VerifierJob, VerifierJobs};
 use std::alloc::{AllocError, Global};
 
 /// The statements of these claims, in order.
@@ -49,4 +49,15 @@ pub fn fit_jobs<'a>(
         }
     }
     Ok(jobs)
+}
+
+/// How many units the session of a job takes at most: that of the job that takes the most.
+pub fn most_units(jobs: &VerifierJobs<'_>) -> u64
+    ensures { 0 < result }
+{
+    let mut most = 1;
+    for n in 0..jobs.count() {
+        most = u64::from(jobs.job(n).units()).max(most);
+    }
+    most
 }

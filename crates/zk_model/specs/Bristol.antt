@@ -69,7 +69,7 @@ circuit_lexemes circuit values =
 
 -- ---- which texts are read
 
--- at most 2^20 gates and wires, and at most 1,024 values of inputs and of outputs
+-- at most 2^24 gates and wires, and at most 1,024 values of inputs and of outputs
 pub record IsWithinLimits (circuit : Circuit) (values : Values) : Type 0 where
   pub gates : length circuit.gates ≤ MAX_GATES
   pub wires : circuit.wires ≤ MAX_WIRES

@@ -1,11 +1,16 @@
 -- What a disk tells of itself.
 use Rattle.std.specs.Prelude.{◌≡◌, ◌⊎◌, ◌≤◌, ℕ, List, Option, None}
 use Rattle.zk_port.specs.Images.{ImagesFollow}
+use Rattle.zk_port.specs.declared.access.Access.{Access}
 
--- the names of files that were chosen, in order, the content and the room for it, where the disk tells them; what a crash at this moment may leave; the moment, as a number that
+-- a file that is taken: its name, and how
+abbrev pub Choice : Type 0
+Choice = List ℕ × Access
+
+-- the files that were chosen, in order, the content and the room for it, where the disk tells them; what a crash at this moment may leave; the moment, as a number that
 -- doesn't fall; what a crash at some moment from one on might have left, during a call or between two; how often a call has failed
 pub record DiskState : Type 1 where
-  pub chosen : Option (List (List ℕ))
+  pub chosen : Option (List Choice)
   pub content : Option (List ℕ)
   pub room : Option ℕ
   pub images : List ℕ → Type 0

@@ -8,13 +8,14 @@ use Rattle.zk_port.specs.declared.way.Way.TheVariants.{Sent, Received}
 
 -- each byte that passed, with the way that it went; what the peer sends from now on, whatever is sent to it; and whether the peer
 -- was seen to have ended: these where the link tells them. Whether this end may still be used; how many sends and receives there
--- were, refused ones too; and how often a call has failed. A count at the end of its type stays there.
+-- were, refused ones too; how many sends were refused; and how often a call has failed. A count at the end of its type stays there.
 pub record LinkState : Type 0 where
   pub log : Option (List (Way × ℕ))
   pub to_come : Option (List ℕ)
   pub ended : Option Bool
   pub is_open : Bool
   pub sends : ℕ
+  pub refused_sends : ℕ
   pub receives : ℕ
   pub faults : ℕ
 
@@ -28,6 +29,7 @@ pub record SendsPart (bytes : List ℕ) (old new : LinkState) : Type 0 where
   pub part : new ≡ record old {
     log = appended (bytes_of Sent (take count bytes)) old.log;
     sends = counted true old.sends;
+    refused_sends = counted true old.refused_sends;
     faults = new.faults;
   }
 

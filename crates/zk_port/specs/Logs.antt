@@ -12,9 +12,9 @@ pub record AppendsPart {T : Type 0} (more : List T) (old new : Option (List T)) 
   pub count : ℕ
   pub part : new ≡ appended (take count more) old
 
--- a name that a refused call was given is noted, or is not, where there was no memory for it
-abbrev pub NotesOnce : List ℕ → Option (List (List ℕ)) → Option (List (List ℕ)) → Type 0
-NotesOnce name old new = (new ≡ old) ⊎ (new ≡ appended (name ∷ []) old)
+-- what a refused call was given, as a name, is noted, or is not, where there was no memory for it
+abbrev pub NotesOnce : {T : Type 0} → T → Option (List T) → Option (List T) → Type 0
+NotesOnce given old new = (new ≡ old) ⊎ (new ≡ appended (given ∷ []) old)
 
 -- where the object tells, these come before what is there
 abbrev pub put_before : {T : Type 0} → List T → Option (List T) → Option (List T)

@@ -1,5 +1,6 @@
 use Rattle.std.proofs.Common.{sym, ◌∙◌, subst}
 use Rattle.lease_journal.specs.OneAreas.{FindsOneArea, IsBounded}
+use Rattle.lease_journal.proofs.Moments.{stays_then}
 use Rattle.lease_journal.proofs.Scanning.{says_slots}
 use Rattle.journal_migration.proofs.BehindIt.{moves_after, room_of}
 use Rattle.journal_migration.proofs.migrate.Goals as goal
@@ -31,3 +32,7 @@ pub returns-in-Err-move_on-clause-moves : goal.returns-in-Err-move_on-clause-mov
 returns-in-Err-move_on-clause-moves g c = λ bytes is.
     moves_after c.args.kind c.args.id.now c.args.total bytes (g.met.B.Disk.counts_now c.args.disk.now) (g.met.B.Disk.only_now c.args.disk.now)
     c.read_one_area.ensures.stays (c.move_on.ensures.moves bytes (c.read_one_area.ensures.stays.content ∙ is))
+
+pub returns-in-Err-move_on-clause-refused : goal.returns-in-Err-move_on-clause-refused
+returns-in-Err-move_on-clause-refused g c = λ other.
+    stays_then (g.met.B.Disk.counts_now c.args.disk.now) c.read_one_area.ensures.stays (c.in-Err-move_on.ensures.refused other)

@@ -3,7 +3,8 @@ ghost use Rattle.std.specs.Prelude.{◌≡◌, ◌≤◌, ◌<◌, ◌^◌, ℕ,
 ghost use Rattle.zk_port.specs.Disks.{Stays};
 ghost use Rattle.zk_model.specs.Twins.{twin_begin, twin_ceiling_slots, twin_slots_at};
 ghost use Rattle.zk_model.specs.declared.JournalKind.TheVariants.{Ceilings};
-ghost use Rattle.lease_store.specs.Ceilings.{HasCeilingHeader, HasCeilingRoom, HasTidyCeilings};
+ghost use Rattle.lease_store.specs.Ceilings.{HasCeilingHeader, HasCeilingRoom};
+ghost use Rattle.twin_journal.specs.Starts.{AreTidy};
 ghost use Rattle.lease_store.specs.Desks.{Begins};
 ghost use Rattle.lease_store.specs.Leases.{IsPassAt};
 
@@ -19,7 +20,7 @@ use zk_port::Disk;
 /// A new journal of ceilings for so many units.
 pub fn new_ceilings(alloc: Global, total: u64) -> Result<Vec<u8>, Fail>
     requires { 1 ≤ total }
-    ensures tidy { IfOk result (λ bytes. HasTidyCeilings bytes.items) }
+    ensures tidy { IfOk result (λ bytes. AreTidy bytes.items) }
     ensures begins { IfOk result (λ bytes. twin_begin Ceilings bytes.items ≡ 0) }
     ensures says { IfOk result (λ bytes. twin_slots_at 0 bytes.items ≡ twin_ceiling_slots total) }
 {
@@ -37,7 +38,7 @@ pub fn sure_ceilings(alloc: Global, total: u64) -> Result<SureDisk, Fail>
     ensures room { IfOk result (λ disk. (size : ℕ) → (⟦<SureDisk as Disk>⟧.state disk).room ≡ Some size
         → HasCeilingRoom (⟦<SureDisk as Disk>⟧.state disk).content size) }
     ensures tidy { IfOk result (λ disk. (bytes : List ℕ)
-        → (⟦<SureDisk as Disk>⟧.state disk).content ≡ Some bytes → HasTidyCeilings bytes) }
+        → (⟦<SureDisk as Disk>⟧.state disk).content ≡ Some bytes → AreTidy bytes) }
 {
     let bytes = new_ceilings(alloc, total)?;
     Ok(SureDisk::new(bytes, 128 + 64 * twin_ceiling_slots(total) as usize)?)
@@ -54,7 +55,7 @@ pub fn started<B: Disk + Drop>(
     requires passes { (1 ≤ passes) × (passes ≤ 1024) }
     requires room { (size : ℕ) → (B.state disk).room ≡ Some size
         → HasCeilingRoom (B.state disk).content size }
-    requires tidy { (bytes : List ℕ) → (B.state disk).content ≡ Some bytes → HasTidyCeilings bytes }
+    requires tidy { (bytes : List ℕ) → (B.state disk).content ≡ Some bytes → AreTidy bytes }
     ensures own { IfOk result (λ r. All (IsPassAt r.0.table r.0.total) r.1.items) }
     ensures passes { IfOk result (λ r. r.0.passes ≡ passes) }
     ensures made { IfOk result (λ r. length r.1.items ≡ r.0.passes) }

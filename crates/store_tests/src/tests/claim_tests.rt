@@ -1,7 +1,7 @@
 // Claims over disks in memory.
 ghost use Rattle.std.specs.Prelude.{◌≡◌, ◌≤◌, ℕ, List, Some, None, IfOk};
 ghost use Rattle.zk_model.specs.declared.JournalKind.TheVariants.{Claims};
-ghost use Rattle.twin_journal.specs.Starts.{IsTidyFile};
+ghost use Rattle.twin_journal.specs.Starts.{AreTidy};
 
 use crate::tests::disks::{ID, failing, quiet_disk};
 use crate::tests::twin_disks::{new_twin, sure_twin, telling_twin};
@@ -42,14 +42,14 @@ fn claimed_on<B: Disk + Drop>(
     requires start { start ≤ 10 }
     requires room { (B.state disk).room ≡ None }
     requires tidy { (bytes : List ℕ) → (B.state disk).content ≡ Some bytes
-        → IsTidyFile Claims bytes }
+        → AreTidy bytes }
     ensures room { IfOk result (λ new. (B.state new).room ≡ None) }
     ensures tidy { IfOk result (λ new. (first : List ℕ) → (B.state disk).content ≡ Some first
         → (bytes : List ℕ) → (B.state new).content ≡ Some bytes
-        → IsTidyFile Claims bytes) }
+        → AreTidy bytes) }
     ensures images { IfOk result (λ new. (first : List ℕ) → (B.state disk).content ≡ Some first
         → (bytes : List ℕ) → (B.state new).content ≡ Some bytes
-        → (image : List ℕ) → (B.state new).images image → IsTidyFile Claims image) }
+        → (image : List ℕ) → (B.state new).images image → AreTidy image) }
 {
     let Ok(mut store) = ClaimStore::start(alloc, disk, &ID, 10) else {
         return Err(Fail::new("a store does not start"));

@@ -1,6 +1,7 @@
 // Leases over disks in memory.
 ghost use Rattle.std.specs.Prelude.{◌≡◌, ◌≤◌, ◌+◌, ◌*◌, ◌^◌, ℕ, List, Some, None, IfOk, All};
-ghost use Rattle.lease_store.specs.Ceilings.{HasCeilingHeader, HasCeilingRoom, HasTidyCeilings};
+ghost use Rattle.lease_store.specs.Ceilings.{HasCeilingHeader, HasCeilingRoom};
+ghost use Rattle.twin_journal.specs.Starts.{AreTidy};
 ghost use Rattle.lease_store.specs.Desks.{Begins};
 ghost use Rattle.lease_store.specs.Leases.{IsClosed, IsPassAt};
 
@@ -96,7 +97,7 @@ fn played_over<B: Disk + Drop, R: Wait>(
 ) -> Result<(Vec<Answer>, B), Fail>
     requires room { (size : ℕ) → (B.state disk).room ≡ Some size
         → HasCeilingRoom (B.state disk).content size }
-    requires tidy { (bytes : List ℕ) → (B.state disk).content ≡ Some bytes → HasTidyCeilings bytes }
+    requires tidy { (bytes : List ℕ) → (B.state disk).content ≡ Some bytes → AreTidy bytes }
 {
     let (parts, mut passes) = started(alloc, disk, 100, 1)?;
     let Some(pass) = passes.pop() else {
@@ -252,7 +253,7 @@ fn leased_by_two<B: Disk + Drop + Send, R: Threads + Wait + Sync>(
 ) -> Result<Vec<Span>, Fail>
     requires room { (size : ℕ) → (B.state disk).room ≡ Some size
         → HasCeilingRoom (B.state disk).content size }
-    requires tidy { (bytes : List ℕ) → (B.state disk).content ≡ Some bytes → HasTidyCeilings bytes }
+    requires tidy { (bytes : List ℕ) → (B.state disk).content ≡ Some bytes → AreTidy bytes }
 {
     let (parts, mut passes) = started(alloc, disk, 4000, 2)?;
     let Some(second) = passes.pop() else {

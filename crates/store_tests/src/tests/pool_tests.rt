@@ -1,19 +1,20 @@
 // Sessions over doors and disks in memory.
 ghost use Rattle.std.specs.Prelude.{◌≡◌, ◌≤◌, ◌<◌, ◌+◌, ◌*◌, ℕ, List, All, IfOk, IfSome, Some, length};
 ghost use Rattle.zk_model.specs.declared.limits.TheConstants.{MAX_UNITS};
+ghost use Rattle.zk_port.specs.Doors.{IsFreshLink};
 ghost use Rattle.lease_store.specs.Leases.{IsPassAt};
 
 use crate::tests::ceiling_disks::{started, sure_ceilings};
 use lease_store::{Grantor, LeaseFault, LeaseParts};
 use lease_words::Pass;
-use memory_ports::{MemoryDoor, NoFault, ScriptedLink, SureDisk, Together};
+use memory_ports::{Meeting, MemoryDoor, NoFault, ScriptedLink, SureDisk};
 use session_pool::{Served, Session, serve_all};
 use std::alloc::{AllocError, Global};
 use std::sync::{Barrier, Wait};
 use std::test::Fail;
 use std::thread::Threads;
 use zk_model::Span;
-use zk_port::{Gate, Link, Phase, QuietGate};
+use zk_port::Link;
 
 /// Units of the store, and of a session that wants few of them or many.
 const TOTAL: u64 = 64;
@@ -33,7 +34,7 @@ fn units_for(byte: u8) -> Option<u32>
     }
 }
 
-/// Reads a byte of the peer, and leases few units where it is `h`, and many where it is `w`.
+/// Reads a byte of the peer, and leases few units where it is `h`, and many where it is `w`; then it says so, and reads another byte.
 struct Asks;
 
 /// What came of it, and how many units it asked for, or 0.
@@ -77,65 +78,84 @@ impl<L: Link + Drop> Session<L> for Asks {
 
     ghost refused = { λ note. note.refused };
 
-    fn lead<R: Threads + Sync, T: Grantor, G: Gate>(
+    fn lead<R: Threads + Sync, T: Grantor>(
         &self,
         _rt: &R,
         alloc: Global,
         grantor: &mut T,
         link: L,
-        gate: &G,
     ) -> Note {
         let mut link = link;
         let mut byte = [0];
         let came = link.receive(alloc, &mut byte);
-        link.end();
         let wanted = if came == Ok(1) {
             units_for(byte[0])
         } else {
             None
         };
-        let Some(units) = wanted else {
-            return Note::new(0, None, None);
+        let note = match wanted {
+            None => Note::new(0, None, None),
+            Some(units) => match grantor.grant(units) {
+                Ok(span) => {
+                    let _ = link.send(alloc, b"g");
+                    let _ = link.receive(alloc, &mut byte);
+                    Note::new(units, Some(span), None)
+                }
+                Err(fault) => Note::new(units, None, Some(fault)),
+            },
         };
-        match grantor.grant(units) {
-            Ok(span) => {
-                gate.phase(Phase::Granted { start: span.start });
-                gate.phase(Phase::Ended { start: span.start });
-                Note::new(units, Some(span), None)
-            }
-            Err(fault) => Note::new(units, None, Some(fault)),
-        }
+        link.end();
+        note
     }
 }
 
 type Peers = MemoryDoor<ScriptedLink<NoFault>, NoFault>;
 
+/// A peer that sends this byte.
+fn peer_of(alloc: Global, byte: u8) -> Result<ScriptedLink<NoFault>, AllocError>
+    ensures { IfOk result (λ link. IsFreshLink (⟦<ScriptedLink<NoFault> as Link>⟧.state link)) }
+{
+    let mut script = Vec::new(alloc);
+    script.push(byte)?;
+    Ok(ScriptedLink::new(alloc, script, NoFault))
+}
+
 /// A door at which a peer waits for each of these bytes, and sends it.
 fn door_of(alloc: Global, bytes: &[u8]) -> Result<Peers, AllocError> {
     let mut door = MemoryDoor::new(alloc, NoFault);
     for byte in bytes {
-        let mut script = Vec::new(alloc);
-        script.push(*byte)?;
-        door.wait(ScriptedLink::new(alloc, script, NoFault))?;
+        door.wait(peer_of(alloc, *byte)?)?;
     }
     Ok(door)
 }
 
-/// What comes of so many sessions with these peers, over a disk that never fails.
-fn run<G: Gate + Sync, R: Threads + Wait + Sync>(
+/// A door at which as many peers wait as the barrier has places, each of which sends `h`, and goes on only once all were granted units.
+fn meeting_of<'a, R: Wait>(
+    alloc: Global,
+    rt: &'a R,
+    barrier: &'a Barrier,
+    peers: u32,
+) -> Result<MemoryDoor<Meeting<'a, ScriptedLink<NoFault>, R>, NoFault>, AllocError> {
+    let mut door = MemoryDoor::new(alloc, NoFault);
+    for _ in 0..peers {
+        door.wait(Meeting::new(peer_of(alloc, b'h')?, rt, barrier))?;
+    }
+    Ok(door)
+}
+
+/// What comes of so many sessions with the peers of this door, over a disk that never fails.
+fn run<R: Threads + Wait + Sync, L: Link + Drop + Send>(
     rt: &R,
     alloc: Global,
     passes: u32,
     sessions: u32,
-    bytes: &[u8],
-    gate: &G,
-) -> Result<Served<Note, Peers, SureDisk>, Fail>
+    door: MemoryDoor<L, NoFault>,
+) -> Result<Served<Note, MemoryDoor<L, NoFault>, SureDisk>, Fail>
     requires { (1 ≤ passes) × (passes ≤ 1024) }
 {
     let disk = sure_ceilings(alloc, TOTAL)?;
     let (parts, passes) = started(alloc, disk, TOTAL, passes)?;
-    let door = door_of(alloc, bytes)?;
-    Ok(serve_all(rt, alloc, &Asks, parts, passes, door, sessions, gate))
+    Ok(serve_all(rt, alloc, &Asks, parts, passes, door, sessions))
 }
 
 /// The starts of the spans that were granted, in order, and how many sessions were refused.
@@ -156,9 +176,8 @@ fn sessions_run_at_once(rt: HostRuntime) -> Result<(), Fail> {
     let alloc: Global = rt.alloc();
     for passes in [2u32, 4] {
         let barrier = Barrier::new(passes as usize);
-        let gate = Together::new(&rt, &barrier);
-        let peers: &[u8] = if passes == 2 { b"hh" } else { b"hhhh" };
-        let served = run(&rt, alloc, passes, passes, peers, &gate)?;
+        let door = meeting_of(alloc, &rt, &barrier, passes)?;
+        let served = run(&rt, alloc, passes, passes, door)?;
         assert!(rt; !served.door_failed && !served.memory_failed);
         let (starts, refused) = starts_of(alloc, &served.notes)?;
         assert!(rt; starts.len() == passes as usize && refused == 0);
@@ -182,7 +201,7 @@ const SERVICES: &[Service] = &[
 fn as_many_as_come_and_are_wanted_are_served(rt: HostRuntime) -> Result<(), Fail> {
     let alloc: Global = rt.alloc();
     for (passes, sessions, peers, count, granted, refused) in SERVICES {
-        let served = run(&rt, alloc, *passes, *sessions, peers, &QuietGate)?;
+        let served = run(&rt, alloc, *passes, *sessions, door_of(alloc, peers)?)?;
         assert!(rt; served.notes.len() == *count && !served.door_failed && !served.memory_failed);
         let (starts, others) = starts_of(alloc, &served.notes)?;
         assert!(rt; starts.as_slice() == *granted && others == *refused);
@@ -194,7 +213,7 @@ fn as_many_as_come_and_are_wanted_are_served(rt: HostRuntime) -> Result<(), Fail
 #[test]
 fn sessions_lease_as_many_units_as_each_wants(rt: HostRuntime) -> Result<(), Fail> {
     let alloc: Global = rt.alloc();
-    let served = run(&rt, alloc, 1, 9, b"hwxwh", &QuietGate)?;
+    let served = run(&rt, alloc, 1, 9, door_of(alloc, b"hwxwh")?)?;
     let short = Some(LeaseFault::Exhausted {
         at: 48,
         count: MANY,

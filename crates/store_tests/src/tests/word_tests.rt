@@ -2,7 +2,8 @@
 ghost use Rattle.std.specs.Prelude.{◌≡◌, ◌≤◌, length, IfOk, All};
 ghost use Rattle.lease_words.specs.Calls.{journal_view, IsPassOf, IsSeatOf};
 
-use lease_words::{Exhausted, JournalSeat, Pass, Words, start};
+use crate::tests::noted::{Noted, noted_words};
+use lease_words::{Exhausted, JournalSeat, Pass, Words};
 use std::alloc::{AllocError, Global};
 use std::test::Fail;
 use std::thread::{Threads, join};
@@ -11,7 +12,7 @@ use zk_model::Span;
 /// Draws as often as asked.
 fn draw_often(
     alloc: Global,
-    words: &Words,
+    words: &Words<Noted>,
     mut pass: Pass,
     times: u32,
     count: u32,
@@ -31,8 +32,8 @@ fn draw_often(
 
 fn gather_two(
     alloc: Global,
-    words: Words,
-    seat: JournalSeat,
+    words: Words<Noted>,
+    seat: JournalSeat<Noted>,
     first: Pass,
     second: Pass,
 ) -> Result<(), AllocError>
@@ -50,8 +51,8 @@ fn gather_two(
 fn draw_by_two<R: Threads + Sync>(
     rt: &R,
     alloc: Global,
-    words: Words,
-    seat: JournalSeat,
+    words: Words<Noted>,
+    seat: JournalSeat<Noted>,
     first: Pass,
     second: Pass,
 ) -> Result<Vec<Span>, AllocError>
@@ -79,7 +80,7 @@ fn draw_by_two<R: Threads + Sync>(
 
 #[test]
 fn what_two_threads_draw_tiles(rt: HostRuntime) -> Result<(), Fail> {
-    let (words, seat, mut passes) = start(rt.alloc(), 16, 1 << 20, 2)?;
+    let (words, seat, mut passes) = noted_words(rt.alloc(), 16, 1 << 20, 2)?;
     let Some(second) = passes.pop() else {
         panic!(rt; "two passes")
     };
@@ -100,7 +101,7 @@ fn what_two_threads_draw_tiles(rt: HostRuntime) -> Result<(), Fail> {
 
 #[test]
 fn a_refused_pass_is_refused_again(rt: HostRuntime) -> Result<(), Fail> {
-    let (words, seat, mut passes) = start(rt.alloc(), 0, 10, 2)?;
+    let (words, seat, mut passes) = noted_words(rt.alloc(), 0, 10, 2)?;
     let Some(mut other) = passes.pop() else {
         panic!(rt; "two passes")
     };
@@ -135,11 +136,15 @@ fn was_refused(answer: Result<Span, Exhausted>, at: u64, count: u32) -> bool {
 
 #[test]
 fn passes_see_the_ceiling_and_the_mark(rt: HostRuntime) -> Result<(), Fail> {
-    let (words, mut seat, mut passes) = start(rt.alloc(), 0, 100, 1)?;
+    let (words, mut seat, mut passes) = noted_words(rt.alloc(), 0, 100, 1)?;
     let Some(mut pass) = passes.pop() else {
         panic!(rt; "one pass")
     };
     assert!(rt; words.look(&mut pass) == 0);
+    assert!(rt; drew(words.draw(&mut pass, 3), 0, 3));
+    let receipt = words.receipt(&mut pass);
+    words.learn(&mut seat, receipt);
+    assert!(rt; seat.store(16).is_ok());
     words.raise(&mut seat, 16);
     let ceiling = words.look(&mut pass);
     let mark = words.marked(&mut pass);

@@ -9,12 +9,12 @@ use Rattle.file_commands.proofs.Journals.{opens_then, stops_start}
 use Rattle.file_commands.proofs.journal_file.open_ceilings.Goals as goal
 
 pub start-requires-clause-tidy : goal.start-requires-clause-tidy
-start-requires-clause-tidy g c = λ bytes known. c.requires.disk.tidy Ceilings bytes (sym c.in_default.ensures.opens.stays.content ∙ known)
+start-requires-clause-tidy g c = λ bytes known. c.requires.disk.tidy bytes (sym c.in_default.ensures.opens.stays.content ∙ known) Ceilings _ _
 
 pub returns-in-Ok-clause-opens : goal.returns-in-Ok-clause-opens
 returns-in-Ok-clause-opens g c =
     let opens = c.in_default.ensures.opens in
-    opens_then (journal_name c.args.name.now) (g.met.B.Disk.counts_now c.args.journal) opens.chosen opens.stays opens.still
+    opens_then (journal_name c.args.name.now, c.args.access) (g.met.B.Disk.counts_now c.args.journal) opens.chosen opens.stays opens.still
     c.in-Ok.ensures.stays c.in-Ok.ensures.faults
 
 pub returns-in-Ok-clause-header : goal.returns-in-Ok-clause-header

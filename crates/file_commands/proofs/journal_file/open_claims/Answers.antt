@@ -1,4 +1,4 @@
-use Rattle.std.proofs.Common.{◌≡◌, ℕ, List, sym, ap, ◌∙◌, subst, rules}
+use Rattle.std.proofs.Common.{ℕ, List, sym, ap, ◌∙◌, subst}
 use Rattle.zk_model.specs.Twins.{HoldsTwin}
 use Rattle.zk_model.specs.declared.JournalKind.TheVariants.{Claims}
 use Rattle.zk_port.specs.Counts.{Rose}
@@ -12,7 +12,7 @@ use Rattle.file_commands.proofs.Journals.{stops_start}
 use Rattle.file_commands.proofs.journal_file.open_claims.Goals as goal
 
 pub start-requires-clause-tidy : goal.start-requires-clause-tidy
-start-requires-clause-tidy g c = λ bytes known. c.requires.disk.tidy Claims bytes (sym c.in_default.ensures.opens.stays.content ∙ known)
+start-requires-clause-tidy g c = λ bytes known. c.requires.disk.tidy bytes (sym c.in_default.ensures.opens.stays.content ∙ known) Claims _ _
 
 pub returns-in-Ok-clause-holds : goal.returns-in-Ok-clause-holds
 returns-in-Ok-clause-holds g c = λ bytes known.

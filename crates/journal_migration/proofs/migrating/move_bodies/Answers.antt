@@ -46,8 +46,9 @@ returns-in-Ok g c =
       done = λ bytes is.
           is_done name.kind name.id name.total c.args.found.slots c.moved_slots.result (first_bodies 64 c.args.found.used bytes) (g.F.Bodies.rest c.args.next.now) bytes
           (was g at bytes is) (c.requires.same bytes is) c.moved_slots.ensures (g.B.Disk.state c.move_behind.new.disk) c.in-Ok.count c.in-Ok.ensures.used
-          (c.in-Ok.ensures.moved c.args.found.slots (first_bodies 64 c.args.found.used bytes) bytes (before g at bytes is));
+          (c.in-Ok.ensures.moved c.args.found.slots (first_bodies 64 c.args.found.used bytes) bytes (before g at bytes is)) c.in-Ok.ensures.bytes;
       moves = moves g at;
+      refused = tt;
       durable = c.in-Ok.ensures.durable;
       chosen = c.move_behind.ensures.chosen;
       cause = tt;
@@ -58,6 +59,7 @@ pub returns-in-Err : goal.returns-in-Err
 returns-in-Err g c = record {
   done = tt;
   moves = moves g (goal.at.returns-in-Err g c).After-move_behind;
+  refused = λ other. absurd (other refl);
   durable = tt;
   chosen = c.move_behind.ensures.chosen;
   cause = λ bytes is. tt;

@@ -26,6 +26,7 @@ returns-in-Err g c =
     record {
       done = tt;
       moves = λ bytes is. stays_safe name.kind name.id name.total bytes (g.met.B.Disk.only_now c.args.disk.now) c.read_claims.ensures.stays;
+      refused = λ other. c.read_claims.ensures.stays;
       durable = tt;
       chosen = c.read_claims.ensures.stays.chosen;
       cause = λ bytes is.

@@ -1,10 +1,11 @@
-use Rattle.std.proofs.Common.{◌≡◌, ℕ, List, IfSome, subst}
+use Rattle.std.proofs.Common.{◌≡◌, ℕ, List, [], ◌∷◌, IfSome, subst, arith}
 use Rattle.zk_port.specs.Disks.{LeavesOnly}
 use Rattle.zk_model.specs.Migrations.{SaysEither, one_area_end}
 use Rattle.zk_model.specs.Twins.{twin_length}
 use Rattle.lease_journal.specs.Keeps.{ChangesAt}
 use Rattle.lease_journal.proofs.Moments.{then_leaves}
 use Rattle.twin_journal.specs.Laying.{IsLaid}
+use Rattle.twin_journal.proofs.Laid.{all_told}
 use Rattle.journal_migration.specs.Migrating.{EndsAt}
 use Rattle.journal_migration.proofs.BehindIt.{Standing, gate_done, gate_moments, gate_read, laid_moments, laid_read, standing}
 use Rattle.journal_migration.proofs.moving.move_behind.Given.{Over}
@@ -67,6 +68,12 @@ returns-clause-moved g c = λ old_slots bodies bytes before.
     let at = goal.at.returns-clause-moved g c in
     gate_done c.args.twin.name.kind c.args.twin.name.id c.args.twin.name.total old_slots c.args.twin.slots bodies (g.F.Bodies.rest c.args.next.now) bytes before.says
     c.requires.sound (stands g at.After-store_at old_slots bodies bytes before (changes g at.After-lay _ before.place)) _ c.in_ok-store_at.ensures.written
+
+pub returns-clause-bytes : goal.returns-clause-bytes
+returns-clause-bytes g c =
+    let twin = c.args.twin in
+    all_told twin.name.kind twin.name.id twin.name.total twin.begin twin.slots (g.F.Bodies.rest c.args.next.now) 15 (90 ∷ []) (omega (arith, c.requires.behind))
+    _ _ c.in_ok-store_at.ensures.written c.in_ok-used.ensures.bytes
 
 pub returns-clause-any_moment : goal.returns-clause-any_moment
 returns-clause-any_moment g c = λ old_slots bodies bytes before.

@@ -1,16 +1,15 @@
 use Rattle.std.proofs.Common.{◌∙◌, ℕ, List, ap, sym, subst, refl}
 use Rattle.zk_model.specs.Twins.{blank_twin_bytes, twin_begin, twin_slots_at}
-use Rattle.twin_journal.specs.Starts.{IsTidyFile}
+use Rattle.twin_journal.specs.Starts.{AreTidy}
 use Rattle.program_tests.specs.declared.vectors.TheConstants.{FILE_ID}
-use Rattle.program_tests.proofs.PlainFiles.{begins_first, one_fits, tidy_first}
+use Rattle.program_tests.proofs.PlainFiles.{begins_first, one_fits}
 use Rattle.program_tests.proofs.given.new_bytes.Goals as goal
 
 pub returns-clause-tidy : goal.returns-clause-tidy
-returns-clause-tidy c = λ either.
+returns-clause-tidy c =
     let new = c.blank_twin_is_new.ensures c.args.kind FILE_ID 4 1 refl (one_fits c.args.kind) in
     let blank : List ℕ = blank_twin_bytes c.args.kind FILE_ID 4 1 in
-    subst (IsTidyFile either) (sym c.in_ok-bytes.ensures) (tidy_first c.args.kind either FILE_ID 4 1 blank new.holds.stands
-    (c.says_what_it_recovers.ensures 0 1 1 _ blank new.says).tidy)
+    subst AreTidy (sym c.in_ok-bytes.ensures) (c.said_is_tidy.ensures c.args.kind FILE_ID 4 0 1 1 _ blank new.holds new.says)
 
 pub returns-clause-begins : goal.returns-clause-begins
 returns-clause-begins c = λ either.

@@ -1,4 +1,5 @@
 use Rattle.std.proofs.Common.{◌≡◌, ◌∙◌, [], None, ap, subst}
+use Rattle.zk_model.specs.declared.Side.TheVariants.{Verifier}
 use Rattle.frame_link.specs.Lines.{LineState}
 use Rattle.session_core.specs.Cores.{VerifierState, awaits_hello}
 use Rattle.session_core.specs.Jobs.{VerifierJob, VerifierJobs, noted_job, units_of_job}
@@ -10,13 +11,13 @@ use Rattle.session_verifier.specs.declared.serve.Serving.{Serving}
 use Rattle.session_verifier.proofs.ServeLemmas.{noted, taken_within, lease_total, lease_asked, lease_moved, done_judged}
 use Rattle.session_verifier.proofs.serve.serve.Given.{Over}
 use Rattle.session_verifier.proofs.serve.serve.Goals as goal
-use Rattle.session_driver.proofs.Going.{run_seen}
+use Rattle.session_driver.proofs.Going.{run_came, run_seen}
 
 -- a verifier's end and the one who leases units, as definitions see them
 abbrev grants : (g : Over) → Grants g.row.R.Denot
 grants g = grants_of g.R.Grantor.answer g.R.Grantor.asked g.R.Grantor.total g.R.Grantor.may g.R.Grantor.moves
 
-abbrev view : (g : Over) → Serving g.row.G.Denot × g.row.R.Denot → Served g.row.R.Denot
+abbrev view : (g : Over) → Serving × g.row.R.Denot → Served g.row.R.Denot
 view g s = served s.0.jobs.now s.0.core s.0.taken s.0.granted s.1
 
 -- a run from a core that waits for the hello
@@ -57,6 +58,7 @@ returns g c =
       moved = lease_moved (grants g) units old led.asked noted.lease;
       statement = noted.statement;
       course = noted.course;
+      came = run_came (serves (grants g)) [] _ _ c.run-outcome.result c.args.line.now c.run-outcome.new.line Verifier run c.requires.side;
       within = taken_within jobs led.party.taken _ noted.statement.has;
       side = c.run-outcome.ensures.side ∙ c.requires.side;
       open_still = c.run-outcome.ensures.open_still;

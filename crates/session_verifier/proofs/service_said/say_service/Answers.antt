@@ -1,26 +1,20 @@
 use Rattle.std.proofs.Common.{ℕ, List, string_bytes, ap, subst, inl, inr, refl, ◌∙◌}
-use Rattle.std.specs.Result.{result_err}
 use Rattle.zk_port.specs.Changes.{change}
 use Rattle.session_verifier.specs.NoteLines.{served_status}
 use Rattle.file_commands.specs.Stops.{Prints}
-use Rattle.session_verifier.proofs.LogStores.{keeps_result}
 use Rattle.session_verifier.proofs.service_said.say_service.Goals as goal
 
 pub returns-in_default : goal.returns-in_default
-returns-in_default g c = record {
-  logs = result_err c.store_logs-stored.result;
-  stored = keeps_result c.store_logs-stored.result _ c.args.notes.now (g.F.Shelf.state c.args.shelf.now)
-      (g.F.Shelf.state c.store_logs-stored.new.shelf) c.store_logs-stored.ensures.stored c.store_logs-stored.ensures.stop;
-  kept = c.store_logs-stored.ensures.kept;
+returns-in_default g c = λ first tried. record {
+  faults = c.settle_logs-kept.result;
+  logs = c.settle_logs-kept.ensures first tried;
   lines = inr (refl, refl);
 }
 
 pub returns : goal.returns
-returns g c = record {
-  logs = result_err c.store_logs-stored.result;
-  stored = keeps_result c.store_logs-stored.result _ c.args.notes.now (g.F.Shelf.state c.args.shelf.now)
-      (g.F.Shelf.state c.store_logs-stored.new.shelf) c.store_logs-stored.ensures.stored c.store_logs-stored.ensures.stop;
-  kept = c.store_logs-stored.ensures.kept;
+returns g c = λ first tried. record {
+  faults = c.settle_logs-kept.result;
+  logs = c.settle_logs-kept.ensures first tried;
   lines =
       let status = c.served_status.ensures ∙ ap (served_status c.args.notes.now) c.failures_of-failed.ensures in
       inl (

@@ -1,8 +1,10 @@
-use Rattle.std.proofs.Common.{rules, ◌^◌, ◌≤◌, [], ap, sym, ◌∙◌, subst, length, arith}
+use Rattle.std.proofs.Common.{◌≡◌, rules, ◌^◌, ◌≤◌, [], ap, sym, ◌∙◌, subst, length, arith}
 use Rattle.zk_model.specs.Statement.{Statement, IsStatement}
 use Rattle.zk_model.specs.Files.{IsVerifierFile}
 use Rattle.zk_model.specs.Program.{Program}
-use Rattle.zk_model.specs.declared.Side.TheVariants.{Verifier}
+use Rattle.zk_model.specs.Transcript.{sent_by}
+use Rattle.zk_model.specs.declared.Side.TheVariants.{Prover, Verifier}
+use Rattle.zk_port.specs.Logs.{put_before}
 use Rattle.frame_link.specs.Lines.{LineState, LinkSnapshot, snapshot, snapshot_of}
 use Rattle.session_core.specs.Jobs.{VerifierJob, noted_job}
 use Rattle.session_verifier.specs.Notes.{TakesStatement}
@@ -39,6 +41,13 @@ course_of g c =
     let ended = ap (λ s. snapshot s c.end-link.result.1 (g.L.Link.state c.end-link.result.0)) (sym c.serve-course.ensures.side) ∙ c.end-link.ensures.passed in
     subst (λ (q : LinkSnapshot × LinkSnapshot). IsCourse (noted_of g c) (g.R.Grantor.answer c.serve-course.new.grantor) c.serve-course.result.granted c.serve-course.result.outcome q.0 q.1)
     (λ i. (ap snapshot_of c.new-line.ensures i, sym ended i)) c.serve-course.ensures.course
+
+-- and what came is what the link no longer has to come
+came_of : (g : Over) (c : goal.After-end-link g) → (first_of g c).to_come ≡ put_before (sent_by Prover c.end-link.result.1) (now_of g c).to_come
+came_of g c =
+    let ended = ap (λ s. snapshot s c.end-link.result.1 (g.L.Link.state c.end-link.result.0)) (sym c.serve-course.ensures.side) ∙ c.end-link.ensures.passed in
+    subst (λ (q : LinkSnapshot × LinkSnapshot). q.0.to_come ≡ put_before (sent_by Prover q.1.log) q.1.to_come)
+    (λ i. (ap snapshot_of c.new-line.ensures i, sym ended i)) c.serve-course.ensures.came
 
 -- which statement was taken
 statement_of : (g : Over) (c : goal.After-end-link g)
@@ -94,6 +103,7 @@ returns g c =
       cause = ends_because job answer granted outcome first now known course;
       leased = leases_behind job answer granted outcome first now course;
       told = is_told job answer granted outcome first now ranges exists known course;
+      came = came_of g c;
       receives = receives_few job answer granted outcome first now course;
       complete = completes c.args.jobs.now taken answer granted outcome first now laws c.are_stated.ensures known (statement_of g c) course;
       faults = counts_faults job answer granted outcome first now course;

@@ -1,7 +1,7 @@
 use Rattle.std.proofs.Common.{◌≡◌, ◌+◌, ◌*◌, ℕ, List, length, drop, ap, ◌∙◌, subst, arith}
 use Rattle.std.proofs.lemmas.List.{drop-drop}
 use Rattle.lease_journal.proofs.Keeping.{changes_then, changes_wider, changes_write, steps_written}
-use Rattle.twin_journal.specs.Filling.{IsSlotFor, last_after}
+use Rattle.twin_journal.specs.Filling.{IsSlotFor, last_after, slot_bytes}
 use Rattle.twin_journal.proofs.AreaFills.{last_more, slot_size, told_more, used_more}
 use Rattle.twin_journal.proofs.filling.write_slots.Goals as goal
 
@@ -26,6 +26,7 @@ loop-slot-preserved g c =
           (changes_write (c.args.at + 32 * c.loop-slot.slot) (length c.next_slot-bytes.result) (g.met.B.Disk.only_now c.loop-slot.disk) c.write_at.ensures.steps
           (steps_written (c.args.at + 32 * c.loop-slot.slot) c.next_slot-bytes.result _ _ c.in_ok-write_at.ensures.written)));
       filled = λ bytes is starts.
-          told_more c.args.at c.loop-slot.slot bodies c.next_slot-bytes.result _ _ size slot_for c.in_ok-write_at.ensures.written (so_far.filled bytes is starts);
+          told_more c.args.at c.loop-slot.slot bodies c.next_slot-bytes.result _ _ size slot_for (c.next_slot-bytes.ensures.exact ∙ ap slot_bytes so_far.rest)
+          c.in_ok-write_at.ensures.written (so_far.filled bytes is starts);
       count = c.in_ok-write_at.ensures.cause.done ∙ so_far.count;
     }

@@ -5,6 +5,7 @@ use Rattle.twin_journal.proofs.lengths.end_between.Given as goal
 abbrev pub invariant-loop-low : goal.invariant-loop-low
 invariant-loop-low g l = record {
   order : l.low ≤ l.high;
+  top : l.high ≤ l.most;
   within : l.least ≤ l.low;
   stays : Stays (g.B.Disk.state l.fn.disk) (g.B.Disk.state l.disk);
   count : (g.B.Disk.state l.disk).faults ≡ (g.B.Disk.state l.fn.disk).faults;

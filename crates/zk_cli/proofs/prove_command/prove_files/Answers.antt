@@ -4,6 +4,7 @@ use Rattle.zk_model.specs.Files.{ProverFile}
 use Rattle.zk_model.specs.Statement.{Statement}
 use Rattle.zk_port.specs.Files.{Files}
 use Rattle.session_core.specs.Jobs.{ProverJob, prover_from}
+use Rattle.command_words.specs.BitWords.{Bits}
 use Rattle.command_words.specs.Words.{ProveAsk}
 use Rattle.file_commands.proofs.Journals.{untouched}
 use Rattle.file_commands.specs.Stops.{IsProverFileAt}
@@ -11,7 +12,7 @@ use Rattle.zk_cli.specs.ProveRuns.{HasWitness, IsProveJob, prove_words}
 use Rattle.zk_cli.proofs.prove_command.prove_files.Goals as goal
 
 -- a job with such inputs is what was asked
-is_prove_job : (told : Option Files) (ask : ProveAsk) (statement : Statement) (inputs : List ℕ) (file : ProverFile) (job : ProverJob)
+is_prove_job : (told : Option Files) (ask : ProveAsk Bits) (statement : Statement) (inputs : List ℕ) (file : ProverFile) (job : ProverJob)
     → (has : HasWitness told ask statement inputs) → IsProverFileAt told ask.file file → job ≡ prover_from statement inputs file
     → IsProveJob told ask has.circuit job
 is_prove_job told ask statement inputs file job has at is =

@@ -4,7 +4,7 @@ use Rattle.zk_model.specs.Twins.{HoldsTwin}
 use Rattle.zk_model.specs.declared.JournalKind.TheVariants as kind
 use Rattle.claim_store.specs.Claims.{AreClaims, SaysClaims}
 use Rattle.file_commands.specs.ClaimedUnits.{KeepsClaims}
-use Rattle.file_commands.specs.Journals.{disk_change, journal_name}
+use Rattle.file_commands.specs.Journals.{disk_change, own_journal}
 use Rattle.zk_cli.proofs.Claiming.{by_store, keeps_claims}
 use Rattle.zk_cli.proofs.prove_command.prove_job.Goals as goal
 
@@ -18,7 +18,7 @@ returns-clause-holds g c =
     let claimant = c.prove_session-note.new.claimant in
     let file = c.args.job.now.file in
     let same = c.file.ensures.file in
-    let name = journal_name c.args.words.now.file.now in
+    let name = own_journal c.args.words.now.file.now in
     record {
       claim = record { asked = claimant.asked; answer = claimant.answer };
       is_note = record {

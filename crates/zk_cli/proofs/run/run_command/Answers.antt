@@ -2,6 +2,7 @@ use Rattle.std.proofs.Common.{◌≡◌, ◌∷◌, [], string_bytes, sym, ap, �
 use Rattle.zk_port.specs.Changes.{change}
 use Rattle.session_verifier.specs.declared.note.SessionNote.{SessionNote}
 use Rattle.session_verifier.specs.declared.note.VerifierOutcome.TheVariants.{Accepted}
+use Rattle.command_words.specs.BitWords.{Bits}
 use Rattle.command_words.specs.Commands.{ask_of, named_options}
 use Rattle.command_words.specs.Words.{Ask, ServeAsk, serve, serve_ask}
 use Rattle.statement_file.specs.Claims.{NamedClaim, named_claim}
@@ -14,10 +15,10 @@ use Rattle.zk_cli.specs.ServeRuns.{Serves}
 use Rattle.zk_cli.specs.ServedNotes.{GrantsOnce, ShowsClaim}
 use Rattle.zk_cli.proofs.run.run_command.Goals as goal
 
-pub returns-in-Serve : goal.returns-in-Serve
-returns-in-Serve g c =
+pub returns-in-Serve-clause-promises : goal.returns-in-Serve-clause-promises
+returns-in-Serve-clause-promises g c =
     let found = c.in-Serve in
-    let ask : ServeAsk = serve_ask (string_bytes found.address) (string_bytes found.file) (string_bytes found.circuit) found.public.items
+    let ask : ServeAsk Bits = serve_ask (string_bytes found.address) (string_bytes found.file) (string_bytes found.circuit) found.public.items
     found.outputs.items (named_options found.options) in
     let claims : c.from_ref.result.now ≡ named_claim (string_bytes found.circuit) found.public.items found.outputs.items ∷ [] =
     c.from_ref.ensures.value ∙ ap (λ (claim : NamedClaim). claim ∷ []) c.new-claim.ensures in
@@ -31,7 +32,7 @@ returns-in-Serve g c =
     let shelf = change (g.F.Shelf.state c.args.shelf.now) (g.F.Shelf.state c.run_service.new.shelf) in
     let run = run_of g.F.Shelf.state g.D.Door.state g.D.Link.Link.state result.status result.part (change c.args.shelf.now c.run_service.new.shelf) sink
     (change c.args.journal result.journal) (change c.args.door result.door) in
-    let asked_is : ask_of c.args.command ≡ serve ask = ap ask_of found.is in
+    let asked_is : ask_of (λ v. v.items) c.args.command ≡ serve ask = ap (ask_of (λ v. v.items)) found.is in
     let promises : Promises (serve ask) c.args.seed.now disk run = record {
       meets = subst (λ (s : Service). Serves {L = g.row.D-Link.Denot} g.D.Link.Link.state s result.part disk door (effects result.status shelf sink))
           same c.run_service.ensures.serves;
@@ -39,4 +40,4 @@ returns-in-Serve g c =
           same c.run_service.ensures.headline;
       once = subst (λ (s : Service). OfNotes result.part (λ notes. GrantsOnce {L = g.row.D-Link.Denot} told s notes disk)) same c.run_service.ensures.once;
     } in
-    record { promises = subst (λ (a : Ask). Promises a c.args.seed.now disk run) (sym asked_is) promises }
+    subst (λ (a : Ask Bits). Promises a c.args.seed.now disk run) (sym asked_is) promises

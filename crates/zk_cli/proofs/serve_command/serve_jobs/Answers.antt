@@ -3,11 +3,9 @@ use Rattle.zk_model.specs.Files.{VerifierFile}
 use Rattle.zk_port.specs.Changes.{change}
 use Rattle.zk_port.specs.Doors.{DoorState}
 use Rattle.lease_store.specs.Ceilings.{HasCeilingHeader, SaysCeiling}
-use Rattle.session_core.specs.Jobs.{VerifierJobs}
 use Rattle.session_pool.specs.Doors.{Takes}
-use Rattle.session_pool.specs.Notes.{IsLeft, IsNoteOf, IsRefusedAmong}
+use Rattle.session_pool.specs.Notes.{IsLeft, IsRefusedAmong, IsUnused}
 use Rattle.session_verifier.specs.Outcomes.{lease_fault}
-use Rattle.session_verifier.specs.Sessions.{IsAnsweredNote}
 use Rattle.file_commands.specs.Journals.{JournalStop, disk_change, IsCeilingsFault}
 use Rattle.zk_cli.specs.ServeRuns.{service_words, units_of_note}
 use Rattle.zk_cli.proofs.Opening.{first_file, lacks_journal, leads_jobs}
@@ -23,36 +21,37 @@ returns-in-Err-clause-stop g c =
     (subst (λ (f : VerifierFile). JournalStop (IsCeilingsFault f.id f.params.total disk.old) disk c.in-Err.refusal) file c.in-Err.ensures.stop)
     refl
 
-pub serve_all-requires-clause-header : goal.serve_all-requires-clause-header
-serve_all-requires-clause-header g c =
+pub lead_sessions-led-requires-clause-header : goal.lead_sessions-led-requires-clause-header
+lead_sessions-led-requires-clause-header g c =
     let file : c.file-file.result.now ≡ c.args.jobs.now.first.task.file =
     first_file c.args.jobs.now c.job.result.now c.file-file.result.now c.file-file.ensures.file c.job.ensures in
     λ _ _ bytes known. subst (λ (id : List ℕ). HasCeilingHeader id c.in-Ok.opened.0.total bytes)
-    (ap (λ (f : VerifierFile). f.id) file ∙ sym (ap (λ (j : VerifierJobs). j.first.task.file.id) c.new-session.ensures)) (c.in-Ok.ensures.header bytes known)
+    (ap (λ (f : VerifierFile). f.id) file) (c.in-Ok.ensures.header bytes known)
 
 pub returns-in-Ok-listen-clause-leads : goal.returns-in-Ok-listen-clause-leads
 returns-in-Ok-listen-clause-leads g c =
     let service = service_words c.args.words.now in
-    let served = c.serve_all.result in
+    let led = c.lead_sessions-led in
+    let served = led.result.served in
     let notes = served.notes.items in
     let old = g.B.Disk.state c.args.journal in
     let mid = g.B.Disk.state c.in-Ok.opened.0.disk in
     let new = g.B.Disk.state served.disk in
     let base : ℕ = c.in-Ok.opened.0.base in
-    let jobs = c.new-session.ensures in
     let file : c.file-file.result.now ≡ c.args.jobs.now.first.task.file =
     first_file c.args.jobs.now c.job.result.now c.file-file.result.now c.file-file.ensures.file c.job.ensures in
     let total : c.in-Ok.opened.0.total ≡ c.args.jobs.now.first.task.file.params.total =
     c.in-Ok.ensures.total ∙ ap (λ (f : VerifierFile). f.params.total) file in
+    let workers : c.in-Ok.opened.0.passes ≡ service.options.workers = c.in-Ok.ensures.count in
     leads_jobs g.D.Link.Link.state service c.args.jobs.now notes served.door_failed served.memory_failed old mid new
     (change (g.D.Door.state c.args.door) (g.D.Door.state served.door)) base c.in-Ok.ensures.since c.requires.few
     c.in-Ok.ensures.opens
     (subst (λ (f : VerifierFile). (bytes : List ℕ) → old.content ≡ Some bytes → SaysCeiling f.id f.params.total base bytes) file c.in-Ok.ensures.base)
-    (subst (λ (j : VerifierJobs). All (IsNoteOf (IsAnsweredNote g.D.Link.Link.state j)) notes) jobs c.serve_all.ensures.notes)
+    led.ensures.notes
     (subst (λ (d : DoorState). Takes service.options.sessions (length notes) served.door_failed served.memory_failed d (g.D.Door.state served.door))
-    c.in-Ok-listen.ensures.listens c.serve_all.ensures.taken)
-    c.serve_all.ensures.apart
-    (subst (λ (p : VerifierJobs × ℕ). IsLeft mid new p.0.first.task.file.id base p.1 (units_of_note p.0) (λ n. n.granted) (λ n. lease_fault n.outcome) notes)
-    (λ i. (jobs i, total i)) c.serve_all.ensures.left)
-    (subst (λ (p : VerifierJobs × ℕ). All (λ n. IfSome (lease_fault n.outcome) (IsRefusedAmong (units_of_note p.0) base p.1 notes n)) notes)
-    (λ i. (jobs i, total i)) (c.serve_all.ensures.refused c.in-Ok.ensures.unused))
+    c.in-Ok-listen.ensures.listens led.ensures.taken)
+    led.ensures.apart (All IsUnused c.in-Ok.opened.1.items) c.in-Ok.ensures.unused
+    (subst (λ (p : ℕ × ℕ). IsLeft (All IsUnused c.in-Ok.opened.1.items) mid new c.args.jobs.now.first.task.file.id base p.0 p.1
+    (units_of_note c.args.jobs.now) (λ n. n.granted) (λ n. lease_fault n.outcome) notes) (λ i. (total i, workers i)) led.ensures.left)
+    (subst (λ (n : ℕ). All (λ note. IfSome (lease_fault note.outcome) (IsRefusedAmong (units_of_note c.args.jobs.now) base n notes note)) notes)
+    total (led.ensures.refused c.in-Ok.ensures.unused))

@@ -1,8 +1,6 @@
 use Rattle.std.proofs.Common.{◌≡◌, ℕ, List, Some, sym, ◌∙◌, subst}
 use Rattle.zk_model.specs.Journals.{first_bodies}
 use Rattle.zk_model.specs.Twins.{area_at}
-use Rattle.zk_model.specs.declared.JournalKind.TheVariants.{Claims}
-use Rattle.twin_journal.proofs.TwinLaws.{tidy_there}
 use Rattle.twin_journal.specs.States.{TwinState}
 use Rattle.twin_journal.specs.States as twin
 use Rattle.claim_store.specs.Claims.{AreInUse, SaysClaims}
@@ -16,7 +14,7 @@ kept_at : (g : Over) (c : In-Ok-read_claims g) (bytes : List ℕ) → (g.B.Disk.
     → twin.IsKept g.B.Disk.state c.in-Ok.journal (first_bodies (area_at c.in-Ok.journal.begin c.in-Ok.journal.slots c.in-Ok.journal.second) c.in-Ok.journal.used bytes) bytes
 kept_at g c bytes is =
     let e = c.in-Ok.ensures in
-    e.kept bytes is (tidy_there Claims c.args.id.now c.args.total c.in-Ok.journal.begin c.in-Ok.journal.slots bytes (e.holds bytes is) (c.requires.tidy bytes is))
+    e.kept bytes is (c.requires.tidy bytes is c.in-Ok.journal.begin c.in-Ok.journal.slots (e.holds bytes is))
 
 read_at : (g : Over) (c : In-Ok-read_claims g) (bytes : List ℕ) → (g.B.Disk.state c.args.disk).content ≡ Some bytes
     → AreRead c.args.total (area_at c.in-Ok.journal.begin c.in-Ok.journal.slots c.in-Ok.journal.second) c.in-Ok.journal.used c.in-Ok.journal.generation c.in-Ok-read_claims.claims.items bytes

@@ -12,7 +12,7 @@ returns-in_err-expect-clause-fails g c =
     let later : LineState = record earlier { reading = c.expect.new.self } in
     fails_at _ c.from_residual.result fault.NoMemory c.from_residual.ensures.1
     (subst (λ (s : LineState). Fails c.args.place fault.NoMemory s later) c.self.view_is
-    (none_fails c.args.place earlier later (came_none earlier later refl refl refl refl refl refl refl) refl refl))
+    (none_fails c.args.place earlier later (came_none earlier later refl refl refl refl refl refl refl refl) refl refl))
 
 pub returns-in_err-take_pieces-clause-fails : goal.returns-in_err-take_pieces-clause-fails
 returns-in_err-take_pieces-clause-fails g c =

@@ -4,11 +4,12 @@ use Rattle.zk_model.specs.Transcript.{bytes_from}
 use Rattle.zk_port.specs.Links.{LinkState}
 use Rattle.frame_link.specs.Runs.{WrittenLog}
 use Rattle.frame_link.specs.Sides.{peer_of}
-use Rattle.zk_model.specs.Frames.{bytes_wanted}
+use Rattle.zk_model.specs.Frames.{bytes_wanted, frame_length}
 use Rattle.proof_frames.specs.Readings.{wanted}
 use Rattle.frame_link.specs.Lines.{LineState, line_state, Came, PieceComes, PieceFails, port_fault}
+use Rattle.frame_link.specs.declared.fault.LineFault.{LineFault}
 use Rattle.frame_link.specs.declared.fault.LineFault.TheVariants as fault
-use Rattle.frame_link.proofs.LineLemmas.{comes_by, done_as, done_not, unreceived, fails_at, fails_as, fails_not, wanted_is, fed_badly, frame_most, came_by, untaken_by, counted_receive}
+use Rattle.frame_link.proofs.LineLemmas.{comes_by, done_as, done_not, unreceived, fails_at, fails_as, fails_not, wanted_is, fed_badly, came_by, ended_by, untaken_by, counted_receive}
 use Rattle.frame_link.proofs.line.Line.take_piece.Given.{Over}
 use Rattle.frame_link.proofs.line.Line.take_piece.Goals.{in-Ok, in-Err}
 use Rattle.frame_link.proofs.line.Line.take_piece.Goals as goal
@@ -19,8 +20,6 @@ returns-in_err-count-clause-fails g c =
     let sound = c.wants.ensures.sound in
     let causes = c.in_err-count.ensures.cause in
     let expected : c.self.inside.decoder.expected ≡ Some place = ap (λ (s : LineState). s.reading.expected) c.self.view_is ∙ c.requires.expected in
-    let most = frame_most place c.self.inside.decoder.taken in
-    let few = sound.within place expected in
     let fine : c.self.inside.decoder.bad ≡ None = ap (λ (s : LineState). s.reading.bad) c.self.view_is ∙ c.requires.fine in
     let wanting : 0 < bytes_wanted place c.self.inside.decoder.taken =
     subst (λ n. 0 < n) (ap (λ (s : LineState). wanted s.reading) (sym c.self.view_is) ∙ wanted_is c.self.inside.decoder place fine expected) c.requires.wanting in
@@ -34,7 +33,32 @@ returns-in_err-count-clause-fails g c =
     (subst (λ (w : WrittenLog). PieceFails place (port_fault c.in_err-count.field-0.0) c.args.self.now (line_state inside.side w.entries inside.decoder w.room new)) (sym c.in_err-count.ensures.unnoted)
     (subst (λ (s : LineState). PieceFails place (port_fault c.in_err-count.field-0.0) s later) c.self.view_is
     (unreceived place earlier later c.in_err-count.field-0.0 (untaken_by inside.side inside.log.entries inside.decoder inside.log.room old new refused)
-    (sound.goes_on place expected) (omega (arith, most, few)) (omega (arith, wanting)) refused.receives causes.later (λ is. causes.failed (ap Err is)) (λ is. causes.unserved (ap Err is)))))
+    (sound.goes_on place expected) (omega (arith, wanting)) refused.receives causes.later (λ is. causes.failed (ap Err is)) (λ is. causes.unserved (ap Err is)))))
+
+-- the peer has ended
+pub returns-then-count-eq0-clause-fails : goal.returns-then-count-eq0-clause-fails
+returns-then-count-eq0-clause-fails g c =
+    let place = c.args._place in
+    let inside = c.self.inside in
+    let sound = c.wants.ensures.sound in
+    let ok = c.in_ok-count.ensures in
+    let old = g.L.Link.state inside.link in
+    let new = g.L.Link.state c.receive.new.link in
+    let piece = take c.in_ok-count.count c.receive.new.buffer in
+    let expected : inside.decoder.expected ≡ Some place = ap (λ (s : LineState). s.reading.expected) c.self.view_is ∙ c.requires.expected in
+    let fine : inside.decoder.bad ≡ None = ap (λ (s : LineState). s.reading.bad) c.self.view_is ∙ c.requires.fine in
+    let wanting : 0 < wanted inside.decoder =
+    subst (λ n. 0 < n) (ap (λ (s : LineState). wanted s.reading) (sym c.self.view_is)) c.requires.wanting in
+    let missing : length inside.decoder.taken < frame_length place inside.decoder.taken =
+    omega (arith, wanting, wanted_is inside.decoder place fine expected) in
+    let ended : LineFault = fault.PeerEnded c.received-at.result in
+    subst (λ (w : WrittenLog). PieceFails place ended c.args.self.now (line_state inside.side w.entries inside.decoder w.room new))
+    (sym (ok.noted ∙ (λ i. record { entries = inside.log.entries ++ bytes_from (c.peer.ensures i) piece; room = inside.log.room })))
+    (subst (λ (s : LineState). PieceFails place ended s
+    (line_state inside.side (inside.log.entries ++ bytes_from (peer_of inside.side) piece) inside.decoder inside.log.room new)) c.self.view_is
+    (ended_by place inside.side inside.log.entries inside.decoder inside.log.room _ c.in_ok-count.count c.received-at.result piece old new ok.taken
+    c.if-count-eq0.true (omega (arith, c.min-most.ensures, c.wants.ensures.count, wanting, c.requires.room)) (ap (λ n. take n c.receive.new.buffer) c.if-count-eq0.true)
+    (sound.goes_on place expected) missing c.received-at.ensures.count ok.cause.done))
 
 -- the line before the piece came, the piece, the log behind it, and the line once the piece is fed
 abbrev earlier_of : (g : Over) (c : goal.Joined-feed g) → LineState
@@ -87,7 +111,7 @@ returns-clause-fails g c =
       | in-Err w ↦ fails_as _ c.match-feed.result _ w.result-is
           (subst (λ (l : WrittenLog). PieceFails place (fault.BadFrame w.in-Err.bad.place) c.args.self.now (line_with g c l)) (sym fed.noted)
           (subst (λ (s : LineState). PieceFails place (fault.BadFrame w.in-Err.bad.place) s (later_of g c)) c.self.view_is
-          (fed_badly place (earlier_of g c) (later_of g c) (piece_of g c) w.in-Err.bad fed.came fed.fine fed.expected fed.few (c.wants.ensures.sound.within place fed.expected) w.in-Err.ensures.bad
+          (fed_badly place (earlier_of g c) (later_of g c) (piece_of g c) w.in-Err.bad fed.came fed.fine fed.expected fed.few (c.wants.ensures.sound.within place fed.expected) (c.wants.ensures.sound.goes_on place fed.expected) w.in-Err.ensures.bad
           fed.received c.in_ok-count.ensures.cause.done)))
     ]
 

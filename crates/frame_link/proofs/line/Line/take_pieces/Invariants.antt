@@ -1,5 +1,6 @@
 use Rattle.std.proofs.Common.{◌-◌, ◌≤◌, length}
-use Rattle.frame_link.specs.Lines.{PiecesBegin, longest}
+use Rattle.frame_link.specs.Lines.{PiecesBegin}
+use Rattle.frame_link.proofs.LineLemmas.{longest}
 use Rattle.frame_link.proofs.line.Line.take_pieces.Given as goal
 
 abbrev pub invariant-pieces : goal.invariant-pieces

@@ -1,9 +1,8 @@
-use Rattle.std.proofs.Common.{rules}
-use Rattle.lease_store.specs.Leases.{IsBurnt}
-use Rattle.lease_store.proofs.Refusing.{burnt_lease}
+use Rattle.std.proofs.Common.{arith}
+use Rattle.lease_store.proofs.Keeping.{stored_below}
 use Rattle.lease_store.proofs.store.LeaseStore.lease.Goals as goal
 
-pub returns-in-Err-covered-clause-leased : goal.returns-in-Err-covered-clause-leased
-returns-in-Err-covered-clause-leased g c =
-    let burnt : IsBurnt c.args.pass.now c.in-Ok.span.start c.args.count c.await_mark.new.pass = search rules in
-    burnt_lease c.args.pass.now c.await_mark.new.pass c.in-Ok.span.start c.args.count c.await_mark.result c.refusal.result c.refusal.ensures burnt c.await_mark.ensures.mark
+pub returns-then-look-span-clause-stored : goal.returns-then-look-span-clause-stored
+returns-then-look-span-clause-stored g c =
+    let seen = c.look.ensures.stored in
+    stored_below g.B.Disk.state seen.0.total seen.0.journal c.in-Ok.span.end c.look.result (omega (arith, c.if-look-span.true)) seen.1

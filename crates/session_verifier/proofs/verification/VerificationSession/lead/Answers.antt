@@ -7,31 +7,32 @@ use Rattle.session_verifier.proofs.verification.VerificationSession.lead.Goals a
 
 pub returns-clause-note : goal.returns-clause-note
 returns-clause-note g c = record {
-  statement = c.verify_session.ensures.statement;
+  statement = c.verify_session-note.ensures.statement;
   session = record {
-    granted_is = c.verify_session.ensures.granted;
-    refused = c.verify_session.ensures.refused;
-    behind_hello = c.verify_session.ensures.leased;
-    verdict = c.verify_session.ensures.verdict;
-    accepted = c.verify_session.ensures.accepted;
-    shown = c.verify_session.ensures.shown;
-    sends = c.verify_session.ensures.sends;
-    related = c.verify_session.ensures.related;
+    granted_is = c.verify_session-note.ensures.granted;
+    refused = c.verify_session-note.ensures.refused;
+    behind_hello = c.verify_session-note.ensures.leased;
+    verdict = c.verify_session-note.ensures.verdict;
+    accepted = c.verify_session-note.ensures.accepted;
+    shown = c.verify_session-note.ensures.shown;
+    sends = c.verify_session-note.ensures.sends;
+    related = c.verify_session-note.ensures.related;
     first = g.L.Link.state c.args.link;
     fresh = c.requires.fresh;
-    cause = c.verify_session.ensures.cause;
-    told = c.verify_session.ensures.told;
-    faults = c.verify_session.ensures.faults;
-    receives = c.verify_session.ensures.receives;
-    complete = completes_noted c.args.self.now.jobs.now c.verify_session.result.statement (g.T.Grantor.answer c.verify_session.new.grantor)
-        c.verify_session.result.outcome (snapshot Verifier [] (g.L.Link.state c.args.link))
-        (snapshot Verifier c.verify_session.result.log (g.L.Link.state c.verify_session.result.link)) c.verify_session.ensures.statement.has
-        c.verify_session.ensures.complete;
-    ended = c.verify_session.ensures.ended;
+    cause = c.verify_session-note.ensures.cause;
+    told = c.verify_session-note.ensures.told;
+    came = c.verify_session-note.ensures.came;
+    faults = c.verify_session-note.ensures.faults;
+    receives = c.verify_session-note.ensures.receives;
+    complete = completes_noted c.args.self.now.jobs.now c.verify_session-note.result.statement (g.T.Grantor.answer c.verify_session-note.new.grantor)
+        c.verify_session-note.result.outcome (snapshot Verifier [] (g.L.Link.state c.args.link))
+        (snapshot Verifier c.verify_session-note.result.log (g.L.Link.state c.verify_session-note.result.link)) c.verify_session-note.ensures.statement.has
+        c.verify_session-note.ensures.complete;
+    ended = c.verify_session-note.ensures.ended;
   };
-  complete = c.verify_session.ensures.complete;
+  complete = c.verify_session-note.ensures.complete;
 }
 
 pub returns-clause-refused : goal.returns-clause-refused
 returns-clause-refused g c =
-    refused_by (noted_job c.args.self.now.jobs.now c.verify_session.result.statement) (g.T.Grantor.answer c.verify_session.new.grantor) c.verify_session.result.outcome _ _ c.verify_session.ensures.cause
+    refused_by (noted_job c.args.self.now.jobs.now c.verify_session-note.result.statement) (g.T.Grantor.answer c.verify_session-note.new.grantor) c.verify_session-note.result.outcome _ _ c.verify_session-note.ensures.cause

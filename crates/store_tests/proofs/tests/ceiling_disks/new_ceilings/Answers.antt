@@ -1,14 +1,14 @@
 use Rattle.std.proofs.Common.{◌∙◌, ap, sym, subst, refl}
 use Rattle.zk_model.specs.declared.JournalKind.TheVariants.{Ceilings}
 use Rattle.zk_model.specs.Twins.{blank_twin_bytes, twin_begin, twin_slots_at}
-use Rattle.lease_store.specs.Ceilings.{HasTidyCeilings}
+use Rattle.twin_journal.specs.Starts.{AreTidy}
 use Rattle.lease_store.proofs.Finding.{few_slots}
 use Rattle.store_tests.specs.declared.tests.disks.TheConstants.{ID}
 use Rattle.store_tests.proofs.tests.ceiling_disks.new_ceilings.Goals as goal
 
 pub returns-clause-tidy : goal.returns-clause-tidy
 returns-clause-tidy c =
-    subst HasTidyCeilings (sym (c.in_ok-bytes.ensures ∙ ap (blank_twin_bytes Ceilings ID c.args.total) c.twin_ceiling_slots-slots.ensures))
+    subst AreTidy (sym (c.in_ok-bytes.ensures ∙ ap (blank_twin_bytes Ceilings ID c.args.total) c.twin_ceiling_slots-slots.ensures))
     (c.ceilings_start_again.ensures.said ID c.args.total 0 _ (c.blank_says_zero.ensures ID c.args.total refl c.requires)).tidy
 
 pub returns-clause-begins : goal.returns-clause-begins

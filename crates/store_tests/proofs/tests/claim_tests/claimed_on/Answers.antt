@@ -1,19 +1,12 @@
 use Rattle.std.proofs.Common.{◌≡◌, List, ℕ, Some, IfSome, ap, sym, ◌∙◌, subst, arith}
 use Rattle.zk_port.specs.Images.{Only}
-use Rattle.zk_model.specs.declared.JournalKind.{JournalKind}
 use Rattle.zk_model.specs.declared.JournalKind.TheVariants.{Claims}
-use Rattle.zk_model.specs.Twins.{HoldsTwin, IsTwinTidy, twin_slots_at}
-use Rattle.twin_journal.specs.Starts.{IsTidyFile}
-use Rattle.twin_journal.proofs.TwinLaws.{says_recovers}
+use Rattle.zk_model.specs.Twins.{HoldsTwin, SaysTwin}
+use Rattle.twin_journal.specs.Starts.{AreTidy}
+use Rattle.twin_journal.proofs.TidyFiles.{said_is_tidy}
 use Rattle.claim_store.specs.Claims.{SaysClaims}
 use Rattle.store_tests.specs.declared.tests.disks.TheConstants.{ID}
 use Rattle.store_tests.proofs.tests.claim_tests.claimed_on.Goals as goal
-
--- a file of a journal that is tidy is tidy
-tidy_file : (kind : JournalKind) (id : List ℕ) (total begin slots : ℕ) (bytes : List ℕ) → HoldsTwin kind id total begin slots bytes
-    → IsTwinTidy begin slots bytes → IsTidyFile kind bytes
-tidy_file kind id total begin slots bytes holds tidy = subst (λ n. IsTwinTidy n (twin_slots_at n bytes) bytes) (sym holds.begins)
-    (subst (λ n. IsTwinTidy begin n bytes) (sym holds.stands.says) tidy)
 
 pub returns-clause-tidy : goal.returns-clause-tidy
 returns-clause-tidy g c = λ first was bytes is.
@@ -30,14 +23,16 @@ returns-clause-tidy g c = λ first was bytes is.
     × ((image : List ℕ) → (g.B.Disk.state new.disk).images image → SaysClaims new.total new.begin new.slots new.claims image)))
     now (e.durable (omega (arith, c.in-Ok.ensures.total))) in
     let one = says.0 in
-    let tidy : IsTwinTidy new.begin new.slots bytes = (says_recovers new.begin new.slots one.generation one.bodies bytes one.says).tidy in
-    let there : IsTwinTidy old.begin old.slots bytes =
-    subst (λ (n : ℕ × ℕ). IsTwinTidy n.0 n.1 bytes) (λ i. (e.begin i, e.slots i)) tidy in
-    tidy_file Claims ID 10 old.begin old.slots bytes still there
+    let there : SaysTwin old.begin old.slots one.generation one.bodies bytes =
+    subst (λ (n : ℕ × ℕ). SaysTwin n.0 n.1 one.generation one.bodies bytes) (λ i. (e.begin i, e.slots i)) one.says in
+    said_is_tidy Claims ID 10 old.begin old.slots one.generation one.bodies bytes still there
 
 pub returns-clause-images : goal.returns-clause-images
 returns-clause-images g c = λ first was bytes is image left.
     let now : (g.B.Disk.state c.claim.new.self.disk).content ≡ Some bytes = ap (λ d. (g.B.Disk.state d).content) (sym c.close.ensures.disk) ∙ is in
     let here = subst (λ d. (g.B.Disk.state d).images image) c.close.ensures.disk left in
     let same : image ≡ bytes = subst (λ o. Only o (g.B.Disk.state c.claim.new.self.disk).images) now c.in-Ok-claim.ensures.only image here in
-    subst (IsTidyFile Claims) (sym same) (returns-clause-tidy g c first was bytes is)
+    subst AreTidy (sym same) (returns-clause-tidy g c first was bytes is)
+
+pub start-requires-clause-tidy : goal.start-requires-clause-tidy
+start-requires-clause-tidy g c = λ bytes is. c.requires.tidy bytes is Claims ID 10

@@ -2,8 +2,8 @@ use Rattle.std.proofs.Common.{◌≡◌, ◌≤◌, ◌∙◌, ℕ, List, true, 
 use Rattle.std.proofs.lemmas.Bool.{and_from, le-leb}
 use Rattle.zk_model.specs.declared.JournalKind.TheVariants.{Claims}
 use Rattle.zk_model.specs.declared.limits.TheConstants.{MAX_SLOTS}
-use Rattle.zk_model.specs.Twins.{IsTwinTidy, are_twin_slots, blank_twin_bytes, twin_begin, twin_slots_at}
-use Rattle.twin_journal.specs.Starts.{IsTidyFile}
+use Rattle.zk_model.specs.Twins.{are_twin_slots, blank_twin_bytes, twin_begin, twin_slots_at}
+use Rattle.twin_journal.specs.Starts.{AreTidy}
 use Rattle.store_tests.specs.declared.tests.disks.TheConstants.{ID}
 use Rattle.store_tests.proofs.tests.twin_disks.new_twin.Goals as goal
 
@@ -14,9 +14,8 @@ pub returns-clause-tidy : goal.returns-clause-tidy
 returns-clause-tidy c =
     let new = c.blank_twin_is_new.ensures Claims ID c.args.total c.args.slots refl (fit c.args.total c.args.slots c.requires.0 c.requires.1) in
     let blank : List ℕ = blank_twin_bytes Claims ID c.args.total c.args.slots in
-    subst (IsTidyFile Claims) (sym c.in_ok-bytes.ensures)
-    (subst (λ n. IsTwinTidy n (twin_slots_at n blank) blank) (sym new.holds.begins)
-    (subst (λ n. IsTwinTidy 0 n blank) (sym new.holds.stands.says) (c.says_what_it_recovers.ensures 0 c.args.slots 1 _ blank new.says).tidy))
+    subst AreTidy (sym c.in_ok-bytes.ensures)
+    (c.said_is_tidy.ensures Claims ID c.args.total 0 c.args.slots 1 _ blank new.holds new.says)
 
 pub returns-clause-begins : goal.returns-clause-begins
 returns-clause-begins c =

@@ -1,10 +1,9 @@
 use Rattle.std.proofs.Common.{◌≡◌, ◌∙◌, Some, sym, subst}
-use Rattle.zk_model.specs.declared.JournalKind.TheVariants.{Claims}
-use Rattle.twin_journal.specs.Starts.{IsTidyFile}
+use Rattle.twin_journal.specs.Starts.{AreTidy}
 use Rattle.store_tests.proofs.tests.twin_disks.sure_twin.Goals as goal
 
 pub returns-clause-tidy : goal.returns-clause-tidy
 returns-clause-tidy c = λ bytes is.
     let told : Some bytes ≡ Some c.in_ok-bytes.bytes.items = sym is ∙ c.in_ok-new.ensures.content in
     let same : bytes ≡ c.in_ok-bytes.bytes.items = cc in
-    subst (IsTidyFile Claims) (sym same) c.in_ok-bytes.ensures.tidy
+    subst AreTidy (sym same) c.in_ok-bytes.ensures.tidy

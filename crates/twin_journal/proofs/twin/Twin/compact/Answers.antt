@@ -1,9 +1,11 @@
 use Rattle.std.proofs.Common.{◌≡◌, ◌<◌, ◌≤◌, ◌+◌, ◌*◌, ◌^◌, ℕ, List, not, true, refl, subst, arith}
 use Rattle.zk_port.specs.Disks.{LeavesOnly}
-use Rattle.zk_model.specs.Twins.{SaysOldOrNew}
+use Rattle.zk_model.specs.Twins.{SaysOldOrNew, area_at}
+use Rattle.twin_journal.specs.Compactions.{IsTurned}
+use Rattle.twin_journal.specs.Filling.{AreSlotsOf}
 use Rattle.twin_journal.specs.States.{IsKept}
 use Rattle.twin_journal.proofs.SameAreas.{area_room}
-use Rattle.twin_journal.proofs.Turning.{goes_on_telling, kept_may, kept_turned}
+use Rattle.twin_journal.proofs.Turning.{goes_on_telling, kept_may, kept_turned, told_also}
 use Rattle.twin_journal.proofs.TwinHeaders.{area_behind, keeps_holds, keeps_stands}
 use Rattle.twin_journal.proofs.twin.Twin.compact.Given.{Over}
 use Rattle.twin_journal.proofs.twin.Twin.compact.Goals.{After-turn}
@@ -59,6 +61,18 @@ returns-in-Ok-clause-recovered g c =
       fault = was.fault;
     }) was.second (g.F.Bodies.rest c.args.next.now) kept.sound c.in-Ok.ensures.used refl refl
     (goes_on_telling c.head_at.result (32 * (was.slots + 1)) bytes (g.B.Disk.state was.disk).content (g.B.Disk.state c.turn.new.disk).content kept.content c.turn.ensures.changes.content)
+    (c.in-Ok.ensures.turned was.begin was.second was.generation bodies bytes
+    (kept_may g.B.Disk.state _ bodies bytes c.head_at.result c.saturating_add.result kept
+    (c.self.invariant.only bytes kept.sound kept.content) (c.self.invariant.full bytes kept.content) c.head_at.ensures (omega (arith, next g at small)))))
+
+pub returns-in-Ok-clause-exact : goal.returns-in-Ok-clause-exact
+returns-in-Ok-clause-exact g c =
+    let at = (goal.at.returns-in-Ok-clause-exact g c).After-turn in
+    rw (← c.self.view_is) (λ bytes bodies kept small.
+    let was = c.self.inside in
+    told_also (IsTurned was.begin was.slots was.second c.saturating_add.result (g.F.Bodies.rest c.args.next.now))
+    (AreSlotsOf (area_at was.begin was.slots (not was.second)) was.slots (g.F.Bodies.rest c.args.next.now)) (g.B.Disk.state c.turn.new.disk).content
+    (λ image turned. turned.exact)
     (c.in-Ok.ensures.turned was.begin was.second was.generation bodies bytes
     (kept_may g.B.Disk.state _ bodies bytes c.head_at.result c.saturating_add.result kept
     (c.self.invariant.only bytes kept.sound kept.content) (c.self.invariant.full bytes kept.content) c.head_at.ensures (omega (arith, next g at small)))))

@@ -1,0 +1,336 @@
+// The bits that words give, some of which name a file of them.
+ghost use Rattle.std.specs.Prelude.{◌≡◌, ◌++◌, IfOk, IfErr, OnOk};
+ghost use Rattle.std.specs.List.{prefix_len};
+ghost use Rattle.zk_model.specs.Bits.{digits_of};
+ghost use Rattle.zk_port.specs.Changes.{change};
+ghost use Rattle.command_words.specs.Commands.{IsWithinLimits, ask_of, bits_ask};
+ghost use Rattle.command_words.specs.BitWords.{named};
+ghost use Rattle.file_commands.specs.BitsTexts.{SaysBits, wanted_bits, is_end};
+ghost use Rattle.file_commands.specs.Effects.{OnlyLoads, IsName};
+ghost use Rattle.file_commands.specs.GivenBits.{AreGiven, BitsFileStop, ClaimedStop, CutStop, GivenStop, InputsStop, IsGiven, IsGivenName, IsWordName, IsWordsName, WordStop, cut_refusal, is_digit};
+
+use crate::circuit_file::{load_circuit, load_file};
+use crate::refusal::Refusal;
+use bristol_reader::Circuit;
+use command_words::{BitsWord, Command};
+use std::alloc::{AllocError, Global};
+use zk_port::Shelf;
+
+/// What the text of a file of bits says.
+#[derive(Debug, Drop)]
+enum BitsText {
+    /// These bits.
+    Bits(Vec<bool>),
+    /// None: so many digits stand before the first byte that is no 0 and no 1.
+    Cut { got: u64 },
+}
+
+/// Which bits of a circuit are wanted.
+#[derive(Clone, Copy)]
+enum WantedBits<'a> {
+    /// The public ones.
+    Public,
+    /// The private ones, behind these public ones.
+    Private(&'a [bool]),
+    /// The outputs.
+    Outputs,
+}
+
+/// Whether a text of bits ends so behind these digits.
+fn is_end(bits: &[bool], rest: &[u8]) -> bool
+    ensures { result ≡ is_end bits.now rest.now }
+{
+    if bits.is_empty() {
+        rest == b"none".as_slice() || rest == b"none\n".as_slice()
+    } else {
+        rest.is_empty() || rest == b"\n".as_slice()
+    }
+}
+
+/// What a text says in which the digits of these bits stand before this rest.
+fn bits_before(bits: Vec<bool>, rest: &[u8]) -> BitsText
+    requires { prefix_len is_digit rest.now ≡ 0 }
+    ensures { SaysBits (digits_of bits.items ++ rest.now) result }
+{
+    if is_end(&bits, rest) {
+        BitsText::Bits(bits)
+    } else {
+        BitsText::Cut {
+            got: bits.len() as u64,
+        }
+    }
+}
+
+/// What the text of a file of bits says: their digits, or `none`, with a line feed at the end or without.
+fn bits_in(alloc: Global, text: &[u8]) -> Result<BitsText, AllocError>
+    ensures { IfOk result (SaysBits text.now) }
+{
+    let mut bits = Vec::new(alloc);
+    let mut rest = text;
+    while let [byte, behind @ ..] = rest {
+        match byte {
+            b'0' => bits.push(false)?,
+            b'1' => bits.push(true)?,
+            _ => break,
+        }
+        rest = behind;
+    }
+    Ok(bits_before(bits, rest))
+}
+
+/// That so many bits are not those that are wanted of the circuit.
+fn cut_refusal(circuit: &Circuit, wanted: WantedBits<'_>, got: u64) -> Refusal
+    ensures { result ≡ cut_refusal circuit.now (wanted_bits wanted.entry) got }
+{
+    let inputs = circuit.inputs() as u64;
+    match wanted {
+        WantedBits::Public => Refusal::ManyPublic { inputs, got },
+        WantedBits::Private(public) => {
+            let count = public.len() as u64;
+            if count <= inputs {
+                let need = inputs - count;
+                Refusal::WrongBits { need, got }
+            } else {
+                Refusal::ManyPublic { inputs, got: count }
+            }
+        }
+        WantedBits::Outputs => Refusal::WrongOutputs {
+            need: circuit.outputs() as u64,
+            got,
+        },
+    }
+}
+
+/// Why so many bits are refused: they are not those that are wanted of the circuit under this name, or it can't be had.
+fn refuse_cut<F: Shelf>(
+    alloc: Global,
+    shelf: &mut F,
+    circuit: &str,
+    wanted: WantedBits<'_>,
+    got: u64,
+) -> Refusal
+    ensures stop { CutStop circuit.now (wanted_bits wanted.entry) got
+        (change (F.state shelf.old) (F.state shelf.new)) result }
+    ensures kept { OnlyLoads (IsName circuit.now) (change (F.state shelf.old) (F.state shelf.new)) }
+{
+    match load_circuit(alloc, shelf, circuit) {
+        Ok(circuit) => cut_refusal(&circuit, wanted, got),
+        Err(stop) => stop,
+    }
+}
+
+/// The bits in the file of this name.
+fn file_bits<F: Shelf>(
+    alloc: Global,
+    shelf: &mut F,
+    circuit: &str,
+    wanted: WantedBits<'_>,
+    name: &str,
+) -> Result<Vec<bool>, Refusal>
+    ensures given { IfOk result (λ bits. AreGiven (F.state shelf.old).told (named name.now) bits.items) }
+    ensures quiet { OnOk result (F.state shelf.new ≡ F.state shelf.old) }
+    ensures stop { IfErr result (BitsFileStop circuit.now (wanted_bits wanted.entry) name.now
+        (change (F.state shelf.old) (F.state shelf.new))) }
+    ensures kept { OnlyLoads (IsWordName circuit.now (named name.now))
+        (change (F.state shelf.old) (F.state shelf.new)) }
+{
+    let text = load_file(alloc, shelf, name)?;
+    match bits_in(alloc, &text) {
+        Ok(BitsText::Bits(bits)) => Ok(bits),
+        Ok(BitsText::Cut { got }) => Err(refuse_cut(alloc, shelf, circuit, wanted, got)),
+        Err(_) => Err(Refusal::NoMemory),
+    }
+}
+
+/// The bits that a word gives.
+fn word_bits<F: Shelf>(
+    alloc: Global,
+    shelf: &mut F,
+    circuit: &str,
+    wanted: WantedBits<'_>,
+    word: BitsWord,
+) -> Result<Vec<bool>, Refusal>
+    ensures given { IfOk result (λ bits. AreGiven (F.state shelf.old).told (bits_ask word) bits.items) }
+    ensures quiet { OnOk result (F.state shelf.new ≡ F.state shelf.old) }
+    ensures stop { IfErr result (WordStop circuit.now (wanted_bits wanted.entry) (bits_ask word)
+        (change (F.state shelf.old) (F.state shelf.new))) }
+    ensures kept { OnlyLoads (IsWordName circuit.now (bits_ask word))
+        (change (F.state shelf.old) (F.state shelf.new)) }
+{
+    match word {
+        BitsWord::Said(bits) => Ok(bits),
+        BitsWord::Named(name) => file_bits(alloc, shelf, circuit, wanted, &name),
+    }
+}
+
+/// The public bits and the private ones that two words give.
+fn input_bits<F: Shelf>(
+    alloc: Global,
+    shelf: &mut F,
+    circuit: &str,
+    public: BitsWord,
+    bits: BitsWord,
+) -> Result<(Vec<bool>, Vec<bool>), Refusal>
+    ensures public { IfOk result (λ known.
+        AreGiven (F.state shelf.old).told (bits_ask public) known.0.items) }
+    ensures bits { IfOk result (λ known.
+        AreGiven (F.state shelf.old).told (bits_ask bits) known.1.items) }
+    ensures quiet { OnOk result (F.state shelf.new ≡ F.state shelf.old) }
+    ensures stop { IfErr result (InputsStop circuit.now (bits_ask public) (bits_ask bits)
+        (change (F.state shelf.old) (F.state shelf.new))) }
+    ensures kept { OnlyLoads (IsWordsName circuit.now (bits_ask public) (bits_ask bits))
+        (change (F.state shelf.old) (F.state shelf.new)) }
+{
+    let public = word_bits(alloc, shelf, circuit, WantedBits::Public, public)?;
+    let bits = word_bits(alloc, shelf, circuit, WantedBits::Private(&public), bits)?;
+    Ok((public, bits))
+}
+
+/// The public bits and the outputs that two words give.
+fn claimed_bits<F: Shelf>(
+    alloc: Global,
+    shelf: &mut F,
+    circuit: &str,
+    public: BitsWord,
+    outputs: BitsWord,
+) -> Result<(Vec<bool>, Vec<bool>), Refusal>
+    ensures public { IfOk result (λ known.
+        AreGiven (F.state shelf.old).told (bits_ask public) known.0.items) }
+    ensures outputs { IfOk result (λ known.
+        AreGiven (F.state shelf.old).told (bits_ask outputs) known.1.items) }
+    ensures quiet { OnOk result (F.state shelf.new ≡ F.state shelf.old) }
+    ensures stop { IfErr result (ClaimedStop circuit.now (bits_ask public) (bits_ask outputs)
+        (change (F.state shelf.old) (F.state shelf.new))) }
+    ensures kept { OnlyLoads (IsWordsName circuit.now (bits_ask public) (bits_ask outputs))
+        (change (F.state shelf.old) (F.state shelf.new)) }
+{
+    let public = word_bits(alloc, shelf, circuit, WantedBits::Public, public)?;
+    let outputs = word_bits(alloc, shelf, circuit, WantedBits::Outputs, outputs)?;
+    Ok((public, outputs))
+}
+
+/// The command with the bits that its words, and the files that they name, give; or why they give none.
+///
+/// Public bits are taken first, then private ones, then outputs. A file that has other bytes than the word of bits, with a line
+/// feed behind it or without, is refused by what is wanted of the circuit, which is loaded to say it: `Refusal::ManyPublic`,
+/// `Refusal::WrongBits` or `Refusal::WrongOutputs`, with how many digits stand before the first other byte.
+pub fn read_given<F: Shelf>(
+    alloc: Global,
+    shelf: &mut F,
+    command: Command<BitsWord>,
+) -> Result<Command<Vec<bool>>, Refusal>
+    requires limits { IsWithinLimits command }
+    ensures given { IfOk result (λ known. IsGiven (F.state shelf.old).told
+        (ask_of bits_ask command) (ask_of (λ v. v.items) known)) }
+    ensures limits { IfOk result (λ known. IsWithinLimits known) }
+    ensures quiet { OnOk result (F.state shelf.new ≡ F.state shelf.old) }
+    ensures stop { IfErr result (GivenStop (ask_of bits_ask command)
+        (change (F.state shelf.old) (F.state shelf.new))) }
+    ensures kept { OnlyLoads (IsGivenName (ask_of bits_ask command))
+        (change (F.state shelf.old) (F.state shelf.new)) }
+{
+    match command {
+        Command::Rehearse {
+            circuit,
+            public,
+            bits,
+            kind,
+            section,
+        } => {
+            let (public, bits) = input_bits(alloc, shelf, &circuit, public, bits)?;
+            Ok(Command::Rehearse {
+                circuit,
+                public,
+                bits,
+                kind,
+                section,
+            })
+        }
+        Command::RehearseGenerated {
+            gates,
+            number,
+            kind,
+            section,
+        } => Ok(Command::RehearseGenerated {
+            gates,
+            number,
+            kind,
+            section,
+        }),
+        Command::Eval { circuit, bits } => {
+            let bits = word_bits(alloc, shelf, &circuit, WantedBits::Private(&[]), bits)?;
+            Ok(Command::Eval { circuit, bits })
+        }
+        Command::Deal { name, params } => Ok(Command::Deal { name, params }),
+        Command::Serve {
+            address,
+            file,
+            circuit,
+            public,
+            outputs,
+            options,
+        } => {
+            let (public, outputs) = claimed_bits(alloc, shelf, &circuit, public, outputs)?;
+            Ok(Command::Serve {
+                address,
+                file,
+                circuit,
+                public,
+                outputs,
+                options,
+            })
+        }
+        Command::ServeMany {
+            address,
+            file,
+            statements,
+            options,
+        } => Ok(Command::ServeMany {
+            address,
+            file,
+            statements,
+            options,
+        }),
+        Command::Prove {
+            address,
+            file,
+            circuit,
+            public,
+            bits,
+            outputs,
+            timeout,
+        } => {
+            let (public, bits) = input_bits(alloc, shelf, &circuit, public, bits)?;
+            let outputs = word_bits(alloc, shelf, &circuit, WantedBits::Outputs, outputs)?;
+            Ok(Command::Prove {
+                address,
+                file,
+                circuit,
+                public,
+                bits,
+                outputs,
+                timeout,
+            })
+        }
+        Command::Audit {
+            circuit,
+            public,
+            outputs,
+            prover,
+            verifier,
+            log,
+        } => {
+            let (public, outputs) = claimed_bits(alloc, shelf, &circuit, public, outputs)?;
+            Ok(Command::Audit {
+                circuit,
+                public,
+                outputs,
+                prover,
+                verifier,
+                log,
+            })
+        }
+        Command::Migrate { side, file } => Ok(Command::Migrate { side, file }),
+        Command::Status { file, circuit } => Ok(Command::Status { file, circuit }),
+    }
+}

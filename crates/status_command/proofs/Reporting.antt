@@ -1,0 +1,75 @@
+-- What is known of units, of files, and of a disk of which nothing is asked.
+use Rattle.std.proofs.Common.{◌≡◌, ◌<◌, ◌≤◌, ◌-◌, ◌+◌, ℕ, zero, suc, List, [], ◌∷◌, All, length, get_or, true, Option, None, Some, refl, subst, inl, arith}
+use Rattle.std.proofs.lemmas.Bool.Decides.{nat_tests}
+use Rattle.std.proofs.lemmas.List.Sums.{sum_by-cons}
+use Rattle.std.specs.Prelude.{sum_by}
+use Rattle.zk_model.specs.ClaimedRanges.{RiseFrom}
+use Rattle.zk_model.specs.Journals.{AreSound, body_before, keeps_rule}
+use Rattle.zk_model.specs.declared.JournalKind.TheVariants.{Ceilings}
+use Rattle.zk_model.specs.declared.Params.{Params}
+use Rattle.zk_model.specs.declared.Span.{Span}
+use Rattle.zk_port.specs.Disks.{Choice}
+use Rattle.zk_port.specs.Files.{Files}
+use Rattle.lease_store.specs.Ceilings.{SaysCeiling}
+use Rattle.dealer_files.specs.Faults.{IsFirstFault}
+use Rattle.dealer_files.specs.declared.fault.FileFault.{FileFault}
+use Rattle.file_commands.specs.Effects.{ShelfChange}
+use Rattle.file_commands.specs.Stops.{IsLoaded}
+use Rattle.file_commands.specs.declared.refusal.Refusal.TheVariants.{BadFile}
+use Rattle.file_commands.specs.Journals.{DiskChange, IsUntouched, OnlyReads}
+use Rattle.status_command.specs.StatusRuns.{DealtStop, HasAskedCircuit, TakesUnits, side_in, units_of}
+
+-- ---- units
+
+-- ranges that rise up to a total have no more units than that
+pub units_rising : (low total : ℕ) (ranges : List Span) → RiseFrom low ranges → All (λ (s : Span). (s.start < s.end) × (s.end ≤ total)) ranges
+    → sum_by units_of ranges ≤ total - low
+units_rising low total [] rising within = omega arith
+units_rising low total (s ∷ ranges) rising within =
+    let here = within 0 s (omega arith) in
+    let rest = units_rising (s.end + 1) total ranges rising.2 (λ place default inside. within (suc place) default (omega (arith, inside))) in
+    rw sum_by-cons (omega (arith, here, rest, rising.0, rising.1))
+
+-- a ceiling that a journal says is at most its total
+low_body : (total before : ℕ) (body : ℕ × ℕ) → keeps_rule Ceilings total before body ≡ true → body.0 ≤ total
+low_body total before body keeps = grind (arith, nat_tests)
+
+low_before : (total : ℕ) (bodies : List (ℕ × ℕ)) → AreSound Ceilings total bodies → (count : ℕ) → count ≤ length bodies
+    → (body_before bodies count).0 ≤ total
+low_before total bodies sound zero within = omega arith
+low_before total bodies sound (suc count) within =
+    low_body total (body_before bodies count).0 (get_or bodies count (0, 0)) (sound count (omega (arith, within)))
+
+pub low_ceiling : (id : List ℕ) (total ceiling : ℕ) (bytes : List ℕ) → SaysCeiling id total ceiling bytes → ceiling ≤ total
+low_ceiling id total ceiling bytes says =
+    subst (λ (n : ℕ). n ≤ total) says.last (low_before total says.bodies says.says.sound (length says.bodies) (omega arith))
+
+-- ---- files
+
+-- the circuit that is asked about stands there
+pub has_asked : (told : Option Files) (asked : Option (List ℕ)) (params : Params) (units : Option ℕ) → TakesUnits told asked params units
+    → HasAskedCircuit told asked
+has_asked told None params units takes = tt
+has_asked told (Some name) params units takes = (takes.circuit, takes.file)
+
+-- a dealt file can't be had whose bytes are none
+pub dealt_of_bytes : (name : List ℕ) (shelf : ShelfChange) (text read : List ℕ) (fault : FileFault) → IsLoaded shelf.old.told name text
+    → read ≡ text → IsFirstFault (side_in read) read fault → DealtStop name shelf (BadFile fault)
+dealt_of_bytes name shelf text read fault loaded same first =
+    record { text = text; loaded = loaded; says = subst (λ (bytes : List ℕ). IsFirstFault (side_in bytes) bytes fault) same first }
+
+-- ---- the disk
+
+-- a disk of which nothing is asked is read alone
+pub untouched_is_read : (choice : Choice) (disk : DiskChange) → IsUntouched disk → OnlyReads choice disk
+untouched_is_read choice disk stays = record {
+  chosen = inl stays.chosen;
+  stays = record {
+    chosen = refl;
+    content = stays.stays.content;
+    room = stays.stays.room;
+    crash = stays.stays.crash;
+    time = record { later = stays.stays.time.later; nothing_else = stays.stays.time.nothing_else; keeps = stays.stays.time.keeps };
+  };
+  later = let still = stays.still in omega (arith, still);
+}
