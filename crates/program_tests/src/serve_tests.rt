@@ -1,5 +1,5 @@
 // Services over a journal, with peers that are honest over whichever units they are granted.
-use crate::given::{SEED, dealt, new_journal, words_of};
+use crate::given::{Files, SEED, dealt, new_journal, words_of};
 use crate::peers::HonestPeer;
 use memory_ports::{Meeting, MemoryDoor, MemorySink, NoFault};
 use std::alloc::{AllocError, Global};
